@@ -1,0 +1,3 @@
+mod baby_bear;
+
+pub use baby_bear::BabyBear;

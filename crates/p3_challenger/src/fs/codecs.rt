@@ -1,0 +1,5 @@
+mod codec;
+mod decode_field;
+
+pub use codec::{Codec, MIN_CHALLENGE_SECURITY_BITS};
+pub use decode_field::EXTRA_BYTES;

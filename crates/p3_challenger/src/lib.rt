@@ -1,0 +1,14 @@
+//! Fiat-Shamir challengers: what a prover and a verifier say goes in, and their random challenges
+//! come out, the same for both.
+#![tactic(auto)]
+
+mod challenger;
+mod error;
+pub mod field;
+pub mod fs;
+mod hash_challenger;
+pub mod symmetric;
+
+pub use challenger::{CanObserve, CanSample, Sponge};
+pub use error::ChallengerError;
+pub use hash_challenger::HashChallenger;
