@@ -1,3 +1,4 @@
-pub mod Residues
 pub mod HashStates
 pub mod HashChains
+pub mod Drawing
+pub mod Decoding

@@ -6,3 +6,7 @@ pub mod HashState
 pub mod HashChain
 pub mod TranscriptError
 pub mod Codec
+pub mod BytesToField
+pub mod ResidueLaws
+pub mod ScalarLaws
+pub mod SpongeLaws

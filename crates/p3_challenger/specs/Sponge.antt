@@ -41,7 +41,7 @@ unfoldable pub after_draws : {S T : Type 0} → (S → Option T) → (S → S) �
 after_draws sampled after zero s = s
 after_draws sampled after (suc n) s = if is_some (sampled s) then after_draws sampled after n (after s) else after s
 
--- what n draws in a row may leave where one of them is refused for memory
-unfoldable pub MayLeaveInDraws : {S : Type 0} → (S → S) → (S → S → Type 0) → ℕ → S → S → Type 0
-MayLeaveInDraws after MayLeave zero s t = ⊥
-MayLeaveInDraws after MayLeave (suc n) s t = MayLeave s t ⊎ MayLeaveInDraws after MayLeave n (after s) t
+-- P holds of the state before some one of n draws in a row
+unfoldable pub SomeDraw : {S : Type 0} → (S → S) → (S → Type 0) → ℕ → S → Type 0
+SomeDraw after P zero s = ⊥
+SomeDraw after P (suc n) s = P s ⊎ SomeDraw after P n (after s)

@@ -1,4 +1,4 @@
-ghost use Rattle.std.specs.Prelude.{◌≡◌, List, [], ◌∷◌, Option, Some, OnOk, IfOk, IfErr};
+ghost use Rattle.std.specs.Prelude.{◌≡◌, List, [], ◌∷◌, Option, Some, None, OnOk, IfOk, IfErr};
 ghost use Rattle.p3_challenger.specs.Sponge.{IsNonEmpty, observed_all, RefusesObserve, RefusesDraw};
 
 use crate::ChallengerError;
@@ -73,4 +73,7 @@ pub trait CanSample<T>: Sponge {
         ensures err { IfErr result (λ e.
             RefusesDraw (meets_limit (Self.state self.old)) (after_sampled (Self.state self.old))
             (draw_may_leave (Self.state self.old)) e (Self.state self.new)) };
+
+    // A draw that meets the limit gives nothing.
+    ghost limit_gives_none: { (s : Self.State) → meets_limit s → sampled s ≡ None };
 }

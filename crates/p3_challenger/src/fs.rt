@@ -2,5 +2,5 @@
 mod codecs;
 mod error;
 
-pub use codecs::{Codec, EXTRA_BYTES, MIN_CHALLENGE_SECURITY_BITS};
+pub use codecs::{BytesToFieldCodec, Codec, EXTRA_BYTES, MIN_CHALLENGE_SECURITY_BITS};
 pub use error::TranscriptError;

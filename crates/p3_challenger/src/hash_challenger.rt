@@ -166,6 +166,8 @@ impl<T: Copy, H: CryptographicHasher<T, [T; OUT_LEN]>, const OUT_LEN: usize> Can
 
     ghost meets_limit = { λ _. ⊥ };
 
+    ghost limit_gives_none = { λ _ h. absurd h };
+
     fn sample(&mut self) -> Result<T, ChallengerError> {
         if self.outputs_left == 0 {
             self.flush();

@@ -1,5 +1,5 @@
 use Rattle.std.proofs.Common.{Some, ap, refl}
-use Rattle.p3_challenger.proofs.Residues.{element-at}
+use Rattle.p3_challenger.specs.ResidueLaws.{element-at}
 use Rattle.p3_challenger.proofs.field.baby_bear.BabyBear.from_canonical_checked.Goals as goal
 
 -- the element made has the number as its canonical number
