@@ -8,5 +8,5 @@ unreachable-requires g c =
     let hash = g.H.CryptographicHasher.hash in
     let before = c.args.challenger.now in
     never_refused (after_sampled hash g.row.OUT_LEN) draw_bytes before
-      (after_scalar (sampled hash g.row.OUT_LEN) (after_sampled hash g.row.OUT_LEN) before)
-      c.in-Err.field-0 c.sample.new.challenger c.in-Err.ensures.err
+    (after_scalar (sampled hash g.row.OUT_LEN) (after_sampled hash g.row.OUT_LEN) before)
+    c.in-Err.field-0 c.sample.new.challenger c.in-Err.ensures.err
