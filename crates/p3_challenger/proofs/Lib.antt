@@ -2,3 +2,4 @@ pub mod HashStates
 pub mod HashChains
 pub mod Drawing
 pub mod Decoding
+pub mod WorkedRows

@@ -10,3 +10,4 @@ pub mod BytesToField
 pub mod ResidueLaws
 pub mod ScalarLaws
 pub mod SpongeLaws
+pub mod LengthHasher

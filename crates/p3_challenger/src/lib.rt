@@ -8,6 +8,8 @@ pub mod field;
 pub mod fs;
 mod hash_challenger;
 pub mod symmetric;
+#[cfg(test)]
+mod tests;
 
 pub use challenger::{CanObserve, CanSample, Sponge};
 pub use error::ChallengerError;

@@ -86,15 +86,15 @@ pub fn verify<H: CryptographicHasher<u8, [u8; OUT_LEN]>, const OUT_LEN: usize>(
     if narg.len() < width {
         return Err(bad_shape("NARG ended before all expected bytes were read"));
     }
-    let value = <ScalarCodec as Codec<HashChallenger<u8, H, OUT_LEN>, BabyBear>>::decode(narg)?;
+    let found = <ScalarCodec as Codec<HashChallenger<u8, H, OUT_LEN>, BabyBear>>::decode(narg)?;
     if narg.len() > width {
         return Err(bad_shape("trailing NARG bytes after final verifier step"));
     }
-    ScalarCodec::observe(&mut challenger, &value)?;
-    let challenge = draw(&mut challenger);
+    ScalarCodec::observe(&mut challenger, &found)?;
+    let drawn = draw(&mut challenger);
     Ok(FirstRead {
-        value,
-        challenge,
+        value: found,
+        challenge: drawn,
         challenger,
     })
 }
