@@ -1,5 +1,5 @@
 -- Draws in a row, as a loop makes them.
-use Rattle.std.proofs.Common.{◌≡◌, ℕ, zero, suc, lit<, ◌<◌, ◌≤◌, ◌+◌, ◌-◌, subst, arith, ◌*◌, ◌%◌, List, [], ◌∷◌, ◌⊎◌, Option, Some, None, option_and_then, is_some, if◌then◌else◌, refl, sym, ap, ◌∙◌, inl, inr}
+use Rattle.std.proofs.Common.{◌≡◌, ℕ, zero, suc, lit<, ◌<◌, ◌≤◌, ◌+◌, ◌-◌, subst, arith, ◌*◌, ◌%◌, List, ◌∷◌, Option, Some, None, option_and_then, is_some, if◌then◌else◌, refl, sym, ap, ◌∙◌, inl, inr}
 use Rattle.std.specs.Option.{option_map}
 use Rattle.p3_challenger.specs.Sponge.{draws, after_draws, SomeDraw, RefusesDraw}
 use Rattle.p3_challenger.specs.Residue.{order, element, remainder_below}

@@ -1,9 +1,9 @@
 -- The hash chain over segments is what the calls give one by one.
-use Rattle.std.proofs.Common.{◌≡◌, ℕ, zero, suc, ◌<◌, ◌≤◌, ◌+◌, ◌-◌, ◌/◌, ◌%◌, List, [], ◌∷◌, ◌++◌, Option, slice_get, ◌==◌, false, if◌then◌else◌, refl, sym, ap, ◌∙◌, append_assoc, add-one, arith}
+use Rattle.std.proofs.Common.{◌≡◌, ℕ, zero, suc, ◌<◌, ◌≤◌, ◌+◌, ◌-◌, ◌/◌, ◌%◌, List, [], ◌∷◌, Option, slice_get, ◌==◌, false, if◌then◌else◌, refl, sym, ap, ◌∙◌, append_assoc, add-one, arith}
 use Rattle.std.proofs.lemmas.Bool.Decides.{nat_tests}
 use Rattle.std.proofs.Math.Nat.{add-div_left, add-mod_left, div-eq_of_lt, mod-eq_of_lt}
 use Rattle.p3_challenger.specs.HashTranscript.{HashTranscript, absorbing, fed, observed, flushed, ready, last_output, one_taken, sampled, after_sampled}
-use Rattle.p3_challenger.specs.HashChain.{Call, observe, observe_empty_array, draw, Segment, Segments, Run, segments, value_before, segment_before, nothing, draw_before, hashed, output_at, left_behind, outputs_from, after_outputs, run_draws, run_segment, answers_before, run_others, run_segments, run_calls}
+use Rattle.p3_challenger.specs.HashChain.{Call, observe, observe_empty_array, draw, Segment, Run, segments, draw_before, hashed, output_at, left_behind, outputs_from, after_outputs, run_draws, run_segment, answers_before, run_others, run_segments, run_calls}
 
 -- feeding a value and then a list is feeding both
 pub fed-cons : {T : Type 0} (s : HashTranscript T) (x : T) (xs : List T) → fed (observed s x) xs ≡ fed s (x ∷ xs)

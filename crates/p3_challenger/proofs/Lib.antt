@@ -1,4 +1,3 @@
-pub mod HashStates
 pub mod HashChains
 pub mod Drawing
 pub mod Decoding

@@ -1,9 +1,9 @@
 -- Worked rows, computed on the definitions.
-use Rattle.std.proofs.Common.{◌≡◌, ℕ, ◌%◌, List, [], ◌∷◌, Option, Some, Ok, Err, refl}
+use Rattle.std.proofs.Common.{◌≡◌, ◌%◌, [], ◌∷◌, Some, Ok, Err, refl}
 use Rattle.p3_challenger.specs.HashTranscript.{absorbing}
-use Rattle.p3_challenger.specs.HashChain.{Call, observe, observe_empty_array, draw, run_calls, run_segments, segments, hashed, outputs_from}
+use Rattle.p3_challenger.specs.HashChain.{observe_empty_array, draw, run_calls, run_segments, segments, hashed, outputs_from}
 use Rattle.p3_challenger.specs.LengthHasher.{length_digest}
-use Rattle.p3_challenger.specs.Residue.{order, element, number}
+use Rattle.p3_challenger.specs.Residue.{order, element}
 use Rattle.p3_challenger.specs.Scalar.{wire, read, big_endian, not_enough_bytes, outside_range}
 
 -- 78 00 00 00 is the greatest scalar, 78 00 00 01 none, and three bytes are too few

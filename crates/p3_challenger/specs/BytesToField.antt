@@ -1,5 +1,5 @@
 -- A scalar through a challenger of bytes: its spelling is observed, and it is drawn from 20 bytes.
-use Rattle.std.specs.Prelude.{ℕ, List, Option}
+use Rattle.std.specs.Prelude.{ℕ, Option}
 use Rattle.std.specs.Option.{option_map}
 use Rattle.p3_challenger.specs.Sponge.{observed_all, draws, after_draws, SomeDraw}
 use Rattle.p3_challenger.specs.Scalar.{wire, challenge_of}

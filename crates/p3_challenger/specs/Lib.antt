@@ -11,3 +11,4 @@ pub mod ResidueLaws
 pub mod ScalarLaws
 pub mod SpongeLaws
 pub mod LengthHasher
+pub mod HashStateLaws

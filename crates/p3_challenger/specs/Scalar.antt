@@ -1,5 +1,5 @@
 -- A scalar in the proof and in the sponge: four bytes, its canonical number with the highest first.
-use Rattle.std.specs.Prelude.{◌≡◌, ℕ, ◌+◌, ◌*◌, ◌<◌, List, [], ◌∷◌, ◌++◌, length, take, drop, codes, nat_lt, Result, Ok, Err, if◌then◌else◌}
+use Rattle.std.specs.Prelude.{ℕ, ◌+◌, ◌*◌, List, [], ◌∷◌, length, take, drop, codes, nat_lt, Result, Ok, Err, if◌then◌else◌}
 use Rattle.std.specs.Int.{w32, to_be_bytes, from_be_bytes}
 use Rattle.p3_challenger.specs.Residue.{order, number, element}
 use Rattle.p3_challenger.specs.declared.field.baby_bear.BabyBear.{BabyBear}

@@ -1,15 +1,14 @@
 -- Laws of a scalar's spelling.
-use Rattle.std.proofs.Common.{◌≡◌, ℕ, zero, suc, lit<, ◌<◌, ◌≤◌, ◌+◌, ◌*◌, ◌%◌, List, [], ◌∷◌, ◌++◌, length, take, drop, get_or, Bool, true, false, nat_lt, if◌then◌else◌, Result, Ok, Err, refl, sym, ap, ◌∙◌, arith, slice_index}
+use Rattle.std.proofs.Common.{◌≡◌, ℕ, zero, suc, lit<, ◌<◌, ◌≤◌, ◌+◌, ◌*◌, ◌%◌, List, [], ◌∷◌, ◌++◌, length, take, drop, Bool, true, false, nat_lt, if◌then◌else◌, Result, Ok, Err, refl, sym, ap, ◌∙◌, arith}
 use Rattle.std.proofs.lemmas.Bool.Decides.{nat_tests}
-use Rattle.std.proofs.lemmas.Grind.{common_steps}
 use Rattle.std.proofs.lemmas.Nat.{mul-mod_second, from_be_bytes-to_be_bytes_4, be_bytes_4}
 use Rattle.std.proofs.lemmas.List.{take-append-drop, length-take-le}
 use Rattle.std.proofs.Math.Nat.{mod-eq_of_lt, add-mod}
 use Rattle.std.specs.Int.{w32, to_be_bytes, from_be_bytes}
 use Rattle.p3_challenger.specs.Residue.{order, number, element, remainder_below}
-use Rattle.p3_challenger.specs.Scalar.{width, wire, read, scalar_of, not_enough_bytes, outside_range, big_endian_after, big_endian}
+use Rattle.p3_challenger.specs.Scalar.{wire, read, scalar_of, not_enough_bytes, outside_range, big_endian_after}
 use Rattle.p3_challenger.specs.Codec.{ReadsOneWay, AreBytes}
-use Rattle.p3_challenger.specs.ResidueLaws.{number-injective, element-number}
+use Rattle.p3_challenger.specs.ResidueLaws.{element-number}
 use Rattle.p3_challenger.specs.declared.field.baby_bear.BabyBear.{BabyBear}
 
 -- a choice of two results: which one it is, and how the test went

@@ -1,6 +1,6 @@
 -- What every challenger is, whatever it is made of: a state that values are observed into and
 -- values are drawn from.
-use Rattle.std.specs.Prelude.{◌≡◌, ℕ, zero, suc, List, [], ◌∷◌, ◌⊎◌, Option, Some, None, option_and_then, is_some, if◌then◌else◌}
+use Rattle.std.specs.Prelude.{◌≡◌, ℕ, zero, suc, List, [], ◌∷◌, ◌⊎◌, Option, Some, option_and_then, is_some, if◌then◌else◌}
 use Rattle.std.specs.Option.{option_map}
 use Rattle.p3_challenger.specs.declared.error.ChallengerError.{ChallengerError}
 use Rattle.p3_challenger.specs.declared.error.ChallengerError.TheVariants.{OutOfMemory, DrawLimit, NoWitness, TooLong}

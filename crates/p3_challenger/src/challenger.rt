@@ -1,4 +1,4 @@
-ghost use Rattle.std.specs.Prelude.{◌≡◌, List, [], ◌∷◌, Option, Some, None, OnOk, IfOk, IfErr};
+ghost use Rattle.std.specs.Prelude.{◌≡◌, List, [], ◌∷◌, ◌++◌, Option, Some, None, OnOk, IfOk, IfErr};
 ghost use Rattle.p3_challenger.specs.Sponge.{IsNonEmpty, observed_all, RefusesObserve, RefusesDraw};
 
 use crate::ChallengerError;
@@ -16,6 +16,11 @@ pub trait Sponge {
 
     // The state after symbols.
     ghost fed: { Self.State → List Self.Symbol → Self.State };
+
+    // Feeding nothing changes nothing, and feeding two lists in turn is feeding both as one.
+    ghost fed_nothing: { (s : Self.State) → fed s [] ≡ s };
+
+    ghost fed_more: { (s : Self.State) (a b : List Self.Symbol) → fed (fed s a) b ≡ fed s (a ++ b) };
 }
 
 /// A challenger that observes values of a type.

@@ -108,7 +108,9 @@ fn copy_digest<T: Copy, const OUT_LEN: usize>(
 
 impl<T: Copy, H: CryptographicHasher<T, [T; OUT_LEN]>, const OUT_LEN: usize> Sponge
     for HashChallenger<T, H, OUT_LEN> {
+    ghost use Rattle.std.specs.Prelude.{refl};
     ghost use Rattle.p3_challenger.specs.HashState as hash_state;
+    ghost use Rattle.p3_challenger.specs.HashStateLaws.{fed-append};
 
     type State = Self;
 
@@ -117,6 +119,10 @@ impl<T: Copy, H: CryptographicHasher<T, [T; OUT_LEN]>, const OUT_LEN: usize> Spo
     ghost state = { λ c. c };
 
     ghost fed = { λ s xs. hash_state.fed s xs };
+
+    ghost fed_nothing = { λ _. refl };
+
+    ghost fed_more = { fed-append };
 }
 
 impl<T: Copy, H: CryptographicHasher<T, [T; OUT_LEN]>, const OUT_LEN: usize> CanObserve<T>

@@ -1,5 +1,5 @@
 -- Lemmas on the first path.
-use Rattle.std.proofs.Common.{◌≡◌, ℕ, zero, suc, ◌==◌, List, length, drop, take, Bool, true, false, if◌then◌else◌, nat_lt, Option, Some, Result, Ok, Err, refl, sym, ap, ◌∙◌, inl, inr}
+use Rattle.std.proofs.Common.{◌≡◌, ℕ, zero, suc, ◌==◌, List, length, drop, take, Bool, true, false, if◌then◌else◌, nat_lt, Ok, Err, sym, ap, ◌∙◌, inl, inr}
 use Rattle.std.specs.Int.{w32, from_be_bytes}
 use Rattle.p3_challenger.specs.Sponge.{SomeDraw, RefusesDraw}
 use Rattle.p3_challenger.specs.Residue.{order, element}

@@ -4,6 +4,7 @@ ghost use Rattle.sha2.specs.Sha256.{sha256};
 use super::CryptographicHasher;
 use sha2::{Digest, Sha256};
 
+/// SHA-256 (FIPS 180-4), of bytes to 32 bytes, by the crate `sha2`.
 #[derive(Clone, Copy, Debug, PartialEq, Eq)]
 pub struct Sha256Hasher;
 

@@ -1,4 +1,4 @@
-use Rattle.std.proofs.Common.{List, ℕ, [], get_or, map, sym, ◌∙◌}
+use Rattle.std.proofs.Common.{sym, ◌∙◌}
 use Rattle.std.specs.Cmp.Lexicographic.{same_text}
 use Rattle.transcript.proofs.ProgramLemmas.{two_words, asks_scalar, asks_nothing}
 use Rattle.transcript.proofs.program.parse_first.Goals as goal

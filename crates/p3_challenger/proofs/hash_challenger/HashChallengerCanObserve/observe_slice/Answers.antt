@@ -1,6 +1,6 @@
 use Rattle.std.proofs.Common.{◌≡◌, ◌++◌, rules, sym, ap, ◌∙◌}
 use Rattle.p3_challenger.specs.HashTranscript.{absorbing}
-use Rattle.p3_challenger.proofs.HashStates.{observed_all-fed, fed-non_empty}
+use Rattle.p3_challenger.specs.HashStateLaws.{observed_all-fed, fed-non_empty}
 use Rattle.p3_challenger.proofs.hash_challenger.HashChallengerCanObserve.observe_slice.Goals as goal
 
 -- the values are not empty, so they are added to what is pending

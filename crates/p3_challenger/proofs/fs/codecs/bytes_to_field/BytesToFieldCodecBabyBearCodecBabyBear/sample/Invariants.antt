@@ -1,4 +1,4 @@
-use Rattle.std.proofs.Common.{◌-◌, ◌≤◌}
+use Rattle.std.proofs.Common.{◌-◌}
 use Rattle.p3_challenger.proofs.Drawing.{IsDrawing}
 use Rattle.p3_challenger.proofs.fs.codecs.bytes_to_field.BytesToFieldCodecBabyBearCodecBabyBear.sample.Given as goal
 

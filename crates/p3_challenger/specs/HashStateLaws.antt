@@ -1,5 +1,5 @@
 -- Laws of a hash challenger call by call.
-use Rattle.std.proofs.Common.{◌≡◌, ℕ, List, [], ◌∷◌, ◌++◌, length, ◌==◌, Bool, false, refl, sym, ap, ◌∙◌, append_assoc, append-nil}
+use Rattle.std.proofs.Common.{◌≡◌, List, [], ◌∷◌, ◌++◌, length, ◌==◌, false, refl, sym, ap, ◌∙◌, append_assoc, append-nil}
 use Rattle.p3_challenger.specs.Sponge.{observed_all}
 use Rattle.p3_challenger.specs.HashTranscript.{absorbing}
 use Rattle.p3_challenger.specs.HashState.{HashState, observed, fed}
