@@ -5,7 +5,7 @@ use Rattle.p3_challenger.specs.Scalar.{wire, read}
 use Rattle.p3_challenger.specs.ScalarLaws.{read-wire, read-only}
 use Rattle.p3_challenger.specs.Codec.{AreBytes}
 use Rattle.p3_challenger.specs.TranscriptError.{Decodes}
-use Rattle.p3_challenger.specs.declared.field.baby_bear.BabyBear.{BabyBear}
+use Rattle.p3_field.specs.declared.baby_bear.BabyBear.{BabyBear}
 use Rattle.p3_challenger.specs.declared.fs.error.TranscriptError.{TranscriptError}
 
 found_in : (bytes : List ℕ) → AreBytes bytes → (o : Result (BabyBear × List ℕ) (List ℕ)) (r : Result BabyBear TranscriptError) → read bytes ≡ o → Decodes o r → IfOk r (λ x. bytes ≡ wire x ++ drop 4 bytes)

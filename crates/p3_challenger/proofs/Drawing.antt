@@ -1,14 +1,15 @@
 -- Draws in a row, as a loop makes them.
 use Rattle.std.proofs.Common.{◌≡◌, ℕ, zero, suc, lit<, ◌<◌, ◌≤◌, ◌+◌, ◌-◌, subst, arith, ◌*◌, ◌%◌, List, ◌∷◌, Option, Some, None, option_and_then, is_some, if◌then◌else◌, refl, sym, ap, ◌∙◌, inl, inr}
 use Rattle.std.specs.Option.{option_map}
-use Rattle.p3_challenger.specs.Sponge.{draws, after_draws, SomeDraw, RefusesDraw}
-use Rattle.p3_challenger.specs.Residue.{order, element, remainder_below}
+use Rattle.p3_challenger_core.specs.Sponge.{draws, after_draws, SomeDraw, RefusesDraw}
+use Rattle.p3_challenger.specs.Residue.{order, element}
+use Rattle.p3_field.specs.BabyBearResidues.{remainder_below}
 use Rattle.p3_challenger.specs.ResidueLaws.{number-injective}
 use Rattle.p3_challenger.specs.Scalar.{big_endian_after, challenge_of}
 use Rattle.p3_challenger.specs.ScalarLaws.{big_endian_after-mod}
-use Rattle.p3_challenger.specs.declared.field.baby_bear.BabyBear.{BabyBear}
-use Rattle.p3_challenger.specs.declared.error.ChallengerError.{ChallengerError}
-use Rattle.p3_challenger.specs.declared.error.ChallengerError.TheVariants.{OutOfMemory, DrawLimit, NoWitness, TooLong}
+use Rattle.p3_field.specs.declared.baby_bear.BabyBear.{BabyBear}
+use Rattle.p3_challenger_core.specs.declared.error.ChallengerError.{ChallengerError}
+use Rattle.p3_challenger_core.specs.declared.error.ChallengerError.TheVariants.{OutOfMemory, DrawLimit, NoWitness, TooLong}
 
 -- the scalar that bytes behind a number give
 abbrev pub scalar_after : ℕ → List ℕ → BabyBear

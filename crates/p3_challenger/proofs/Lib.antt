@@ -1,4 +1,3 @@
-pub mod HashChains
-pub mod Drawing
 pub mod Decoding
+pub mod Drawing
 pub mod WorkedRows

@@ -1,9 +1,9 @@
 -- A scalar through a challenger of bytes: its spelling is observed, and it is drawn from 20 bytes.
 use Rattle.std.specs.Prelude.{ℕ, Option}
 use Rattle.std.specs.Option.{option_map}
-use Rattle.p3_challenger.specs.Sponge.{observed_all, draws, after_draws, SomeDraw}
+use Rattle.p3_challenger_core.specs.Sponge.{observed_all, draws, after_draws, SomeDraw}
 use Rattle.p3_challenger.specs.Scalar.{wire, challenge_of}
-use Rattle.p3_challenger.specs.declared.field.baby_bear.BabyBear.{BabyBear}
+use Rattle.p3_field.specs.declared.baby_bear.BabyBear.{BabyBear}
 
 -- how many bytes a scalar is drawn from: its width, and 128 bits more
 abbrev pub draw_bytes : ℕ

@@ -1,14 +1,7 @@
 pub mod Residue
+pub mod ResidueLaws
 pub mod Scalar
-pub mod Sponge
-pub mod HashTranscript
-pub mod HashState
-pub mod HashChain
+pub mod ScalarLaws
 pub mod TranscriptError
 pub mod Codec
 pub mod BytesToField
-pub mod ResidueLaws
-pub mod ScalarLaws
-pub mod SpongeLaws
-pub mod LengthHasher
-pub mod HashStateLaws

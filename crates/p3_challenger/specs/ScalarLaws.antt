@@ -5,11 +5,12 @@ use Rattle.std.proofs.lemmas.Nat.{mul-mod_second, from_be_bytes-to_be_bytes_4, b
 use Rattle.std.proofs.lemmas.List.{take-append-drop, length-take-le}
 use Rattle.std.proofs.Math.Nat.{mod-eq_of_lt, add-mod}
 use Rattle.std.specs.Int.{w32, to_be_bytes, from_be_bytes}
-use Rattle.p3_challenger.specs.Residue.{order, number, element, remainder_below}
+use Rattle.p3_challenger.specs.Residue.{order, number, element}
+use Rattle.p3_field.specs.BabyBearResidues.{remainder_below}
 use Rattle.p3_challenger.specs.Scalar.{wire, read, scalar_of, not_enough_bytes, outside_range, big_endian_after}
 use Rattle.p3_challenger.specs.Codec.{ReadsOneWay, AreBytes}
-use Rattle.p3_challenger.specs.ResidueLaws.{element-number}
-use Rattle.p3_challenger.specs.declared.field.baby_bear.BabyBear.{BabyBear}
+use Rattle.p3_challenger.specs.ResidueLaws.{element-number, number-below, number-element}
+use Rattle.p3_field.specs.declared.baby_bear.BabyBear.{BabyBear}
 
 -- a choice of two results: which one it is, and how the test went
 chosen : {A E : Type 0} (b : Bool) (e : E) (r : Result A E) (x : A) → (if b then Err e else r) ≡ Ok x → (b ≡ false) × (r ≡ Ok x)
@@ -41,12 +42,12 @@ AreBytes-take (suc n) (byte ∷ bytes) h (suc i) = AreBytes-take n bytes (λ j. 
 
 -- the number of a scalar's bytes is the scalar's
 number-wire : (x : BabyBear) → from_be_bytes w32 (wire x) ≡ number x
-number-wire x = from_be_bytes-to_be_bytes_4 (number x) (omega (arith, x.canonical))
+number-wire x = from_be_bytes-to_be_bytes_4 (number x) (omega (arith, (number-below x)))
 
 -- a scalar's number is a scalar
 scalar_of-number : (x : BabyBear) (rest : List ℕ) → scalar_of (number x) rest ≡ Ok (x, rest)
 scalar_of-number x rest =
-    ap (λ b. if b then Ok (element (number x), rest) else Err outside_range) (below (number x) order x.canonical)
+    ap (λ b. if b then Ok (element (number x), rest) else Err outside_range) (below (number x) order (number-below x))
     ∙ ap (λ y. Ok (y, rest)) (element-number x)
 
 -- what is spelled is read, whatever follows

@@ -1,7 +1,7 @@
 -- Refusals of a transcript.
 use Rattle.std.specs.Prelude.{◌≡◌, ℕ, List, Result, Ok, Err}
-use Rattle.p3_challenger.specs.declared.error.ChallengerError.{ChallengerError}
-use Rattle.p3_challenger.specs.declared.error.ChallengerError.TheVariants as challenger
+use Rattle.p3_challenger_core.specs.declared.error.ChallengerError.{ChallengerError}
+use Rattle.p3_challenger_core.specs.declared.error.ChallengerError.TheVariants as challenger
 use Rattle.p3_challenger.specs.declared.fs.error.TranscriptError.{TranscriptError}
 use Rattle.p3_challenger.specs.declared.fs.error.TranscriptError.TheVariants.{BadProofShape, Challenger, OutOfMemory}
 

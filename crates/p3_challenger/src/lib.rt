@@ -2,15 +2,8 @@
 //! come out, the same for both.
 #![tactic(auto)]
 
-mod challenger;
-mod error;
-pub mod field;
 pub mod fs;
-mod hash_challenger;
-pub mod symmetric;
 #[cfg(test)]
 mod tests;
 
-pub use challenger::{CanObserve, CanSample, Sponge};
-pub use error::ChallengerError;
-pub use hash_challenger::HashChallenger;
+pub use p3_challenger_core::{CanObserve, CanSample, ChallengerError, HashChallenger, Sponge};

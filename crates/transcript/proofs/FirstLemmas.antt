@@ -1,13 +1,13 @@
 -- Lemmas on the first path.
 use Rattle.std.proofs.Common.{◌≡◌, ℕ, zero, suc, ◌==◌, List, length, drop, take, Bool, true, false, if◌then◌else◌, nat_lt, Ok, Err, sym, ap, ◌∙◌, inl, inr}
 use Rattle.std.specs.Int.{w32, from_be_bytes}
-use Rattle.p3_challenger.specs.Sponge.{SomeDraw, RefusesDraw}
+use Rattle.p3_challenger_core.specs.Sponge.{SomeDraw, RefusesDraw}
 use Rattle.p3_challenger.specs.Residue.{order, element}
 use Rattle.p3_challenger.specs.Scalar.{width, read, not_enough_bytes, outside_range}
 use Rattle.p3_challenger.specs.TranscriptError.{Decodes}
-use Rattle.p3_challenger.specs.declared.field.baby_bear.BabyBear.{BabyBear}
-use Rattle.p3_challenger.specs.declared.error.ChallengerError.{ChallengerError}
-use Rattle.p3_challenger.specs.declared.error.ChallengerError.TheVariants.{OutOfMemory, DrawLimit, NoWitness, TooLong}
+use Rattle.p3_field.specs.declared.baby_bear.BabyBear.{BabyBear}
+use Rattle.p3_challenger_core.specs.declared.error.ChallengerError.{ChallengerError}
+use Rattle.p3_challenger_core.specs.declared.error.ChallengerError.TheVariants.{OutOfMemory, DrawLimit, NoWitness, TooLong}
 use Rattle.transcript.specs.First.{read_whole, nothing_behind, too_short, trailing_bytes}
 
 -- what holds of no state holds of the state of no draw

@@ -1,7 +1,7 @@
 -- Lemmas on the program.
 use Rattle.std.proofs.Common.{◌≡◌, ◌≢◌, ℕ, ◌<◌, ◌≤◌, List, [], ◌∷◌, length, map, get_or, Bor, Option, Some, None, Result, Ok, Err, IfOk, IfSome, IfNone, refl, ap, subst, sym, ◌∙◌, codes, arith}
 use Rattle.std.specs.Result.{result_unwrap_or}
-use Rattle.p3_challenger.specs.declared.field.baby_bear.BabyBear.{BabyBear}
+use Rattle.p3_field.specs.declared.baby_bear.BabyBear.{BabyBear}
 use Rattle.transcript.specs.Program.{IsScalarText, AsksFirst}
 
 -- a list of two words

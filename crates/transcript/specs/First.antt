@@ -1,10 +1,10 @@
 -- The first path: one scalar is sent and one is drawn.
 use Rattle.std.specs.Prelude.{◌≡◌, ℕ, ◌==◌, List, length, codes, nat_lt, Some, Result, Ok, Err, if◌then◌else◌}
 use Rattle.p3_challenger.specs.BytesToField as scalar
-use Rattle.p3_challenger.specs.HashState.{HashState, observed, sampled, after_sampled}
+use Rattle.p3_challenger_core.specs.HashState.{HashState, observed, sampled, after_sampled}
 use Rattle.p3_challenger.specs.Scalar.{width, read}
 use Rattle.p3_challenger.specs.TranscriptError.{IsBadShape}
-use Rattle.p3_challenger.specs.declared.field.baby_bear.BabyBear.{BabyBear}
+use Rattle.p3_field.specs.declared.baby_bear.BabyBear.{BabyBear}
 use Rattle.p3_challenger.specs.declared.fs.error.TranscriptError.{TranscriptError}
 use Rattle.p3_challenger.specs.declared.fs.error.TranscriptError.TheVariants.{OutOfMemory}
 

@@ -5,13 +5,13 @@ use Rattle.std.specs.Fmt.{decimal}
 use Rattle.std.specs.Io.KnownBytes.{Appends}
 use Rattle.hex.specs.Hex.{encode_lower}
 use Rattle.sha2.specs.Sha256.{sha256}
-use Rattle.p3_challenger.specs.HashState.{HashState}
-use Rattle.p3_challenger.specs.HashTranscript.{absorbing}
+use Rattle.p3_challenger_core.specs.HashState.{HashState}
+use Rattle.p3_challenger_core.specs.HashTranscript.{absorbing}
 use Rattle.p3_challenger.specs.Residue.{number}
 use Rattle.p3_challenger.specs.Scalar.{wire}
-use Rattle.p3_challenger.specs.declared.field.baby_bear.BabyBear.{BabyBear}
-use Rattle.p3_challenger.specs.declared.symmetric.sha256.Sha256Hasher.{Sha256Hasher}
-use Rattle.p3_challenger.specs.declared.error.ChallengerError.TheVariants as challenger
+use Rattle.p3_field.specs.declared.baby_bear.BabyBear.{BabyBear}
+use Rattle.p3_symmetric.specs.declared.sha256.Sha256Hasher.{Sha256Hasher}
+use Rattle.p3_challenger_core.specs.declared.error.ChallengerError.TheVariants as challenger
 use Rattle.p3_challenger.specs.declared.fs.error.TranscriptError.{TranscriptError}
 use Rattle.p3_challenger.specs.declared.fs.error.TranscriptError.TheVariants.{BadProofShape, Challenger, OutOfMemory}
 use Rattle.transcript.specs.First.{IsRun}

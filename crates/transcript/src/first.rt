@@ -1,15 +1,15 @@
 ghost use Rattle.std.specs.Prelude.{◌≡◌, Some, IfOk, IfErr, MatchResult};
 ghost use Rattle.p3_challenger.specs.BytesToField as scalar;
-ghost use Rattle.p3_challenger.specs.HashState.{HashState, sampled, after_sampled};
+ghost use Rattle.p3_challenger_core.specs.HashState.{HashState, sampled, after_sampled};
 ghost use Rattle.p3_challenger.specs.Scalar.{wire};
-ghost use Rattle.p3_challenger.specs.declared.field.baby_bear.BabyBear.{BabyBear};
+ghost use Rattle.p3_field.specs.declared.baby_bear.BabyBear.{BabyBear};
 ghost use Rattle.p3_challenger.specs.TranscriptError.{IsBadShape};
 ghost use Rattle.transcript.specs.First.{IsRun, read_whole, Verifies};
 
 use p3_challenger::HashChallenger;
-use p3_challenger::field::BabyBear;
+use p3_field::BabyBear;
 use p3_challenger::fs::{BytesToFieldCodec, Codec, TranscriptError};
-use p3_challenger::symmetric::CryptographicHasher;
+use p3_symmetric::CryptographicHasher;
 use std::alloc::Global;
 
 type ScalarCodec = BytesToFieldCodec<BabyBear>;

@@ -2,13 +2,13 @@ ghost use Rattle.std.specs.Prelude.{◌≡◌, ◌≢◌, ◌⊎◌, ℕ, ◌≤
 ghost use Rattle.std.specs.Io.KnownBytes.{Appends};
 ghost use Rattle.std.specs.Str.Parse.{IsNumeral, digits_value};
 ghost use Rattle.p3_challenger.specs.Residue.{order};
-ghost use Rattle.p3_challenger.specs.declared.field.baby_bear.BabyBear.{BabyBear};
+ghost use Rattle.p3_field.specs.declared.baby_bear.BabyBear.{BabyBear};
 ghost use Rattle.transcript.specs.Program.{IsScalarText, AsksFirst, IsFirstText, lines, WritesFirst, usage_line, out_of_memory_line, reason_of};
 
 use crate::first;
-use p3_challenger::field::BabyBear;
+use p3_field::{BabyBear, PrimeField32, PrimeField64};
 use p3_challenger::fs::TranscriptError;
-use p3_challenger::symmetric::Sha256Hasher;
+use p3_symmetric::Sha256Hasher;
 use p3_challenger::{ChallengerError, HashChallenger};
 use std::alloc::{AllocError, Global};
 use std::io;
@@ -122,6 +122,6 @@ fn parse_scalar(text: &str) -> Option<BabyBear>
     if text.starts_with('+') {
         return None;
     }
-    let value = text.parse::<u32>().ok()?;
+    let value = text.parse::<u64>().ok()?;
     BabyBear::from_canonical_checked(value)
 }

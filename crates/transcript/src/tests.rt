@@ -1,7 +1,7 @@
 use super::*;
-use p3_challenger::field::BabyBear;
+use p3_field::{BabyBear, PrimeCharacteristicRing};
 use p3_challenger::fs::TranscriptError;
-use p3_challenger::symmetric::Sha256Hasher;
+use p3_symmetric::Sha256Hasher;
 use p3_challenger::{CanSample, ChallengerError, HashChallenger};
 use std::alloc::Global;
 use std::io;

@@ -1,6 +1,6 @@
 ghost use Rattle.std.specs.Prelude.{◌≡◌};
 
-use crate::ChallengerError;
+use p3_challenger_core::ChallengerError;
 use std::alloc::{AllocError, AllocFailed};
 use thiserror::Error;
 

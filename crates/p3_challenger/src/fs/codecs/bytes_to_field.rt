@@ -3,8 +3,8 @@ use super::Codec;
 use super::decode_field::{
     FIELD_BYTES, REQUIRED_BYTES, decode_field_be_canonical, encode_field_be,
 };
-use crate::field::BabyBear;
-use crate::{CanObserve, CanSample, ChallengerError};
+use p3_challenger_core::{CanObserve, CanSample, ChallengerError};
+use p3_field::{BabyBear, PrimeCharacteristicRing, PrimeField64};
 use std::marker::PhantomData;
 
 /// A scalar through a challenger of bytes.
@@ -21,7 +21,7 @@ impl<C: CanObserve<u8> + CanSample<u8>> Codec<C, BabyBear> for BytesToFieldCodec
     ghost use Rattle.std.proofs.Common.{ap};
     ghost use Rattle.std.specs.Option.{option_map};
     ghost use Rattle.p3_challenger.specs.Scalar.{challenge_of};
-    ghost use Rattle.p3_challenger.specs.SpongeLaws.{draws-none};
+    ghost use Rattle.p3_challenger_core.specs.SpongeLaws.{draws-none};
     ghost use Rattle.p3_challenger.specs.ScalarLaws.{wire-one_way, read-wire, read-only};
 
     const SECURITY_BITS: u32 = 128;
@@ -68,7 +68,7 @@ impl<C: CanObserve<u8> + CanSample<u8>> Codec<C, BabyBear> for BytesToFieldCodec
         let mut number = 0;
         for _ in 0..REQUIRED_BYTES {
             let byte = challenger.sample()?;
-            number = (256 * number + u64::from(byte)) % u64::from(BabyBear::ORDER_U32);
+            number = (256 * number + u64::from(byte)) % BabyBear::ORDER_U64;
         }
         Ok(BabyBear::from_u64(number))
     }

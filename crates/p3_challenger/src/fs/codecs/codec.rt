@@ -1,10 +1,10 @@
 ghost use Rattle.std.specs.Prelude.{◌≡◌, ℕ, ◌≤◌, List, ◌++◌, take, drop, length, Option, Some, None, Result, Ok, Err, OnOk, OnErr, IfOk, IfErr};
-ghost use Rattle.p3_challenger.specs.Sponge.{RefusesObserve, RefusesDraw};
+ghost use Rattle.p3_challenger_core.specs.Sponge.{RefusesObserve, RefusesDraw};
 ghost use Rattle.p3_challenger.specs.Codec.{ReadsOneWay, AreBytes};
 ghost use Rattle.p3_challenger.specs.TranscriptError.{Decodes};
 
 use super::super::TranscriptError;
-use crate::{ChallengerError, Sponge};
+use p3_challenger_core::{ChallengerError, Sponge};
 
 /// How many bits of security a codec must have before a challenge is drawn through it.
 pub const MIN_CHALLENGE_SECURITY_BITS: u32 = 128;

@@ -3,7 +3,7 @@ ghost use Rattle.p3_challenger.specs.Scalar.{wire, read};
 ghost use Rattle.p3_challenger.specs.TranscriptError.{Decodes};
 
 use super::super::TranscriptError;
-use crate::field::BabyBear;
+use p3_field::{BabyBear, PrimeField32, PrimeField64};
 
 /// How many bytes a draw takes beyond the width of a value: 128 bits, so that the value is nearly
 /// uniform.
@@ -31,7 +31,7 @@ pub(crate) fn decode_field_be_canonical(bytes: &[u8]) -> Result<BabyBear, Transc
             reason: "not enough bytes for a canonical field encoding",
         });
     };
-    let number = u32::from_be_bytes(*spelling);
+    let number = u64::from(u32::from_be_bytes(*spelling));
     let Some(value) = BabyBear::from_canonical_checked(number) else {
         return Err(TranscriptError::BadProofShape {
             reason: "field encoding outside canonical range",

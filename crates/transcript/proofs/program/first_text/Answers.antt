@@ -1,8 +1,8 @@
 use Rattle.std.proofs.Common.{◌≡◌, ℕ, List, [], sym, ap, ◌∙◌, subst}
 use Rattle.sha2.specs.Sha256.{sha256}
-use Rattle.p3_challenger.specs.HashState.{HashState}
-use Rattle.p3_challenger.specs.HashTranscript.{absorbing}
-use Rattle.p3_challenger.specs.declared.symmetric.sha256.Sha256Hasher.{Sha256Hasher}
+use Rattle.p3_challenger_core.specs.HashState.{HashState}
+use Rattle.p3_challenger_core.specs.HashTranscript.{absorbing}
+use Rattle.p3_symmetric.specs.declared.sha256.Sha256Hasher.{Sha256Hasher}
 use Rattle.p3_challenger.specs.Scalar.{wire}
 use Rattle.transcript.specs.First.{IsRun}
 use Rattle.transcript.specs.Program.{lines}

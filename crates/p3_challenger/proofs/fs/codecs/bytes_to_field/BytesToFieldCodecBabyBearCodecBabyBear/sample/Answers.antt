@@ -20,8 +20,8 @@ pub loop-preserved : goal.loop-preserved
 loop-preserved g c =
     let m = g.C.CanSample in
     let more : c.loop.counter < 20 = omega arith in
-    let number : (256 * c.loop.number + c.from.result) % c.from-in-loop.result ≡ (256 * c.loop.number + c.in_ok-byte.byte) % order =
-    ap (λ k. (256 * c.loop.number + k) % c.from-in-loop.result) c.from.ensures ∙ ap (λ k. (256 * c.loop.number + c.in_ok-byte.byte) % k) c.from-in-loop.ensures in
+    let number : (256 * c.loop.number + c.from.result) % order ≡ (256 * c.loop.number + c.in_ok-byte.byte) % order =
+    ap (λ k. (256 * c.loop.number + k) % order) c.from.ensures in
     drawing-step m.sampled m.after_sampled m.meets_limit m.draw_may_leave 20 (g.C.Sponge.state c.args.challenger.now)
     c.loop.number c.loop.counter c.in_ok-byte.byte _ (g.C.Sponge.state c.loop.challenger) _
     more c.in_ok-byte.ensures.drawn c.in_ok-byte.ensures.after number c.loop.invariant

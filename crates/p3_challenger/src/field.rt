@@ -1,3 +1,0 @@
-mod baby_bear;
-
-pub use baby_bear::BabyBear;

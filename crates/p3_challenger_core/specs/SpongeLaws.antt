@@ -1,0 +1,20 @@
+-- Laws of draws in a row.
+use Rattle.std.specs.Prelude.{◌≡◌, ℕ, zero, suc, List, ◌∷◌, Option, Some, None, option_and_then, refl}
+use Rattle.std.proofs.Common.{ap, ◌∙◌, inl, inr}
+use Rattle.std.specs.Option.{option_map}
+use Rattle.p3_challenger_core.specs.Sponge.{draws, SomeDraw}
+
+-- behind nothing comes nothing
+none_behind : {T : Type 0} (o : Option T) → option_and_then (λ x. option_map (λ (xs : List T). x ∷ xs) None) o ≡ None
+none_behind None = refl
+none_behind (Some x) = refl
+
+-- where one of the draws gives nothing, they give nothing
+pub draws-none : {S T : Type 0} (sampled : S → Option T) (after : S → S) (P : S → Type 0) → ((s : S) → P s → sampled s ≡ None) → (n : ℕ) (s : S) → SomeDraw after P n s → draws sampled after n s ≡ None
+unfolding draws SomeDraw
+draws-none sampled after P limit zero s h = absurd h
+draws-none sampled after P limit (suc n) s (inl here) =
+    ap (option_and_then (λ x. option_map (λ xs. x ∷ xs) (draws sampled after n (after s)))) (limit s here)
+draws-none sampled after P limit (suc n) s (inr later) =
+    ap (λ o. option_and_then (λ x. option_map (λ xs. x ∷ xs) o) (sampled s)) (draws-none sampled after P limit n (after s) later)
+    ∙ none_behind (sampled s)

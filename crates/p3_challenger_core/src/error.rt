@@ -1,0 +1,38 @@
+ghost use Rattle.std.specs.Prelude.{◌≡◌};
+ghost use Rattle.p3_challenger_core.specs.declared.error.ChallengerError.TheVariants.{OutOfMemory};
+
+use std::alloc::{AllocError, AllocFailed};
+use thiserror::Error;
+
+/// Why a call on a challenger was refused.
+#[derive(Clone, Copy, Debug, PartialEq, Eq, Error)]
+pub enum ChallengerError {
+    /// An allocation was refused.
+    #[error("out of memory")]
+    OutOfMemory,
+    /// As many candidates in a row as the draw limit allows were drawn, and each was refused.
+    #[error("draw limit")]
+    DrawLimit,
+    /// No candidate of a search passes.
+    #[error("no witness")]
+    NoWitness,
+    /// A byte string is too long for the alphabet that would feed it.
+    #[error("too long")]
+    TooLong,
+}
+
+impl From<AllocError> for ChallengerError {
+    ghost from_gives = { λ _ e. e ≡ OutOfMemory };
+
+    fn from(_error: AllocError) -> ChallengerError {
+        ChallengerError::OutOfMemory
+    }
+}
+
+impl<T: Drop> From<AllocFailed<T>> for ChallengerError {
+    ghost from_gives = { λ _ e. e ≡ OutOfMemory };
+
+    fn from(_failed: AllocFailed<T>) -> ChallengerError {
+        ChallengerError::OutOfMemory
+    }
+}

@@ -1,0 +1,187 @@
+ghost use Rattle.std.specs.Prelude.{◌≡◌, ◌<◌, List, OnOk, OnErr};
+ghost use Rattle.p3_challenger_core.specs.HashChain.{Call, run_calls, run_segments, segments};
+ghost use Rattle.p3_challenger_core.specs.HashState.{pending_of};
+ghost use Rattle.p3_challenger_core.specs.HashTranscript.{absorbing};
+
+use p3_symmetric::CryptographicHasher;
+use crate::{CanObserve, CanSample, ChallengerError, Sponge};
+use std::alloc::AllocError;
+use std::marker::Model;
+
+/// A challenger made of a hash function.
+///
+/// What is observed is pending until a draw finds no output left. Then all that is pending is
+/// hashed. The digest is pending in its place, so that each hash chains to the one before, and its
+/// places are the outputs, drawn from the last one backwards. An observation drops the outputs left.
+#[derive(Debug, Drop)]
+pub struct HashChallenger<T, H, const OUT_LEN: usize> {
+    // What is pending, where `digest` is `None`; else of no meaning, and kept for its capacity.
+    input_buffer: Vec<T>,
+    // The digest of the last flush, while nothing was observed since: all that is pending.
+    digest: Option<[T; OUT_LEN]>,
+    // How many places of the digest are left to draw: its first ones.
+    outputs_left: usize,
+    hasher: H,
+}
+
+impl<T, H, const OUT_LEN: usize> Model for HashChallenger<T, H, OUT_LEN> {
+    ghost use Rattle.std.specs.Prelude.{◌≡◌, ◌<◌, ◌≤◌};
+    ghost use Rattle.std.specs.Option.{ForNone};
+    ghost use Rattle.p3_challenger_core.specs.HashState.{HashState, pending_of};
+
+    ghost Value = { HashState T H };
+
+    ghost view = { λ c. record {
+      transcript = record { pending = pending_of c.digest c.input_buffer.items; outputs_left = c.outputs_left };
+      hasher = c.hasher;
+    } };
+
+    ghost invariant = { λ c.
+        (0 < OUT_LEN) × ((c.outputs_left ≤ OUT_LEN) × ForNone c.digest (c.outputs_left ≡ 0)) };
+}
+
+impl<T: Copy, H: CryptographicHasher<T, [T; OUT_LEN]>, const OUT_LEN: usize> HashChallenger<
+    T,
+    H,
+    OUT_LEN,
+> {
+    ghost use Rattle.p3_challenger_core.specs.HashState as hash_state;
+
+    /// A challenger that has the initial state pending, and no output.
+    pub fn new(initial_state: Vec<T>, hasher: H) -> Self
+        requires { 0 < OUT_LEN }
+        ensures { result ≡ record { transcript = absorbing initial_state.items; hasher = hasher } }
+    {
+        HashChallenger {
+            input_buffer: initial_state,
+            digest: None,
+            outputs_left: 0,
+            hasher,
+        }
+    }
+
+    /// The hash chain, whole: from this challenger on, every list of calls gives the answers, and
+    /// leaves the challenger, that its segments name.
+    ///
+    /// A law: the body is empty, and a caller cites the clause.
+    pub fn follows_hash_chain(&self)
+        ensures { (calls : List (Call T)) →
+            run_calls (H.hash self.now.hasher) OUT_LEN self.now.transcript calls
+            ≡ run_segments (H.hash self.now.hasher) OUT_LEN self.now.transcript (segments calls) }
+    {
+        let _ = &self.outputs_left;
+    }
+
+    /// What the next flush hashes.
+    fn pending(&self) -> &[T]
+        ensures { result.now ≡ self.now.transcript.pending }
+    {
+        match &self.digest {
+            Some(digest) => &digest[..],
+            None => self.input_buffer.as_slice(),
+        }
+    }
+
+    /// Hashes all that is pending. The digest is pending in its place, and all of it is left to draw.
+    fn flush(&mut self)
+        ensures { self.new ≡ hash_state.flushed H.hash OUT_LEN self.old }
+    {
+        self.digest = Some(self.hasher.hash_slice(self.pending()));
+        self.outputs_left = OUT_LEN;
+    }
+}
+
+// Makes the buffer what is pending, so that values can be added behind it.
+fn copy_digest<T: Copy, const OUT_LEN: usize>(
+    digest: &Option<[T; OUT_LEN]>,
+    buffer: &mut Vec<T>,
+) -> Result<(), AllocError>
+    ensures ok { OnOk result (buffer.new.items ≡ pending_of digest.now buffer.old.items) }
+    ensures err { OnErr result (pending_of digest.now buffer.new.items ≡ pending_of digest.now buffer.old.items) }
+{
+    if let Some(digest) = digest {
+        buffer.clear();
+        buffer.extend_from_slice(&digest[..])?;
+    }
+    Ok(())
+}
+
+impl<T: Copy, H: CryptographicHasher<T, [T; OUT_LEN]>, const OUT_LEN: usize> Sponge
+    for HashChallenger<T, H, OUT_LEN> {
+    ghost use Rattle.std.specs.Prelude.{refl};
+    ghost use Rattle.p3_challenger_core.specs.HashState as hash_state;
+    ghost use Rattle.p3_challenger_core.specs.HashStateLaws.{fed-append};
+
+    type State = Self;
+
+    type Symbol = T;
+
+    ghost state = { λ c. c };
+
+    ghost fed = { λ s xs. hash_state.fed s xs };
+
+    ghost fed_nothing = { λ _. refl };
+
+    ghost fed_more = { fed-append };
+}
+
+impl<T: Copy, H: CryptographicHasher<T, [T; OUT_LEN]>, const OUT_LEN: usize> CanObserve<T>
+    for HashChallenger<T, H, OUT_LEN> {
+    ghost use Rattle.std.specs.Prelude.{◌≡◌, [], ◌∷◌, refl};
+    ghost use Rattle.p3_challenger_core.specs.HashState as hash_state;
+
+    ghost symbols = { λ x. x ∷ [] };
+
+    ghost observed = { λ s x. hash_state.observed s x };
+
+    // A refused call changes nothing.
+    ghost may_leave = { λ s _ t. t ≡ s };
+
+    ghost feeds = { λ s x _. refl };
+
+    fn observe(&mut self, value: T) -> Result<(), ChallengerError> {
+        copy_digest(&self.digest, &mut self.input_buffer)?;
+        self.input_buffer.push(value)?;
+        self.digest = None;
+        self.outputs_left = 0;
+        Ok(())
+    }
+
+    fn observe_slice(&mut self, values: &[T]) -> Result<(), ChallengerError> {
+        if values.is_empty() {
+            return Ok(());
+        }
+        copy_digest(&self.digest, &mut self.input_buffer)?;
+        self.input_buffer.extend_from_slice(values)?;
+        self.digest = None;
+        self.outputs_left = 0;
+        Ok(())
+    }
+}
+
+impl<T: Copy, H: CryptographicHasher<T, [T; OUT_LEN]>, const OUT_LEN: usize> CanSample<T>
+    for HashChallenger<T, H, OUT_LEN> {
+    ghost use Rattle.p3_challenger_core.specs.HashState as hash_state;
+
+    ghost sampled = { λ s. hash_state.sampled H.hash OUT_LEN s };
+
+    ghost after_sampled = { λ s. hash_state.after_sampled H.hash OUT_LEN s };
+
+    // A draw takes no memory and has no limit: it is never refused.
+    ghost draw_may_leave = { λ _ _. ⊥ };
+
+    ghost meets_limit = { λ _. ⊥ };
+
+    ghost limit_gives_none = { λ _ h. absurd h };
+
+    fn sample(&mut self) -> Result<T, ChallengerError> {
+        if self.outputs_left == 0 {
+            self.flush();
+        }
+        self.outputs_left -= 1;
+        match &self.digest {
+            Some(digest) => Ok(digest[self.outputs_left]),
+            None => unreachable!(),
+        }
+    }
+}

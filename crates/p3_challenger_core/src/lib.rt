@@ -1,0 +1,13 @@
+//! Fiat-Shamir challengers: what a prover and a verifier say goes in, and their random challenges
+//! come out, the same for both.
+#![tactic(auto)]
+
+mod challenger;
+mod error;
+mod hash_challenger;
+#[cfg(test)]
+mod tests;
+
+pub use challenger::{CanObserve, CanSample, Sponge};
+pub use error::ChallengerError;
+pub use hash_challenger::HashChallenger;

@@ -1,0 +1,94 @@
+ghost use Rattle.std.specs.Prelude.{◌≡◌, ℕ, ◌+◌, ◌*◌, ◌^◌, ◌<◌, ◌≤◌, Option, Some, None};
+ghost use Rattle.std.specs.Mem.{FitsInMemory};
+
+use crate::PrimeCharacteristicRing;
+
+/// A field: a ring of residues modulo a prime. The default element is 0.
+pub trait Field: PrimeCharacteristicRing + Default {
+    // How many bits the order takes.
+    ghost bit_length: { ℕ };
+
+    /// The bit length of the order.
+    fn bits() -> usize
+        ensures { result ≡ bit_length };
+
+    ghost bits_below: { Self.residues.order < 2 ^ bit_length };
+
+    ghost bits_least: { 2 ^ bit_length ≤ 2 * Self.residues.order };
+
+    // An element is small, so that one can be lent as a slice.
+    ghost fits_in_memory: { FitsInMemory Self.row };
+
+    // The default element is 0.
+    ghost default_law: { (x : Self) → Self.is_default x → x ≡ Self.residues.of 0 };
+}
+
+/// A field of prime order.
+pub trait PrimeField: Field {
+    /// The order of the field.
+    fn order() -> u128
+        ensures { result ≡ Self.residues.order };
+}
+
+/// A prime field whose order is below `2^64`.
+pub trait PrimeField64: PrimeField {
+    /// The order of the field.
+    const ORDER_U64: u64;
+
+    ghost ORDER_U64: { ℕ };
+
+    /// The element with this canonical number.
+    fn from_canonical(value: u64) -> Self
+        requires { value < Self.residues.order }
+        ensures { result ≡ Self.residues.of value };
+
+    /// The element with this canonical number, or `None` where the number is not below the order.
+    fn from_canonical_checked(value: u64) -> Option<Self>
+        ensures canonical { value < Self.residues.order → result ≡ Some (Self.residues.of value) }
+        ensures other { Self.residues.order ≤ value → result ≡ None }
+    {
+        if value < Self::ORDER_U64 {
+            Some(Self::from_canonical(value))
+        } else {
+            None
+        }
+    }
+
+    /// The canonical number, which is below the order.
+    fn as_canonical_u64(&self) -> u64
+        ensures { result ≡ Self.residues.number self.now };
+
+    /// A number of its own for each element: the canonical one.
+    fn to_unique_u64(&self) -> u64
+        ensures { result ≡ Self.residues.number self.now }
+    {
+        self.as_canonical_u64()
+    }
+
+    ghost order_u64_is: { ORDER_U64 ≡ Self.residues.order };
+
+    ghost fits_u64: { Self.residues.order < 2 ^ 64 };
+}
+
+/// A prime field whose order is below `2^32`.
+pub trait PrimeField32: PrimeField64 {
+    /// The order of the field.
+    const ORDER_U32: u32;
+
+    ghost ORDER_U32: { ℕ };
+
+    /// The canonical number, which is below the order.
+    fn as_canonical_u32(&self) -> u32
+        ensures { result ≡ Self.residues.number self.now };
+
+    /// A number of its own for each element: the canonical one.
+    fn to_unique_u32(&self) -> u32
+        ensures { result ≡ Self.residues.number self.now }
+    {
+        self.as_canonical_u32()
+    }
+
+    ghost order_u32_is: { ORDER_U32 ≡ Self.residues.order };
+
+    ghost fits_u32: { Self.residues.order < 2 ^ 32 };
+}

@@ -1,0 +1,50 @@
+ghost use Rattle.std.specs.Prelude.{◌≡◌, ℕ, List};
+
+/// A type with a name, which tells apart what is made for different types.
+pub trait Named {
+    /// The name.
+    const NAME: &'static str;
+
+    // The bytes of the name.
+    ghost name_bytes: { List ℕ };
+
+    /// The name, [`NAME`](Named::NAME), for code whose contract speaks of its bytes.
+    fn type_name() -> &'static str
+        ensures { result.now ≡ name_bytes };
+}
+
+impl Named for u8 {
+    ghost use Rattle.std.specs.Prelude.{codes};
+
+    const NAME: &'static str = "u8";
+
+    ghost name_bytes = { codes "u8" };
+
+    fn type_name() -> &'static str {
+        Self::NAME
+    }
+}
+
+impl Named for usize {
+    ghost use Rattle.std.specs.Prelude.{codes};
+
+    const NAME: &'static str = "usize";
+
+    ghost name_bytes = { codes "usize" };
+
+    fn type_name() -> &'static str {
+        Self::NAME
+    }
+}
+
+impl Named for () {
+    ghost use Rattle.std.specs.Prelude.{codes};
+
+    const NAME: &'static str = "()";
+
+    ghost name_bytes = { codes "()" };
+
+    fn type_name() -> &'static str {
+        Self::NAME
+    }
+}

@@ -1,0 +1,39 @@
+ghost use Rattle.std.specs.Prelude.{◌≡◌, List};
+
+use std::marker::{Model, PhantomData};
+
+/// The top layer of a Merkle tree over the field `F`: its roots, each a digest `D`.
+///
+/// Contracts see the list of the roots.
+#[derive(Drop)]
+#[derive_where(Debug; D)]
+pub struct MerkleCap<F, D> {
+    roots: Vec<D>,
+    #[derive_where(skip)]
+    field: PhantomData<F>,
+}
+
+impl<F, D> Model for MerkleCap<F, D> {
+    ghost Value = { List D };
+
+    ghost view = { λ c. c.roots.items };
+}
+
+impl<F, D> MerkleCap<F, D> {
+    /// A cap of these roots.
+    pub fn new(roots: Vec<D>) -> Self
+        ensures { result ≡ roots.items }
+    {
+        MerkleCap {
+            roots,
+            field: PhantomData,
+        }
+    }
+
+    /// The roots, in order.
+    pub fn roots(&self) -> &[D]
+        ensures { result.now ≡ self.now }
+    {
+        self.roots.as_slice()
+    }
+}

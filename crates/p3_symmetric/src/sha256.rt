@@ -1,0 +1,19 @@
+ghost use Rattle.std.specs.Prelude.{◌≡◌};
+ghost use Rattle.sha2.specs.Sha256.{sha256};
+
+use crate::CryptographicHasher;
+use sha2::{Digest, Sha256};
+
+/// SHA-256 (FIPS 180-4), of bytes to 32 bytes, by the crate `sha2`.
+#[derive(Clone, Copy, Debug, PartialEq, Eq)]
+pub struct Sha256Hasher;
+
+impl CryptographicHasher<u8, [u8; 32]> for Sha256Hasher {
+    ghost hash = { λ _ xs. sha256 xs };
+
+    fn hash_slice(&self, input: &[u8]) -> [u8; 32]
+        ensures { result ≡ sha256 input.now }
+    {
+        Sha256::digest(input)
+    }
+}
