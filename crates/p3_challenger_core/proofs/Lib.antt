@@ -1,2 +1,5 @@
 pub mod HashChains
 pub mod WorkedRows
+pub mod DuplexChains
+pub mod Overwriting
+pub mod Pushing

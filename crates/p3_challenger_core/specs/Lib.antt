@@ -5,3 +5,7 @@ pub mod HashState
 pub mod HashStateLaws
 pub mod HashChain
 pub mod LengthHasher
+pub mod DuplexTranscript
+pub mod DuplexState
+pub mod DuplexStateLaws
+pub mod DuplexChain

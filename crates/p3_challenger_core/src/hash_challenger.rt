@@ -3,8 +3,8 @@ ghost use Rattle.p3_challenger_core.specs.HashChain.{Call, run_calls, run_segmen
 ghost use Rattle.p3_challenger_core.specs.HashState.{pending_of};
 ghost use Rattle.p3_challenger_core.specs.HashTranscript.{absorbing};
 
-use p3_symmetric::CryptographicHasher;
 use crate::{CanObserve, CanSample, ChallengerError, Sponge};
+use p3_symmetric::CryptographicHasher;
 use std::alloc::AllocError;
 use std::marker::Model;
 

@@ -3,11 +3,13 @@
 #![tactic(auto)]
 
 mod challenger;
+mod duplex_challenger;
 mod error;
 mod hash_challenger;
 #[cfg(test)]
 mod tests;
 
 pub use challenger::{CanObserve, CanSample, Sponge};
+pub use duplex_challenger::DuplexChallenger;
 pub use error::ChallengerError;
 pub use hash_challenger::HashChallenger;

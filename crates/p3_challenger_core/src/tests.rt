@@ -99,4 +99,3 @@ fn a_challenger_of_sha256_draws_the_digest(rt: HostRuntime) -> Result<(), Fail> 
     assert_eq!(rt; challenger.sample()?, 0xba);
     Ok(())
 }
-

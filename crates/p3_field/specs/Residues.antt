@@ -14,12 +14,12 @@ pub record IsResidues {F : Type 0} (r : Residues F) : Type 0 where
   pub number_of : (n : ℕ) → r.number (r.of n) ≡ n % r.order
   pub of_number : (x : F) → r.of (r.number x) ≡ x
 
--- an element and a number
-abbrev pub plus : {F : Type 0} → Residues F → F → ℕ → F
-plus r x n = r.of (r.number x + n)
-
 abbrev pub sum_of : {F : Type 0} → Residues F → F → F → F
 sum_of r x y = r.of (r.number x + r.number y)
+
+-- an element and a number
+abbrev pub plus : {F : Type 0} → Residues F → F → ℕ → F
+plus r x n = sum_of r x (r.of n)
 
 abbrev pub difference_of : {F : Type 0} → Residues F → F → F → F
 difference_of r x y = r.of (r.number x + (r.order - r.number y))

@@ -1,12 +1,16 @@
-//! Hash functions over field elements and bytes, and the digests that they give.
+//! Hash functions and permutations over field elements and bytes, and the digests that they give.
 #![tactic(auto)]
 
 mod hash;
 mod hasher;
 mod merkle_cap;
+mod permutation;
 mod sha256;
+mod turn;
 
 pub use hash::Hash;
 pub use hasher::CryptographicHasher;
 pub use merkle_cap::MerkleCap;
+pub use permutation::CryptographicPermutation;
 pub use sha256::Sha256Hasher;
+pub use turn::Turn;
