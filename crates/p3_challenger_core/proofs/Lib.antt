@@ -3,3 +3,4 @@ pub mod WorkedRows
 pub mod DuplexChains
 pub mod Overwriting
 pub mod Pushing
+pub mod Observing

@@ -19,6 +19,9 @@ fed s xs = record s { transcript = transcript.fed s.transcript xs }
 abbrev pub observed : {T H : Type 0} → HashState T H → T → HashState T H
 observed s x = record s { transcript = transcript.observed s.transcript x }
 
+abbrev pub array_observed : {T H : Type 0} → HashState T H → List T → HashState T H
+array_observed s xs = record s { transcript = transcript.array_observed s.transcript xs }
+
 -- a draw, under the function that each hasher is
 abbrev pub sampled : {T H : Type 0} → (H → List T → List T) → ℕ → HashState T H → Option T
 sampled hash out_len s = transcript.sampled (hash s.hasher) out_len s.transcript

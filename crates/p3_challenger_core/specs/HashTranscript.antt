@@ -21,6 +21,11 @@ fed s (x ∷ xs) = absorbing (s.pending ++ x ∷ xs)
 abbrev pub observed : {T : Type 0} → HashTranscript T → T → HashTranscript T
 observed s x = fed s (x ∷ [])
 
+-- after an array: its values are added to what is pending, and the outputs are dropped, by an array
+-- of no values too
+abbrev pub array_observed : {T : Type 0} → HashTranscript T → List T → HashTranscript T
+array_observed s xs = absorbing (s.pending ++ xs)
+
 -- after a flush: the digest of all that was pending is pending, and each of its places is left
 abbrev pub flushed : {T : Type 0} → (List T → List T) → ℕ → HashTranscript T → HashTranscript T
 flushed hash out_len s = record { pending = hash s.pending; outputs_left = out_len }

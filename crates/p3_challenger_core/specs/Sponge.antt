@@ -15,6 +15,11 @@ abbrev pub observed_all : {S T : Type 0} → (S → T → S) → S → List T �
 observed_all observed s [] = s
 observed_all observed s (x ∷ xs) = observed_all observed (observed s x) xs
 
+-- what is left of a state where one of the values is refused: those before it were observed
+abbrev pub LeavesBeginning : {S T : Type 0} → (S → T → S) → S → List T → S → Type 0
+LeavesBeginning observed s [] t = ⊥
+LeavesBeginning observed s (x ∷ xs) t = (t ≡ s) ⊎ LeavesBeginning observed (observed s x) xs t
+
 -- what an observe that answers this error leaves: it is refused for memory alone
 abbrev pub RefusesObserve : {S : Type 0} → (S → Type 0) → ChallengerError → S → Type 0
 RefusesObserve MayLeave OutOfMemory t = MayLeave t

@@ -82,3 +82,16 @@ pub trait CanSample<T>: Sponge {
     // A draw that meets the limit gives nothing.
     ghost limit_gives_none: { (s : Self.State) → meets_limit s → sampled s ≡ None };
 }
+
+/// A challenger that ends in a digest of all that was observed.
+pub trait CanFinalizeDigest: Sponge {
+    /// What it ends in.
+    type Digest;
+
+    // The digest of a state.
+    ghost digest_of: { Self.State → Self.Digest };
+
+    /// The digest of this challenger, which it ends with.
+    fn finalize(self) -> Self::Digest
+        ensures { result ≡ digest_of (Self.state self) };
+}

@@ -3,7 +3,9 @@ ghost use Rattle.p3_field.specs.Residues.{plus};
 ghost use Rattle.p3_challenger_core.specs.DuplexChain.{Call, run_calls, run_segments, segments};
 ghost use Rattle.p3_challenger_core.specs.DuplexTranscript.{absorbing, overwritten, fresh, outputs};
 
-use crate::{CanObserve, CanSample, ChallengerError, Sponge};
+mod digests;
+
+use crate::{CanFinalizeDigest, CanObserve, CanSample, ChallengerError, Sponge};
 use p3_field::{PrimeCharacteristicRing, PrimeField64};
 use p3_symmetric::CryptographicPermutation;
 use std::marker::Model;
@@ -124,16 +126,6 @@ impl<
         }
     }
 
-    /// The digest of all that was observed and drawn: the rate after one more permutation, whether
-    /// values are pending or not.
-    pub fn finalize(self) -> [F; RATE]
-        ensures { result ≡ duplex_state.digest F.residues P.permutation RATE self }
-    {
-        let mut challenger = self;
-        challenger.duplex();
-        challenger.rate()
-    }
-
     // The rate.
     fn rate(&self) -> [F; RATE]
         ensures { result ≡ take RATE self.now.sponge.cells }
@@ -184,7 +176,7 @@ impl<
     }
 
     // Makes values pending, one after another.
-    fn push_all(&mut self, values: &[F])
+    pub(crate) fn push_all(&mut self, values: &[F])
         ensures { self.new ≡ duplex_state.fed F.residues P.permutation RATE self.old values.now }
     {
         for i in 0..values.len() {
@@ -303,6 +295,26 @@ impl<
         }
         self.outputs_left -= 1;
         Ok(self.sponge_state[self.outputs_left])
+    }
+}
+
+impl<
+    F: PrimeField64,
+    P: CryptographicPermutation<[F; WIDTH]>,
+    const WIDTH: usize,
+    const RATE: usize,
+> CanFinalizeDigest for DuplexChallenger<F, P, WIDTH, RATE> {
+    ghost use Rattle.p3_challenger_core.specs.DuplexState as duplex_state;
+
+    type Digest = [F; RATE];
+
+    // The rate after one more permutation, whether values are pending or not.
+    ghost digest_of = { λ s. duplex_state.digest F.residues P.permutation RATE s };
+
+    fn finalize(self) -> [F; RATE] {
+        let mut challenger = self;
+        challenger.duplex();
+        challenger.rate()
     }
 }
 

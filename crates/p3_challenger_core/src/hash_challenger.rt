@@ -1,9 +1,12 @@
-ghost use Rattle.std.specs.Prelude.{◌≡◌, ◌<◌, List, OnOk, OnErr};
+ghost use Rattle.std.specs.Prelude.{◌≡◌, ◌<◌, List, OnOk, OnErr, IfOk, IfErr};
 ghost use Rattle.p3_challenger_core.specs.HashChain.{Call, run_calls, run_segments, segments};
 ghost use Rattle.p3_challenger_core.specs.HashState.{pending_of};
 ghost use Rattle.p3_challenger_core.specs.HashTranscript.{absorbing};
+ghost use Rattle.p3_challenger_core.specs.Sponge.{RefusesObserve};
 
-use crate::{CanObserve, CanSample, ChallengerError, Sponge};
+mod digests;
+
+use crate::{CanFinalizeDigest, CanObserve, CanSample, ChallengerError, Sponge};
 use p3_symmetric::CryptographicHasher;
 use std::alloc::AllocError;
 use std::marker::Model;
@@ -60,6 +63,26 @@ impl<T: Copy, H: CryptographicHasher<T, [T; OUT_LEN]>, const OUT_LEN: usize> Has
         }
     }
 
+    /// An equal challenger, which shares nothing with this one.
+    ///
+    /// The one error is [`ChallengerError::OutOfMemory`].
+    pub fn clone(&self) -> Result<Self, ChallengerError>
+        ensures ok { IfOk result (λ c. c ≡ self.now) }
+        ensures err { IfErr result (λ e. e ≡ ChallengerError.OutOfMemory) }
+    {
+        let alloc = *self.input_buffer.allocator();
+        let input_buffer = match &self.digest {
+            Some(_) => Vec::new(alloc),
+            None => Vec::from_slice(alloc, self.input_buffer.as_slice())?,
+        };
+        Ok(HashChallenger {
+            input_buffer,
+            digest: self.digest,
+            outputs_left: self.outputs_left,
+            hasher: self.hasher,
+        })
+    }
+
     /// The hash chain, whole: from this challenger on, every list of calls gives the answers, and
     /// leaves the challenger, that its segments name.
     ///
@@ -80,6 +103,29 @@ impl<T: Copy, H: CryptographicHasher<T, [T; OUT_LEN]>, const OUT_LEN: usize> Has
             Some(digest) => &digest[..],
             None => self.input_buffer.as_slice(),
         }
+    }
+
+    // Adds the values to what is pending, and drops the outputs. A refused call changes nothing.
+    fn absorb(&mut self, values: &[T]) -> Result<(), ChallengerError>
+        ensures ok { OnOk result (self.new ≡ hash_state.array_observed self.old values.now) }
+        ensures err { IfErr result (λ e. RefusesObserve (λ t. t ≡ self.old) e self.new) }
+    {
+        copy_digest(&self.digest, &mut self.input_buffer)?;
+        self.input_buffer.extend_from_slice(values)?;
+        self.digest = None;
+        self.outputs_left = 0;
+        Ok(())
+    }
+
+    // Feeds the values: as `absorb`, but nothing changes where there are none.
+    fn feed(&mut self, values: &[T]) -> Result<(), ChallengerError>
+        ensures ok { OnOk result (self.new ≡ hash_state.fed self.old values.now) }
+        ensures err { IfErr result (λ e. RefusesObserve (λ t. t ≡ self.old) e self.new) }
+    {
+        if values.is_empty() {
+            return Ok(());
+        }
+        self.absorb(values)
     }
 
     /// Hashes all that is pending. The digest is pending in its place, and all of it is left to draw.
@@ -148,14 +194,7 @@ impl<T: Copy, H: CryptographicHasher<T, [T; OUT_LEN]>, const OUT_LEN: usize> Can
     }
 
     fn observe_slice(&mut self, values: &[T]) -> Result<(), ChallengerError> {
-        if values.is_empty() {
-            return Ok(());
-        }
-        copy_digest(&self.digest, &mut self.input_buffer)?;
-        self.input_buffer.extend_from_slice(values)?;
-        self.digest = None;
-        self.outputs_left = 0;
-        Ok(())
+        self.feed(values)
     }
 }
 
@@ -183,5 +222,48 @@ impl<T: Copy, H: CryptographicHasher<T, [T; OUT_LEN]>, const OUT_LEN: usize> Can
             Some(digest) => Ok(digest[self.outputs_left]),
             None => unreachable!(),
         }
+    }
+}
+
+impl<T: Copy, H: CryptographicHasher<T, [T; OUT_LEN]>, const OUT_LEN: usize> CanFinalizeDigest
+    for HashChallenger<T, H, OUT_LEN> {
+    type Digest = [T; OUT_LEN];
+
+    // One more hash of all that is pending, whatever outputs are left.
+    ghost digest_of = { λ s. H.hash s.hasher s.transcript.pending };
+
+    fn finalize(self) -> [T; OUT_LEN] {
+        self.hasher.hash_slice(self.pending())
+    }
+}
+
+impl<
+    T: Copy,
+    H: CryptographicHasher<T, [T; OUT_LEN]>,
+    const N: usize,
+    const OUT_LEN: usize,
+> CanObserve<[T; N]> for HashChallenger<T, H, OUT_LEN> {
+    ghost use Rattle.p3_challenger_core.specs.Sponge.{LeavesBeginning};
+    ghost use Rattle.p3_challenger_core.specs.HashState as hash_state;
+    ghost use Rattle.p3_challenger_core.specs.HashStateLaws.{array_observed-fed};
+
+    ghost symbols = { λ xs. xs };
+
+    ghost observed = { λ s xs. hash_state.array_observed s xs };
+
+    // A refused call has observed the arrays before the refused one.
+    ghost may_leave = { λ s xss t. LeavesBeginning hash_state.array_observed s xss t };
+
+    ghost feeds = { array_observed-fed };
+
+    fn observe(&mut self, value: [T; N]) -> Result<(), ChallengerError> {
+        self.absorb(&value[..])
+    }
+
+    fn observe_slice(&mut self, values: &[[T; N]]) -> Result<(), ChallengerError> {
+        for value in values {
+            self.absorb(&value[..])?;
+        }
+        Ok(())
     }
 }

@@ -9,7 +9,7 @@ mod hash_challenger;
 #[cfg(test)]
 mod tests;
 
-pub use challenger::{CanObserve, CanSample, Sponge};
+pub use challenger::{CanFinalizeDigest, CanObserve, CanSample, Sponge};
 pub use duplex_challenger::DuplexChallenger;
 pub use error::ChallengerError;
 pub use hash_challenger::HashChallenger;

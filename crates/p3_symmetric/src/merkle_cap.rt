@@ -5,7 +5,6 @@ use std::marker::{Model, PhantomData};
 /// The top layer of a Merkle tree over the field `F`: its roots, each a digest `D`.
 ///
 /// Contracts see the list of the roots.
-#[derive(Drop)]
 #[derive_where(Debug; D)]
 pub struct MerkleCap<F, D> {
     roots: Vec<D>,
@@ -35,5 +34,11 @@ impl<F, D> MerkleCap<F, D> {
         ensures { result.now ≡ self.now }
     {
         self.roots.as_slice()
+    }
+}
+
+impl<F, D: Drop> Drop for MerkleCap<F, D> {
+    fn drop(self) {
+        let MerkleCap { roots: _, field: _ } = self;
     }
 }
