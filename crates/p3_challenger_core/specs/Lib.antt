@@ -9,3 +9,4 @@ pub mod DuplexTranscript
 pub mod DuplexState
 pub mod DuplexStateLaws
 pub mod DuplexChain
+pub mod Bits

@@ -1,6 +1,6 @@
 -- What every challenger is, whatever it is made of: a state that values are observed into and
 -- values are drawn from.
-use Rattle.std.specs.Prelude.{◌≡◌, ℕ, zero, suc, List, [], ◌∷◌, ◌⊎◌, Option, Some, option_and_then, is_some, if◌then◌else◌}
+use Rattle.std.specs.Prelude.{◌≡◌, ℕ, zero, suc, List, [], ◌∷◌, ◌⊎◌, Option, Some, option_and_then, IsSome, is_some, if◌then◌else◌}
 use Rattle.std.specs.Option.{option_map}
 use Rattle.p3_challenger_core.specs.declared.error.ChallengerError.{ChallengerError}
 use Rattle.p3_challenger_core.specs.declared.error.ChallengerError.TheVariants.{OutOfMemory, DrawLimit, NoWitness, TooLong}
@@ -50,3 +50,15 @@ after_draws sampled after (suc n) s = if is_some (sampled s) then after_draws sa
 unfoldable pub SomeDraw : {S : Type 0} → (S → S) → (S → Type 0) → ℕ → S → Type 0
 SomeDraw after P zero s = ⊥
 SomeDraw after P (suc n) s = P s ⊎ SomeDraw after P n (after s)
+
+-- what n draws in a row that answer this error leave: those before the refused one gave their values
+unfoldable pub RefusesDraws : {S T : Type 0} → (S → Option T) → (S → S) → (S → Type 0) → (S → S → Type 0) → ℕ → ChallengerError → S → S → Type 0
+RefusesDraws sampled after MeetsLimit MayLeave zero e s t = ⊥
+RefusesDraws sampled after MeetsLimit MayLeave (suc n) e s t =
+    RefusesDraw (MeetsLimit s) (after s) (MayLeave s) e t
+    ⊎ (IsSome (sampled s) × RefusesDraws sampled after MeetsLimit MayLeave n e (after s) t)
+
+-- the same where the memory for their values is asked for first: refused there, nothing changes
+abbrev pub RefusesDrawVec : {S T : Type 0} → (S → Option T) → (S → S) → (S → Type 0) → (S → S → Type 0) → ℕ → ChallengerError → S → S → Type 0
+RefusesDrawVec sampled after MeetsLimit MayLeave n e s t =
+    RefusesObserve (λ u. u ≡ s) e t ⊎ RefusesDraws sampled after MeetsLimit MayLeave n e s t

@@ -3,6 +3,7 @@ ghost use Rattle.p3_field.specs.Residues.{plus};
 ghost use Rattle.p3_challenger_core.specs.DuplexChain.{Call, run_calls, run_segments, segments};
 ghost use Rattle.p3_challenger_core.specs.DuplexTranscript.{absorbing, overwritten, fresh, outputs};
 
+mod bits;
 mod digests;
 
 use crate::{CanFinalizeDigest, CanObserve, CanSample, ChallengerError, Sponge};

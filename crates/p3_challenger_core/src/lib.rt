@@ -5,11 +5,14 @@
 mod challenger;
 mod duplex_challenger;
 mod error;
+mod field_challenger;
+mod forward;
 mod hash_challenger;
 #[cfg(test)]
 mod tests;
 
-pub use challenger::{CanFinalizeDigest, CanObserve, CanSample, Sponge};
+pub use challenger::{CanFinalizeDigest, CanObserve, CanSample, CanSampleBits, Sponge};
 pub use duplex_challenger::DuplexChallenger;
 pub use error::ChallengerError;
+pub use field_challenger::FieldChallenger;
 pub use hash_challenger::HashChallenger;

@@ -1,0 +1,83 @@
+// A challenger behind a reference is that challenger: each call is passed on.
+ghost use Rattle.std.specs.Prelude.{◌≡◌};
+
+use crate::{CanObserve, CanSample, CanSampleBits, ChallengerError, Sponge};
+use std::alloc::Global;
+
+impl<C: Sponge> Sponge for &mut C {
+    type State = C::State;
+
+    type Symbol = C::Symbol;
+
+    ghost state = { λ c. C.state c.now };
+
+    ghost fed = { C.fed };
+
+    ghost fed_nothing = { C.fed_nothing };
+
+    ghost fed_more = { C.fed_more };
+}
+
+impl<T, C: CanObserve<T>> CanObserve<T> for &mut C {
+    ghost symbols = { C.symbols };
+
+    ghost observed = { C.observed };
+
+    ghost may_leave = { C.may_leave };
+
+    ghost feeds = { C.feeds };
+
+    fn observe(&mut self, value: T) -> Result<(), ChallengerError> {
+        (**self).observe(value)
+    }
+
+    fn observe_slice(&mut self, values: &[T]) -> Result<(), ChallengerError> {
+        (**self).observe_slice(values)
+    }
+}
+
+impl<T: Drop, C: CanSample<T>> CanSample<T> for &mut C {
+    ghost sampled = { C.sampled };
+
+    ghost after_sampled = { C.after_sampled };
+
+    ghost meets_limit = { C.meets_limit };
+
+    ghost draw_may_leave = { C.draw_may_leave };
+
+    ghost limit_gives_none = { C.limit_gives_none };
+
+    fn sample(&mut self) -> Result<T, ChallengerError> {
+        (**self).sample()
+    }
+
+    fn sample_into_slice(&mut self, values: &mut [T]) -> Result<(), ChallengerError> {
+        (**self).sample_into_slice(values)
+    }
+
+    fn sample_vec(&mut self, alloc: Global, n: usize) -> Result<Vec<T>, ChallengerError> {
+        (**self).sample_vec(alloc, n)
+    }
+}
+
+impl<T, C: CanSampleBits<T>> CanSampleBits<T> for &mut C {
+    ghost most_bits = { C.most_bits };
+
+    ghost sampled_bits = { C.sampled_bits };
+
+    ghost after_bits = { C.after_bits };
+
+    ghost bits_meet_limit = { C.bits_meet_limit };
+
+    ghost bits_may_leave = { C.bits_may_leave };
+
+    ghost bits_limit_gives_none = { C.bits_limit_gives_none };
+
+    fn max_bits() -> usize {
+        C::max_bits()
+    }
+
+    fn sample_bits(&mut self, bits: usize) -> Result<T, ChallengerError> {
+        (**self).sample_bits(bits)
+    }
+}
