@@ -1,5 +1,4 @@
-ghost use Rattle.std.specs.Prelude.{◌≡◌, ℕ, List, Option, Some, OnOk, IfOk, IfErr};
-ghost use Rattle.std.specs.Option.{option_map};
+ghost use Rattle.std.specs.Prelude.{◌≡◌, ◌-◌, ◌∷◌, Some, OnOk, IfOk, IfErr, replicate};
 ghost use Rattle.p3_challenger_core.specs.Sponge.{observed_all, draws, after_draws, RefusesObserve, RefusesDraws};
 
 use crate::{CanObserve, CanSample, CanSampleBits, ChallengerError};
@@ -20,5 +19,42 @@ pub trait FieldChallenger<F: Field>: CanObserve<F> + CanSample<F> + CanSampleBit
             RefusesObserve (Self.CanObserve.may_leave (Self.state self.old) (A.coefficients element)) e (Self.state self.new)) }
     {
         self.observe_slice(element.as_basis_coefficients_slice())
+    }
+
+    /// Draws the coefficients of an element, coefficient 0 first.
+    ///
+    /// The errors are those of [`CanSample::sample`]. After one, the draws before the one that was
+    /// refused are done.
+    fn sample_algebra_element<A: BasedVectorSpace<F>>(&mut self) -> Result<A, ChallengerError>
+        ensures drawn { IfOk result (λ element.
+            draws Self.CanSample.sampled Self.CanSample.after_sampled A.DIMENSION (Self.state self.old)
+            ≡ Some (A.coefficients element)) }
+        ensures after { OnOk result (Self.state self.new
+            ≡ after_draws Self.CanSample.sampled Self.CanSample.after_sampled A.DIMENSION (Self.state self.old)) }
+        ensures err { IfErr result (λ e.
+            RefusesDraws Self.CanSample.sampled Self.CanSample.after_sampled Self.CanSample.meets_limit
+            Self.CanSample.draw_may_leave A.DIMENSION e (Self.state self.old) (Self.state self.new)) }
+    {
+        let mut element = A::zero();
+        for i in 0..A::DIMENSION {
+            element = element.with_coefficient(i, self.sample()?);
+        }
+        Ok(element)
+    }
+
+    /// Observes a value of the field as the element of an algebra that it is: the value is
+    /// coefficient 0, and the others are zeros.
+    ///
+    /// The one error is [`ChallengerError::OutOfMemory`].
+    fn observe_base_as_algebra_element<A: Algebra<F>>(
+        &mut self,
+        value: F,
+    ) -> Result<(), ChallengerError>
+        ensures ok { OnOk result (Self.state self.new ≡ observed_all Self.CanObserve.observed (Self.state self.old)
+            (value ∷ replicate (A.DIMENSION - 1) (F.residues.of 0))) }
+        ensures err { IfErr result (λ e. RefusesObserve (Self.CanObserve.may_leave (Self.state self.old)
+            (value ∷ replicate (A.DIMENSION - 1) (F.residues.of 0))) e (Self.state self.new)) }
+    {
+        self.observe_algebra_element(A::from(value))
     }
 }

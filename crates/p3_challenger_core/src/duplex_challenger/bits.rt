@@ -2,7 +2,7 @@
 ghost use Rattle.std.specs.Prelude.{◌≡◌, ◌^◌, ◌≤◌, ◌%◌};
 
 use super::DuplexChallenger;
-use crate::{CanSample, CanSampleBits, ChallengerError};
+use crate::{CanSample, CanSampleBits, ChallengerError, FieldChallenger};
 use p3_field::{PrimeField64, log2_ceil_u64};
 use p3_symmetric::CryptographicPermutation;
 
@@ -39,3 +39,10 @@ impl<
         Ok((element.as_canonical_u64() % (1 << bits)) as usize)
     }
 }
+
+impl<
+    F: PrimeField64,
+    P: CryptographicPermutation<[F; WIDTH]>,
+    const WIDTH: usize,
+    const RATE: usize,
+> FieldChallenger<F> for DuplexChallenger<F, P, WIDTH, RATE> {}
