@@ -6,3 +6,4 @@ pub mod Pushing
 pub mod Observing
 pub mod Draws
 pub mod MostBits
+pub mod Calling

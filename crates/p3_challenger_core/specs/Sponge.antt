@@ -20,6 +20,12 @@ abbrev pub LeavesBeginning : {S T : Type 0} → (S → T → S) → S → List T
 LeavesBeginning observed s [] t = ⊥
 LeavesBeginning observed s (x ∷ xs) t = (t ≡ s) ⊎ LeavesBeginning observed (observed s x) xs t
 
+-- what is left of a state where one of several calls in a row is refused: those before it are done, and
+-- the refused one leaves what it may
+abbrev pub LeavesInCalls : {S T : Type 0} → (S → T → S) → (S → T → S → Type 0) → S → List T → S → Type 0
+LeavesInCalls step MayLeave s [] t = ⊥
+LeavesInCalls step MayLeave s (x ∷ xs) t = MayLeave s x t ⊎ LeavesInCalls step MayLeave (step s x) xs t
+
 -- what an observe that answers this error leaves: it is refused for memory alone
 abbrev pub RefusesObserve : {S : Type 0} → (S → Type 0) → ChallengerError → S → Type 0
 RefusesObserve MayLeave OutOfMemory t = MayLeave t

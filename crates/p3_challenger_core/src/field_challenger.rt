@@ -1,5 +1,5 @@
 ghost use Rattle.std.specs.Prelude.{◌≡◌, ◌-◌, ◌∷◌, Some, OnOk, IfOk, IfErr, replicate};
-ghost use Rattle.p3_challenger_core.specs.Sponge.{observed_all, draws, after_draws, RefusesObserve, RefusesDraws};
+ghost use Rattle.p3_challenger_core.specs.Sponge.{observed_all, draws, after_draws, LeavesInCalls, RefusesObserve, RefusesDraws};
 
 use crate::{CanObserve, CanSample, CanSampleBits, ChallengerError};
 use p3_field::{Algebra, BasedVectorSpace, Field};
@@ -19,6 +19,28 @@ pub trait FieldChallenger<F: Field>: CanObserve<F> + CanSample<F> + CanSampleBit
             RefusesObserve (Self.CanObserve.may_leave (Self.state self.old) (A.coefficients element)) e (Self.state self.new)) }
     {
         self.observe_slice(element.as_basis_coefficients_slice())
+    }
+
+    /// Observes elements in order, as
+    /// [`observe_algebra_element`](FieldChallenger::observe_algebra_element) of each would.
+    ///
+    /// The one error is [`ChallengerError::OutOfMemory`]. The elements before the refused one are
+    /// observed then.
+    fn observe_algebra_slice<A: BasedVectorSpace<F>>(
+        &mut self,
+        elements: &[A],
+    ) -> Result<(), ChallengerError>
+        ensures ok { OnOk result (Self.state self.new ≡ observed_all
+            (λ s element. observed_all Self.CanObserve.observed s (A.coefficients element)) (Self.state self.old) elements.now) }
+        ensures err { IfErr result (λ e. RefusesObserve (LeavesInCalls
+            (λ s element. observed_all Self.CanObserve.observed s (A.coefficients element))
+            (λ s element. Self.CanObserve.may_leave s (A.coefficients element))
+            (Self.state self.old) elements.now) e (Self.state self.new)) }
+    {
+        for i in 0..elements.len() {
+            self.observe_algebra_element(elements[i])?;
+        }
+        Ok(())
     }
 
     /// Draws the coefficients of an element, coefficient 0 first.

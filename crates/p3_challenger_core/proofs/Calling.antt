@@ -1,0 +1,40 @@
+-- Calls made one after another.
+use Rattle.std.proofs.Common.{◌≡◌, ℕ, ◌+◌, ◌<◌, ◌≤◌, List, ◌∷◌, length, drop, get_or, sym, ap, ◌∙◌, inl, inr, subst, add-one}
+use Rattle.std.proofs.Math.ListN.{drop_of_length-le}
+use Rattle.std.proofs.Math.Seq.{drop-cons}
+use Rattle.p3_challenger_core.specs.Sponge.{observed_all, LeavesInCalls, RefusesObserve}
+use Rattle.p3_challenger_core.specs.declared.error.ChallengerError.{ChallengerError}
+use Rattle.p3_challenger_core.specs.declared.error.ChallengerError.TheVariants.{OutOfMemory, DrawLimit, NoWitness, TooLong}
+
+-- from here on, the calls that are left lead where all of them lead from the start
+pub record GoesOn {S T : Type 0} (step : S → T → S) (MayLeave : S → T → S → Type 0) (start : S) (values : List T) (here : S) (rest : List T) : Type 0 where
+  pub whole : observed_all step here rest ≡ observed_all step start values
+  pub refused : (t : S) → LeavesInCalls step MayLeave here rest t → LeavesInCalls step MayLeave start values t
+
+module _ {S T : Type 0} (step : S → T → S) (MayLeave : S → T → S → Type 0) (start : S) (values : List T) (here : S) (i : ℕ) where
+  pub goes_on-start : GoesOn step MayLeave start values start values
+  goes_on-start = record { whole = λ _. observed_all step start values; refused = λ t h. h }
+
+  -- behind the last call
+  pub goes_on-end : length values ≤ i → GoesOn step MayLeave start values here (drop i values) → here ≡ observed_all step start values
+  goes_on-end h on = sym (ap (observed_all step here) (drop_of_length-le values h)) ∙ on.whole
+
+  module _ (x : T) (in_range : i < length values) (is : x ≡ get_or values i x) (on : GoesOn step MayLeave start values here (drop i values)) where
+    rest-is : drop i values ≡ x ∷ drop (i + 1) values
+    rest-is = drop-cons values i x in_range ∙ (λ j. sym is j ∷ drop (sym (add-one i) j) values)
+
+    at_x : GoesOn step MayLeave start values here (x ∷ drop (i + 1) values)
+    at_x = subst (λ (rest : List T). GoesOn step MayLeave start values here rest) rest-is on
+
+    -- a call more is made
+    pub goes_on-next : (next : S) → next ≡ step here x → GoesOn step MayLeave start values next (drop (i + 1) values)
+    goes_on-next next moved =
+        subst (λ (s : S). GoesOn step MayLeave start values s (drop (i + 1) values)) (sym moved)
+        (record { whole = at_x.whole; refused = λ t h. at_x.refused t (inr h) })
+
+    -- a call is refused
+    pub goes_on-refused : (e : ChallengerError) (t : S) → RefusesObserve (MayLeave here x) e t → RefusesObserve (LeavesInCalls step MayLeave start values) e t
+    goes_on-refused OutOfMemory t h = at_x.refused t (inl h)
+    goes_on-refused DrawLimit t h = absurd h
+    goes_on-refused NoWitness t h = absurd h
+    goes_on-refused TooLong t h = absurd h
