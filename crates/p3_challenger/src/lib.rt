@@ -6,4 +6,7 @@ pub mod fs;
 #[cfg(test)]
 mod tests;
 
-pub use p3_challenger_core::{CanObserve, CanSample, ChallengerError, HashChallenger, Sponge};
+pub use p3_challenger_core::{
+    CanFinalizeDigest, CanObserve, CanSample, CanSampleBits, ChallengerError, DuplexChallenger,
+    FieldChallenger, HashChallenger, Sponge, sample_array,
+};

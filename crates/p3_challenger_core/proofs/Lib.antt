@@ -7,3 +7,4 @@ pub mod Observing
 pub mod Draws
 pub mod MostBits
 pub mod Calling
+pub mod DuplexRows

@@ -2,7 +2,9 @@
 use Rattle.std.specs.Prelude.{◌≡◌, ℕ, zero, suc, List, ◌∷◌, Option, Some, None, option_and_then, refl}
 use Rattle.std.proofs.Common.{ap, ◌∙◌, inl, inr}
 use Rattle.std.specs.Option.{option_map}
-use Rattle.p3_challenger_core.specs.Sponge.{draws, SomeDraw}
+use Rattle.p3_challenger_core.specs.declared.error.ChallengerError.{ChallengerError}
+use Rattle.p3_challenger_core.specs.declared.error.ChallengerError.TheVariants.{OutOfMemory, DrawLimit, NoWitness, TooLong}
+use Rattle.p3_challenger_core.specs.Sponge.{draws, SomeDraw, RefusesDraw, RefusesDraws}
 
 -- behind nothing comes nothing
 none_behind : {T : Type 0} (o : Option T) → option_and_then (λ x. option_map (λ (xs : List T). x ∷ xs) None) o ≡ None
@@ -18,3 +20,17 @@ draws-none sampled after P limit (suc n) s (inl here) =
 draws-none sampled after P limit (suc n) s (inr later) =
     ap (λ o. option_and_then (λ x. option_map (λ xs. x ∷ xs) o) (sampled s)) (draws-none sampled after P limit n (after s) later)
     ∙ none_behind (sampled s)
+
+-- a draw that meets no limit and is not refused for memory is not refused
+not_refused : {S : Type 0} (after : S) (e : ChallengerError) (t : S) → RefusesDraw ⊥ after (λ _. ⊥) e t → ⊥
+not_refused after OutOfMemory t h = h
+not_refused after DrawLimit t h = h.0
+not_refused after NoWitness t h = h
+not_refused after TooLong t h = h
+
+-- nor are such draws in a row
+pub draws-not_refused : {S T : Type 0} (sampled : S → Option T) (after : S → S) (n : ℕ) (e : ChallengerError) (s t : S) → RefusesDraws sampled after (λ _. ⊥) (λ _ _. ⊥) n e s t → ⊥
+unfolding RefusesDraws
+draws-not_refused sampled after zero e s t h = h
+draws-not_refused sampled after (suc n) e s t (inl here) = not_refused (after s) e t here
+draws-not_refused sampled after (suc n) e s t (inr later) = draws-not_refused sampled after n e (after s) t later.1

@@ -12,10 +12,18 @@ use p3_symmetric::CryptographicPermutation;
 use std::marker::Model;
 
 /// A challenger made of a permutation of `WIDTH` cells, of which the first `RATE` are the rate.
+///
+/// What is observed is pending until it fills the rate, or until a draw finds no output left. Then it
+/// is absorbed: its values are written over the rate with zeros behind them, their number is added to
+/// the cell behind the rate, and the cells are permuted. The cells of the rate are then the outputs,
+/// drawn from the last one backwards. An observation drops the outputs left, and a draw that finds
+/// none, and nothing pending, permutes the cells.
+///
+/// No call takes memory, and none is refused.
 #[derive(Debug, Drop)]
 pub struct DuplexChallenger<F, P, const WIDTH: usize, const RATE: usize> {
     sponge_state: [F; WIDTH],
-    // What is pending: its first `inputs` places.
+    // Its first `inputs` places are what is pending; the others are of no meaning.
     input_buffer: [F; RATE],
     inputs: usize,
     // How many outputs are left to draw: the first cells of the rate.
@@ -52,6 +60,9 @@ impl<
     ghost use Rattle.p3_challenger_core.specs.DuplexState as duplex_state;
 
     /// A challenger of zeros, with nothing pending and no output.
+    ///
+    /// `draw_limit` is for draws that may refuse candidates: how many they take at most. A draw of one
+    /// element takes the first.
     pub fn new(permutation: P, draw_limit: u64) -> Self
         requires rate { 0 < RATE }
         requires capacity { RATE < WIDTH }
@@ -64,8 +75,8 @@ impl<
         } }
     {
         DuplexChallenger {
-            sponge_state: [zero::<F>(); WIDTH],
-            input_buffer: [zero::<F>(); RATE],
+            sponge_state: [zero(); WIDTH],
+            input_buffer: [zero(); RATE],
             inputs: 0,
             outputs_left: 0,
             permutation,
@@ -350,7 +361,7 @@ fn fill_zeros<F: PrimeField64>(cells: &mut [F])
     ensures { cells.new ≡ replicate (length cells.old) (F.residues.of 0) }
 {
     for i in 0..cells.len() {
-        cells[i] = zero::<F>();
+        cells[i] = zero();
     }
 }
 

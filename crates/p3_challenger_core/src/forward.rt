@@ -1,7 +1,8 @@
 // A challenger behind a reference is that challenger: each call is passed on.
 ghost use Rattle.std.specs.Prelude.{◌≡◌};
 
-use crate::{CanObserve, CanSample, CanSampleBits, ChallengerError, Sponge};
+use crate::{CanObserve, CanSample, CanSampleBits, ChallengerError, FieldChallenger, Sponge};
+use p3_field::Field;
 use std::alloc::Global;
 
 impl<C: Sponge> Sponge for &mut C {
@@ -81,3 +82,5 @@ impl<T, C: CanSampleBits<T>> CanSampleBits<T> for &mut C {
         (**self).sample_bits(bits)
     }
 }
+
+impl<F: Field, C: FieldChallenger<F>> FieldChallenger<F> for &mut C {}

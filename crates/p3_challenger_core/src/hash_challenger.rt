@@ -1,8 +1,9 @@
-ghost use Rattle.std.specs.Prelude.{◌≡◌, ◌<◌, List, OnOk, OnErr, IfOk, IfErr};
+ghost use Rattle.std.specs.Prelude.{◌≡◌, ◌<◌, ℕ, List, OnOk, OnErr, IfOk, IfErr};
 ghost use Rattle.p3_challenger_core.specs.HashChain.{Call, run_calls, run_segments, segments};
 ghost use Rattle.p3_challenger_core.specs.HashState.{pending_of};
 ghost use Rattle.p3_challenger_core.specs.HashTranscript.{absorbing};
-ghost use Rattle.p3_challenger_core.specs.Sponge.{RefusesObserve};
+ghost use Rattle.p3_challenger_core.specs.Sponge.{RefusesObserve, RefusesDraws};
+ghost use Rattle.p3_challenger_core.specs.declared.error.ChallengerError.{ChallengerError};
 
 mod digests;
 
@@ -91,6 +92,17 @@ impl<T: Copy, H: CryptographicHasher<T, [T; OUT_LEN]>, const OUT_LEN: usize> Has
         ensures { (calls : List (Call T)) →
             run_calls (H.hash self.now.hasher) OUT_LEN self.now.transcript calls
             ≡ run_segments (H.hash self.now.hasher) OUT_LEN self.now.transcript (segments calls) }
+    {
+        let _ = &self.outputs_left;
+    }
+
+    /// Draws are never refused: no number of them leaves any challenger with an error.
+    ///
+    /// A law: the body is empty, and a caller cites the clause.
+    pub fn draws_are_not_refused(&self)
+        ensures { (n : ℕ) (e : ChallengerError) (s t : hash_state.HashState T H) →
+            ¬ (RefusesDraws (hash_state.sampled H.hash OUT_LEN) (hash_state.after_sampled H.hash OUT_LEN)
+            (λ _. ⊥) (λ _ _. ⊥) n e s t) }
     {
         let _ = &self.outputs_left;
     }

@@ -2,8 +2,11 @@
 //! come out, the same for both.
 #![tactic(auto)]
 
+mod arrays;
 mod challenger;
 mod duplex_challenger;
+#[cfg(test)]
+mod duplex_tests;
 mod error;
 mod field_challenger;
 mod forward;
@@ -11,6 +14,7 @@ mod hash_challenger;
 #[cfg(test)]
 mod tests;
 
+pub use arrays::sample_array;
 pub use challenger::{CanFinalizeDigest, CanObserve, CanSample, CanSampleBits, Sponge};
 pub use duplex_challenger::DuplexChallenger;
 pub use error::ChallengerError;

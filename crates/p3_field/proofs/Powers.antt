@@ -1,5 +1,5 @@
 -- Powers modulo a number, by squaring.
-use Rattle.std.proofs.Common.{◌≡◌, ◌≢◌, ℕ, zero, suc, ◌+◌, ◌*◌, ◌/◌, ◌%◌, ◌^◌, ◌<◌, ◌∙◌, sym, ap, ap₂, arith}
+use Rattle.std.proofs.Common.{◌≡◌, ◌≢◌, ℕ, suc, ◌+◌, ◌*◌, ◌/◌, ◌%◌, ◌^◌, ◌∙◌, sym, ap, ap₂, arith}
 use Rattle.std.proofs.Math.Nat.{pow-suc, pow-zero, mul_comm, mul_assoc, mul-one}
 use Rattle.std.proofs.lemmas.Nat.{mul-mod_first, mul-mod_second, pow-mod, pow-add, mul-pow}
 use Rattle.p3_field.specs.Residues.{Residues, IsResidues}
@@ -33,16 +33,16 @@ power-odd m a s p odd =
 
 module _ {F : Type 0} (r : Residues F) (laws : IsResidues r) where
   -- a step of the loop: the product takes the square where the power is odd
-  pub step-odd : (product square product' square' : F) (left : ℕ) → left % 2 ≡ 1 → product' ≡ r.of (r.number product * r.number square) → square' ≡ r.of (r.number square * r.number square) → (r.number product' * r.number square' ^ (left / 2)) % r.order ≡ (r.number product * r.number square ^ left) % r.order
-  step-odd product square product' square' left odd p q =
+  pub step-odd : (product square product' square' : F) (left whole : ℕ) → left % 2 ≡ 1 → product' ≡ r.of (r.number product * r.number square) → square' ≡ r.of (r.number square * r.number square) → (r.number product * r.number square ^ left) % r.order ≡ whole → (r.number product' * r.number square' ^ (left / 2)) % r.order ≡ whole
+  step-odd product square product' square' left whole odd p q so_far =
       let first = ap r.number p ∙ laws.number_of (r.number product * r.number square) in
       let second = ap r.number q ∙ laws.number_of (r.number square * r.number square) in
-      ap₂ (λ a s. (a * s ^ (left / 2)) % r.order) first second ∙ power-odd r.order (r.number product) (r.number square) left odd
+      ap₂ (λ a s. (a * s ^ (left / 2)) % r.order) first second ∙ power-odd r.order (r.number product) (r.number square) left odd ∙ so_far
 
-  pub step-even : (product square product' square' : F) (left : ℕ) → left % 2 ≢ 1 → product' ≡ product → square' ≡ r.of (r.number square * r.number square) → (r.number product' * r.number square' ^ (left / 2)) % r.order ≡ (r.number product * r.number square ^ left) % r.order
-  step-even product square product' square' left even p q =
+  pub step-even : (product square product' square' : F) (left whole : ℕ) → left % 2 ≢ 1 → product' ≡ product → square' ≡ r.of (r.number square * r.number square) → (r.number product * r.number square ^ left) % r.order ≡ whole → (r.number product' * r.number square' ^ (left / 2)) % r.order ≡ whole
+  step-even product square product' square' left whole even p q so_far =
       let second = ap r.number q ∙ laws.number_of (r.number square * r.number square) in
-      ap₂ (λ a s. (a * s ^ (left / 2)) % r.order) (ap r.number p) second ∙ power-even r.order (r.number product) (r.number square) left even
+      ap₂ (λ a s. (a * s ^ (left / 2)) % r.order) (ap r.number p) second ∙ power-even r.order (r.number product) (r.number square) left even ∙ so_far
 
   -- at the end the product is the power
   pub of-power : (base product square : F) (exponent left : ℕ) → left ≡ 0 → (r.number product * r.number square ^ left) % r.order ≡ (r.number base ^ exponent) % r.order → product ≡ r.of (r.number base ^ exponent)

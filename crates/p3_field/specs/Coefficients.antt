@@ -1,5 +1,5 @@
 -- Lists of coefficients.
-use Rattle.std.specs.Prelude.{◌≡◌, ℕ, List, [], ◌∷◌}
+use Rattle.std.specs.Prelude.{◌≡◌, [], ◌∷◌}
 use Rattle.std.proofs.Common.{ap}
 
 -- one coefficient is the element

@@ -12,6 +12,7 @@ pub trait Field: PrimeCharacteristicRing + Default {
     fn bits() -> usize
         ensures { result ≡ bit_length };
 
+    // It is the least count of bits that the order fits in.
     ghost bits_below: { Self.residues.order < 2 ^ bit_length };
 
     ghost bits_least: { 2 ^ bit_length ≤ 2 * Self.residues.order };

@@ -55,6 +55,7 @@ pub trait PrimeCharacteristicRing: Copy
     // The elements are exactly the numbers below the order.
     ghost are_residues: { IsResidues residues };
 
+    // The constants are the elements of 0, of 1 and of the order less 1.
     ghost zero_is: { ZERO ≡ residues.of 0 };
 
     ghost one_is: { ONE ≡ residues.of 1 };
@@ -67,7 +68,8 @@ pub trait PrimeCharacteristicRing: Copy
 
     ghost number_neg_one: { residues.number NEG_ONE ≡ residues.order - 1 };
 
-    // Every two elements have a sum, a difference and a product: those of their numbers, modulo the order.
+    // Every two elements have a sum, a difference and a product: those of their numbers, modulo the
+    // order.
     ghost can_add_law: { (x y : Self) → Self.can_add x y };
 
     ghost add_law: { (x y r : Self) → Self.add_gives x y r → r ≡ sum_of residues x y };

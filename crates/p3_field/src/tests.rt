@@ -1,4 +1,5 @@
 ghost use Rattle.std.specs.Prelude.{◌≡◌, ◌+◌, ◌*◌, ◌-◌, ◌%◌, ◌^◌, ◌<◌, ◌∷◌, replicate, sum_by};
+ghost use Rattle.p3_field.specs.Residues.{plus};
 
 use crate::{
     Algebra, AlgebraIdentity, BabyBear, BasedVectorSpace, Coeffs, F257, Field, Goldilocks, Named,
@@ -12,6 +13,12 @@ fn double<F: PrimeField64>(x: F) -> F
     ensures { F.residues.number result ≡ (2 * F.residues.number x) % F.residues.order }
 {
     x + x
+}
+
+fn plus_number<F: PrimeField64>(x: F, n: u64) -> F
+    ensures { result ≡ plus F.residues x n }
+{
+    x + F::from_u64(n)
 }
 
 fn total<F: PrimeField64>(values: &[F]) -> F
@@ -210,6 +217,7 @@ fn orders(rt: HostRuntime) {
 #[test]
 fn through_bounds(rt: HostRuntime) {
     assert_eq!(rt; number(double(F257::from_u64(129))), 1);
+    assert_eq!(rt; number(plus_number(F257::NEG_ONE, 258)), 0);
     assert_eq!(rt;
         number(double(Goldilocks::from_u64(18446744069414584320))),
         18446744069414584319

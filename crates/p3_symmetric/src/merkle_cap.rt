@@ -2,7 +2,7 @@ ghost use Rattle.std.specs.Prelude.{◌≡◌, List};
 
 use std::marker::{Model, PhantomData};
 
-/// The top layer of a Merkle tree over the field `F`: its roots, each a digest `D`.
+/// The top layer of a Merkle tree over the field `F`: a list of roots that are digests `D`.
 ///
 /// Contracts see the list of the roots.
 #[derive_where(Debug; D)]
@@ -29,7 +29,7 @@ impl<F, D> MerkleCap<F, D> {
         }
     }
 
-    /// The roots, in order.
+    /// The list of the roots.
     pub fn roots(&self) -> &[D]
         ensures { result.now ≡ self.now }
     {

@@ -7,8 +7,8 @@ ghost use Rattle.p3_challenger.specs.TranscriptError.{IsBadShape};
 ghost use Rattle.transcript.specs.First.{IsRun, read_whole, Verifies};
 
 use p3_challenger::HashChallenger;
-use p3_field::BabyBear;
 use p3_challenger::fs::{BytesToFieldCodec, Codec, TranscriptError};
+use p3_field::BabyBear;
 use p3_symmetric::CryptographicHasher;
 use std::alloc::Global;
 

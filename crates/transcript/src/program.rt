@@ -6,10 +6,10 @@ ghost use Rattle.p3_field.specs.declared.baby_bear.BabyBear.{BabyBear};
 ghost use Rattle.transcript.specs.Program.{IsScalarText, AsksFirst, IsFirstText, lines, WritesFirst, usage_line, out_of_memory_line, reason_of};
 
 use crate::first;
-use p3_field::{BabyBear, PrimeField32, PrimeField64};
 use p3_challenger::fs::TranscriptError;
-use p3_symmetric::Sha256Hasher;
 use p3_challenger::{ChallengerError, HashChallenger};
+use p3_field::{BabyBear, PrimeField32, PrimeField64};
+use p3_symmetric::Sha256Hasher;
 use std::alloc::{AllocError, Global};
 use std::io;
 use std::io::{Read, Write};

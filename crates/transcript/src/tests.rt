@@ -1,8 +1,8 @@
 use super::*;
-use p3_field::{BabyBear, PrimeCharacteristicRing};
 use p3_challenger::fs::TranscriptError;
-use p3_symmetric::Sha256Hasher;
 use p3_challenger::{CanSample, ChallengerError, HashChallenger};
+use p3_field::{BabyBear, PrimeCharacteristicRing};
+use p3_symmetric::Sha256Hasher;
 use std::alloc::Global;
 use std::io;
 use std::io::Write;

@@ -1,4 +1,4 @@
-use Rattle.std.proofs.Common.{◌≡◌, ◌<◌, ◌^◌, ap, subst, sym, arith}
+use Rattle.std.proofs.Common.{arith}
 use Rattle.p3_field.proofs.BitLengths.{length-enough, length-least}
 use Rattle.p3_field.proofs.log2.log2_ceil_u64.Goals as goal
 

@@ -1,0 +1,47 @@
+ghost use Rattle.std.specs.Prelude.{◌≡◌, [], Some, OnOk, IfOk, IfErr};
+ghost use Rattle.p3_challenger_core.specs.Sponge.{draws, after_draws, RefusesDraws};
+
+use crate::{CanSample, ChallengerError};
+
+/// Draws `N` values in order, as [`sample`](CanSample::sample) for each would.
+///
+/// The errors are those of `sample`. After one, the draws before the refused one are done.
+pub fn sample_array<T: Copy, C: CanSample<T>, const N: usize>(
+    challenger: &mut C,
+) -> Result<[T; N], ChallengerError>
+    ensures drawn { IfOk result (λ values.
+        draws C.sampled C.after_sampled N (C.state challenger.old) ≡ Some values) }
+    ensures after { OnOk result (
+        C.state challenger.new ≡ after_draws C.sampled C.after_sampled N (C.state challenger.old)) }
+    ensures err { IfErr result (λ e.
+        RefusesDraws C.sampled C.after_sampled C.meets_limit C.draw_may_leave N e
+        (C.state challenger.old) (C.state challenger.new)) }
+{
+    if N == 0 {
+        return drawn_array(empty_array());
+    }
+    let mut values = [challenger.sample()?; N];
+    for i in 1..N {
+        values[i] = challenger.sample()?;
+    }
+    drawn_array(values)
+}
+
+// The array of no values.
+fn empty_array<T: Copy, const N: usize>() -> [T; N]
+    requires { N ≡ 0 }
+    ensures { result ≡ [] }
+{
+    let values: &[T] = &[];
+    match <[T; N]>::try_from(values) {
+        Ok(values) => values,
+        Err(_) => unreachable!(),
+    }
+}
+
+// A result that holds an array of a length that is a parameter.
+fn drawn_array<T, const N: usize>(values: [T; N]) -> Result<[T; N], ChallengerError>
+    ensures { result ≡ Ok values }
+{
+    Ok(values)
+}

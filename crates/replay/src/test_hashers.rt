@@ -1,0 +1,56 @@
+ghost use Rattle.std.specs.Prelude.{◌≡◌, ◌%◌};
+ghost use Rattle.std.specs.List.{sum};
+ghost use Rattle.replay.specs.TestHashers.{digest_from};
+
+use p3_symmetric::CryptographicHasher;
+
+/// Place `i` of the digest is the length of the message plus `i`, modulo 256.
+#[derive(Clone, Copy)]
+pub struct LengthHasher;
+
+/// Place `i` of the digest is the sum of the bytes of the message plus `i`, modulo 256.
+#[derive(Clone, Copy)]
+pub struct SumHasher;
+
+impl CryptographicHasher<u8, [u8; 32]> for LengthHasher {
+    ghost use Rattle.replay.specs.TestHashers.{length_digest};
+
+    ghost hash = { λ _ message. length_digest message };
+
+    fn hash_slice(&self, input: &[u8]) -> [u8; 32] {
+        digest_from((input.len() % 256) as u8)
+    }
+}
+
+impl CryptographicHasher<u8, [u8; 32]> for SumHasher {
+    ghost use Rattle.replay.specs.TestHashers.{sum_digest};
+
+    ghost hash = { λ _ message. sum_digest message };
+
+    fn hash_slice(&self, input: &[u8]) -> [u8; 32] {
+        digest_from(byte_sum(input))
+    }
+}
+
+// The sum of the bytes, modulo 256.
+#[tactic(auto, using(crate::proofs::Digests::sum_more))]
+fn byte_sum(bytes: &[u8]) -> u8
+    ensures { result ≡ sum bytes.now % 256 }
+{
+    let mut total = 0u8;
+    for byte in bytes {
+        total = total.wrapping_add(*byte);
+    }
+    total
+}
+
+// The bytes that count on from a first one, modulo 256.
+fn digest_from(first: u8) -> [u8; 32]
+    ensures { result ≡ digest_from first }
+{
+    let mut digest = [0; 32];
+    for i in 0..32 {
+        digest[i] = first.wrapping_add(i as u8);
+    }
+    digest
+}
