@@ -1,0 +1,113 @@
+//! The program `bench`: how long an operation of a challenger takes. With the word `run` it prints
+//! nanoseconds for each, and otherwise nothing.
+#![tactic(auto)]
+
+use anyhow::Result;
+use p3_challenger_core::{CanObserve, CanSample, DuplexChallenger, HashChallenger};
+use p3_field::{BabyBear, PrimeCharacteristicRing, PrimeField64};
+use p3_symmetric::{Sha256Hasher, Turn};
+use std::env;
+use std::time::{Duration, Instant};
+
+type Duplex = DuplexChallenger<BabyBear, Turn<1>, 16, 8>;
+
+type Chain = HashChallenger<u8, Sha256Hasher, 32>;
+
+const OBSERVES: u32 = 1_000_000;
+
+const DRAWS: u32 = 100_000;
+
+const SLICE: usize = 1000;
+
+const SLICES: u32 = 1000;
+
+fn main(rt: HostRuntime) -> Result<()> {
+    let mut words = env::args(&rt)?.skip(1);
+    let Some(word) = words.next() else {
+        return Ok(());
+    };
+    if word.as_str() != "run" {
+        return Ok(());
+    }
+
+    let mut duplex = Duplex::new(Turn, 1);
+    let start = Instant::now(&rt)?;
+    duplex_observes(&mut duplex)?;
+    println!(rt;
+        "duplex, an observe: {:.1} ns",
+        per(start.elapsed(&rt)?, OBSERVES)
+    )?;
+    let start = Instant::now(&rt)?;
+    let drawn = duplex_draws(&mut duplex)?;
+    println!(rt; "duplex, a draw: {:.1} ns", per(start.elapsed(&rt)?, DRAWS))?;
+    let start = Instant::now(&rt)?;
+    let turns = duplex_turns(&mut duplex)?;
+    println!(rt;
+        "duplex, an observe and a draw in turn: {:.1} ns",
+        per(start.elapsed(&rt)?, DRAWS)
+    )?;
+
+    let mut chain = Chain::new(Vec::new(rt.alloc()), Sha256Hasher);
+    let start = Instant::now(&rt)?;
+    chain_observes(&mut chain)?;
+    println!(rt;
+        "hash, a byte alone: {:.1} ns",
+        per(start.elapsed(&rt)?, OBSERVES)
+    )?;
+    let mut chain = Chain::new(Vec::new(rt.alloc()), Sha256Hasher);
+    let start = Instant::now(&rt)?;
+    chain_slices(&mut chain)?;
+    println!(rt;
+        "hash, a byte by slice: {:.1} ns",
+        per(start.elapsed(&rt)?, OBSERVES)
+    )?;
+
+    // The draws are shown so that none of them can be left out.
+    println!(rt; "drawn: {drawn} {turns} {}", chain.sample()?)?;
+    Ok(())
+}
+
+// Nanoseconds for each of so many operations.
+fn per(time: Duration, operations: u32) -> f64 {
+    time.as_secs_f64() * 1e9 / f64::from(operations)
+}
+
+fn duplex_observes(duplex: &mut Duplex) -> Result<()> {
+    for i in 0..OBSERVES {
+        duplex.observe(BabyBear::from_u32(i))?;
+    }
+    Ok(())
+}
+
+// The sum of the draws, modulo 2^64.
+fn duplex_draws(duplex: &mut Duplex) -> Result<u64> {
+    let mut sum = 0u64;
+    for _ in 0..DRAWS {
+        sum = sum.wrapping_add(duplex.sample()?.as_canonical_u64());
+    }
+    Ok(sum)
+}
+
+fn duplex_turns(duplex: &mut Duplex) -> Result<u64> {
+    let mut sum = 0u64;
+    for i in 0..DRAWS {
+        duplex.observe(BabyBear::from_u32(i))?;
+        sum = sum.wrapping_add(duplex.sample()?.as_canonical_u64());
+    }
+    Ok(sum)
+}
+
+fn chain_observes(chain: &mut Chain) -> Result<()> {
+    for i in 0..OBSERVES {
+        chain.observe((i % 256) as u8)?;
+    }
+    Ok(())
+}
+
+fn chain_slices(chain: &mut Chain) -> Result<()> {
+    let bytes = [1u8; SLICE];
+    for _ in 0..SLICES {
+        chain.observe_slice(&bytes[..])?;
+    }
+    Ok(())
+}
