@@ -1,6 +1,6 @@
 use crate::line::{Answer, Call};
 use anyhow::{Context, Result, bail};
-use p3_challenger_core::{CanObserve, CanSample, DuplexChallenger};
+use p3_challenger_core::{CanFinalizeDigest, CanObserve, CanSample, DuplexChallenger};
 use p3_field::{BabyBear, F257, Goldilocks, PrimeField64};
 use p3_symmetric::{CryptographicPermutation, Turn};
 use std::alloc::Global;

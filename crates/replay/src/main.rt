@@ -1,4 +1,5 @@
 //! The program `replay`: asks the challengers what the Rust crate was asked, and compares the answers.
+//! Its files lie in the folder that it runs in, or in the one that its argument names.
 #![tactic(auto)]
 
 mod duplex;
@@ -9,13 +10,19 @@ mod test_hashers;
 use anyhow::{Context, Result, bail};
 use line::Line;
 use std::alloc::Global;
-use std::fs;
 use std::process::ExitCode;
+use std::{env, fs};
 
 fn main(rt: HostRuntime) -> Result<ExitCode> {
-    for (name, path) in [("duplex", "duplex.txt"), ("hash", "hash.txt")] {
-        let text = fs::read_to_string(&rt, path).context(path)?;
-        match replay(rt.alloc(), text.as_str()).context(path)? {
+    let argument = env::args(&rt)?.nth(1);
+    let folder = match &argument {
+        Some(word) => word.as_str(),
+        None => ".",
+    };
+    for name in ["duplex", "hash"] {
+        let path = format!(in rt.alloc(); "{folder}/{name}.txt")?;
+        let text = fs::read_to_string(&rt, path.as_str()).context(path.as_str())?;
+        match replay(rt.alloc(), text.as_str()).context(path.as_str())? {
             Outcome::Agree { lines, calls } => {
                 println!(rt; "{name}: {lines} lines, {calls} calls, all agree")?
             }
