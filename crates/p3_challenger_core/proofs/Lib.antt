@@ -4,7 +4,5 @@ pub mod DuplexChains
 pub mod Overwriting
 pub mod Pushing
 pub mod Observing
-pub mod Draws
 pub mod MostBits
-pub mod Calling
 pub mod DuplexRows

@@ -1,5 +1,7 @@
 pub mod Sponge
 pub mod SpongeLaws
+pub mod DrawLaws
+pub mod CallLaws
 pub mod HashTranscript
 pub mod HashState
 pub mod HashStateLaws

@@ -2,7 +2,7 @@ use Rattle.std.proofs.Common.{◌≡◌, ◌+◌, ◌-◌, ◌<◌, ◌≤◌, S
 use Rattle.std.proofs.Math.ListN.{set, length-set}
 use Rattle.std.proofs.lemmas.List.{take_more_set, take_all, take-replicate, length-replicate}
 use Rattle.p3_challenger_core.specs.Sponge.{draws, after_draws}
-use Rattle.p3_challenger_core.proofs.Draws.{drew-none, drew-as, drew-one_more, drew-values, drew-state, drew-stops}
+use Rattle.p3_challenger_core.specs.DrawLaws.{drew-none, drew-as, drew-one_more, drew-values, drew-state, drew-stops}
 use Rattle.p3_challenger_core.proofs.arrays.sample_array.Goals as goal
 
 pub returns-then-this-eq0-clause-drawn : goal.returns-then-this-eq0-clause-drawn

@@ -1,5 +1,5 @@
 use Rattle.std.proofs.Common.{◌≡◌, ◌-◌, take, length}
-use Rattle.p3_challenger_core.proofs.Draws.{Drew}
+use Rattle.p3_challenger_core.specs.DrawLaws.{Drew}
 use Rattle.p3_challenger_core.proofs.arrays.sample_array.Given as goal
 
 abbrev pub invariant-loop-i : goal.invariant-loop-i

@@ -1,7 +1,7 @@
 use Rattle.std.proofs.Common.{◌+◌, ◌-◌, ◌<◌, ◌≤◌, Some, [], ◌∷◌, ◌++◌, length, take, ap, ◌∙◌, arith, rules}
 use Rattle.std.proofs.Math.ListN.{set}
 use Rattle.std.proofs.lemmas.List.{take_more_set, take_all}
-use Rattle.p3_challenger_core.proofs.Draws.{drew-none, drew-as, drew-one_more, drew-values, drew-state, drew-stops}
+use Rattle.p3_challenger_core.specs.DrawLaws.{drew-none, drew-as, drew-one_more, drew-values, drew-state, drew-stops}
 use Rattle.p3_challenger_core.proofs.challenger.CanSample.sample_into_slice.Goals as goal
 
 pub loop-i-init : goal.loop-i-init

@@ -1,5 +1,5 @@
 use Rattle.std.proofs.Common.{◌+◌, ◌-◌, [], ◌∷◌, ◌++◌, refl, ◌∙◌, arith, rules, inr, ap}
-use Rattle.p3_challenger_core.proofs.Draws.{drew-none, drew-as, drew-one_more, drew-values, drew-state, drew-stops}
+use Rattle.p3_challenger_core.specs.DrawLaws.{drew-none, drew-as, drew-one_more, drew-values, drew-state, drew-stops}
 use Rattle.p3_challenger_core.proofs.challenger.CanSample.sample_vec.Goals as goal
 
 pub loop-init : goal.loop-init

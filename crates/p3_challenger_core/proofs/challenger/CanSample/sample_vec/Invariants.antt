@@ -1,5 +1,5 @@
 use Rattle.std.proofs.Common.{◌≡◌, ◌-◌, vec_len, vec_capacity}
-use Rattle.p3_challenger_core.proofs.Draws.{Drew}
+use Rattle.p3_challenger_core.specs.DrawLaws.{Drew}
 use Rattle.p3_challenger_core.proofs.challenger.CanSample.sample_vec.Given as goal
 
 abbrev pub invariant-loop : goal.invariant-loop

@@ -1,5 +1,5 @@
 use Rattle.std.proofs.Common.{◌≡◌, ◌-◌, take, length}
-use Rattle.p3_challenger_core.proofs.Draws.{Drew}
+use Rattle.p3_challenger_core.specs.DrawLaws.{Drew}
 use Rattle.p3_challenger_core.proofs.field_challenger.FieldChallenger.sample_algebra_element.Given as goal
 
 -- the coefficients so far are drawn
