@@ -12,6 +12,9 @@ pub trait BasedVectorSpace<F: PrimeCharacteristicRing>: Copy {
     // The coefficients of an element, in the order of the basis.
     ghost coefficients: { Self → List F };
 
+    // The element of as many coefficients as the dimension.
+    ghost element: { List F → Self };
+
     /// The coefficients, in the order of the basis.
     fn as_basis_coefficients_slice(&self) -> &[F]
         ensures { result.now ≡ coefficients self.now };
@@ -33,6 +36,9 @@ pub trait BasedVectorSpace<F: PrimeCharacteristicRing>: Copy {
     ghost length_coefficients: { (x : Self) → length (coefficients x) ≡ DIMENSION };
 
     ghost same_coefficients: { (x y : Self) → coefficients x ≡ coefficients y → x ≡ y };
+
+    // Every list of that length is the coefficients of an element.
+    ghost coefficients_element: { (xs : List F) → length xs ≡ DIMENSION → coefficients (element xs) ≡ xs };
 }
 
 /// A vector space that the field lies in: a value of the field is the element with this value as its
@@ -55,13 +61,15 @@ pub trait AlgebraIdentity<F: PrimeCharacteristicRing>: Algebra<F> {
 impl<F: Field> BasedVectorSpace<F> for F {
     ghost use Rattle.std.specs.Prelude.{[], refl};
     ghost use Rattle.std.proofs.Common.{lit<, lit≤};
-    ghost use Rattle.p3_field.specs.Coefficients.{one_coefficient};
+    ghost use Rattle.p3_field.specs.Coefficients.{one_coefficient, element_of_one, coefficients-element_of_one};
 
     const DIMENSION: usize = 1;
 
     ghost DIMENSION = { 1 };
 
     ghost coefficients = { λ x. x ∷ [] };
+
+    ghost element = { element_of_one (F.residues.of 0) };
 
     ghost at_least_one = { lit< tt };
 
@@ -70,6 +78,8 @@ impl<F: Field> BasedVectorSpace<F> for F {
     ghost length_coefficients = { λ _. refl };
 
     ghost same_coefficients = { one_coefficient };
+
+    ghost coefficients_element = { coefficients-element_of_one (F.residues.of 0) };
 
     fn as_basis_coefficients_slice(&self) -> &[F] {
         std::slice::from_ref(self)

@@ -46,6 +46,8 @@ impl<F: Field> BasedVectorSpace<F> for Coeffs<F, 4> {
 
     ghost coefficients = { coeffs.coefficients_of };
 
+    ghost element = { coeffs.element_of (F.residues.of 0) };
+
     ghost at_least_one = { lit< tt };
 
     ghost at_most = { lit≤ tt };
@@ -53,6 +55,8 @@ impl<F: Field> BasedVectorSpace<F> for Coeffs<F, 4> {
     ghost length_coefficients = { coeffs.length-coefficients };
 
     ghost same_coefficients = { coeffs.coefficients-injective };
+
+    ghost coefficients_element = { coeffs.coefficients-element_of (F.residues.of 0) };
 
     fn as_basis_coefficients_slice(&self) -> &[F] {
         &self.coefficients[..]
