@@ -6,3 +6,4 @@ pub mod Pushing
 pub mod Observing
 pub mod MostBits
 pub mod DuplexRows
+pub mod Drawing

@@ -1,5 +1,5 @@
 -- A duplex challenger as contracts see it.
-use Rattle.std.specs.Prelude.{◌≡◌, ℕ, ◌<◌, ◌≤◌, List}
+use Rattle.std.specs.Prelude.{◌≡◌, ℕ, zero, suc, ◌<◌, ◌≤◌, List, [], ◌∷◌}
 use Rattle.p3_field.specs.Residues.{Residues}
 use Rattle.p3_challenger_core.specs.DuplexTranscript as transcript
 use Rattle.p3_challenger_core.specs.DuplexTranscript.{DuplexSponge}
@@ -39,6 +39,16 @@ sampled r permute rate c = transcript.sampled r (permute c.permutation) rate c.s
 
 abbrev pub after_sampled : {F P : Type 0} → Residues F → (P → List F → List F) → ℕ → Duplex F P → Duplex F P
 after_sampled r permute rate c = record c { sponge = transcript.after_sampled r (permute c.permutation) rate c.sponge }
+
+-- what n draws give, in order
+abbrev pub drawn : {F P : Type 0} → Residues F → (P → List F → List F) → ℕ → ℕ → Duplex F P → List F
+drawn r permute rate zero c = []
+drawn r permute rate (suc n) c = sampled r permute rate c ∷ drawn r permute rate n (after_sampled r permute rate c)
+
+-- the challenger after n draws
+abbrev pub after_drawn : {F P : Type 0} → Residues F → (P → List F → List F) → ℕ → ℕ → Duplex F P → Duplex F P
+after_drawn r permute rate zero c = c
+after_drawn r permute rate (suc n) c = after_drawn r permute rate n (after_sampled r permute rate c)
 
 abbrev pub digest : {F P : Type 0} → Residues F → (P → List F → List F) → ℕ → Duplex F P → List F
 digest r permute rate c = transcript.digest r (permute c.permutation) rate c.sponge

@@ -1,13 +1,15 @@
-ghost use Rattle.std.specs.Prelude.{◌≡◌, ◌<◌, ◌≤◌, List, length, replicate, take};
+ghost use Rattle.std.specs.Prelude.{◌≡◌, ◌<◌, ◌≤◌, ℕ, List, Some, length, replicate, take};
 ghost use Rattle.p3_field.specs.Residues.{plus};
 ghost use Rattle.p3_challenger_core.specs.DuplexChain.{Call, run_calls, run_segments, segments};
 ghost use Rattle.p3_challenger_core.specs.DuplexTranscript.{absorbing, overwritten, fresh, outputs};
+ghost use Rattle.p3_challenger_core.specs.Sponge.{RefusesDraws};
+ghost use Rattle.p3_challenger_core.specs.declared.error.ChallengerError.{ChallengerError};
 
 mod bits;
 mod digests;
 
 use crate::{CanFinalizeDigest, CanObserve, CanSample, ChallengerError, Sponge};
-use p3_field::{PrimeCharacteristicRing, PrimeField64};
+use p3_field::{BasedVectorSpace, PrimeCharacteristicRing, PrimeField64};
 use p3_symmetric::CryptographicPermutation;
 use std::marker::Model;
 
@@ -19,7 +21,7 @@ use std::marker::Model;
 /// drawn from the last one backwards. An observation drops the outputs left, and a draw that finds
 /// none, and nothing pending, permutes the cells.
 ///
-/// No call takes memory, and none is refused.
+/// No call but [`sample_vec`](CanSample::sample_vec) takes memory, and no other is refused.
 #[derive(Debug, Drop)]
 pub struct DuplexChallenger<F, P, const WIDTH: usize, const RATE: usize> {
     sponge_state: [F; WIDTH],
@@ -96,6 +98,20 @@ impl<
         let _ = &self.outputs_left;
     }
 
+    /// Draws are never refused, whatever is drawn: no number of them leaves any challenger with an
+    /// error.
+    ///
+    /// A law: the body is empty, and a caller cites the clause.
+    pub fn draws_are_not_refused<A: BasedVectorSpace<F>>(&self)
+        ensures { (n : ℕ) (e : ChallengerError) (s t : duplex_state.Duplex F P) →
+            ¬ (RefusesDraws
+            (λ u. Some (A.element (duplex_state.drawn F.residues P.permutation RATE A.DIMENSION u)))
+            (λ u. duplex_state.after_drawn F.residues P.permutation RATE A.DIMENSION u)
+            (λ _. ⊥) (λ _ _. ⊥) n e s t) }
+    {
+        let _ = &self.outputs_left;
+    }
+
     /// The cells: the first `RATE` are the rate, and the others the capacity.
     pub fn sponge_state(&self) -> &[F; WIDTH]
         ensures { result.now ≡ self.now.sponge.cells }
@@ -158,6 +174,18 @@ impl<
         );
         self.inputs = 0;
         self.outputs_left = RATE;
+    }
+
+    // Draws a value: the last output left, after a permutation where none is.
+    fn draw(&mut self) -> F
+        ensures value { result ≡ duplex_state.sampled F.residues P.permutation RATE self.old }
+        ensures after { self.new ≡ duplex_state.after_sampled F.residues P.permutation RATE self.old }
+    {
+        if self.outputs_left == 0 {
+            self.duplex();
+        }
+        self.outputs_left -= 1;
+        self.sponge_state[self.outputs_left]
     }
 
     // Makes a value pending, and absorbs what is pending once that fills the rate.
@@ -283,16 +311,18 @@ impl<
 
 impl<
     F: PrimeField64,
+    A: BasedVectorSpace<F>,
     P: CryptographicPermutation<[F; WIDTH]>,
     const WIDTH: usize,
     const RATE: usize,
-> CanSample<F> for DuplexChallenger<F, P, WIDTH, RATE> {
+> CanSample<A> for DuplexChallenger<F, P, WIDTH, RATE> {
     ghost use Rattle.std.specs.Prelude.{Some};
     ghost use Rattle.p3_challenger_core.specs.DuplexState as duplex_state;
 
-    ghost sampled = { λ s. Some (duplex_state.sampled F.residues P.permutation RATE s) };
+    // The element whose coefficients are the next values, coefficient 0 first.
+    ghost sampled = { λ s. Some (A.element (duplex_state.drawn F.residues P.permutation RATE A.DIMENSION s)) };
 
-    ghost after_sampled = { λ s. duplex_state.after_sampled F.residues P.permutation RATE s };
+    ghost after_sampled = { λ s. duplex_state.after_drawn F.residues P.permutation RATE A.DIMENSION s };
 
     // A draw takes no memory and has no limit: it is never refused.
     ghost draw_may_leave = { λ _ _. ⊥ };
@@ -301,12 +331,12 @@ impl<
 
     ghost limit_gives_none = { λ _ h. absurd h };
 
-    fn sample(&mut self) -> Result<F, ChallengerError> {
-        if self.outputs_left == 0 {
-            self.duplex();
+    fn sample(&mut self) -> Result<A, ChallengerError> {
+        let mut element = A::zero();
+        for i in 0..A::DIMENSION {
+            element = element.with_coefficient(i, self.draw());
         }
-        self.outputs_left -= 1;
-        Ok(self.sponge_state[self.outputs_left])
+        Ok(element)
     }
 }
 

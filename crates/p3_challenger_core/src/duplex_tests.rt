@@ -187,3 +187,42 @@ fn elements_of_algebras_are_their_coefficients(rt: HostRuntime) -> Result<(), Fa
     assert_eq!(rt; base.finalize(), values.finalize());
     Ok(())
 }
+
+// A draw of an extension of four coefficients, as their canonical numbers.
+fn draw_four<C: CanSample<Coeffs<F257, 4>>>(
+    challenger: &mut C,
+) -> Result<[u64; 4], ChallengerError> {
+    let drawn = challenger.sample()?;
+    let mut numbers = [0; 4];
+    for (number, coefficient) in numbers.iter_mut().zip(drawn.as_basis_coefficients_slice()) {
+        *number = coefficient.as_canonical_u64();
+    }
+    Ok(numbers)
+}
+
+// The numbers are those that `p3-challenger` 0.8.0 draws.
+#[test]
+fn an_extension_is_drawn_by_its_coefficients(rt: HostRuntime) -> Result<(), Fail> {
+    let mut challenger = fresh();
+    assert_eq!(rt; draw_four(&mut challenger)?, [2, 1, 5, 3]);
+    assert_eq!(rt; draw(&mut challenger)?, 6);
+    let mut challenger = fresh();
+    assert_eq!(rt; draw_four(&mut &mut challenger)?, [2, 1, 5, 3]);
+    assert_eq!(rt; draw(&mut challenger)?, 6);
+    let mut challenger: DuplexChallenger<BabyBear, Turn<1>, 3, 2> = DuplexChallenger::new(Turn, 10);
+    challenger.observe(BabyBear::from_u64(1165857197))?;
+    let drawn: Coeffs<BabyBear, 4> = challenger.sample()?;
+    assert_eq!(rt;
+        drawn.as_basis_coefficients_slice(),
+        [
+            BabyBear::from_u64(3),
+            BabyBear::ONE,
+            BabyBear::from_u64(1165857202),
+            BabyBear::from_u64(4)
+        ]
+        .as_slice()
+    );
+    let next: BabyBear = challenger.sample()?;
+    assert_eq!(rt; next.as_canonical_u64(), 6);
+    Ok(())
+}
