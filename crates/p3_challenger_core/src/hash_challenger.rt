@@ -107,7 +107,7 @@ impl<T: Copy, H: CryptographicHasher<T, [T; OUT_LEN]>, const OUT_LEN: usize> Has
         let _ = &self.outputs_left;
     }
 
-    /// What the next flush hashes.
+    // What the next flush hashes.
     fn pending(&self) -> &[T]
         ensures { result.now ≡ self.now.transcript.pending }
     {
@@ -140,7 +140,7 @@ impl<T: Copy, H: CryptographicHasher<T, [T; OUT_LEN]>, const OUT_LEN: usize> Has
         self.absorb(values)
     }
 
-    /// Hashes all that is pending. The digest is pending in its place, and all of it is left to draw.
+    // Hashes all that is pending. The digest is pending in its place, and all of it is left to draw.
     fn flush(&mut self)
         ensures { self.new ≡ hash_state.flushed H.hash OUT_LEN self.old }
     {

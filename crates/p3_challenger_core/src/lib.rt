@@ -1,5 +1,8 @@
 //! Fiat-Shamir challengers: what a prover and a verifier say goes in, and their random challenges
 //! come out, the same for both.
+//!
+//! [`HashChallenger`] draws values of its hash function. [`DuplexChallenger`] draws elements of every
+//! vector space over its field, and so of the field itself, by their coefficients.
 #![tactic(auto)]
 
 mod arrays;
