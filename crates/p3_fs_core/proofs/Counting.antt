@@ -1,0 +1,39 @@
+-- The count of a bounded step.
+use Rattle.std.proofs.Common.{◌≡◌, ℕ, ◌<◌, ◌≤◌, ◌+◌, ◌-◌, ◌*◌, ◌/◌, ◌%◌, ◌^◌, min, List, ◌++◌, length, take, replicate, refl, sym, ap, ◌∙◌, subst, arith}
+use Rattle.std.proofs.lemmas.Nat.{leading_length}
+use Rattle.std.specs.Int.{div_ceil}
+use Rattle.p3_fs_core.specs.Reading.{AreBytes}
+use Rattle.p3_fs_core.specs.BigEndian.{big_endian, in_bytes, bytes_for}
+use Rattle.p3_fs_core.specs.BigEndianLaws.{fits-bytes_for, bytes_for-least, big_endian-in_bytes, in_bytes-big_endian, length-in_bytes, AreBytes-take, take-front}
+use Rattle.std.proofs.lemmas.List.{length-take-le}
+use lib.Count.{count_leading_zeros}
+
+rounded_up : (bits : ℕ) → div_ceil bits 8 ≡ bytes_for bits
+rounded_up bits = omega arith
+
+-- the bytes that the bits of a number take, as they are counted
+module _ (max width : ℕ) (fits : max < 2 ^ 64) (is : width ≡ div_ceil (64 - count_leading_zeros 64 max) 8) where
+  bit_length : (bits : ℕ) × (width ≡ bytes_for bits) × (max < 2 ^ bits) × (2 ^ bits ≤ 2 * max + 1)
+  bit_length =
+      let found = leading_length 64 max fits in
+      let same : 64 - count_leading_zeros 64 max ≡ found.0 = omega (arith, found.1) in
+      (found.0, is ∙ rounded_up (64 - count_leading_zeros 64 max) ∙ ap bytes_for same, found.2, found.3)
+
+  pub width-enough : max < 256 ^ width
+  width-enough = subst (λ (k : ℕ). max < 256 ^ k) (sym bit_length.1) (fits-bytes_for bit_length.0 max bit_length.2)
+
+  pub width-least : (k : ℕ) → max < 256 ^ k → width ≤ k
+  width-least k enough = subst (λ (w : ℕ). w ≤ k) (sym bit_length.1) (bytes_for-least bit_length.0 max k bit_length.3 enough)
+
+-- a count that is spelled is read
+pub counted_read_back : (width len : ℕ) (spelled : List ℕ) → len < 256 ^ width → spelled ≡ in_bytes width len ++ replicate (8 - width) 0 → big_endian (take width spelled) ≡ len
+counted_read_back width len spelled fits is =
+    let front : take width (in_bytes width len ++ replicate (8 - width) 0) ≡ in_bytes width len =
+    take-front width (in_bytes width len) (replicate (8 - width) 0) (length-in_bytes width len) in
+    ap (λ bytes. big_endian (take width bytes)) is ∙ ap big_endian front ∙ big_endian-in_bytes width len fits
+
+-- a count that is read is spelled so
+pub counted_spelled_back : (width number : ℕ) (buf : List ℕ) → AreBytes buf → width ≤ length buf → number ≡ big_endian (take width buf) → in_bytes width number ≡ take width buf
+counted_spelled_back width number buf are_bytes long is =
+    ap (in_bytes width) is
+    ∙ in_bytes-big_endian width (take width buf) (length-take-le width buf long) (AreBytes-take width buf are_bytes)

@@ -1,0 +1,4 @@
+pub mod Counting
+pub mod Widths
+pub mod Decoding
+pub mod Behind

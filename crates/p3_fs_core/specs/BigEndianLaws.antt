@@ -1,0 +1,193 @@
+-- Laws of numbers as bytes, the highest first.
+use Rattle.std.proofs.Common.{◌≡◌, ℕ, zero, suc, ◌<◌, ◌≤◌, ◌+◌, ◌-◌, ◌*◌, ◌/◌, ◌%◌, ◌^◌, List, [], ◌∷◌, ◌++◌, length, take, drop, replicate, append-nil, refl, sym, ap, ◌∙◌, subst, inl, inr, lit<, arith, pow-suc, pow_mono}
+use Rattle.std.proofs.lemmas.Bool.{cases_lt}
+use Rattle.std.proofs.Math.Nat.{div-add-mod, div-div-eq-div-mul, div-eq_of_lt, div-one, mod-lt, lt-mul-div-succ, zero-add, suc-add}
+use Rattle.std.proofs.lemmas.Nat.{pow_pos, pow-add, be_bytes_8}
+use Rattle.std.proofs.Math.Seq.{take-append_seam, drop-append_seam}
+use Rattle.std.proofs.lemmas.List.{length-append, length-replicate, length-drop, take-replicate, drop_all}
+use Rattle.std.specs.Int.{w64, byte_at, from_be_bytes}
+use Rattle.p3_fs_core.specs.Reading.{AreBytes}
+use Rattle.p3_fs_core.specs.BigEndian.{big_endian, big_endian_after, in_bytes, bytes_for}
+
+-- ---- the bytes of a number
+
+-- a byte of a number, as a digit
+byte_at-digit : (k n : ℕ) → byte_at k n ≡ n / 256 ^ k % 256
+byte_at-digit zero n = ap (λ m. m % 256) (sym (div-one n))
+byte_at-digit (suc k) n = refl
+
+quotient-suc : (k n : ℕ) → n / 256 ^ suc k ≡ n / 256 ^ k / 256
+quotient-suc k n = ap (λ m. n / m) (pow-suc 256 k) ∙ sym (div-div-eq-div-mul n (256 ^ k) 256)
+
+-- what is above k bytes is what is above one byte more, and that byte
+one_more : (k n : ℕ) → 256 * (n / 256 ^ suc k) + byte_at k n ≡ n / 256 ^ k
+one_more k n =
+    ap (λ m. 256 * m + byte_at k n) (quotient-suc k n)
+    ∙ ap (λ m. 256 * (n / 256 ^ k / 256) + m) (byte_at-digit k n)
+    ∙ div-add-mod (n / 256 ^ k) 256
+
+-- the lowest bytes of a number, behind what is above them, are the number
+after-in_bytes : (k n : ℕ) → big_endian_after (n / 256 ^ k) (in_bytes k n) ≡ n
+after-in_bytes zero n = div-one n
+after-in_bytes (suc k) n = ap (λ m. big_endian_after m (in_bytes k n)) (one_more k n) ∙ after-in_bytes k n
+
+-- a number that fits in its bytes is their number
+pub big_endian-in_bytes : (k n : ℕ) → n < 256 ^ k → big_endian (in_bytes k n) ≡ n
+big_endian-in_bytes k n fits =
+    ap (λ m. big_endian_after m (in_bytes k n)) (sym (div-eq_of_lt fits)) ∙ after-in_bytes k n
+
+pub length-in_bytes : (k n : ℕ) → length (in_bytes k n) ≡ k
+length-in_bytes zero n = refl
+length-in_bytes (suc k) n = ap suc (length-in_bytes k n)
+
+byte_at-below : (k n : ℕ) → byte_at k n < 256
+byte_at-below k n = subst (λ (m : ℕ). m < 256) (sym (byte_at-digit k n)) (mod-lt (n / 256 ^ k) (lit< tt))
+
+pub AreBytes-in_bytes : (k n : ℕ) → AreBytes (in_bytes k n)
+AreBytes-in_bytes zero n i = lit< tt
+AreBytes-in_bytes (suc k) n zero = byte_at-below k n
+AreBytes-in_bytes (suc k) n (suc i) = AreBytes-in_bytes k n i
+
+-- what is behind the highest bytes
+pub drop-in_bytes : (j k n : ℕ) → drop j (in_bytes (j + k) n) ≡ in_bytes k n
+drop-in_bytes zero k n = ap (λ m. in_bytes m n) (zero-add k)
+drop-in_bytes (suc j) k n = ap (λ m. drop (suc j) (in_bytes m n)) (suc-add j k) ∙ drop-in_bytes j k n
+
+-- bytes in front of others, and the others
+pub take-front : {A : Type 0} (k : ℕ) (xs ys : List A) → length xs ≡ k → take k (xs ++ ys) ≡ xs
+take-front k xs ys is = subst (λ (n : ℕ). take n (xs ++ ys) ≡ xs) is (take-append_seam xs ys)
+
+pub drop-front : {A : Type 0} (k : ℕ) (xs ys : List A) → length xs ≡ k → drop k (xs ++ ys) ≡ ys
+drop-front k xs ys is = subst (λ (n : ℕ). drop n (xs ++ ys) ≡ ys) is (drop-append_seam xs ys)
+
+-- ---- the number of bytes
+
+-- a front of bytes is bytes
+pub AreBytes-take : (n : ℕ) (bytes : List ℕ) → AreBytes bytes → AreBytes (take n bytes)
+AreBytes-take zero bytes h i = lit< tt
+AreBytes-take (suc n) [] h i = lit< tt
+AreBytes-take (suc n) (byte ∷ bytes) h zero = h zero
+AreBytes-take (suc n) (byte ∷ bytes) h (suc i) = AreBytes-take n bytes (λ j. h (suc j)) i
+
+pub AreBytes-drop : (n : ℕ) (bytes : List ℕ) → AreBytes bytes → AreBytes (drop n bytes)
+AreBytes-drop zero bytes h = h
+AreBytes-drop (suc n) [] h = h
+AreBytes-drop (suc n) (byte ∷ bytes) h = AreBytes-drop n bytes (λ j. h (suc j))
+
+one_byte-div : (a byte : ℕ) → byte < 256 → (256 * a + byte) / 256 ≡ a
+one_byte-div a byte small = omega (arith, small)
+
+one_byte-mod : (a byte : ℕ) → byte < 256 → (256 * a + byte) % 256 ≡ byte
+one_byte-mod a byte small = omega (arith, small)
+
+-- above bytes stands what they are behind
+after-div : (a : ℕ) (bytes : List ℕ) → AreBytes bytes → big_endian_after a bytes / 256 ^ length bytes ≡ a
+after-div a [] h = div-one a
+after-div a (byte ∷ bytes) h =
+    quotient-suc (length bytes) (big_endian_after (256 * a + byte) bytes)
+    ∙ ap (λ m. m / 256) (after-div (256 * a + byte) bytes (λ j. h (suc j)))
+    ∙ one_byte-div a byte (h zero)
+
+-- bytes are those of their number
+in_bytes-after : (a : ℕ) (bytes : List ℕ) → AreBytes bytes → in_bytes (length bytes) (big_endian_after a bytes) ≡ bytes
+in_bytes-after a [] h = refl
+in_bytes-after a (byte ∷ bytes) h =
+    let n = big_endian_after (256 * a + byte) bytes in
+    let first : byte_at (length bytes) n ≡ byte =
+    byte_at-digit (length bytes) n
+    ∙ ap (λ m. m % 256) (after-div (256 * a + byte) bytes (λ j. h (suc j)))
+    ∙ one_byte-mod a byte (h zero) in
+    ap (λ b. b ∷ in_bytes (length bytes) n) first
+    ∙ ap (λ bs. byte ∷ bs) (in_bytes-after (256 * a + byte) bytes (λ j. h (suc j)))
+
+pub in_bytes-big_endian : (k : ℕ) (bytes : List ℕ) → length bytes ≡ k → AreBytes bytes → in_bytes k (big_endian bytes) ≡ bytes
+in_bytes-big_endian k bytes is h = subst (λ (n : ℕ). in_bytes n (big_endian bytes) ≡ bytes) is (in_bytes-after 0 bytes h)
+
+eight_more : (k : ℕ) → 8 * k + 8 ≡ 8 * suc k
+eight_more k = omega arith
+
+-- so many bytes are eight times as many bits
+pub power_of_bytes : (k : ℕ) → 256 ^ k ≡ 2 ^ (8 * k)
+power_of_bytes zero = refl
+power_of_bytes (suc k) =
+    pow-suc 256 k
+    ∙ ap (λ m. m * 256) (power_of_bytes k)
+    ∙ sym (pow-add 2 (8 * k) 8)
+    ∙ ap (λ m. 2 ^ m) (eight_more k)
+
+power_positive : (k : ℕ) → 0 < 256 ^ k
+power_positive k = subst (λ (m : ℕ). 0 < m) (sym (power_of_bytes k)) (pow_pos (8 * k))
+
+times_one : (m : ℕ) → m * (0 + 1) ≡ m
+times_one m = omega arith
+
+-- the number of k bytes is below the number of all of them
+pub big_endian-below : (bytes : List ℕ) → AreBytes bytes → big_endian bytes < 256 ^ length bytes
+big_endian-below bytes h =
+    let n = big_endian bytes in
+    let m = 256 ^ length bytes in
+    let none : n / m ≡ 0 = after-div 0 bytes h in
+    let below : n < m * (n / m + 1) = lt-mul-div-succ n (power_positive (length bytes)) in
+    let once : m * (n / m + 1) ≡ m = ap (λ q. m * (q + 1)) none ∙ times_one m in
+    subst (λ (k : ℕ). n < k) once below
+
+-- ---- how many bytes bits take
+
+-- a number of so many bits fits in as many bytes as they take
+pub fits-bytes_for : (bits n : ℕ) → n < 2 ^ bits → n < 256 ^ bytes_for bits
+fits-bytes_for bits n fits =
+    let enough : bits ≤ 8 * bytes_for bits = omega arith in
+    let grown : 2 ^ bits ≤ 2 ^ (8 * bytes_for bits) = pow_mono enough in
+    let power = power_of_bytes (bytes_for bits) in
+    omega arith
+
+next_below : {a b : ℕ} → a < b → a + 1 ≤ b
+next_below less = omega (arith, less)
+
+-- and in no fewer, where its highest bit is not 0
+pub bytes_for-least : (bits n width : ℕ) → 2 ^ bits ≤ 2 * n + 1 → n < 256 ^ width → bytes_for bits ≤ width
+bytes_for-least bits n width high fits = elim (cases_lt (8 * width) bits) [
+  | inl more ↦
+      let grown : 2 ^ (8 * width + 1) ≤ 2 ^ bits = pow_mono (next_below more) in
+      let double : 2 ^ (8 * width + 1) ≡ 2 ^ (8 * width) * 2 = pow-add 2 (8 * width) 1 in
+      let power = power_of_bytes width in
+      absurd (omega arith)
+  | inr enough ↦ omega arith
+]
+
+-- ---- zeros in front
+
+-- zeros in front of bytes do not change their number
+pub big_endian-zeros : (k : ℕ) (bytes : List ℕ) → big_endian (replicate k 0 ++ bytes) ≡ big_endian bytes
+big_endian-zeros zero bytes = refl
+big_endian-zeros (suc k) bytes = big_endian-zeros k bytes
+
+AreBytes-zeros : (k : ℕ) (bytes : List ℕ) → AreBytes bytes → AreBytes (replicate k 0 ++ bytes)
+AreBytes-zeros zero bytes h i = h i
+AreBytes-zeros (suc k) bytes h zero = lit< tt
+AreBytes-zeros (suc k) bytes h (suc i) = AreBytes-zeros k bytes h i
+
+-- eight bytes, of which the first are zeros, as a machine reads them
+pub number_of_padded : (bytes padded : List ℕ) (n : ℕ) → length bytes ≤ 8 → AreBytes bytes → padded ≡ replicate (8 - length bytes) 0 ++ bytes → n < 2 ^ 64 → n ≡ from_be_bytes w64 padded → n ≡ big_endian bytes
+number_of_padded bytes padded n short are_bytes is fits read =
+    let k = 8 - length bytes in
+    let zeros = replicate k 0 ++ bytes in
+    let eight : length zeros ≡ 8 = omega (arith, length-append (replicate k 0) bytes, length-replicate {A = ℕ} k 0) in
+    let spelled : in_bytes 8 n ≡ zeros = be_bytes_8 zeros n eight (AreBytes-zeros k bytes are_bytes) (read ∙ ap (from_be_bytes w64) is) in
+    sym (big_endian-in_bytes 8 n fits) ∙ ap big_endian spelled ∙ big_endian-zeros k bytes
+
+-- what a machine word of zeros is, whose end bytes are written over
+pub written_behind : (k : ℕ) (back bytes : List ℕ) → k ≤ 8 → back ≡ bytes → take k (replicate 8 0) ++ (back ++ drop (8 - k) (drop k (replicate 8 0))) ≡ replicate k 0 ++ bytes
+written_behind k back bytes small is =
+    let zeros : List ℕ = replicate 8 0 in
+    let rest : List ℕ = drop k zeros in
+    let behind : length rest ≤ 8 - k = omega (arith, length-drop k zeros) in
+    ap (λ front. front ++ (back ++ drop (8 - k) rest)) (take-replicate k 8 0 small)
+    ∙ ap (λ end. replicate k 0 ++ (back ++ end)) (drop_all (8 - k) rest behind)
+    ∙ ap (λ end. replicate k 0 ++ end) (append-nil back ∙ is)
+
+-- the bytes that a machine word has for a number of fewer
+pub drop-word : (width n : ℕ) → width ≤ 8 → drop (8 - width) (in_bytes 8 n) ≡ in_bytes width n
+drop-word width n small =
+    let split : 8 ≡ 8 - width + width = omega arith in
+    ap (λ k. drop (8 - width) (in_bytes k n)) split ∙ drop-in_bytes (8 - width) width n

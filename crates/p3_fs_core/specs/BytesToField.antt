@@ -1,0 +1,27 @@
+-- An element of a prime field through a challenger of bytes: its spelling is observed, and it is drawn
+-- from more bytes than a spelling has.
+use Rattle.std.specs.Prelude.{ℕ, ◌+◌, List, Option}
+use Rattle.std.specs.Option.{option_map}
+use Rattle.p3_field.specs.Residues.{Residues}
+use Rattle.p3_challenger_core.specs.Sponge.{draws, after_draws, SomeDraw}
+use Rattle.p3_fs_core.specs.BigEndian.{big_endian}
+
+-- how many bytes an element is drawn from: as many as a spelling has, and 128 bits more
+abbrev pub draw_bytes : ℕ → ℕ
+draw_bytes width = width + 16
+
+-- the element that drawn bytes give: their number modulo the order
+abbrev pub challenge_of : {F : Type 0} → Residues F → List ℕ → F
+challenge_of r bytes = r.of (big_endian bytes)
+
+-- the element that is drawn, where a byte is drawn so
+abbrev pub sampled : {F S : Type 0} → Residues F → ℕ → (S → Option ℕ) → (S → S) → S → Option F
+sampled r width byte after_byte s = option_map (challenge_of r) (draws byte after_byte (draw_bytes width) s)
+
+-- the state after it
+abbrev pub after_sampled : {S : Type 0} → ℕ → (S → Option ℕ) → (S → S) → S → S
+after_sampled width byte after_byte s = after_draws byte after_byte (draw_bytes width) s
+
+-- P holds of the state before one of the bytes
+abbrev pub SomeByte : {S : Type 0} → ℕ → (S → S) → (S → Type 0) → S → Type 0
+SomeByte width after_byte P s = SomeDraw after_byte P (draw_bytes width) s

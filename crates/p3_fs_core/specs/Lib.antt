@@ -1,0 +1,14 @@
+pub mod Reading
+pub mod BigEndian
+pub mod BigEndianLaws
+pub mod Scalar
+pub mod ScalarLaws
+pub mod SymbolLaws
+pub mod DrawLaws
+pub mod BytesToField
+pub mod BytesToFieldLaws
+pub mod Extension
+pub mod ExtensionLaws
+pub mod Packing
+pub mod PackingLaws
+pub mod TranscriptError

@@ -1,0 +1,28 @@
+-- A byte string as elements of a field: its length, and then its bytes in chunks.
+use Rattle.std.specs.Prelude.{ℕ, zero, suc, ◌+◌, ◌-◌, ◌*◌, ◌/◌, List, [], ◌∷◌, length, map, take, drop}
+use Rattle.p3_field.specs.Residues.{Residues}
+
+-- the number that bytes are, the lowest first
+abbrev pub little_endian : List ℕ → ℕ
+little_endian [] = 0
+little_endian (byte ∷ bytes) = byte + 256 * little_endian bytes
+
+-- how many bytes a chunk has: its numbers are below the order of a field of so many bits
+abbrev pub chunk_bytes : ℕ → ℕ
+chunk_bytes bits = (bits - 1) / 8
+
+-- how many chunks bytes make, the last of them perhaps shorter
+abbrev pub chunk_count : ℕ → ℕ → ℕ
+chunk_count size len = (len + (size - 1)) / size
+
+-- the first n chunks of bytes
+unfoldable pub first_chunks : ℕ → ℕ → List ℕ → List (List ℕ)
+first_chunks size zero bytes = []
+first_chunks size (suc n) bytes = take size bytes ∷ first_chunks size n (drop size bytes)
+
+abbrev pub chunks : ℕ → List ℕ → List (List ℕ)
+chunks size bytes = first_chunks size (chunk_count size (length bytes)) bytes
+
+-- the elements of a byte string
+abbrev pub packed : {F : Type 0} → Residues F → ℕ → List ℕ → List F
+packed r size bytes = r.of (length bytes) ∷ map (λ chunk. r.of (little_endian chunk)) (chunks size bytes)

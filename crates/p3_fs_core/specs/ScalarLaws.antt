@@ -1,0 +1,98 @@
+-- Laws of an element's spelling.
+use Rattle.std.proofs.Common.{◌≡◌, ℕ, ◌<◌, ◌≤◌, ◌+◌, ◌*◌, ◌^◌, List, ◌++◌, length, take, drop, Bool, true, false, nat_lt, if◌then◌else◌, Result, Ok, Err, refl, sym, ap, ◌∙◌, inl, inr, pow_mono, arith}
+use Rattle.std.proofs.lemmas.Bool.Decides.{nat_tests}
+use Rattle.std.proofs.lemmas.List.{take-append-drop, length-take-le, length-append}
+use Rattle.p3_field.specs.Residues.{Residues, IsResidues}
+use Rattle.p3_field.specs.ResidueLaws.{number_of-below}
+use Rattle.p3_fs_core.specs.Reading.{ReadsOneWay, AreBytes}
+use Rattle.std.proofs.lemmas.Bool.{cases_lt}
+use Rattle.p3_fs_core.specs.BigEndian.{big_endian, in_bytes, bytes_for}
+use Rattle.p3_fs_core.specs.BigEndianLaws.{big_endian-in_bytes, in_bytes-big_endian, length-in_bytes, AreBytes-take, take-front, drop-front, fits-bytes_for}
+use Rattle.p3_fs_core.specs.Scalar.{wire, read, element_of, not_enough_bytes, outside_range}
+
+-- a choice of two results: which one it is, and how the test went
+pub chosen : {A E : Type 0} (b : Bool) (e : E) (r : Result A E) (x : A) → (if b then Err e else r) ≡ Ok x → (b ≡ false) × (r ≡ Ok x)
+chosen true e r x h = cc
+chosen false e r x h = (refl, h)
+
+accepted : {A E : Type 0} (b : Bool) (e : E) (y x : A) → (if b then Ok y else Err e) ≡ Ok x → (b ≡ true) × (y ≡ x)
+accepted true e y x h = (refl, cc)
+accepted false e y x h = cc
+
+pub not_below : (n m : ℕ) → m ≤ n → nat_lt n m ≡ false
+not_below n m h = grind (arith, nat_tests)
+
+below : (n m : ℕ) → n < m → nat_lt n m ≡ true
+below n m h = grind (arith, nat_tests)
+
+pub at_least : (n m : ℕ) → nat_lt n m ≡ false → m ≤ n
+at_least n m h = grind (arith, nat_tests)
+
+is_below : (n m : ℕ) → nat_lt n m ≡ true → n < m
+is_below n m h = grind (arith, nat_tests)
+
+-- what is read reads one way, whatever is read and however it is spelled
+pub read-one_way : {T : Type 0} (spelling : T → List ℕ) (reading : List ℕ → Result (T × List ℕ) (List ℕ)) → ((x : T) (rest : List ℕ) → reading (spelling x ++ rest) ≡ Ok (x, rest)) → ReadsOneWay spelling
+read-one_way {T} spelling reading reads x y a b h =
+    let both : ◌≡◌ {A = Result (T × List ℕ) (List ℕ)} (Ok (x, a)) (Ok (y, b)) = sym (reads x a) ∙ ap reading h ∙ reads y b in
+    let same : ◌≡◌ {A = T × List ℕ} (x, a) (y, b) = cc in
+    (ap (λ p. p.0) same, ap (λ p. p.1) same)
+
+module _ {F : Type 0} (r : Residues F) (laws : IsResidues r) (width : ℕ) (fits : r.order ≤ 256 ^ width) where
+  -- the number of an element's bytes is the element's
+  number-wire : (x : F) → big_endian (wire r width x) ≡ r.number x
+  number-wire x = big_endian-in_bytes width (r.number x) (omega (arith, fits, laws.below x))
+
+  pub length-wire : (x : F) → length (wire r width x) ≡ width
+  length-wire x = length-in_bytes width (r.number x)
+
+  -- an element's number is an element
+  element_of-number : (x : F) (rest : List ℕ) → element_of r (r.number x) rest ≡ Ok (x, rest)
+  element_of-number x rest =
+      ap (λ b. if b then Ok (r.of (r.number x), rest) else Err outside_range) (below (r.number x) r.order (laws.below x))
+      ∙ ap (λ y. Ok (y, rest)) (laws.of_number x)
+
+  -- what is spelled is read, whatever follows
+  pub read-wire : (x : F) (rest : List ℕ) → read r width (wire r width x ++ rest) ≡ Ok (x, rest)
+  read-wire x rest =
+      let spelled = wire r width x in
+      let long : width ≤ length (spelled ++ rest) = omega (arith, length-append spelled rest, length-wire x) in
+      ap (λ b. if b then Err not_enough_bytes else element_of r (big_endian (take width (spelled ++ rest))) (drop width (spelled ++ rest))) (not_below (length (spelled ++ rest)) width long)
+      ∙ ap (λ bytes. element_of r (big_endian bytes) (drop width (spelled ++ rest))) (take-front width spelled rest (length-wire x))
+      ∙ ap (λ behind. element_of r (big_endian spelled) behind) (drop-front width spelled rest (length-wire x))
+      ∙ ap (λ n. element_of r n rest) (number-wire x)
+      ∙ element_of-number x rest
+
+  -- what is read is spelled so
+  pub read-only : (bytes : List ℕ) (x : F) (rest : List ℕ) → AreBytes bytes → read r width bytes ≡ Ok (x, rest) → bytes ≡ wire r width x ++ rest
+  read-only bytes x rest are_bytes h =
+      let front = take width bytes in
+      let n = big_endian front in
+      let long = chosen (nat_lt (length bytes) width) not_enough_bytes (element_of r n (drop width bytes)) (x, rest) h in
+      let found = accepted (nat_lt n r.order) outside_range (r.of n, drop width bytes) (x, rest) long.1 in
+      let value : r.of n ≡ x = ap (λ p. p.0) found.1 in
+      let behind : drop width bytes ≡ rest = ap (λ p. p.1) found.1 in
+      let same : r.number x ≡ n = sym (ap r.number value) ∙ number_of-below r laws n (is_below n r.order found.0) in
+      let spelled : wire r width x ≡ front =
+      ap (in_bytes width) same
+      ∙ in_bytes-big_endian width front (length-take-le width bytes (at_least (length bytes) width long.0)) (AreBytes-take width bytes are_bytes) in
+      sym (ap (λ a. a ++ rest) spelled ∙ ap (λ b. front ++ b) (sym behind) ∙ take-append-drop width bytes)
+
+  -- a spelling reads one way
+  pub wire-one_way : ReadsOneWay (wire r width)
+  wire-one_way = read-one_way (wire r width) (read r width) read-wire
+
+-- ---- the width of a field
+
+-- an order of so many bits is at most the number of bytes that they take
+pub order-fits : (bits order : ℕ) → order < 2 ^ bits → order ≤ 256 ^ bytes_for bits
+order-fits bits order fits = omega (arith, fits-bytes_for bits order fits)
+
+-- and those are at most eight
+pub width-most : (bits order : ℕ) → 2 ^ bits ≤ 2 * order → order < 2 ^ 64 → bytes_for bits ≤ 8
+width-most bits order least fits = elim (cases_lt 64 bits) [
+  | inl more ↦
+      let grown : 2 ^ 65 ≤ 2 ^ bits = pow_mono more in
+      absurd (omega (arith, grown, least, fits))
+  | inr enough ↦ omega arith
+]

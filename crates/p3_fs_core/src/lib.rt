@@ -1,0 +1,13 @@
+//! Typed transcripts: how values become symbols for the sponge and bytes in the proof.
+#![tactic(auto)]
+
+mod codecs;
+mod error;
+mod transcript_field;
+
+pub use codecs::{
+    BytesToFieldCodec, Codec, EXTRA_BYTES, FieldToFieldCodec, MIN_CHALLENGE_SECURITY_BITS,
+    bound_byte_width, decode_len_be, encode_len_be,
+};
+pub use error::TranscriptError;
+pub use transcript_field::TranscriptField;

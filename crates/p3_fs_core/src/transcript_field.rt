@@ -1,0 +1,52 @@
+ghost use Rattle.std.specs.Prelude.{◌≡◌, ℕ, List, ◌++◌, take, drop, OnOk, OnErr, IfOk, IfErr};
+ghost use Rattle.p3_fs_core.specs.BigEndian.{bytes_for};
+ghost use Rattle.p3_fs_core.specs.Scalar.{wire, read};
+ghost use Rattle.p3_fs_core.specs.TranscriptError.{Decodes};
+
+use crate::TranscriptError;
+use crate::codecs::{decode_field_be_canonical, encode_field_be, field_byte_size};
+use p3_field::PrimeField64;
+
+/// A field whose elements stand in a transcript: each has one spelling in the proof, its canonical
+/// number with the highest byte first, in as few bytes as the order needs.
+///
+/// Every [`PrimeField64`] is one, and no other implementation can be.
+pub trait TranscriptField: PrimeField64 {
+    /// How many bytes an element takes in the proof.
+    final fn wire_len() -> usize
+        ensures { result ≡ bytes_for Self.bit_length }
+    {
+        field_byte_size::<Self>()
+    }
+
+    /// Adds the spelling of an element at the end of `out`.
+    ///
+    /// The one error is [`TranscriptError::OutOfMemory`], which leaves a beginning of it added.
+    final fn encode(value: &Self, out: &mut Vec<u8>) -> Result<(), TranscriptError>
+        ensures ok { OnOk result (out.new.items
+            ≡ out.old.items ++ wire Self.residues (bytes_for Self.bit_length) value.now) }
+        ensures err { IfErr result (λ e. e ≡ TranscriptError.OutOfMemory) }
+        ensures left { OnErr result ((n : ℕ) × (out.new.items
+            ≡ out.old.items ++ take n (wire Self.residues (bytes_for Self.bit_length) value.now))) }
+    {
+        encode_field_be(value, out)
+    }
+
+    /// The element whose spelling `bytes` begin with: their first
+    /// [`wire_len`](TranscriptField::wire_len) bytes.
+    ///
+    /// The one error is [`TranscriptError::BadProofShape`]: with `not enough bytes for a canonical field
+    /// encoding` where there are fewer bytes, and else with `field encoding outside canonical range`
+    /// where their number is not below the order. It takes no memory.
+    final fn decode(bytes: &[u8]) -> Result<Self, TranscriptError>
+        ensures exact { Decodes (read Self.residues (bytes_for Self.bit_length) bytes.now) result }
+        ensures found { IfOk result (λ x. bytes.now
+            ≡ wire Self.residues (bytes_for Self.bit_length) x ++ drop (bytes_for Self.bit_length) bytes.now) }
+        ensures only { (x : Self) (rest : List ℕ) →
+            bytes.now ≡ wire Self.residues (bytes_for Self.bit_length) x ++ rest → result ≡ Ok x }
+    {
+        decode_field_be_canonical(bytes)
+    }
+}
+
+impl<F: PrimeField64> TranscriptField for F {}
