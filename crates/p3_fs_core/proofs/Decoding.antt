@@ -1,8 +1,8 @@
 -- What a decoder answers, from what reading gives.
-use Rattle.std.proofs.Common.{◌≡◌, ℕ, List, ◌++◌, drop, Result, Ok, Err, sym, ap, ◌∙◌, subst}
+use Rattle.std.proofs.Common.{◌≡◌, ℕ, List, ◌++◌, drop, Result, Ok, Err, refl, sym, ap, ◌∙◌, subst}
 use Rattle.std.specs.Result.{IfOk}
 use Rattle.p3_fs_core.specs.Reading.{AreBytes}
-use Rattle.p3_fs_core.specs.TranscriptError.{Decodes}
+use Rattle.p3_fs_core.specs.TranscriptError.{Decodes, IsBadShape}
 use Rattle.p3_fs_core.specs.declared.error.TranscriptError.{TranscriptError}
 
 module _ {T : Type 0} (spelling : T → List ℕ) (reading : List ℕ → Result (T × List ℕ) (List ℕ)) where
@@ -28,3 +28,12 @@ module _ {T : Type 0} (spelling : T → List ℕ) (reading : List ℕ → Result
   pub decoded-only : ((x : T) (rest : List ℕ) → reading (spelling x ++ rest) ≡ Ok (x, rest)) → (bytes : List ℕ) (r : Result T TranscriptError) → Decodes (reading bytes) r → (x : T) (rest : List ℕ) → bytes ≡ spelling x ++ rest → r ≡ Ok x
   decoded-only reads_back bytes r decodes x rest spelled =
       decodes-ok (x, rest) r (subst (λ (o : Result (T × List ℕ) (List ℕ)). Decodes o r) (ap reading spelled ∙ reads_back x rest) decodes)
+
+-- what a decoder's answer says of reading
+pub decoded-ok : {T : Type 0} (o : Result (T × List ℕ) (List ℕ)) (x : T) → Decodes o (Ok x) → (rest : List ℕ) × (o ≡ Ok (x, rest))
+decoded-ok (Ok found) x decodes = (found.1, ap (λ y. Ok (y, found.1)) (sym decodes))
+decoded-ok (Err reason) x decodes = absurd decodes
+
+pub decoded-err : {T : Type 0} (o : Result (T × List ℕ) (List ℕ)) (e : TranscriptError) → Decodes o (Err e) → (reason : List ℕ) × (o ≡ Err reason) × IsBadShape reason e
+decoded-err (Ok found) e decodes = absurd decodes
+decoded-err (Err reason) e decodes = (reason, refl, decodes)

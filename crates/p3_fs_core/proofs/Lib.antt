@@ -2,3 +2,4 @@ pub mod Counting
 pub mod Widths
 pub mod Decoding
 pub mod Behind
+pub mod Coefficients

@@ -16,9 +16,11 @@ read_all read zero bytes = Ok ([], bytes)
 read_all read (suc n) bytes =
     and_then (λ x. and_then (λ xs. Ok (x.0 ∷ xs.0, xs.1)) (read_all read n x.1)) (read bytes)
 
+-- the element of n coefficients in a row
+abbrev pub read_coefficients : {F A : Type 0} → (List ℕ → Result (F × List ℕ) (List ℕ)) → ℕ → (List F → A) → List ℕ → Result (A × List ℕ) (List ℕ)
+read_coefficients base n element bytes = and_then (λ xs. Ok (element xs.0, xs.1)) (read_all base n bytes)
+
 -- what is read at the head of bytes, where an element is made of n coefficients of this width
 abbrev pub read : {F A : Type 0} → (List ℕ → Result (F × List ℕ) (List ℕ)) → ℕ → ℕ → (List F → A) → List ℕ → Result (A × List ℕ) (List ℕ)
 read base width n element bytes =
-    if nat_lt (length bytes) (n * width)
-    then Err not_enough_bytes
-    else and_then (λ xs. Ok (element xs.0, xs.1)) (read_all base n bytes)
+    if nat_lt (length bytes) (n * width) then Err not_enough_bytes else read_coefficients base n element bytes

@@ -96,3 +96,6 @@ width-most bits order least fits = elim (cases_lt 64 bits) [
       absurd (omega (arith, grown, least, fits))
   | inr enough ↦ omega arith
 ]
+
+pub width-short : (bits order : ℕ) → 2 ^ bits ≤ 2 * order → order < 2 ^ 64 → bytes_for bits ≤ 65535
+width-short bits order least fits = omega (arith, width-most bits order least fits)

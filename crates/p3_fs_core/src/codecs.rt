@@ -2,12 +2,14 @@ mod big_endian;
 mod bytes_to_field;
 mod codec;
 mod decode_field;
+mod extension;
 mod field_to_field;
 mod length_prefix;
 
 pub use bytes_to_field::BytesToFieldCodec;
-pub use codec::{Codec, MIN_CHALLENGE_SECURITY_BITS};
+pub use codec::{Codec, MIN_CHALLENGE_SECURITY_BITS, ScalarCodec};
 pub use decode_field::EXTRA_BYTES;
 pub(crate) use decode_field::{decode_field_be_canonical, encode_field_be, field_byte_size};
+pub use extension::ExtensionFieldCodec;
 pub use field_to_field::FieldToFieldCodec;
 pub use length_prefix::{bound_byte_width, decode_len_be, encode_len_be};

@@ -6,8 +6,8 @@ mod error;
 mod transcript_field;
 
 pub use codecs::{
-    BytesToFieldCodec, Codec, EXTRA_BYTES, FieldToFieldCodec, MIN_CHALLENGE_SECURITY_BITS,
-    bound_byte_width, decode_len_be, encode_len_be,
+    BytesToFieldCodec, Codec, EXTRA_BYTES, ExtensionFieldCodec, FieldToFieldCodec,
+    MIN_CHALLENGE_SECURITY_BITS, bound_byte_width, decode_len_be, encode_len_be,
 };
 pub use error::TranscriptError;
 pub use transcript_field::TranscriptField;

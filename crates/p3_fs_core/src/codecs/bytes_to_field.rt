@@ -1,5 +1,5 @@
-use super::Codec;
 use super::decode_field::{EXTRA_BYTES, field_byte_size, field_of_bytes};
+use super::{Codec, ScalarCodec};
 use crate::{TranscriptError, TranscriptField};
 use p3_challenger_core::{CanObserve, CanSample, ChallengerError};
 use p3_field::PrimeField64;
@@ -90,4 +90,11 @@ impl<F: PrimeField64, C: CanObserve<u8> + CanSample<u8>> Codec<C, F> for BytesTo
     fn decode(bytes: &[u8]) -> Result<F, TranscriptError> {
         F::decode(bytes)
     }
+}
+
+impl<F: PrimeField64, C: CanObserve<u8> + CanSample<u8>> ScalarCodec<C, F>
+    for BytesToFieldCodec<F> {
+    ghost use Rattle.p3_fs_core.specs.ScalarLaws.{width-short};
+
+    ghost short = { width-short F.bit_length F.residues.order F.bits_least F.fits_u64 };
 }

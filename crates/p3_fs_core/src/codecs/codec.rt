@@ -105,3 +105,8 @@ pub trait Codec<C: Sponge, T> {
     // A draw that meets the limit gives nothing.
     ghost limit_gives_none: { (s : C.State) → meets_limit s → sampled s ≡ None };
 }
+
+/// A codec of the elements of a field: a spelling has at most 65535 bytes.
+pub trait ScalarCodec<C: Sponge, F>: Codec<C, F> {
+    ghost short: { Self.width ≤ 65535 };
+}

@@ -1,4 +1,4 @@
-use super::Codec;
+use super::{Codec, ScalarCodec};
 use crate::{TranscriptError, TranscriptField};
 use p3_challenger_core::{CanObserve, CanSample, ChallengerError};
 use p3_field::PrimeField64;
@@ -76,4 +76,10 @@ impl<F: PrimeField64, C: CanObserve<F> + CanSample<F>> Codec<C, F> for FieldToFi
     fn decode(bytes: &[u8]) -> Result<F, TranscriptError> {
         F::decode(bytes)
     }
+}
+
+impl<F: PrimeField64, C: CanObserve<F> + CanSample<F>> ScalarCodec<C, F> for FieldToFieldCodec<F> {
+    ghost use Rattle.p3_fs_core.specs.ScalarLaws.{width-short};
+
+    ghost short = { width-short F.bit_length F.residues.order F.bits_least F.fits_u64 };
 }
