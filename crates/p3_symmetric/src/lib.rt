@@ -6,6 +6,8 @@ mod hasher;
 mod merkle_cap;
 mod permutation;
 mod sha256;
+#[cfg(test)]
+mod tests;
 mod turn;
 
 pub use hash::Hash;
