@@ -1,4 +1,4 @@
-ghost use Rattle.std.specs.Prelude.{◌≡◌, ◌+◌, ◌*◌, ◌-◌, ◌%◌, ◌^◌, ◌<◌, ◌∷◌, replicate, sum_by};
+ghost use Rattle.std.specs.Prelude.{◌≡◌, ◌+◌, ◌*◌, ◌-◌, ◌%◌, ◌^◌, ◌<◌, ◌≤◌, ◌∷◌, Some, None, replicate, sum_by};
 ghost use Rattle.p3_field.specs.Residues.{plus};
 
 use crate::{
@@ -175,28 +175,41 @@ fn powers(rt: HostRuntime) {
 #[test]
 fn canonical_numbers(rt: HostRuntime) {
     assert_eq!(rt; number(F257::from_canonical(256)), 256);
-    assert_eq!(rt; F257::from_canonical_checked(256), Some(F257::NEG_ONE));
-    assert_eq!(rt; F257::from_canonical_checked(257), None);
     assert_eq!(rt; number(BabyBear::from_canonical(2013265920)), 2013265920);
-    assert_eq!(rt; BabyBear::from_canonical_checked(1), Some(BabyBear::ONE));
-    assert_eq!(rt; BabyBear::from_canonical_checked(2013265921), None);
     assert_eq!(rt;
         number(Goldilocks::from_canonical(18446744069414584320)),
         18446744069414584320
-    );
-    assert_eq!(rt;
-        Goldilocks::from_canonical_checked(0),
-        Some(Goldilocks::ZERO)
-    );
-    assert_eq!(rt;
-        Goldilocks::from_canonical_checked(18446744069414584321),
-        None
     );
     assert_eq!(rt; F257::from_u64(300).as_canonical_u32(), 43);
     assert_eq!(rt; BabyBear::from_u64(2013265922).as_canonical_u32(), 1);
     assert_eq!(rt; Goldilocks::from_u64(7).to_unique_u64(), 7);
     assert_eq!(rt; unique_number(F257::from_u64(300)), 43);
     assert_eq!(rt; unique_number(BabyBear::from_u64(5)), 5);
+}
+
+// The canonical number of the element that a number stands for, if it stands for one.
+fn checked<F: PrimeField64>(value: u64) -> Option<u64>
+    ensures below { value < F.residues.order → result ≡ Some value }
+    ensures other { F.residues.order ≤ value → result ≡ None }
+{
+    F::from_canonical_checked(value).map(|x| x.as_canonical_u64())
+}
+
+#[test]
+fn only_numbers_below_the_order_are_canonical(rt: HostRuntime) {
+    assert_eq!(rt; checked::<F257>(0), Some(0));
+    assert_eq!(rt; checked::<F257>(256), Some(256));
+    assert_eq!(rt; checked::<F257>(257), None);
+    assert_eq!(rt; checked::<BabyBear>(0), Some(0));
+    assert_eq!(rt; checked::<BabyBear>(2013265920), Some(2013265920));
+    assert_eq!(rt; checked::<BabyBear>(2013265921), None);
+    assert_eq!(rt; checked::<Goldilocks>(0), Some(0));
+    assert_eq!(rt;
+        checked::<Goldilocks>(18446744069414584320),
+        Some(18446744069414584320)
+    );
+    assert_eq!(rt; checked::<Goldilocks>(18446744069414584321), None);
+    assert_eq!(rt; checked::<Goldilocks>(u64::MAX), None);
 }
 
 #[test]
@@ -274,7 +287,6 @@ fn names_and_identities(rt: HostRuntime) {
     assert_eq!(rt; name_of::<u8>(), "u8");
     assert_eq!(rt; name_of::<usize>(), "usize");
     assert_eq!(rt; name_of::<()>(), "()");
-    assert_eq!(rt; <Coeffs<F257, 3> as Named>::NAME, "Coeffs");
     assert_eq!(rt; identity_of::<F257, F257>(), b"prime:257".as_slice());
     assert_eq!(rt;
         identity_of::<BabyBear, BabyBear>(),
@@ -290,14 +302,44 @@ fn names_and_identities(rt: HostRuntime) {
     );
 }
 
+fn has_one_name<T: Named>() -> bool {
+    T::NAME == T::type_name()
+}
+
+#[test]
+fn the_constant_is_the_name_of_the_type(rt: HostRuntime) {
+    assert!(rt; has_one_name::<F257>());
+    assert!(rt; has_one_name::<BabyBear>());
+    assert!(rt; has_one_name::<Goldilocks>());
+    assert!(rt; has_one_name::<Coeffs<F257, 3>>());
+    assert!(rt; has_one_name::<Coeffs<BabyBear, 4>>());
+    assert!(rt; has_one_name::<u8>());
+    assert!(rt; has_one_name::<usize>());
+    assert!(rt; has_one_name::<()>());
+}
+
 #[test]
 fn bit_lengths(rt: HostRuntime) {
-    assert_eq!(rt; log2_ceil_u64(1), 0);
-    assert_eq!(rt; log2_ceil_u64(2), 1);
-    assert_eq!(rt; log2_ceil_u64(256), 8);
-    assert_eq!(rt; log2_ceil_u64(257), 9);
-    assert_eq!(rt; log2_ceil_u64(2013265921), 31);
-    assert_eq!(rt; log2_ceil_u64(u64::MAX), 64);
+    let table = [
+        (1, 0),
+        (2, 1),
+        (3, 2),
+        (4, 2),
+        (5, 3),
+        (255, 8),
+        (256, 8),
+        (257, 9),
+        (2013265921, 31),
+        (1 << 32, 32),
+        ((1 << 32) + 1, 33),
+        (1 << 63, 63),
+        ((1 << 63) + 1, 64),
+        (u64::MAX, 64),
+    ];
+    for (n, bits) in table {
+        assert!(rt; 1 <= n);
+        assert_eq!(rt; log2_ceil_u64(n), bits, "of {n}");
+    }
 }
 
 #[test]
