@@ -71,7 +71,7 @@ impl<F: Field> BasedVectorSpace<F> for Coeffs<F, 4> {
     fn with_coefficient(self, index: usize, value: F) -> Self {
         let mut coefficients = self.coefficients;
         coefficients[index] = value;
-        Coeffs { coefficients }
+        Coeffs::new(coefficients)
     }
 }
 
