@@ -1,10 +1,11 @@
 -- The field of order 15 * 2 ^ 27 + 1 as residues.
 use Rattle.std.specs.Prelude.{◌≡◌, ℕ, ◌<◌, ◌%◌}
-use Rattle.std.proofs.Common.{◌∙◌, sym, lit<}
-use Rattle.std.proofs.Math.Nat.{mod-lt, mod-eq_of_lt}
+use Rattle.std.proofs.Common.{lit<}
+use Rattle.std.proofs.Math.Nat.{mod-lt}
 use Rattle.std.proofs.Math.Bridge.{le_prop}
 use mathlib.Core.HLevel.{is_prop→PathP}
 use Rattle.p3_field.specs.Residues.{Residues, IsResidues}
+use Rattle.p3_field.specs.ResidueLaws.{laws-of-injective}
 use Rattle.p3_field.specs.declared.baby_bear.BabyBear.{BabyBear}
 
 abbrev pub order : ℕ
@@ -33,18 +34,5 @@ number-injective x y e =
       canonical = is_prop→PathP (λ j. e j < order) (λ j. le_prop) x.canonical y.canonical i;
     }
 
--- an element with the number that is left of n is the element of n
-pub element-is : (x : BabyBear) (n : ℕ) → number x ≡ n % order → x ≡ element n
-element-is x n e = number-injective x (element n) e
-
--- an element with a number below the order is the element of that number
-pub element-at : (x : BabyBear) (n : ℕ) → number x ≡ n → n < order → x ≡ element n
-element-at x n e below = number-injective x (element n) (e ∙ sym (mod-eq_of_lt below))
-
 pub laws : IsResidues residues
-laws = record {
-  above_one = lit< tt;
-  below = λ x. x.canonical;
-  number_of = λ n _. n % order;
-  of_number = λ x. sym (element-at x (number x) (λ _. number x) x.canonical);
-}
+laws = laws-of-injective residues (lit< tt) (λ x. x.canonical) (λ n _. n % order) number-injective

@@ -3,6 +3,19 @@ use Rattle.std.proofs.Common.{◌≡◌, ℕ, ◌%◌, ◌<◌, ◌∙◌, sym, 
 use Rattle.std.proofs.Math.Nat.{mod-eq_of_lt}
 use Rattle.p3_field.specs.Residues.{Residues, IsResidues}
 
+-- numbers below an order that tell the elements apart are residues
+pub laws-of-injective : {F : Type 0} (r : Residues F) → 1 < r.order
+    → ((x : F) → r.number x < r.order)
+    → ((n : ℕ) → r.number (r.of n) ≡ n % r.order)
+    → ((x y : F) → r.number x ≡ r.number y → x ≡ y)
+    → IsResidues r
+laws-of-injective r above_one below number_of injective = record {
+  above_one = above_one;
+  below = below;
+  number_of = number_of;
+  of_number = λ x. injective (r.of (r.number x)) x (number_of (r.number x) ∙ mod-eq_of_lt (below x));
+}
+
 module _ {F : Type 0} (r : Residues F) (laws : IsResidues r) where
   -- elements of one number are one element
   pub number-injective : (x y : F) → r.number x ≡ r.number y → x ≡ y
