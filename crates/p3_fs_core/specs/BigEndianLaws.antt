@@ -20,7 +20,7 @@ quotient-suc : (k n : ℕ) → n / 256 ^ suc k ≡ n / 256 ^ k / 256
 quotient-suc k n = ap (λ m. n / m) (pow-suc 256 k) ∙ sym (div-div-eq-div-mul n (256 ^ k) 256)
 
 -- what is above k bytes is what is above one byte more, and that byte
-one_more : (k n : ℕ) → 256 * (n / 256 ^ suc k) + byte_at k n ≡ n / 256 ^ k
+pub one_more : (k n : ℕ) → 256 * (n / 256 ^ suc k) + byte_at k n ≡ n / 256 ^ k
 one_more k n =
     ap (λ m. 256 * m + byte_at k n) (quotient-suc k n)
     ∙ ap (λ m. 256 * (n / 256 ^ k / 256) + m) (byte_at-digit k n)

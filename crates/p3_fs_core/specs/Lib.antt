@@ -11,4 +11,6 @@ pub mod Extension
 pub mod ExtensionLaws
 pub mod Packing
 pub mod PackingLaws
+pub mod Alphabet
+pub mod AlphabetLaws
 pub mod TranscriptError

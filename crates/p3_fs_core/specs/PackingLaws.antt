@@ -1,12 +1,14 @@
 -- Laws of byte strings as elements of a field.
-use Rattle.std.proofs.Common.{◌≡◌, ℕ, zero, suc, ◌<◌, ◌≤◌, ◌+◌, ◌-◌, ◌*◌, ◌/◌, ◌^◌, List, [], ◌∷◌, ◌++◌, length, map, take, drop, min, refl, sym, ap, ◌∙◌, subst, lit<, arith, pow-suc, pow_mono}
-use Rattle.std.proofs.Math.Nat.{lt-mul-div-succ}
-use Rattle.std.proofs.lemmas.Nat.{pow-add}
-use Rattle.std.proofs.lemmas.List.{take-append-drop, length-take, length-drop, nil_from_length}
+use Rattle.std.proofs.Common.{◌≡◌, ℕ, zero, suc, ◌<◌, ◌≤◌, ◌+◌, ◌-◌, ◌*◌, ◌/◌, ◌^◌, List, [], ◌∷◌, ◌++◌, length, map, take, drop, min, replicate, append-nil, inl, inr, refl, sym, ap, ◌∙◌, subst, lit<, arith, pow-suc, pow_mono}
+use Rattle.std.proofs.Math.Nat.{mul_comm, mul_assoc, lt-mul-div-succ, add-mul-div_left, div-eq_of_lt, div-eq_of_lt-le, div-one}
+use Rattle.std.proofs.lemmas.Nat.{pow-add, le_bytes_8}
+use Rattle.std.proofs.lemmas.List.{take-append-drop, take_all, drop_all, drop-replicate, length-append, length-replicate, length-take, length-drop, nil_from_length}
+use Rattle.std.proofs.lemmas.Bool.{cases_lt}
+use Rattle.std.specs.Int.{w64, byte_at, bytes_low_first, from_le_bytes}
 use Rattle.p3_field.specs.Residues.{Residues, IsResidues}
 use Rattle.p3_field.specs.ResidueLaws.{of-injective}
 use Rattle.p3_fs_core.specs.Reading.{ReadOneWay, AreBytes}
-use Rattle.p3_fs_core.specs.BigEndianLaws.{AreBytes-take, AreBytes-drop, power_of_bytes}
+use Rattle.p3_fs_core.specs.BigEndianLaws.{AreBytes-take, AreBytes-drop, one_more, take-front, drop-front, power_of_bytes}
 use Rattle.p3_fs_core.specs.Packing.{little_endian, chunk_bytes, chunk_count, first_chunks, chunks, packed}
 
 -- ---- numbers of bytes
@@ -38,6 +40,72 @@ little_endian-injective (x ∷ a) (y ∷ b) a_are b_are same e =
     ap (λ z. z ∷ a) bytes.0
     ∙ ap (λ zs. y ∷ zs) (little_endian-injective a b (λ i. a_are (suc i)) (λ i. b_are (suc i)) fewer bytes.1)
 
+-- ---- a machine word, the lowest byte first
+
+once : (n : ℕ) → 0 + 1 * n ≡ n
+once n = omega arith
+
+gathered : (byte rest high : ℕ) → byte + 256 * rest + 256 * high ≡ 256 * (rest + high) + byte
+gathered byte rest high = omega arith
+
+regrouped : (byte rest power high : ℕ) → byte + 256 * rest + power * 256 * high ≡ 256 * (rest + power * high) + byte
+regrouped byte rest power high =
+    let product : power * 256 * high ≡ 256 * (power * high) = ap (λ p. p * high) (mul_comm power 256) ∙ mul_assoc 256 power high in
+    ap (λ m. byte + 256 * rest + m) product ∙ gathered byte rest (power * high)
+
+low_first : (i k n : ℕ) → little_endian (bytes_low_first i k n) + 256 ^ k * (n / 256 ^ (i + k)) ≡ n / 256 ^ i
+low_first i zero n =
+    let place : i + 0 ≡ i = omega arith in
+    ap (λ m. 0 + 1 * (n / 256 ^ m)) place ∙ once (n / 256 ^ i)
+low_first i (suc k) n =
+    let rest = little_endian (bytes_low_first (suc i) k n) in
+    let high = n / 256 ^ (suc i + k) in
+    let place : i + suc k ≡ suc i + k = omega arith in
+    let power : 256 ^ suc k ≡ 256 ^ k * 256 = pow-suc 256 k in
+    ap (λ m. byte_at i n + 256 * rest + 256 ^ suc k * (n / 256 ^ m)) place
+    ∙ ap (λ p. byte_at i n + 256 * rest + p * high) power
+    ∙ regrouped (byte_at i n) rest (256 ^ k) high
+    ∙ ap (λ m. 256 * m + byte_at i n) (low_first (suc i) k n)
+    ∙ one_more i n
+
+-- a number is that of its bytes
+little_endian-word : (n : ℕ) → n < 2 ^ 64 → little_endian (bytes_low_first 0 8 n) ≡ n
+little_endian-word n fits =
+    let whole = low_first 0 8 n in
+    let none : n / 256 ^ 8 ≡ 0 = div-eq_of_lt fits in
+    let itself : n / 256 ^ 0 ≡ n = div-one n in
+    omega (arith, whole, none, itself)
+
+little_endian-zeros : (k : ℕ) → little_endian (replicate k 0) ≡ 0
+little_endian-zeros zero = refl
+little_endian-zeros (suc k) = ap (λ n. 0 + 256 * n) (little_endian-zeros k)
+
+-- zeros behind bytes do not change their number
+little_endian-padded : (bytes : List ℕ) (k : ℕ) → little_endian (bytes ++ replicate k 0) ≡ little_endian bytes
+little_endian-padded [] k = little_endian-zeros k
+little_endian-padded (byte ∷ bytes) k = ap (λ n. byte + 256 * n) (little_endian-padded bytes k)
+
+AreBytes-padded : (bytes : List ℕ) (k : ℕ) → AreBytes bytes → AreBytes (bytes ++ replicate k 0)
+AreBytes-padded [] zero h i = lit< tt
+AreBytes-padded [] (suc k) h zero = lit< tt
+AreBytes-padded [] (suc k) h (suc i) = AreBytes-padded [] k h i
+AreBytes-padded (byte ∷ bytes) k h zero = h zero
+AreBytes-padded (byte ∷ bytes) k h (suc i) = AreBytes-padded bytes k (λ j. h (suc j)) i
+
+-- eight bytes, of which the last are zeros, as a machine reads them
+pub number_of_filled : (bytes filled : List ℕ) (n : ℕ) → length bytes ≤ 8 → AreBytes bytes → filled ≡ bytes ++ replicate (8 - length bytes) 0 → n < 2 ^ 64 → n ≡ from_le_bytes w64 filled → n ≡ little_endian bytes
+number_of_filled bytes filled n short are_bytes is fits read =
+    let k = 8 - length bytes in
+    let zeros = bytes ++ replicate k 0 in
+    let eight : length zeros ≡ 8 = omega (arith, length-append bytes (replicate k 0), length-replicate {A = ℕ} k 0) in
+    let spelled : bytes_low_first 0 8 n ≡ zeros = le_bytes_8 zeros n eight (AreBytes-padded bytes k are_bytes) (read ∙ ap (from_le_bytes w64) is) in
+    sym (little_endian-word n fits) ∙ ap little_endian spelled ∙ little_endian-padded bytes k
+
+-- what a machine word of zeros is, whose front bytes are written over
+pub written_before : (front bytes : List ℕ) → front ≡ bytes → front ++ drop (length bytes) (replicate 8 0) ≡ bytes ++ replicate (8 - length bytes) 0
+written_before front bytes is =
+    ap (λ l. l ++ drop (length bytes) (replicate 8 0)) is ∙ ap (λ l. bytes ++ l) (drop-replicate {X = ℕ} (length bytes) 8 0)
+
 -- a chunk is shorter than the order of the field: its numbers are below it
 pub chunk-below : (bits order size : ℕ) → 2 ^ bits ≤ 2 * order → 0 < bits → size ≤ chunk_bytes bits → 256 ^ size ≤ order
 chunk-below bits order size least positive short =
@@ -48,6 +116,66 @@ chunk-below bits order size least positive short =
     omega (arith, grown, double, power, least)
 
 -- ---- chunks
+
+pub chunk_bytes-positive : (bits order : ℕ) → 256 < order → order < 2 ^ bits → 0 < chunk_bytes bits
+chunk_bytes-positive bits order above fits = elim (cases_lt 8 bits) [
+  | inl more ↦ omega (arith, more)
+  | inr few ↦
+      let grown : 2 ^ bits ≤ 2 ^ 8 = pow_mono few in
+      absurd (omega (arith, grown, above, fits))
+]
+
+count-more : (size len : ℕ) → 0 < size → 0 < len → chunk_count size len ≡ suc (chunk_count size (len - size))
+count-more size len positive some = elim (cases_lt len size) [
+  | inl short ↦
+      let one : chunk_count size len ≡ 1 = div-eq_of_lt-le size (omega (arith, positive, some)) (omega (arith, short, positive)) in
+      let rest : len - size + (size - 1) < size = omega (arith, short, positive) in
+      one ∙ sym (ap suc (div-eq_of_lt rest))
+  | inr long ↦
+      let split : len + (size - 1) ≡ len - size + (size - 1) + size * 1 = omega (arith, long) in
+      let counted = add-mul-div_left (len - size + (size - 1)) 1 positive in
+      let next : (len - size + (size - 1)) / size + 1 ≡ suc ((len - size + (size - 1)) / size) = omega arith in
+      ap (λ k. k / size) split ∙ counted ∙ next
+]
+
+-- a chunk is as long as the size, or it is the last
+front_of : (size : ℕ) (chunk rest all : List ℕ) → length chunk ≡ min size (length all) → all ≡ chunk ++ rest → take size (chunk ++ rest) ≡ chunk
+front_of size chunk rest all short parts = elim (cases_lt (length all) size) [
+  | inl last ↦
+      let none : length rest ≡ 0 = omega (arith, short, last, ap length parts, length-append chunk rest) in
+      let empty = nil_from_length rest none in
+      let whole : length (chunk ++ rest) ≤ size = omega (arith, last, ap length parts) in
+      take_all size (chunk ++ rest) whole ∙ ap (λ l. chunk ++ l) empty ∙ append-nil chunk
+  | inr full ↦ take-front size chunk rest (omega (arith, short, full))
+]
+
+end_of : (size : ℕ) (chunk rest all : List ℕ) → length chunk ≡ min size (length all) → all ≡ chunk ++ rest → drop size (chunk ++ rest) ≡ rest
+end_of size chunk rest all short parts = elim (cases_lt (length all) size) [
+  | inl last ↦
+      let none : length rest ≡ 0 = omega (arith, short, last, ap length parts, length-append chunk rest) in
+      let whole : length (chunk ++ rest) ≤ size = omega (arith, last, ap length parts) in
+      drop_all size (chunk ++ rest) whole ∙ sym (nil_from_length rest none)
+  | inr full ↦ drop-front size chunk rest (omega (arith, short, full))
+]
+
+-- the first chunk, and the chunks of what is behind it
+pub chunks-step : (size : ℕ) (all chunk rest : List ℕ) → 0 < size → 0 < length all → all ≡ chunk ++ rest → length chunk ≡ min size (length all) → chunks size all ≡ chunk ∷ chunks size rest
+unfolding first_chunks
+chunks-step size all chunk rest positive some parts short =
+    let behind : length rest ≡ length all - size = omega (arith, short, ap length parts, length-append chunk rest) in
+    let count : chunk_count size (length all) ≡ suc (chunk_count size (length rest)) =
+    count-more size (length all) positive some ∙ ap (λ k. suc (chunk_count size k)) (sym behind) in
+    let front : take size all ≡ chunk = ap (take size) parts ∙ front_of size chunk rest all short parts in
+    let end : drop size all ≡ rest = ap (drop size) parts ∙ end_of size chunk rest all short parts in
+    ap (λ k. first_chunks size k all) count
+    ∙ ap (λ c. c ∷ first_chunks size (chunk_count size (length rest)) (drop size all)) front
+    ∙ ap (λ l. chunk ∷ first_chunks size (chunk_count size (length rest)) l) end
+
+pub chunks-end : (size : ℕ) (all : List ℕ) → 0 < size → length all ≡ 0 → chunks size all ≡ []
+unfolding first_chunks
+chunks-end size all positive none =
+    let below : length all + (size - 1) < size = omega (arith, none, positive) in
+    ap (λ k. first_chunks size k all) (div-eq_of_lt below)
 
 power_grows : (i j : ℕ) → i ≤ j → 256 ^ i ≤ 256 ^ j
 power_grows i j less =

@@ -5,6 +5,7 @@ mod decode_field;
 mod extension;
 mod field_to_field;
 mod length_prefix;
+mod little_endian;
 
 pub use bytes_to_field::BytesToFieldCodec;
 pub use codec::{Codec, MIN_CHALLENGE_SECURITY_BITS, ScalarCodec};
@@ -13,3 +14,4 @@ pub(crate) use decode_field::{decode_field_be_canonical, encode_field_be, field_
 pub use extension::ExtensionFieldCodec;
 pub use field_to_field::FieldToFieldCodec;
 pub use length_prefix::{bound_byte_width, decode_len_be, encode_len_be};
+pub(crate) use little_endian::number_of_chunk;

@@ -4,6 +4,7 @@
 mod codecs;
 mod error;
 mod transcript_field;
+mod unit;
 
 pub use codecs::{
     BytesToFieldCodec, Codec, EXTRA_BYTES, ExtensionFieldCodec, FieldToFieldCodec,
@@ -11,3 +12,4 @@ pub use codecs::{
 };
 pub use error::TranscriptError;
 pub use transcript_field::TranscriptField;
+pub use unit::{FieldUnit, Unit};

@@ -1,0 +1,75 @@
+ghost use Rattle.std.specs.Prelude.{◌≡◌, ℕ, ◌<◌, ◌≤◌, List, ◌++◌, length, OnOk, IfErr};
+ghost use Rattle.p3_challenger_core.specs.Sponge.{observed_all, LeavesInCalls, RefusesObserve};
+ghost use Rattle.p3_fs_core.specs.Reading.{AreBytes, OneBegins, ReadOneWay};
+ghost use Rattle.p3_fs_core.specs.Packing.{packed, chunk_bytes};
+ghost use Rattle.p3_fs_core.specs.PackingLaws.{IsPackable};
+ghost use Rattle.p3_fs_core.specs.Alphabet.{RefusesBytes, LeavesItems};
+
+use crate::TranscriptField;
+use p3_challenger_core::{CanObserve, ChallengerError};
+use p3_field::PrimeField64;
+use std::marker::PhantomData;
+
+/// An alphabet of a sponge: how a byte string becomes its symbols.
+pub trait Unit {
+    /// What the sponge observes.
+    type Item;
+
+    // The condition under which this is an alphabet.
+    ghost is_alphabet: { Type 0 };
+
+    // What a byte string is in this alphabet, and the lengths that are too long for it.
+    ghost items: { List ℕ → List Self.Item };
+
+    ghost is_too_long: { ℕ → Type 0 };
+
+    /// Observes a byte string.
+    ///
+    /// The errors are [`ChallengerError::TooLong`], with nothing absorbed, and
+    /// [`ChallengerError::OutOfMemory`].
+    fn observe_bytes<C: CanObserve<Self::Item>>(
+        challenger: &mut C,
+        bytes: &[u8],
+    ) -> Result<(), ChallengerError>
+        requires { is_alphabet }
+        ensures ok { OnOk result ((is_too_long (length bytes.now) → ⊥)
+            × (C.state challenger.new ≡ observed_all C.observed (C.state challenger.old) (items bytes.now))) }
+        ensures err { IfErr result (λ e. RefusesBytes (is_too_long (length bytes.now))
+            (LeavesItems C.observed C.may_leave (C.state challenger.old) (items bytes.now))
+            (C.state challenger.old) e (C.state challenger.new)) };
+
+    // Byte strings that begin one list of items begin one another. So byte strings of one length, and all
+    // those of which none begins another, read one way.
+    ghost begins: { is_alphabet → (a b : List ℕ) (x y : List Self.Item) → AreBytes a → AreBytes b
+        → (is_too_long (length a) → ⊥) → (is_too_long (length b) → ⊥)
+        → items a ++ x ≡ items b ++ y → OneBegins a b };
+}
+
+impl Unit for u8 {
+    ghost use Rattle.p3_fs_core.specs.AlphabetLaws.{one_begins};
+
+    type Item = u8;
+
+    ghost is_alphabet = { Unit {0} };
+
+    ghost items = { λ bytes. bytes };
+
+    // A byte sponge takes every byte string as it is.
+    ghost is_too_long = { λ _. ⊥ };
+
+    ghost begins = { λ _ a b x y _ _ _ _ e. one_begins a b x y e };
+
+    fn observe_bytes<C: CanObserve<u8>>(
+        challenger: &mut C,
+        bytes: &[u8],
+    ) -> Result<(), ChallengerError> {
+        challenger.observe_slice(bytes)
+    }
+}
+
+/// The alphabet of a sponge of field elements, of a field of more than 256 elements.
+///
+/// A byte string is its length, and then its bytes in chunks, each of as many bytes as are surely below
+/// the order: their number, the lowest byte first. The last chunk may be shorter.
+#[derive(Clone, Copy, Debug, Default, PartialEq, Eq, PartialOrd, Ord, Hash)]
+pub struct FieldUnit<F>(PhantomData<F>);
