@@ -3,3 +3,4 @@ pub mod Widths
 pub mod Decoding
 pub mod Behind
 pub mod Coefficients
+pub mod Packed

@@ -1,6 +1,7 @@
 -- A byte string as elements of a field: its length, and then its bytes in chunks.
-use Rattle.std.specs.Prelude.{ℕ, zero, suc, ◌+◌, ◌-◌, ◌*◌, ◌/◌, List, [], ◌∷◌, length, map, take, drop}
+use Rattle.std.specs.Prelude.{ℕ, zero, suc, ◌+◌, ◌-◌, ◌*◌, ◌/◌, ◌<◌, List, [], ◌∷◌, length, map, take, drop}
 use Rattle.p3_field.specs.Residues.{Residues}
+use Rattle.p3_fs_core.specs.Reading.{AreBytes}
 
 -- the number that bytes are, the lowest first
 abbrev pub little_endian : List ℕ → ℕ
@@ -26,3 +27,7 @@ chunks size bytes = first_chunks size (chunk_count size (length bytes)) bytes
 -- the elements of a byte string
 abbrev pub packed : {F : Type 0} → Residues F → ℕ → List ℕ → List F
 packed r size bytes = r.of (length bytes) ∷ map (λ chunk. r.of (little_endian chunk)) (chunks size bytes)
+
+-- a byte string is one of these where its length is an element
+abbrev pub IsPackable : {F : Type 0} → Residues F → List ℕ → Type 0
+IsPackable r bytes = AreBytes bytes × (length bytes < r.order)

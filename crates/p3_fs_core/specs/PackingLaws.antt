@@ -7,9 +7,10 @@ use Rattle.std.proofs.lemmas.Bool.{cases_lt}
 use Rattle.std.specs.Int.{w64, byte_at, bytes_low_first, from_le_bytes}
 use Rattle.p3_field.specs.Residues.{Residues, IsResidues}
 use Rattle.p3_field.specs.ResidueLaws.{of-injective}
-use Rattle.p3_fs_core.specs.Reading.{ReadOneWay, AreBytes}
+use Rattle.p3_fs_core.specs.Reading.{ReadOneWay, OneBegins, AreBytes}
 use Rattle.p3_fs_core.specs.BigEndianLaws.{AreBytes-take, AreBytes-drop, one_more, take-front, drop-front, power_of_bytes}
-use Rattle.p3_fs_core.specs.Packing.{little_endian, chunk_bytes, chunk_count, first_chunks, chunks, packed}
+use Rattle.p3_fs_core.specs.AlphabetLaws.{begins_itself}
+use Rattle.p3_fs_core.specs.Packing.{little_endian, chunk_bytes, chunk_count, first_chunks, chunks, packed, IsPackable}
 
 -- ---- numbers of bytes
 
@@ -229,15 +230,30 @@ module _ {F : Type 0} (r : Residues F) (laws : IsResidues r) (size : ℕ) (fits 
         others.1,
       )
 
-  -- a byte string has a spelling where its length is below the order
-  abbrev pub IsPackable : List ℕ → Type 0
-  IsPackable bytes = AreBytes bytes × (length bytes < r.order)
-
   -- whatever follows, packed byte strings read one way
-  pub packed-one_way : 0 < size → ReadOneWay IsPackable (packed r size)
+  pub packed-one_way : 0 < size → ReadOneWay (IsPackable r) (packed r size)
   packed-one_way positive a b x y a_is b_is e =
       let front : ◌≡◌ {A = F × List F} (r.of (length a), map element_of_chunk (chunks size a) ++ x) (r.of (length b), map element_of_chunk (chunks size b) ++ y) = cc in
       let same : length a ≡ length b = of-injective r laws (length a) (length b) a_is.1 b_is.1 (ap (λ p. p.0) front) in
       let as_many : map element_of_chunk (first_chunks size (chunk_count size (length a)) a) ++ x ≡ map element_of_chunk (first_chunks size (chunk_count size (length a)) b) ++ y =
       ap (λ p. p.1) front ∙ ap (λ k. map element_of_chunk (first_chunks size (chunk_count size k) b) ++ y) (sym same) in
       chunks-one_way (chunk_count size (length a)) a b x y a_is.0 b_is.0 same (chunks-enough size (length a) positive) as_many
+
+-- ---- a field's own chunks
+
+is_below : (n m : ℕ) → (m ≤ n → ⊥) → n < m
+is_below n m short = elim (cases_lt n m) [
+  | inl less ↦ less
+  | inr more ↦ absurd (short more)
+]
+
+module _ {F : Type 0} (r : Residues F) (laws : IsResidues r) (bits : ℕ) (below : r.order < 2 ^ bits) (least : 2 ^ bits ≤ 2 * r.order) (large : 256 < r.order) where
+  pub field_packed-one_way : ReadOneWay (IsPackable r) (packed r (chunk_bytes bits))
+  field_packed-one_way =
+      let positive = chunk_bytes-positive bits r.order large below in
+      packed-one_way r laws (chunk_bytes bits) (chunk-below bits r.order (chunk_bytes bits) least (omega (arith, positive)) (omega arith)) positive
+
+-- byte strings that begin one list of elements are one
+pub packed-begins : {F : Type 0} (r : Residues F) (laws : IsResidues r) (bits : ℕ) (below : r.order < 2 ^ bits) (least : 2 ^ bits ≤ 2 * r.order) → 256 < r.order → (a b : List ℕ) (x y : List F) → AreBytes a → AreBytes b → (r.order ≤ length a → ⊥) → (r.order ≤ length b → ⊥) → packed r (chunk_bytes bits) a ++ x ≡ packed r (chunk_bytes bits) b ++ y → OneBegins a b
+packed-begins r laws bits below least large a b x y a_are b_are a_short b_short e =
+    begins_itself a b ((field_packed-one_way r laws bits below least large a b x y (a_are, is_below (length a) r.order a_short) (b_are, is_below (length b) r.order b_short) e).0)

@@ -3,6 +3,7 @@
 
 mod codecs;
 mod error;
+mod packing;
 mod transcript_field;
 mod unit;
 

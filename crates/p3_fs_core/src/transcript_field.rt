@@ -1,10 +1,15 @@
-ghost use Rattle.std.specs.Prelude.{◌≡◌, ℕ, List, ◌++◌, take, drop, OnOk, OnErr, IfOk, IfErr};
+ghost use Rattle.std.specs.Prelude.{◌≡◌, ℕ, ◌<◌, ◌≤◌, List, [], ◌∷◌, ◌++◌, length, take, drop, OnOk, OnErr, IfOk, IfErr};
+ghost use Rattle.p3_challenger_core.specs.Sponge.{observed_all, LeavesInCalls};
+ghost use Rattle.p3_fs_core.specs.Alphabet.{RefusesBytes};
 ghost use Rattle.p3_fs_core.specs.BigEndian.{bytes_for};
+ghost use Rattle.p3_fs_core.specs.Packing.{packed, chunk_bytes};
 ghost use Rattle.p3_fs_core.specs.Scalar.{wire, read};
 ghost use Rattle.p3_fs_core.specs.TranscriptError.{Decodes};
 
 use crate::TranscriptError;
 use crate::codecs::{decode_field_be_canonical, encode_field_be, field_byte_size};
+use crate::packing::observe_packed;
+use p3_challenger_core::{CanObserve, ChallengerError};
 use p3_field::PrimeField64;
 
 /// A field whose elements stand in a transcript: each has one spelling in the proof, its canonical
@@ -12,6 +17,30 @@ use p3_field::PrimeField64;
 ///
 /// Every [`PrimeField64`] is one, and no other implementation can be.
 pub trait TranscriptField: PrimeField64 {
+    /// Observes a byte string as [`FieldUnit`](crate::FieldUnit) does: its length, and then its chunks. The
+    /// field has more than 256 elements.
+    ///
+    /// The errors are [`ChallengerError::TooLong`] where the length is not below the order, with nothing
+    /// absorbed, and [`ChallengerError::OutOfMemory`], with a beginning of the elements observed.
+    final fn observe_seed<C: CanObserve<Self>>(
+        challenger: &mut C,
+        bytes: &[u8],
+    ) -> Result<(), ChallengerError>
+        requires { 256 < Self.residues.order }
+        ensures ok { OnOk result ((Self.residues.order ≤ length bytes.now → ⊥)
+            × (C.state challenger.new ≡ observed_all C.observed (C.state challenger.old)
+            (packed Self.residues (chunk_bytes Self.bit_length) bytes.now))) }
+        ensures err { IfErr result (λ e. RefusesBytes (Self.residues.order ≤ length bytes.now)
+            (LeavesInCalls C.observed (λ s x t. C.may_leave s (x ∷ []) t) (C.state challenger.old)
+            (packed Self.residues (chunk_bytes Self.bit_length) bytes.now))
+            (C.state challenger.old) e (C.state challenger.new)) }
+    {
+        if bytes.len() as u64 >= Self::ORDER_U64 {
+            return Err(ChallengerError::TooLong);
+        }
+        observe_packed(challenger, bytes)
+    }
+
     /// How many bytes an element takes in the proof.
     final fn wire_len() -> usize
         ensures { result ≡ bytes_for Self.bit_length }

@@ -1,8 +1,7 @@
 ghost use Rattle.std.specs.Prelude.{◌≡◌, ℕ, ◌<◌, ◌≤◌, List, ◌++◌, length, OnOk, IfErr};
 ghost use Rattle.p3_challenger_core.specs.Sponge.{observed_all, LeavesInCalls, RefusesObserve};
 ghost use Rattle.p3_fs_core.specs.Reading.{AreBytes, OneBegins, ReadOneWay};
-ghost use Rattle.p3_fs_core.specs.Packing.{packed, chunk_bytes};
-ghost use Rattle.p3_fs_core.specs.PackingLaws.{IsPackable};
+ghost use Rattle.p3_fs_core.specs.Packing.{packed, chunk_bytes, IsPackable};
 ghost use Rattle.p3_fs_core.specs.Alphabet.{RefusesBytes, LeavesItems};
 
 use crate::TranscriptField;
@@ -73,3 +72,35 @@ impl Unit for u8 {
 /// the order: their number, the lowest byte first. The last chunk may be shorter.
 #[derive(Clone, Copy, Debug, Default, PartialEq, Eq, PartialOrd, Ord, Hash)]
 pub struct FieldUnit<F>(PhantomData<F>);
+
+impl<F: PrimeField64> Unit for FieldUnit<F> {
+    ghost use Rattle.p3_fs_core.specs.PackingLaws.{packed-begins};
+
+    type Item = F;
+
+    ghost is_alphabet = { 256 < F.residues.order };
+
+    ghost items = { packed F.residues (chunk_bytes F.bit_length) };
+
+    // The length is an element too.
+    ghost is_too_long = { λ len. F.residues.order ≤ len };
+
+    ghost begins = { packed-begins F.residues F.are_residues F.bit_length F.bits_below F.bits_least };
+
+    fn observe_bytes<C: CanObserve<F>>(
+        challenger: &mut C,
+        bytes: &[u8],
+    ) -> Result<(), ChallengerError>
+        requires { 256 < F.residues.order }
+        ensures ok { OnOk result ((F.residues.order ≤ length bytes.now → ⊥)
+            × (C.state challenger.new ≡ observed_all C.observed (C.state challenger.old)
+            (packed F.residues (chunk_bytes F.bit_length) bytes.now))) }
+        ensures err { IfErr result (λ e. RefusesBytes (F.residues.order ≤ length bytes.now)
+            (LeavesItems C.observed C.may_leave (C.state challenger.old) (packed F.residues (chunk_bytes F.bit_length) bytes.now))
+            (C.state challenger.old) e (C.state challenger.new)) }
+        // Whatever follows, the elements of a byte string that is short enough read one way.
+        ensures one_way { ReadOneWay (IsPackable F.residues) (packed F.residues (chunk_bytes F.bit_length)) }
+    {
+        F::observe_seed(challenger, bytes)
+    }
+}

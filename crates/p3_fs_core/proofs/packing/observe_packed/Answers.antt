@@ -1,0 +1,79 @@
+use Rattle.std.proofs.Common.{◌≡◌, ℕ, ◌<◌, List, [], ◌∷◌, length, map, min, sym, ap, ◌∙◌, subst, arith}
+use Rattle.std.specs.Slice.Iter.{chunks_rest, chunks_size}
+use Rattle.std.proofs.lemmas.Result.{err_from_is_err_and}
+use Rattle.p3_challenger_core.specs.Sponge.{RefusesObserve}
+use Rattle.p3_challenger_core.specs.CallLaws.{GoesOn}
+use Rattle.p3_fs_core.specs.Packing.{packed, chunks, chunk_bytes, little_endian}
+use Rattle.p3_fs_core.specs.PackingLaws.{chunks-step, chunks-end}
+use Rattle.p3_fs_core.proofs.Packed.{goes-next, goes-refused, goes-end}
+use Rattle.p3_fs_core.proofs.packing.observe_packed.Goals as goal
+
+-- a chunk more is observed
+pub loop-chunk-preserved : goal.loop-chunk-preserved
+loop-chunk-preserved g c =
+    let r = g.F.PrimeCharacteristicRing.residues in
+    let m = g.C.CanObserve in
+    let state = g.C.Sponge.state in
+    let size = chunk_bytes g.F.Field.bit_length in
+    let all : List ℕ = chunks_rest c.loop-chunk.chunk-iterator in
+    let rest : List ℕ = chunks_rest c.next.new.self in
+    let chunk : List ℕ = c.in-Some.chunk.now in
+    let steps = c.in-Some.ensures.steps in
+    let kept = c.loop-chunk.invariant in
+    let positive : 0 < size = subst (λ (k : ℕ). 0 < k) kept.2 kept.0 in
+    let split = chunks-step size all chunk rest positive steps.1.2 steps.1.0 (steps.1.1 ∙ ap (λ k. min k (length all)) kept.2) in
+    let element = λ (bytes : List ℕ). r.of (little_endian bytes) in
+    let start = state c.args.challenger.now in
+    let values = packed r size c.args.bytes.now in
+    let here = state c.loop-chunk.challenger in
+    let on = subst (λ (l : List (List ℕ)). GoesOn m.observed (λ s x t. m.may_leave s (x ∷ []) t) start values here (map element l)) split kept.3 in
+    let value = c.from_u64-in-loop-chunk.ensures ∙ ap r.of c.number_of_chunk.ensures in
+    let moved = c.in_ok-observe-2.ensures.ok ∙ ap (m.observed here) value in (
+      subst (λ (k : ℕ). 0 < k) (sym steps.0) kept.0,
+      tt,
+      steps.0 ∙ kept.2,
+      goes-next m.observed (λ s x t. m.may_leave s (x ∷ []) t) start values here (state c.observe-in-loop-chunk.new.self) (element chunk) (map element (chunks size rest)) moved on,
+    )
+
+-- a chunk is refused: those before it are observed
+pub returns-in_err-observe-2-clause-err : goal.returns-in_err-observe-2-clause-err
+returns-in_err-observe-2-clause-err g c =
+    let p = err_from_is_err_and c.from_residual-in_err-observe-2.result c.from_residual-in_err-observe-2.ensures.1 in
+    let r = g.F.PrimeCharacteristicRing.residues in
+    let m = g.C.CanObserve in
+    let state = g.C.Sponge.state in
+    let size = chunk_bytes g.F.Field.bit_length in
+    let all : List ℕ = chunks_rest c.loop-chunk.chunk-iterator in
+    let rest : List ℕ = chunks_rest c.next.new.self in
+    let chunk : List ℕ = c.in-Some.chunk.now in
+    let steps = c.in-Some.ensures.steps in
+    let kept = c.loop-chunk.invariant in
+    let positive : 0 < size = subst (λ (k : ℕ). 0 < k) kept.2 kept.0 in
+    let split = chunks-step size all chunk rest positive steps.1.2 steps.1.0 (steps.1.1 ∙ ap (λ k. min k (length all)) kept.2) in
+    let element = λ (bytes : List ℕ). r.of (little_endian bytes) in
+    let start = state c.args.challenger.now in
+    let values = packed r size c.args.bytes.now in
+    let here = state c.loop-chunk.challenger in
+    let end = state c.observe-in-loop-chunk.new.self in
+    let e = c.in_err-observe-2.field-0.0 in
+    let on = subst (λ (l : List (List ℕ)). GoesOn m.observed (λ s x t. m.may_leave s (x ∷ []) t) start values here (map element l)) split kept.3 in
+    let value = c.from_u64-in-loop-chunk.ensures ∙ ap r.of c.number_of_chunk.ensures in
+    let refused = subst (λ x. RefusesObserve (λ t. m.may_leave here (x ∷ []) t) e end) value c.in_err-observe-2.ensures.err in
+    rw (p.1, p.2) (goes-refused m.observed (λ s x t. m.may_leave s (x ∷ []) t) start values here end (element chunk) (map element (chunks size rest)) e refused on)
+
+pub returns-clause-ok : goal.returns-clause-ok
+returns-clause-ok g c =
+    let r = g.F.PrimeCharacteristicRing.residues in
+    let m = g.C.CanObserve in
+    let state = g.C.Sponge.state in
+    let size = chunk_bytes g.F.Field.bit_length in
+    let all : List ℕ = chunks_rest c.loop-chunk.chunk-iterator in
+    let kept = c.loop-chunk.invariant in
+    let positive : 0 < size = subst (λ (k : ℕ). 0 < k) kept.2 kept.0 in
+    let none = chunks-end size all positive c.in-None.ensures.steps.1.0 in
+    let element = λ (bytes : List ℕ). r.of (little_endian bytes) in
+    let start = state c.args.challenger.now in
+    let values = packed r size c.args.bytes.now in
+    let here = state c.loop-chunk.challenger in
+    goes-end m.observed (λ s x t. m.may_leave s (x ∷ []) t) start values here
+    (subst (λ (l : List (List ℕ)). GoesOn m.observed (λ s x t. m.may_leave s (x ∷ []) t) start values here (map element l)) none kept.3)
