@@ -1,7 +1,7 @@
 -- A value that fills the rate, as the code makes it pending.
 use Rattle.std.proofs.Common.{◌≡◌, ℕ, ◌<◌, ◌+◌, List, [], ◌∷◌, ◌++◌, length, take, set, true, ◌==◌, if◌then◌else◌, sym, ap, ◌∙◌, arith}
 use Rattle.std.proofs.lemmas.Bool.Decides.{nat_tests}
-use Rattle.std.proofs.lemmas.List.{take_more_set, take_all, length-append, length-take-le, length-set}
+use Rattle.std.proofs.lemmas.List.{take_more_set, take_all, length-set}
 use Rattle.p3_field.specs.Residues.{Residues}
 use Rattle.p3_challenger_core.specs.DuplexTranscript.{DuplexSponge, duplexed, appended, observed}
 

@@ -1,5 +1,5 @@
 -- Draws of bits.
-use Rattle.std.specs.Prelude.{ℕ, zero, suc, ◌-◌, ◌^◌, nat_lt, if◌then◌else◌}
+use Rattle.std.specs.Prelude.{ℕ, zero, suc, ◌^◌, nat_lt, if◌then◌else◌}
 
 -- the greatest k up to a bound whose power of two is below a number
 unfoldable pub greatest_below : ℕ → ℕ → ℕ

@@ -1,5 +1,5 @@
 -- Lists of coefficients.
-use Rattle.std.specs.Prelude.{◌≡◌, ℕ, suc, ◌+◌, List, [], ◌∷◌, length, refl}
+use Rattle.std.specs.Prelude.{◌≡◌, List, [], ◌∷◌, length, refl}
 use Rattle.std.proofs.Common.{ap, arith}
 
 -- one coefficient is the element

@@ -1,4 +1,4 @@
-use Rattle.std.proofs.Common.{◌≡◌, ◌<◌, ◌++◌, drop, replicate, set, length, ap, ◌∙◌, arith}
+use Rattle.std.proofs.Common.{◌<◌, set, length, ◌∙◌, arith}
 use Rattle.p3_challenger_core.proofs.Overwriting.{filled_more}
 use Rattle.p3_challenger_core.proofs.duplex_challenger.fill_zeros.Goals as goal
 

@@ -1,4 +1,4 @@
-use Rattle.std.proofs.Common.{◌≡◌, ◌<◌, length, take, subst, arith}
+use Rattle.std.proofs.Common.{◌≡◌, length, take, subst, arith}
 use Rattle.std.proofs.lemmas.List.{length-take-le}
 use Rattle.p3_challenger_core.specs.DuplexTranscript.{DuplexSponge}
 use Rattle.p3_challenger_core.specs.DuplexState.{Duplex}

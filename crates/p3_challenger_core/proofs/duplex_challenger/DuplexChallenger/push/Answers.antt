@@ -1,7 +1,7 @@
-use Rattle.std.proofs.Common.{◌≡◌, [], ◌∷◌, ◌++◌, ◌+◌, length, take, set, sym, ap, ◌∙◌, arith}
+use Rattle.std.proofs.Common.{◌≡◌, [], ◌∷◌, ◌++◌, ◌+◌, length, take, set, sym, ap, ◌∙◌}
 use Rattle.std.proofs.lemmas.List.{length-set}
 use Rattle.p3_challenger_core.specs.DuplexTranscript.{DuplexSponge, absorbing}
-use Rattle.p3_challenger_core.specs.DuplexState.{Duplex, observed}
+use Rattle.p3_challenger_core.specs.DuplexState.{observed}
 use Rattle.p3_challenger_core.proofs.Pushing.{pushed, observed-full}
 use Rattle.p3_challenger_core.proofs.duplex_challenger.DuplexChallenger.push.Goals as goal
 

@@ -1,4 +1,4 @@
-use Rattle.std.proofs.Common.{◌≡◌, ◌<◌, ◌≤◌, Some, take, ap, ◌∙◌, arith}
+use Rattle.std.proofs.Common.{◌<◌, ◌≤◌, Some, take, ap, ◌∙◌, arith}
 use Rattle.p3_challenger_core.proofs.Drawing.{has_drawn-none, has_drawn-next, has_drawn-values, has_drawn-state}
 use Rattle.p3_challenger_core.proofs.duplex_challenger.DuplexChallengerCanSample.sample.Goals as goal
 

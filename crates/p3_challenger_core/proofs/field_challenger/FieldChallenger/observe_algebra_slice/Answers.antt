@@ -1,4 +1,3 @@
-use Rattle.std.proofs.Common.{◌<◌, ◌≤◌, List, length, arith}
 use Rattle.std.proofs.lemmas.Result.{err_from_is_err_and}
 use Rattle.p3_challenger_core.specs.Sponge.{observed_all}
 use Rattle.p3_challenger_core.specs.CallLaws.{goes_on-next, goes_on-refused, goes_on-end}

@@ -1,4 +1,4 @@
-use Rattle.std.proofs.Common.{◌≡◌, drop}
+use Rattle.std.proofs.Common.{drop}
 use Rattle.p3_challenger_core.specs.Sponge.{observed_all}
 use Rattle.p3_challenger_core.specs.CallLaws.{GoesOn}
 use Rattle.p3_challenger_core.proofs.field_challenger.FieldChallenger.observe_algebra_slice.Given as goal

@@ -1,7 +1,6 @@
-use Rattle.std.proofs.Common.{◌≡◌, ◌+◌, ◌-◌, ◌<◌, ◌≤◌, Some, [], ◌∷◌, ◌++◌, length, take, ap, ◌∙◌, arith, rules}
-use Rattle.std.proofs.Math.ListN.{set}
+use Rattle.std.proofs.Common.{◌+◌, ◌-◌, ◌<◌, ◌≤◌, Some, [], ◌∷◌, ◌++◌, length, take, ap, ◌∙◌, arith, rules}
 use Rattle.std.proofs.lemmas.List.{take_more_set, take_all}
-use Rattle.p3_challenger_core.specs.DrawLaws.{Drew, drew-as, drew-one_more, drew-values, drew-state, drew-stops}
+use Rattle.p3_challenger_core.specs.DrawLaws.{drew-as, drew-one_more, drew-values, drew-state, drew-stops}
 use Rattle.p3_challenger_core.proofs.field_challenger.FieldChallenger.sample_algebra_element.Goals as goal
 
 pub returns-in_err-sample-clause-err : goal.returns-in_err-sample-clause-err

@@ -1,4 +1,4 @@
-use Rattle.std.proofs.Common.{◌≡◌, ◌-◌, take, length}
+use Rattle.std.proofs.Common.{◌-◌, take}
 use Rattle.p3_challenger_core.specs.DrawLaws.{Drew}
 use Rattle.p3_challenger_core.proofs.field_challenger.FieldChallenger.sample_algebra_element.Given as goal
 

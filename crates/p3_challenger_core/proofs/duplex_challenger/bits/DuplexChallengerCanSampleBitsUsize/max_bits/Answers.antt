@@ -1,4 +1,4 @@
-use Rattle.std.proofs.Common.{◌≡◌, ◌<◌, ◌≤◌, ◌^◌, arith, ◌∙◌, sym}
+use Rattle.std.proofs.Common.{◌≡◌, ◌≤◌, ◌^◌, arith, ◌∙◌}
 use Rattle.p3_challenger_core.proofs.MostBits.{greatest-log}
 use Rattle.p3_challenger_core.proofs.duplex_challenger.bits.DuplexChallengerCanSampleBitsUsize.max_bits.Goals as goal
 

@@ -1,4 +1,4 @@
-use Rattle.std.proofs.Common.{◌≡◌, ◌<◌, ◌%◌, ◌^◌, Option, Some, arith, ap, ◌∙◌}
+use Rattle.std.proofs.Common.{◌≡◌, ◌<◌, ◌%◌, ◌^◌, Some, arith, ap}
 use Rattle.p3_challenger_core.specs.DuplexState.{sampled}
 use Rattle.p3_challenger_core.proofs.MostBits.{greatest-le, shifted, shifted-positive}
 use Rattle.p3_challenger_core.proofs.duplex_challenger.bits.DuplexChallengerCanSampleBitsUsize.sample_bits.Goals as goal
