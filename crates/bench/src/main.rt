@@ -83,7 +83,8 @@ fn duplex_observes(duplex: &mut Duplex) -> Result<()> {
 fn duplex_draws(duplex: &mut Duplex) -> Result<u64> {
     let mut sum = 0u64;
     for _ in 0..DRAWS {
-        sum = sum.wrapping_add(duplex.sample()?.as_canonical_u64());
+        let drawn: BabyBear = duplex.sample()?;
+        sum = sum.wrapping_add(drawn.as_canonical_u64());
     }
     Ok(sum)
 }
@@ -92,7 +93,8 @@ fn duplex_turns(duplex: &mut Duplex) -> Result<u64> {
     let mut sum = 0u64;
     for i in 0..DRAWS {
         duplex.observe(BabyBear::from_u32(i))?;
-        sum = sum.wrapping_add(duplex.sample()?.as_canonical_u64());
+        let drawn: BabyBear = duplex.sample()?;
+        sum = sum.wrapping_add(drawn.as_canonical_u64());
     }
     Ok(sum)
 }

@@ -89,7 +89,8 @@ fn answer<F: PrimeField64, P: CryptographicPermutation<[F; W]>, const W: usize, 
         Call::Sample(n) => {
             let mut drawn = Vec::new(alloc);
             for _ in 0..*n {
-                drawn.push(challenger.sample()?.as_canonical_u64())?;
+                let value: F = challenger.sample()?;
+                drawn.push(value.as_canonical_u64())?;
             }
             return Ok(Answer::Values(drawn));
         }
