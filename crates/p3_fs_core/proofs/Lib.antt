@@ -4,3 +4,4 @@ pub mod Decoding
 pub mod Behind
 pub mod Coefficients
 pub mod Packed
+pub mod HexDigits

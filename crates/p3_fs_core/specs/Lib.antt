@@ -14,3 +14,4 @@ pub mod PackingLaws
 pub mod Alphabet
 pub mod AlphabetLaws
 pub mod TranscriptError
+pub mod StepTexts

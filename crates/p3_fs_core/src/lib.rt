@@ -4,13 +4,15 @@
 mod codecs;
 mod error;
 mod packing;
+mod pattern;
 mod transcript_field;
 mod unit;
 
 pub use codecs::{
     BytesToFieldCodec, Codec, EXTRA_BYTES, ExtensionFieldCodec, FieldToFieldCodec,
-    MIN_CHALLENGE_SECURITY_BITS, bound_byte_width, decode_len_be, encode_len_be,
+    MIN_CHALLENGE_SECURITY_BITS, ScalarCodec, bound_byte_width, decode_len_be, encode_len_be,
 };
 pub use error::TranscriptError;
+pub use pattern::{Hierarchy, Kind, Length, TypeTag};
 pub use transcript_field::TranscriptField;
 pub use unit::{FieldUnit, Unit};

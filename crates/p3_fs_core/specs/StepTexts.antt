@@ -1,0 +1,61 @@
+-- What the types of steps print as.
+use Rattle.std.specs.Prelude.{ℕ, ◌/◌, ◌%◌, false, List, [], ◌∷◌, ◌++◌, codes}
+use Rattle.std.specs.List.{flat_map}
+use Rattle.std.specs.Fmt.{decimal, digits, digit_glyph}
+use Rattle.p3_fs_core.specs.declared.pattern.step.Hierarchy.{Hierarchy}
+use Rattle.p3_fs_core.specs.declared.pattern.step.Hierarchy.TheVariants.{Atomic, Begin, End}
+use Rattle.p3_fs_core.specs.declared.pattern.step.Kind.{Kind}
+use Rattle.p3_fs_core.specs.declared.pattern.step.Kind.TheVariants.{Protocol, Public, Message, Hint, Challenge, Pow, Salt}
+use Rattle.p3_fs_core.specs.declared.pattern.step.Length.{Length}
+use Rattle.p3_fs_core.specs.declared.pattern.step.Length.TheVariants.{None, Scalar, Fixed, Bounded}
+use Rattle.p3_fs_core.specs.declared.pattern.step.TypeTag.{TypeTag}
+use Rattle.p3_fs_core.specs.declared.pattern.step.TypeTag.TheVariants.{Marker, Bytes, Algebra, BinaryTower, BinaryPolynomial, Opaque, Bits, UniformBits}
+
+abbrev pub hierarchy_text : Hierarchy → List ℕ
+hierarchy_text Atomic = codes "Atomic"
+hierarchy_text Begin = codes "Begin"
+hierarchy_text End = codes "End"
+
+abbrev pub kind_text : Kind → List ℕ
+kind_text Protocol = codes "Protocol"
+kind_text Public = codes "Public"
+kind_text Message = codes "Message"
+kind_text Hint = codes "Hint"
+kind_text Challenge = codes "Challenge"
+kind_text Pow = codes "Pow"
+kind_text Salt = codes "Salt"
+
+abbrev pub length_text : Length → List ℕ
+length_text None = codes "None"
+length_text Scalar = codes "Scalar"
+length_text (Fixed count) = codes "Fixed(" ++ (decimal count ++ codes ")")
+length_text (Bounded most) = codes "Bounded(" ++ (decimal most ++ codes ")")
+
+-- a number's digits in base 16, with no zero in front
+abbrev pub hex_number : ℕ → List ℕ
+hex_number n = digits 16 false n
+
+-- a byte as two digits, the high one first
+abbrev pub hex_byte_text : ℕ → List ℕ
+hex_byte_text byte = digit_glyph false (byte / 16) ∷ digit_glyph false (byte % 16) ∷ []
+
+-- each byte as two digits
+abbrev pub hex_text : List ℕ → List ℕ
+hex_text bytes = flat_map hex_byte_text bytes
+
+-- a degree, and the digest of a basis
+abbrev pub basis_text : ℕ → List ℕ → List ℕ
+basis_text degree basis = decimal degree ++ (codes ";" ++ (hex_text basis ++ codes ")"))
+
+abbrev pub type_tag_text : TypeTag → List ℕ
+type_tag_text Marker = codes "Marker"
+type_tag_text Bytes = codes "Bytes"
+type_tag_text (Algebra modulus degree basis) =
+    codes "Algebra(" ++ (decimal modulus ++ (codes "^" ++ basis_text degree basis))
+type_tag_text (BinaryTower bits degree basis) =
+    codes "BinaryTower(" ++ (decimal bits ++ (codes "^" ++ basis_text degree basis))
+type_tag_text (BinaryPolynomial bits modulus degree basis) =
+    codes "BinaryPolynomial(" ++ (decimal bits ++ (codes ",0x" ++ (hex_number modulus ++ (codes "^" ++ basis_text degree basis))))
+type_tag_text Opaque = codes "Opaque"
+type_tag_text (Bits width) = codes "Bits(" ++ (decimal width ++ codes ")")
+type_tag_text (UniformBits width) = codes "UniformBits(" ++ (decimal width ++ codes ")")

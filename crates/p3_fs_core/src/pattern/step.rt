@@ -1,0 +1,210 @@
+//! What a step of an interactive protocol is: where it stands, what it is for, and what it carries.
+
+ghost use Rattle.std.specs.Prelude.{Some};
+ghost use Rattle.p3_fs_core.specs.StepTexts.{hierarchy_text, kind_text, length_text, type_tag_text, hex_text, hex_number};
+
+use std::fmt;
+
+/// Where a step stands in the nesting of protocols.
+#[derive(Clone, Copy, Debug, PartialEq, Eq, PartialOrd, Ord, Hash)]
+pub enum Hierarchy {
+    /// A step of its own.
+    Atomic,
+    /// The opener of a container.
+    Begin,
+    /// The closer of a container.
+    End,
+}
+
+/// What a step is for.
+#[derive(Clone, Copy, Debug, PartialEq, Eq, PartialOrd, Ord, Hash)]
+pub enum Kind {
+    /// A container of steps of every kind.
+    Protocol,
+    /// Values that both sides know beforehand.
+    Public,
+    /// Values that the prover sends, and that challenges depend on.
+    Message,
+    /// Values that the prover sends, and that no challenge depends on.
+    Hint,
+    /// Values that both sides draw.
+    Challenge,
+    /// A proof of work.
+    Pow,
+    /// Random bytes that hide what the prover sends later.
+    Salt,
+}
+
+/// How many values a step carries.
+#[derive(Clone, Copy, Debug, PartialEq, Eq, PartialOrd, Ord, Hash)]
+pub enum Length {
+    /// None.
+    None,
+    /// One value, not in a list.
+    Scalar,
+    /// A list of just so many; of a proof of work, its bits.
+    Fixed(usize),
+    /// A list of at most so many, which is sent with its length.
+    Bounded(usize),
+}
+
+/// What the values of a step are, said in the same way on every machine and by every compiler.
+#[derive(Clone, Copy, Debug, PartialEq, Eq, PartialOrd, Ord, Hash)]
+pub enum TypeTag {
+    /// None: the step opens or closes a container.
+    Marker,
+    /// Bytes as they are.
+    Bytes,
+    /// Elements of an algebra over a prime field.
+    Algebra {
+        /// The order of the field.
+        modulus: u64,
+        /// How many coefficients an element has.
+        degree: usize,
+        /// The digest of what the algebra and its basis are.
+        basis: [u8; 32],
+    },
+    /// Elements of an algebra over a field of a tower of binary fields.
+    BinaryTower {
+        /// How many bits an element of the field has.
+        bits: usize,
+        /// How many coefficients an element has.
+        degree: usize,
+        /// The digest of what the algebra and its basis are.
+        basis: [u8; 32],
+    },
+    /// Elements of an algebra over a binary field of polynomials.
+    BinaryPolynomial {
+        /// How many bits an element of the field has.
+        bits: usize,
+        /// The polynomial that the field is taken modulo, without its highest term.
+        modulus: u128,
+        /// How many coefficients an element has.
+        degree: usize,
+        /// The digest of what the algebra and its basis are.
+        basis: [u8; 32],
+    },
+    /// A value that the challenger alone knows how to observe.
+    Opaque,
+    /// Numbers of so many bits, which may be drawn with a bias.
+    Bits {
+        /// How many bits a number has.
+        width: usize,
+    },
+    /// Numbers of so many bits, each drawn as often as any other.
+    UniformBits {
+        /// How many bits a number has.
+        width: usize,
+    },
+}
+
+impl fmt::Display for Hierarchy {
+    ghost output = { λ hierarchy. Some (hierarchy_text hierarchy) };
+
+    fn fmt<W: fmt::Write>(&self, f: &mut fmt::Formatter<W>) -> fmt::Result {
+        match self {
+            Hierarchy::Atomic => write!(f, "Atomic"),
+            Hierarchy::Begin => write!(f, "Begin"),
+            Hierarchy::End => write!(f, "End"),
+        }
+    }
+}
+
+impl fmt::Display for Kind {
+    ghost output = { λ kind. Some (kind_text kind) };
+
+    fn fmt<W: fmt::Write>(&self, f: &mut fmt::Formatter<W>) -> fmt::Result {
+        match self {
+            Kind::Protocol => write!(f, "Protocol"),
+            Kind::Public => write!(f, "Public"),
+            Kind::Message => write!(f, "Message"),
+            Kind::Hint => write!(f, "Hint"),
+            Kind::Challenge => write!(f, "Challenge"),
+            Kind::Pow => write!(f, "Pow"),
+            Kind::Salt => write!(f, "Salt"),
+        }
+    }
+}
+
+impl fmt::Display for Length {
+    ghost output = { λ length. Some (length_text length) };
+
+    fn fmt<W: fmt::Write>(&self, f: &mut fmt::Formatter<W>) -> fmt::Result {
+        match self {
+            Length::None => write!(f, "None"),
+            Length::Scalar => write!(f, "Scalar"),
+            Length::Fixed(count) => write!(f, "Fixed({count})"),
+            Length::Bounded(most) => write!(f, "Bounded({most})"),
+        }
+    }
+}
+
+impl fmt::Display for TypeTag {
+    ghost output = { λ tag. Some (type_tag_text tag) };
+
+    fn fmt<W: fmt::Write>(&self, f: &mut fmt::Formatter<W>) -> fmt::Result {
+        match self {
+            TypeTag::Marker => write!(f, "Marker"),
+            TypeTag::Bytes => write!(f, "Bytes"),
+            TypeTag::Algebra {
+                modulus,
+                degree,
+                basis,
+            } => { write!(f, "Algebra({modulus}^{degree};{})", Hex(basis)) }
+            TypeTag::BinaryTower {
+                bits,
+                degree,
+                basis,
+            } => { write!(f, "BinaryTower({bits}^{degree};{})", Hex(basis)) }
+            TypeTag::BinaryPolynomial {
+                bits,
+                modulus,
+                degree,
+                basis,
+            } => {
+                let modulus = HexNumber(*modulus);
+                write!(
+                    f,
+                    "BinaryPolynomial({bits},0x{modulus}^{degree};{})",
+                    Hex(basis)
+                )
+            }
+            TypeTag::Opaque => write!(f, "Opaque"),
+            TypeTag::Bits { width } => write!(f, "Bits({width})"),
+            TypeTag::UniformBits { width } => write!(f, "UniformBits({width})"),
+        }
+    }
+}
+
+// Bytes that print as two digits each.
+#[derive(Clone, Copy)]
+struct Hex<'a>(&'a [u8]);
+
+impl fmt::Display for Hex<'_> {
+    ghost output = { λ hex. Some (hex_text hex.0.now) };
+
+    fn fmt<W: fmt::Write>(&self, f: &mut fmt::Formatter<W>) -> fmt::Result {
+        for &byte in self.0 {
+            write!(f, "{byte:02x}")?;
+        }
+        Ok(())
+    }
+}
+
+// A number that prints in base 16. Contracts of `{:x}` end at 64 bits, so each half is a number of its own.
+#[derive(Clone, Copy)]
+struct HexNumber(u128);
+
+impl fmt::Display for HexNumber {
+    ghost output = { λ number. Some (hex_number number.0) };
+
+    fn fmt<W: fmt::Write>(&self, f: &mut fmt::Formatter<W>) -> fmt::Result {
+        let high = (self.0 >> 64) as u64;
+        let low = (self.0 % (1 << 64)) as u64;
+        if high == 0 {
+            write!(f, "{low:x}")
+        } else {
+            write!(f, "{high:x}{low:016x}")
+        }
+    }
+}
