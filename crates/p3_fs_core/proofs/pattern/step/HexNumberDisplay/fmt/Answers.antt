@@ -1,4 +1,4 @@
-use Rattle.std.proofs.Common.{◌≡◌, ◌+◌, ◌*◌, ◌/◌, ◌%◌, ◌^◌, ◌<◌, ◌++◌, sym, ap, ◌∙◌, rules, arith}
+use Rattle.std.proofs.Common.{◌≡◌, ◌+◌, ◌*◌, ◌/◌, ◌%◌, ◌^◌, ◌++◌, sym, ap, ◌∙◌, rules, arith}
 use Rattle.std.proofs.Output.{has_written_of_eq}
 use Rattle.p3_fs_core.specs.StepTexts.{hex_number}
 use Rattle.p3_fs_core.proofs.HexDigits.{hex_number-parts, sixteen_wide}
