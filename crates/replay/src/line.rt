@@ -6,40 +6,89 @@ use std::alloc::Global;
 pub struct Line<'a> {
     /// The kind of challenger, and then which one it is.
     pub spec: &'a str,
-    /// The calls, in order, and what the Rust crate answered to each.
-    pub steps: Vec<(Call, Answer)>,
+    /// The calls, in order, each with its answer.
+    pub steps: Vec<Step<'a>>,
 }
 
-/// A call on a challenger. Values are canonical numbers, or bytes.
+/// A call, and what the Rust crate answered.
+#[derive(Debug, Drop)]
+pub struct Step<'a> {
+    pub call: Call,
+    pub answer: &'a str,
+}
+
+/// A call on a challenger.
 #[derive(Debug, Drop)]
 pub enum Call {
-    /// `o v`: observes a value.
-    Observe(u64),
-    /// `os v..`: observes a slice.
-    ObserveSlice(Vec<u64>),
-    /// `oa v..`: observes an array of 0 to 4 places.
-    ObserveArray(Vec<u64>),
-    /// `s`, and `sa n`, `sv n` and `si n`: draws one value, or so many, one after another.
-    Sample(usize),
+    Observe(Observation),
+    Draw(Draw),
     /// `f`: the digest of a clone.
     Finalize,
     /// `st`: what the challenger has.
     State,
 }
 
-/// What a call answers.
-#[derive(Debug, PartialEq, Eq, Drop)]
-pub enum Answer {
-    /// `-`: nothing.
-    Nothing,
-    /// Numbers with spaces between, `()` for none.
-    Values(Vec<u64>),
-    /// The cells, what is pending and the outputs left, with bars between.
-    State {
-        cells: Vec<u64>,
-        pending: Vec<u64>,
-        outputs: Vec<u64>,
-    },
+/// What is observed, as canonical numbers or bytes.
+#[derive(Debug, Drop)]
+pub enum Observation {
+    /// `o v`: a value.
+    Value(u64),
+    /// `ob v`: a value of the field, as an element of an algebra.
+    BaseAsAlgebraElement(u64),
+    /// Values in a row.
+    Row(RowKind, Vec<u64>),
+    /// Rows of values.
+    Rows(RowsKind, Vec<Vec<u64>>),
+}
+
+/// What a row of values is.
+#[derive(Clone, Copy, Debug)]
+pub enum RowKind {
+    /// `os v..`: a slice.
+    Slice,
+    /// `oa v..`: an array.
+    Array,
+    /// `oh v..`: a digest.
+    Digest,
+    /// `oe v v v v`: an element of an algebra, by its coefficients.
+    AlgebraElement,
+    /// `oes v v v v ..`: a slice of such elements.
+    AlgebraSlice,
+}
+
+/// What rows of values are.
+#[derive(Clone, Copy, Debug)]
+pub enum RowsKind {
+    /// `oc v.. / v..`: a Merkle cap, whose digests have one length.
+    Cap,
+    /// `ocr v.. / v..`: such a cap by reference.
+    CapByReference,
+    /// `ov v.. / v..`: a list of lists.
+    Lists,
+}
+
+/// What is drawn.
+#[derive(Debug, Drop)]
+pub enum Draw {
+    /// `s`: a value.
+    Value,
+    /// So many values.
+    Values(ValuesKind, usize),
+    /// `sxa`: an element of an algebra.
+    AlgebraElement,
+    /// `b n`: a number of so many bits.
+    Bits(usize),
+}
+
+/// What many values are drawn as.
+#[derive(Clone, Copy, Debug)]
+pub enum ValuesKind {
+    /// `si n`: into a slice.
+    Slice,
+    /// `sv n`: a vector.
+    Vector,
+    /// `sa n`: an array.
+    Array,
 }
 
 impl<'a> Line<'a> {
@@ -51,7 +100,8 @@ impl<'a> Line<'a> {
         let mut answers = answers.split(" ; ");
         for call in calls.split(" ; ") {
             let answer = answers.next().context("fewer answers than calls")?;
-            steps.push((Call::parse(alloc, call)?, Answer::parse(alloc, answer)?))?;
+            let call = Call::parse(alloc, call)?;
+            steps.push(Step { call, answer })?;
         }
         if answers.next().is_some() {
             bail!("more answers than calls");
@@ -64,44 +114,85 @@ impl Call {
     fn parse(alloc: Global, text: &str) -> Result<Call> {
         let (name, words) = text.split_once(' ').unwrap_or((text, ""));
         match name {
-            "o" => Ok(Call::Observe(words.parse()?)),
-            "os" => Ok(Call::ObserveSlice(parse_numbers(alloc, words)?)),
-            "oa" => Ok(Call::ObserveArray(parse_numbers(alloc, words)?)),
-            "s" => Ok(Call::Sample(1)),
-            "sa" | "sv" | "si" => Ok(Call::Sample(words.parse()?)),
             "f" => Ok(Call::Finalize),
             "st" => Ok(Call::State),
+            _ if name.starts_with('o') => {
+                Ok(Call::Observe(Observation::parse(alloc, name, words)?))
+            }
+            _ => Ok(Call::Draw(Draw::parse(name, words)?)),
+        }
+    }
+}
+
+impl Observation {
+    fn parse(alloc: Global, name: &str, words: &str) -> Result<Observation> {
+        match name {
+            "o" => Ok(Observation::Value(words.parse()?)),
+            "ob" => Ok(Observation::BaseAsAlgebraElement(words.parse()?)),
+            "oc" | "ocr" | "ov" => {
+                let rows = parse_rows(alloc, words)?;
+                Ok(Observation::Rows(RowsKind::parse(name)?, rows))
+            }
+            _ => {
+                let row = parse_row(alloc, words)?;
+                Ok(Observation::Row(RowKind::parse(name)?, row))
+            }
+        }
+    }
+}
+
+impl RowKind {
+    fn parse(name: &str) -> Result<RowKind> {
+        match name {
+            "os" => Ok(RowKind::Slice),
+            "oa" => Ok(RowKind::Array),
+            "oh" => Ok(RowKind::Digest),
+            "oe" => Ok(RowKind::AlgebraElement),
+            "oes" => Ok(RowKind::AlgebraSlice),
             _ => bail!("an unknown call"),
         }
     }
 }
 
-impl Answer {
-    fn parse(alloc: Global, text: &str) -> Result<Answer> {
-        let parts: Vec<&str> = text.split(" | ").collect(alloc)?;
-        match parts.as_slice() {
-            ["-"] => Ok(Answer::Nothing),
-            [values] => Ok(Answer::Values(parse_values(alloc, values)?)),
-            [cells, pending, outputs] => Ok(Answer::State {
-                cells: parse_values(alloc, cells)?,
-                pending: parse_values(alloc, pending)?,
-                outputs: parse_values(alloc, outputs)?,
-            }),
-            _ => bail!("an unknown answer"),
+impl RowsKind {
+    fn parse(name: &str) -> Result<RowsKind> {
+        match name {
+            "oc" => Ok(RowsKind::Cap),
+            "ocr" => Ok(RowsKind::CapByReference),
+            "ov" => Ok(RowsKind::Lists),
+            _ => bail!("an unknown call"),
         }
     }
 }
 
-// The numbers of an answer: `()` for none.
-fn parse_values(alloc: Global, text: &str) -> Result<Vec<u64>> {
-    parse_numbers(alloc, if text == "()" { "" } else { text })
+impl Draw {
+    fn parse(name: &str, words: &str) -> Result<Draw> {
+        match name {
+            "s" => Ok(Draw::Value),
+            "sxa" => Ok(Draw::AlgebraElement),
+            "si" => Ok(Draw::Values(ValuesKind::Slice, words.parse()?)),
+            "sv" => Ok(Draw::Values(ValuesKind::Vector, words.parse()?)),
+            "sa" => Ok(Draw::Values(ValuesKind::Array, words.parse()?)),
+            "b" => Ok(Draw::Bits(words.parse()?)),
+            _ => bail!("an unknown call"),
+        }
+    }
+}
+
+// Rows of numbers, with strokes between.
+fn parse_rows(alloc: Global, text: &str) -> Result<Vec<Vec<u64>>> {
+    let mut rows = Vec::new(alloc);
+    for row in text.split('/') {
+        rows.push(parse_row(alloc, row)?)?;
+    }
+    Ok(rows)
 }
 
 // Numbers with spaces between.
-fn parse_numbers(alloc: Global, text: &str) -> Result<Vec<u64>> {
-    let mut numbers = Vec::new(alloc);
+fn parse_row(alloc: Global, text: &str) -> Result<Vec<u64>> {
+    let mut row = Vec::new(alloc);
     for word in text.split_whitespace() {
-        numbers.push(word.parse()?)?;
+        row.push(word.parse()?)?;
     }
-    Ok(numbers)
+    Ok(row)
 }

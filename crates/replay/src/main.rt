@@ -2,9 +2,41 @@
 //! Its files lie in the folder that it runs in, or in the one that its argument names.
 #![tactic(auto)]
 
+// An expression of the values as an array, whose length is part of its type.
+macro_rules! with_array {
+    ($values:expr, $array:ident => $result:expr) => {
+        match $values {
+            [] => {
+                let $array = [];
+                $result
+            }
+            [a] => {
+                let $array = [*a];
+                $result
+            }
+            [a, b] => {
+                let $array = [*a, *b];
+                $result
+            }
+            [a, b, c] => {
+                let $array = [*a, *b, *c];
+                $result
+            }
+            [a, b, c, d] => {
+                let $array = [*a, *b, *c, *d];
+                $result
+            }
+            _ => bail!("more than 4 places"),
+        }
+    };
+}
+
+mod answer;
+mod arrays;
 mod duplex;
 mod hash;
 mod line;
+mod replay;
 mod test_hashers;
 
 use anyhow::{Context, Result, bail};
@@ -22,12 +54,12 @@ fn main(rt: HostRuntime) -> Result<ExitCode> {
     for name in ["duplex", "hash"] {
         let path = format!(in rt.alloc(); "{folder}/{name}.txt")?;
         let text = fs::read_to_string(&rt, path.as_str()).context(path.as_str())?;
-        match replay(rt.alloc(), text.as_str()).context(path.as_str())? {
+        match compare(rt.alloc(), text.as_str()).context(path.as_str())? {
             Outcome::Agree { lines, calls } => {
                 println!(rt; "{name}: {lines} lines, {calls} calls, all agree")?
             }
-            Outcome::Differs { line } => {
-                println!(rt; "{name}: line {line} does not agree")?;
+            Outcome::Differs { line, call, answer } => {
+                println!(rt; "{name}: line {line}, call {call} answers {answer}")?;
                 return Ok(ExitCode::from(1));
             }
         }
@@ -35,15 +67,23 @@ fn main(rt: HostRuntime) -> Result<ExitCode> {
     Ok(ExitCode::from(0))
 }
 
-// How a file was replayed: whole, or up to the first line that does not agree, counted from 1.
+// How a file was replayed: whole, or up to the first call with another answer. A line and a call are
+// counted from 1.
 #[derive(Debug, Drop)]
 enum Outcome {
-    Agree { lines: usize, calls: usize },
-    Differs { line: usize },
+    Agree {
+        lines: usize,
+        calls: usize,
+    },
+    Differs {
+        line: usize,
+        call: usize,
+        answer: String,
+    },
 }
 
 // Replays each line of a file, up to the first one that does not agree.
-fn replay(alloc: Global, text: &str) -> Result<Outcome> {
+fn compare(alloc: Global, text: &str) -> Result<Outcome> {
     let mut lines = 0usize;
     let mut calls = 0usize;
     for (text, number) in text.lines().zip(1usize..) {
@@ -51,8 +91,13 @@ fn replay(alloc: Global, text: &str) -> Result<Outcome> {
             continue;
         }
         let line = Line::parse(alloc, text).context(format_args!("line {number}"))?;
-        if !agrees(alloc, &line).context(format_args!("line {number}"))? {
-            return Ok(Outcome::Differs { line: number });
+        let found = difference(alloc, &line).context(format_args!("line {number}"))?;
+        if let Some((index, answer)) = found {
+            return Ok(Outcome::Differs {
+                line: number,
+                call: index.saturating_add(1),
+                answer,
+            });
         }
         lines = lines.saturating_add(1);
         calls = calls.saturating_add(line.steps.len());
@@ -60,11 +105,11 @@ fn replay(alloc: Global, text: &str) -> Result<Outcome> {
     Ok(Outcome::Agree { lines, calls })
 }
 
-// Whether each call of a line gives its answer.
-fn agrees(alloc: Global, line: &Line<'_>) -> Result<bool> {
+// The first call of a line with another answer, and its answer.
+fn difference(alloc: Global, line: &Line<'_>) -> Result<Option<(usize, String)>> {
     match line.spec.split_once(' ') {
-        Some(("duplex", spec)) => duplex::agrees(alloc, spec, line.steps.as_slice()),
-        Some(("hash", spec)) => hash::agrees(alloc, spec, line.steps.as_slice()),
+        Some(("duplex", spec)) => duplex::difference(alloc, spec, line.steps.as_slice()),
+        Some(("hash", spec)) => hash::difference(alloc, spec, line.steps.as_slice()),
         _ => bail!("an unknown challenger"),
     }
 }
