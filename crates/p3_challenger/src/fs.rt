@@ -1,6 +1,7 @@
 //! Typed transcripts: how values become symbols for the sponge and bytes in the proof.
-mod codecs;
-mod error;
 
-pub use codecs::{BytesToFieldCodec, Codec, EXTRA_BYTES, MIN_CHALLENGE_SECURITY_BITS};
-pub use error::TranscriptError;
+pub use p3_fs_core::{
+    BytesToFieldCodec, Codec, EXTRA_BYTES, ExtensionFieldCodec, FieldToFieldCodec, FieldUnit,
+    Hierarchy, Kind, Length, MIN_CHALLENGE_SECURITY_BITS, ScalarCodec, TranscriptError,
+    TranscriptField, TypeTag, Unit, bound_byte_width, decode_len_be, encode_len_be,
+};

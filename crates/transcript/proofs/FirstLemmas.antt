@@ -1,10 +1,11 @@
 -- Lemmas on the first path.
 use Rattle.std.proofs.Common.{◌≡◌, ℕ, zero, suc, ◌==◌, List, length, drop, take, Bool, true, false, if◌then◌else◌, nat_lt, Ok, Err, sym, ap, ◌∙◌, inl, inr}
-use Rattle.std.specs.Int.{w32, from_be_bytes}
 use Rattle.p3_challenger_core.specs.Sponge.{SomeDraw, RefusesDraw}
-use Rattle.p3_challenger.specs.Residue.{order, element}
-use Rattle.p3_challenger.specs.Scalar.{width, read, not_enough_bytes, outside_range}
-use Rattle.p3_challenger.specs.TranscriptError.{Decodes}
+use Rattle.p3_field.specs.BabyBearResidues.{residues}
+use Rattle.p3_fs_core.specs.BigEndian.{big_endian}
+use Rattle.p3_fs_core.specs.Scalar.{not_enough_bytes, outside_range}
+use Rattle.transcript.specs.Scalar.{order, width, read}
+use Rattle.p3_fs_core.specs.TranscriptError.{Decodes}
 use Rattle.p3_field.specs.declared.baby_bear.BabyBear.{BabyBear}
 use Rattle.p3_challenger_core.specs.declared.error.ChallengerError.{ChallengerError}
 use Rattle.p3_challenger_core.specs.declared.error.ChallengerError.TheVariants.{OutOfMemory, DrawLimit, NoWitness, TooLong}
@@ -35,5 +36,5 @@ whole_by false false y rest value none decodes = absurd decodes
 -- four bytes from which a scalar is decoded are, whole, that scalar
 pub read_whole-decoded : (narg : List ℕ) (value : BabyBear) → length (drop width narg) ≡ 0 → Decodes (read narg) (Ok value) → read_whole narg ≡ Ok value
 read_whole-decoded narg value none decodes =
-    let n = from_be_bytes w32 (take width narg) in
-    whole_by (nat_lt (length narg) width) (nat_lt n order) (element n) (drop width narg) value none decodes
+    let n = big_endian (take width narg) in
+    whole_by (nat_lt (length narg) width) (nat_lt n order) (residues.of n) (drop width narg) value none decodes

@@ -1,12 +1,12 @@
 -- The first path: one scalar is sent and one is drawn.
 use Rattle.std.specs.Prelude.{◌≡◌, ℕ, ◌==◌, List, length, codes, nat_lt, Some, Result, Ok, Err, if◌then◌else◌}
-use Rattle.p3_challenger.specs.BytesToField as scalar
+use Rattle.transcript.specs.Scalar as scalar
 use Rattle.p3_challenger_core.specs.HashState.{HashState, observed, sampled, after_sampled}
-use Rattle.p3_challenger.specs.Scalar.{width, read}
-use Rattle.p3_challenger.specs.TranscriptError.{IsBadShape}
+use Rattle.transcript.specs.Scalar.{width, read}
+use Rattle.p3_fs_core.specs.TranscriptError.{IsBadShape}
 use Rattle.p3_field.specs.declared.baby_bear.BabyBear.{BabyBear}
-use Rattle.p3_challenger.specs.declared.fs.error.TranscriptError.{TranscriptError}
-use Rattle.p3_challenger.specs.declared.fs.error.TranscriptError.TheVariants.{OutOfMemory}
+use Rattle.p3_fs_core.specs.declared.error.TranscriptError.{TranscriptError}
+use Rattle.p3_fs_core.specs.declared.error.TranscriptError.TheVariants.{OutOfMemory}
 
 -- The run of a scalar from a challenger: the scalar's bytes are observed, and then the challenge is
 -- drawn, which leaves this challenger.

@@ -7,13 +7,12 @@ use Rattle.hex.specs.Hex.{encode_lower}
 use Rattle.sha2.specs.Sha256.{sha256}
 use Rattle.p3_challenger_core.specs.HashState.{HashState}
 use Rattle.p3_challenger_core.specs.HashTranscript.{absorbing}
-use Rattle.p3_challenger.specs.Residue.{number}
-use Rattle.p3_challenger.specs.Scalar.{wire}
+use Rattle.transcript.specs.Scalar.{number, wire}
 use Rattle.p3_field.specs.declared.baby_bear.BabyBear.{BabyBear}
 use Rattle.p3_symmetric.specs.declared.sha256.Sha256Hasher.{Sha256Hasher}
 use Rattle.p3_challenger_core.specs.declared.error.ChallengerError.TheVariants as challenger
-use Rattle.p3_challenger.specs.declared.fs.error.TranscriptError.{TranscriptError}
-use Rattle.p3_challenger.specs.declared.fs.error.TranscriptError.TheVariants.{BadProofShape, Challenger, OutOfMemory}
+use Rattle.p3_fs_core.specs.declared.error.TranscriptError.{TranscriptError}
+use Rattle.p3_fs_core.specs.declared.error.TranscriptError.TheVariants.{BadProofShape, Challenger, OutOfMemory}
 use Rattle.transcript.specs.First.{IsRun}
 
 -- a text writes a scalar: decimal digits, with any number of zeros in front

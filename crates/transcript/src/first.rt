@@ -1,9 +1,9 @@
 ghost use Rattle.std.specs.Prelude.{◌≡◌, Some, IfOk, IfErr, MatchResult};
-ghost use Rattle.p3_challenger.specs.BytesToField as scalar;
+ghost use Rattle.transcript.specs.Scalar as scalar;
 ghost use Rattle.p3_challenger_core.specs.HashState.{HashState, sampled, after_sampled};
-ghost use Rattle.p3_challenger.specs.Scalar.{wire};
+ghost use Rattle.transcript.specs.Scalar.{wire};
 ghost use Rattle.p3_field.specs.declared.baby_bear.BabyBear.{BabyBear};
-ghost use Rattle.p3_challenger.specs.TranscriptError.{IsBadShape};
+ghost use Rattle.p3_fs_core.specs.TranscriptError.{IsBadShape};
 ghost use Rattle.transcript.specs.First.{IsRun, read_whole, Verifies};
 
 use p3_challenger::HashChallenger;

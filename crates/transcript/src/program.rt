@@ -1,7 +1,7 @@
 ghost use Rattle.std.specs.Prelude.{◌≡◌, ◌≢◌, ◌⊎◌, ℕ, ◌≤◌, List, map, IfSome, IfNone, IfOk, IfErr, string_bytes};
 ghost use Rattle.std.specs.Io.KnownBytes.{Appends};
 ghost use Rattle.std.specs.Str.Parse.{IsNumeral, digits_value};
-ghost use Rattle.p3_challenger.specs.Residue.{order};
+ghost use Rattle.transcript.specs.Scalar.{order};
 ghost use Rattle.p3_field.specs.declared.baby_bear.BabyBear.{BabyBear};
 ghost use Rattle.transcript.specs.Program.{IsScalarText, AsksFirst, IsFirstText, lines, WritesFirst, usage_line, out_of_memory_line, reason_of};
 

@@ -1,4 +1,4 @@
-use Rattle.p3_challenger.specs.BytesToField.{draw_bytes, after_sampled as after_scalar}
+use Rattle.transcript.specs.Scalar.{draw_bytes, after_sampled as after_scalar}
 use Rattle.p3_challenger_core.specs.HashState.{sampled, after_sampled}
 use Rattle.transcript.proofs.FirstLemmas.{never_refused}
 use Rattle.transcript.proofs.first.draw.Goals as goal

@@ -1,9 +1,9 @@
 use Rattle.std.proofs.Common.{◌≡◌, [], length, drop, Option, Some, Result, Ok, arith, refl, sym, ap, ◌∙◌, length-drop}
-use Rattle.p3_challenger.specs.BytesToField as scalar
+use Rattle.transcript.specs.Scalar as scalar
 use Rattle.p3_challenger_core.specs.HashState.{observed, sampled, after_sampled}
-use Rattle.p3_challenger.specs.Scalar.{width}
+use Rattle.transcript.specs.Scalar.{width}
 use Rattle.p3_field.specs.declared.baby_bear.BabyBear.{BabyBear}
-use Rattle.p3_challenger.specs.declared.fs.error.TranscriptError.{TranscriptError}
+use Rattle.p3_fs_core.specs.declared.error.TranscriptError.{TranscriptError}
 use Rattle.transcript.specs.First.{read_whole}
 use Rattle.transcript.proofs.FirstLemmas.{read_whole-decoded}
 use Rattle.transcript.proofs.first.verify.Goals as goal

@@ -3,7 +3,7 @@ use Rattle.sha2.specs.Sha256.{sha256}
 use Rattle.p3_challenger_core.specs.HashState.{HashState}
 use Rattle.p3_challenger_core.specs.HashTranscript.{absorbing}
 use Rattle.p3_symmetric.specs.declared.sha256.Sha256Hasher.{Sha256Hasher}
-use Rattle.p3_challenger.specs.Scalar.{wire}
+use Rattle.transcript.specs.Scalar.{wire}
 use Rattle.transcript.specs.First.{IsRun}
 use Rattle.transcript.specs.Program.{lines}
 use Rattle.transcript.proofs.program.first_text.Goals as goal
