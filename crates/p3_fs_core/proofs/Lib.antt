@@ -5,3 +5,4 @@ pub mod Behind
 pub mod Coefficients
 pub mod Packed
 pub mod HexDigits
+pub mod WorkedRows

@@ -1,0 +1,58 @@
+-- Worked rows, computed on the definitions.
+use Rattle.std.proofs.Common.{◌≡◌, ◌%◌, [], ◌∷◌, Ok, Err, refl}
+use Rattle.p3_field.specs.BabyBearResidues as baby_bear
+use Rattle.p3_field.specs.F257Residues as f257
+use Rattle.p3_fs_core.specs.BigEndian.{big_endian, in_bytes, bytes_for}
+use Rattle.p3_fs_core.specs.Scalar as scalar
+use Rattle.p3_fs_core.specs.Packing.{packed, chunk_bytes, first_chunks}
+
+-- how many bytes an element takes, and how many a chunk has
+widths : (bytes_for 31 ≡ 4) × (bytes_for 64 ≡ 8) × (bytes_for 9 ≡ 2)
+widths = (refl, refl, refl)
+
+chunk_widths : (chunk_bytes 31 ≡ 3) × (chunk_bytes 64 ≡ 7) × (chunk_bytes 9 ≡ 1)
+chunk_widths = (refl, refl, refl)
+
+-- 78 00 00 00 is the greatest element of the field of 31 bits, 78 00 00 01 none, and three bytes are too few
+greatest : scalar.read baby_bear.residues 4 (0x78 ∷ 0 ∷ 0 ∷ 0 ∷ []) ≡ Ok (baby_bear.residues.of 2013265920, [])
+greatest = refl
+
+outside : scalar.read baby_bear.residues 4 (0x78 ∷ 0 ∷ 0 ∷ 1 ∷ []) ≡ Err scalar.outside_range
+outside = refl
+
+short : scalar.read baby_bear.residues 4 (0x78 ∷ 0 ∷ 0 ∷ []) ≡ Err scalar.not_enough_bytes
+short = refl
+
+test_bytes : scalar.wire baby_bear.residues 4 (baby_bear.residues.of 1952805748) ≡ 0x74 ∷ 0x65 ∷ 0x73 ∷ 0x74 ∷ []
+test_bytes = refl
+
+-- 01 00 is the greatest element of the field of 257 elements
+greatest_of_257 : scalar.read f257.residues 2 (1 ∷ 0 ∷ []) ≡ Ok (f257.residues.of 256, [])
+greatest_of_257 = refl
+
+outside_257 : scalar.read f257.residues 2 (1 ∷ 1 ∷ []) ≡ Err scalar.outside_range
+outside_257 = refl
+
+short_257 : scalar.read f257.residues 2 (1 ∷ []) ≡ Err scalar.not_enough_bytes
+short_257 = refl
+
+-- the bytes 1 2 3 4 are their number and two chunks, and no byte is the number 0
+packed_four : packed baby_bear.residues 3 (1 ∷ 2 ∷ 3 ∷ 4 ∷ []) ≡ baby_bear.residues.of 4 ∷ baby_bear.residues.of 197121 ∷ baby_bear.residues.of 4 ∷ []
+unfolding first_chunks
+packed_four = refl
+
+packed_none : packed baby_bear.residues 3 [] ≡ baby_bear.residues.of 0 ∷ []
+unfolding first_chunks
+packed_none = refl
+
+-- the 20 bytes 0123456789abcdeffedcba98765432100f1e2d3c draw 497719269, and with 4b5a6978 behind them
+-- 18060362441347088952 in the field of 64 bits
+drawn : big_endian (0x01 ∷ 0x23 ∷ 0x45 ∷ 0x67 ∷ 0x89 ∷ 0xab ∷ 0xcd ∷ 0xef ∷ 0xfe ∷ 0xdc ∷ 0xba ∷ 0x98 ∷ 0x76 ∷ 0x54 ∷ 0x32 ∷ 0x10 ∷ 0x0f ∷ 0x1e ∷ 0x2d ∷ 0x3c ∷ []) % 2013265921 ≡ 497719269
+drawn = refl
+
+drawn_of_64_bits : big_endian (0x01 ∷ 0x23 ∷ 0x45 ∷ 0x67 ∷ 0x89 ∷ 0xab ∷ 0xcd ∷ 0xef ∷ 0xfe ∷ 0xdc ∷ 0xba ∷ 0x98 ∷ 0x76 ∷ 0x54 ∷ 0x32 ∷ 0x10 ∷ 0x0f ∷ 0x1e ∷ 0x2d ∷ 0x3c ∷ 0x4b ∷ 0x5a ∷ 0x69 ∷ 0x78 ∷ []) % 18446744069414584321 ≡ 18060362441347088952
+drawn_of_64_bits = refl
+
+-- a count of three bytes
+counted : in_bytes 3 0x010203 ≡ 1 ∷ 2 ∷ 3 ∷ []
+counted = refl
