@@ -1,8 +1,9 @@
-ghost use Rattle.std.specs.Prelude.{◌≡◌, ℕ, ◌<◌, ◌≤◌, List, [], ◌∷◌, ◌++◌, length, take, drop, OnOk, OnErr, IfOk, IfErr};
+ghost use Rattle.std.specs.Prelude.{◌≡◌, ℕ, ◌<◌, ◌≤◌, List, [], ◌∷◌, ◌++◌, length, take, drop, flat_map, OnOk, OnErr, IfOk, IfErr};
 ghost use Rattle.p3_challenger_core.specs.Sponge.{observed_all, LeavesInCalls};
 ghost use Rattle.p3_fs_core.specs.Alphabet.{RefusesBytes};
 ghost use Rattle.p3_fs_core.specs.BigEndian.{bytes_for};
 ghost use Rattle.p3_fs_core.specs.Packing.{packed, chunk_bytes};
+ghost use Rattle.p3_fs_core.specs.Reading.{ReadsOneWay};
 ghost use Rattle.p3_fs_core.specs.Scalar.{wire, read};
 ghost use Rattle.p3_fs_core.specs.TranscriptError.{Decodes};
 
@@ -34,6 +35,9 @@ pub trait TranscriptField: PrimeField64 {
             (LeavesInCalls C.observed (λ s x t. C.may_leave s (x ∷ []) t) (C.state challenger.old)
             (packed Self.residues (chunk_bytes Self.bit_length) bytes.now))
             (C.state challenger.old) e (C.state challenger.new)) }
+        // What is observed is what the elements feed, where the challenger feeds each in one way.
+        ensures fed { ReadsOneWay C.symbols → OnOk result (C.state challenger.new
+            ≡ C.fed (C.state challenger.old) (flat_map C.symbols (packed Self.residues (chunk_bytes Self.bit_length) bytes.now))) }
     {
         if bytes.len() as u64 >= Self::ORDER_U64 {
             return Err(ChallengerError::TooLong);

@@ -1,6 +1,6 @@
-ghost use Rattle.std.specs.Prelude.{◌≡◌, ℕ, ◌<◌, ◌≤◌, List, ◌++◌, length, OnOk, IfErr};
+ghost use Rattle.std.specs.Prelude.{◌≡◌, ℕ, ◌<◌, ◌≤◌, List, ◌++◌, length, flat_map, OnOk, IfErr};
 ghost use Rattle.p3_challenger_core.specs.Sponge.{observed_all, LeavesInCalls, RefusesObserve};
-ghost use Rattle.p3_fs_core.specs.Reading.{AreBytes, OneBegins, ReadOneWay};
+ghost use Rattle.p3_fs_core.specs.Reading.{AreBytes, IsByte, OneBegins, ReadOneWay};
 ghost use Rattle.p3_fs_core.specs.Packing.{packed, chunk_bytes, IsPackable};
 ghost use Rattle.p3_fs_core.specs.Alphabet.{RefusesBytes, LeavesItems};
 
@@ -22,6 +22,9 @@ pub trait Unit {
 
     ghost is_too_long: { ℕ → Type 0 };
 
+    // What is an item: a number is a byte only where it is below 256.
+    ghost is_item: { Self.Item → Type 0 };
+
     /// Observes a byte string.
     ///
     /// The errors are [`ChallengerError::TooLong`], with nothing absorbed, and
@@ -35,7 +38,10 @@ pub trait Unit {
             × (C.state challenger.new ≡ observed_all C.observed (C.state challenger.old) (items bytes.now))) }
         ensures err { IfErr result (λ e. RefusesBytes (is_too_long (length bytes.now))
             (LeavesItems C.observed C.may_leave (C.state challenger.old) (items bytes.now))
-            (C.state challenger.old) e (C.state challenger.new)) };
+            (C.state challenger.old) e (C.state challenger.new)) }
+        // What is observed is what the items feed, where the challenger feeds each in one way.
+        ensures fed { ReadOneWay is_item C.symbols → OnOk result (C.state challenger.new
+            ≡ C.fed (C.state challenger.old) (flat_map C.symbols (items bytes.now))) };
 
     // Byte strings that begin one list of items begin one another. So byte strings of one length, and all
     // those of which none begins another, read one way.
@@ -55,6 +61,8 @@ impl Unit for u8 {
 
     // A byte sponge takes every byte string as it is.
     ghost is_too_long = { λ _. ⊥ };
+
+    ghost is_item = { IsByte };
 
     ghost begins = { λ _ a b x y _ _ _ _ e. one_begins a b x y e };
 
@@ -85,6 +93,8 @@ impl<F: PrimeField64> Unit for FieldUnit<F> {
     // The length is an element too.
     ghost is_too_long = { λ len. F.residues.order ≤ len };
 
+    ghost is_item = { λ _. Unit {0} };
+
     ghost begins = { packed-begins F.residues F.are_residues F.bit_length F.bits_below F.bits_least };
 
     fn observe_bytes<C: CanObserve<F>>(
@@ -98,6 +108,8 @@ impl<F: PrimeField64> Unit for FieldUnit<F> {
         ensures err { IfErr result (λ e. RefusesBytes (F.residues.order ≤ length bytes.now)
             (LeavesItems C.observed C.may_leave (C.state challenger.old) (packed F.residues (chunk_bytes F.bit_length) bytes.now))
             (C.state challenger.old) e (C.state challenger.new)) }
+        ensures fed { ReadOneWay (λ _. Unit {0}) C.symbols → OnOk result (C.state challenger.new
+            ≡ C.fed (C.state challenger.old) (flat_map C.symbols (packed F.residues (chunk_bytes F.bit_length) bytes.now))) }
         // Whatever follows, the elements of a byte string that is short enough read one way.
         ensures one_way { ReadOneWay (IsPackable F.residues) (packed F.residues (chunk_bytes F.bit_length)) }
     {
