@@ -205,6 +205,10 @@ fn drawn<F: Extended, P: CryptographicPermutation<[F; W]>, const W: usize, const
             let value: F = challenger.sample()?;
             Ok(vec![in alloc; value.as_canonical_u64()]?)
         }
+        Draw::Extension => {
+            let element: F::Extension = challenger.sample()?;
+            numbers(alloc, element.as_basis_coefficients_slice())
+        }
         Draw::AlgebraElement => {
             let element: F::Extension = challenger.sample_algebra_element()?;
             numbers(alloc, element.as_basis_coefficients_slice())

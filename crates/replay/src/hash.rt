@@ -121,7 +121,7 @@ fn drawn<H: CryptographicHasher<u8, [u8; 32]>>(
             Ok(vec![in alloc; value]?)
         }
         Draw::Values(kind, n) => arrays::draw_values(alloc, challenger, *kind, *n, 0),
-        Draw::AlgebraElement | Draw::Bits(_) => bail!("bytes are no field"),
+        Draw::Extension | Draw::AlgebraElement | Draw::Bits(_) => bail!("bytes are no field"),
     }
 }
 

@@ -2,7 +2,7 @@ use anyhow::{Context, Result, bail};
 use std::alloc::Global;
 
 /// One line of a file of answers: a challenger, the calls on it, and the answer to each.
-#[derive(Debug, Drop)]
+#[derive(Drop)]
 pub struct Line<'a> {
     /// The kind of challenger, and then which one it is.
     pub spec: &'a str,
@@ -11,14 +11,14 @@ pub struct Line<'a> {
 }
 
 /// A call, and what the Rust crate answered.
-#[derive(Debug, Drop)]
+#[derive(Drop)]
 pub struct Step<'a> {
     pub call: Call,
     pub answer: &'a str,
 }
 
 /// A call on a challenger.
-#[derive(Debug, Drop)]
+#[derive(Drop)]
 pub enum Call {
     Observe(Observation),
     Draw(Draw),
@@ -29,7 +29,7 @@ pub enum Call {
 }
 
 /// What is observed, as canonical numbers or bytes.
-#[derive(Debug, Drop)]
+#[derive(Drop)]
 pub enum Observation {
     /// `o v`: a value.
     Value(u64),
@@ -42,7 +42,7 @@ pub enum Observation {
 }
 
 /// What a row of values is.
-#[derive(Clone, Copy, Debug)]
+#[derive(Clone, Copy)]
 pub enum RowKind {
     /// `os v..`: a slice.
     Slice,
@@ -57,7 +57,7 @@ pub enum RowKind {
 }
 
 /// What rows of values are.
-#[derive(Clone, Copy, Debug)]
+#[derive(Clone, Copy)]
 pub enum RowsKind {
     /// `oc v.. / v..`: a Merkle cap, whose digests have one length.
     Cap,
@@ -68,12 +68,14 @@ pub enum RowsKind {
 }
 
 /// What is drawn.
-#[derive(Debug, Drop)]
+#[derive(Drop)]
 pub enum Draw {
     /// `s`: a value.
     Value,
     /// So many values.
     Values(ValuesKind, usize),
+    /// `sx`: an element of an extension, as a value.
+    Extension,
     /// `sxa`: an element of an algebra.
     AlgebraElement,
     /// `b n`: a number of so many bits.
@@ -81,7 +83,7 @@ pub enum Draw {
 }
 
 /// What many values are drawn as.
-#[derive(Clone, Copy, Debug)]
+#[derive(Clone, Copy)]
 pub enum ValuesKind {
     /// `si n`: into a slice.
     Slice,
@@ -169,6 +171,7 @@ impl Draw {
     fn parse(name: &str, words: &str) -> Result<Draw> {
         match name {
             "s" => Ok(Draw::Value),
+            "sx" => Ok(Draw::Extension),
             "sxa" => Ok(Draw::AlgebraElement),
             "si" => Ok(Draw::Values(ValuesKind::Slice, words.parse()?)),
             "sv" => Ok(Draw::Values(ValuesKind::Vector, words.parse()?)),

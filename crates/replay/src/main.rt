@@ -69,7 +69,7 @@ fn main(rt: HostRuntime) -> Result<ExitCode> {
 
 // How a file was replayed: whole, or up to the first call with another answer. A line and a call are
 // counted from 1.
-#[derive(Debug, Drop)]
+#[derive(Drop)]
 enum Outcome {
     Agree {
         lines: usize,

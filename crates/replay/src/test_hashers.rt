@@ -1,6 +1,6 @@
 ghost use Rattle.std.specs.Prelude.{◌≡◌, ◌%◌};
 ghost use Rattle.std.specs.List.{sum};
-ghost use Rattle.replay.specs.TestHashers.{digest_from};
+ghost use Rattle.p3_challenger_core.specs.LengthHasher.{digest_of_length};
 
 use p3_symmetric::CryptographicHasher;
 
@@ -13,7 +13,7 @@ pub struct LengthHasher;
 pub struct SumHasher;
 
 impl CryptographicHasher<u8, [u8; 32]> for LengthHasher {
-    ghost use Rattle.replay.specs.TestHashers.{length_digest};
+    ghost use Rattle.p3_challenger_core.specs.LengthHasher.{length_digest};
 
     ghost hash = { λ _ message. length_digest message };
 
@@ -46,7 +46,7 @@ fn byte_sum(bytes: &[u8]) -> u8
 
 // The bytes that count on from a first one, modulo 256.
 fn digest_from(first: u8) -> [u8; 32]
-    ensures { result ≡ digest_from first }
+    ensures { result ≡ digest_of_length first }
 {
     let mut digest = [0; 32];
     for i in 0..32 {

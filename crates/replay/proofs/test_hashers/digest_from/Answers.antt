@@ -1,6 +1,6 @@
-use Rattle.std.proofs.Common.{arith}
+use Rattle.std.proofs.Common.{arith, ◌∙◌}
 use Rattle.std.proofs.lemmas.List.FromFn.{fill_by_all}
-use Rattle.replay.specs.TestHashers.{digest_place}
+use Rattle.replay.proofs.Digests.{digest_place, digest_places}
 use Rattle.replay.proofs.test_hashers.digest_from.Goals as goal
 
 -- each place counts on from the first
@@ -8,3 +8,4 @@ pub returns : goal.returns
 returns c =
     fill_by_all (digest_place c.args.first) c.loop-i.digest 32 0 c.loop-i.invariant.0
     (λ j below. c.loop-i.invariant.1 j (omega arith))
+    ∙ digest_places c.args.first

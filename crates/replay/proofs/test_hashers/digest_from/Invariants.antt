@@ -1,5 +1,5 @@
 use Rattle.std.proofs.Common.{◌≡◌, ℕ, ◌<◌, length, slice_index_or}
-use Rattle.replay.specs.TestHashers.{digest_place}
+use Rattle.replay.proofs.Digests.{digest_place}
 use Rattle.replay.proofs.test_hashers.digest_from.Given as goal
 
 -- each place so far counts on from the first
