@@ -15,3 +15,4 @@ pub mod Alphabet
 pub mod AlphabetLaws
 pub mod TranscriptError
 pub mod StepTexts
+pub mod StepTextLaws

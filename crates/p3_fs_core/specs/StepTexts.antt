@@ -43,19 +43,17 @@ hex_byte_text byte = digit_glyph false (byte / 16) ∷ digit_glyph false (byte %
 abbrev pub hex_text : List ℕ → List ℕ
 hex_text bytes = flat_map hex_byte_text bytes
 
--- a degree, and the digest of a basis
-abbrev pub basis_text : ℕ → List ℕ → List ℕ
-basis_text degree basis = decimal degree ++ (codes ";" ++ (hex_text basis ++ codes ")"))
+-- what stands behind the field in the tag of an algebra: its degree, and the digest of its basis
+abbrev pub algebra_end : ℕ → List ℕ → List ℕ
+algebra_end degree basis = codes "^" ++ (decimal degree ++ (codes ";" ++ (hex_text basis ++ codes ")")))
 
 abbrev pub type_tag_text : TypeTag → List ℕ
 type_tag_text Marker = codes "Marker"
 type_tag_text Bytes = codes "Bytes"
-type_tag_text (Algebra modulus degree basis) =
-    codes "Algebra(" ++ (decimal modulus ++ (codes "^" ++ basis_text degree basis))
-type_tag_text (BinaryTower bits degree basis) =
-    codes "BinaryTower(" ++ (decimal bits ++ (codes "^" ++ basis_text degree basis))
+type_tag_text (Algebra modulus degree basis) = codes "Algebra(" ++ (decimal modulus ++ algebra_end degree basis)
+type_tag_text (BinaryTower bits degree basis) = codes "BinaryTower(" ++ (decimal bits ++ algebra_end degree basis)
 type_tag_text (BinaryPolynomial bits modulus degree basis) =
-    codes "BinaryPolynomial(" ++ (decimal bits ++ (codes ",0x" ++ (hex_number modulus ++ (codes "^" ++ basis_text degree basis))))
+    codes "BinaryPolynomial(" ++ (decimal bits ++ (codes ",0x" ++ (hex_number modulus ++ algebra_end degree basis)))
 type_tag_text Opaque = codes "Opaque"
 type_tag_text (Bits width) = codes "Bits(" ++ (decimal width ++ codes ")")
 type_tag_text (UniformBits width) = codes "UniformBits(" ++ (decimal width ++ codes ")")

@@ -191,7 +191,7 @@ impl fmt::Display for Hex<'_> {
     }
 }
 
-// A number that prints in base 16. Contracts of `{:x}` end at 64 bits, so each half is a number of its own.
+// A number that prints in base 16. The contract of `{:x}` ends at 64 bits, so each half is written by itself.
 #[derive(Clone, Copy)]
 struct HexNumber(u128);
 
