@@ -13,6 +13,6 @@ pub use codecs::{
     MIN_CHALLENGE_SECURITY_BITS, ScalarCodec, bound_byte_width, decode_len_be, encode_len_be,
 };
 pub use error::TranscriptError;
-pub use pattern::{Hierarchy, Kind, Length, TypeTag};
+pub use pattern::{Hierarchy, Interaction, Kind, Label, Length, TypeTag};
 pub use transcript_field::TranscriptField;
 pub use unit::{FieldUnit, Unit};

@@ -1,7 +1,9 @@
 //! Patterns: which steps a protocol takes, before any of them is taken.
 
+mod interaction;
 mod step;
 #[cfg(test)]
 mod tests;
 
+pub use interaction::{Interaction, Label};
 pub use step::{Hierarchy, Kind, Length, TypeTag};

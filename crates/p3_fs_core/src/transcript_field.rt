@@ -7,9 +7,9 @@ ghost use Rattle.p3_fs_core.specs.Reading.{ReadsOneWay};
 ghost use Rattle.p3_fs_core.specs.Scalar.{wire, read};
 ghost use Rattle.p3_fs_core.specs.TranscriptError.{Decodes};
 
-use crate::TranscriptError;
 use crate::codecs::{decode_field_be_canonical, encode_field_be, field_byte_size};
 use crate::packing::observe_packed;
+use crate::{TranscriptError, TypeTag};
 use p3_challenger_core::{CanObserve, ChallengerError};
 use p3_field::PrimeField64;
 
@@ -18,6 +18,17 @@ use p3_field::PrimeField64;
 ///
 /// Every [`PrimeField64`] is one, and no other implementation can be.
 pub trait TranscriptField: PrimeField64 {
+    /// The tag of an algebra over this field, of so many coefficients, whose identity has this digest.
+    final fn algebra_tag(degree: usize, basis: [u8; 32]) -> TypeTag
+        ensures { result ≡ TypeTag.Algebra Self.residues.order degree basis }
+    {
+        TypeTag::Algebra {
+            modulus: Self::ORDER_U64,
+            degree,
+            basis,
+        }
+    }
+
     /// Observes a byte string as [`FieldUnit`](crate::FieldUnit) does: its length, and then its chunks. The
     /// field has more than 256 elements.
     ///

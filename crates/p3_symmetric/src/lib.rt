@@ -1,6 +1,7 @@
 //! Hash functions and permutations over field elements and bytes, and the digests that they give.
 #![tactic(auto)]
 
+mod digest_hasher;
 mod hash;
 mod hasher;
 mod merkle_cap;
@@ -10,6 +11,7 @@ mod sha256;
 mod tests;
 mod turn;
 
+pub use digest_hasher::DigestHasher;
 pub use hash::Hash;
 pub use hasher::CryptographicHasher;
 pub use merkle_cap::MerkleCap;

@@ -1,7 +1,7 @@
 ghost use Rattle.std.specs.Prelude.{◌≡◌};
 ghost use Rattle.sha2.specs.Sha256.{sha256};
 
-use crate::CryptographicHasher;
+use crate::{CryptographicHasher, DigestHasher};
 use sha2::{Digest, Sha256};
 
 /// SHA-256 (FIPS 180-4), of bytes to 32 bytes, by the crate `sha2`.
@@ -15,5 +15,13 @@ impl CryptographicHasher<u8, [u8; 32]> for Sha256Hasher {
         ensures { result ≡ sha256 input.now }
     {
         Sha256::digest(input)
+    }
+}
+
+impl DigestHasher for Sha256Hasher {
+    ghost digest_of = { sha256 };
+
+    fn digest(message: &[u8]) -> [u8; 32] {
+        Sha256::digest(message)
     }
 }

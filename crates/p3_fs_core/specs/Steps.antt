@@ -1,0 +1,44 @@
+-- Steps of an interactive protocol, as contracts see them.
+use Rattle.std.specs.Prelude.{◌≡◌, ℕ, List, ◌++◌, length, codes}
+use Rattle.std.specs.Fmt.{decimal}
+use Rattle.p3_fs_core.specs.declared.pattern.step.Hierarchy.{Hierarchy}
+use Rattle.p3_fs_core.specs.declared.pattern.step.Hierarchy.TheVariants.{Begin, End}
+use Rattle.p3_fs_core.specs.declared.pattern.step.Kind.{Kind}
+use Rattle.p3_fs_core.specs.declared.pattern.step.Length.{Length}
+use Rattle.p3_fs_core.specs.declared.pattern.step.TypeTag.{TypeTag}
+use Rattle.p3_fs_core.specs.declared.pattern.interaction.Interaction.{Interaction}
+use Rattle.p3_fs_core.specs.StepTexts.{hierarchy_text, kind_text, length_text, type_tag_text}
+
+-- what a step is: six things, of which two are texts
+pub record Step : Type 0 where
+  pub hierarchy : Hierarchy
+  pub kind : Kind
+  pub label : List ℕ
+  pub type_tag : TypeTag
+  pub type_name : List ℕ
+  pub length : Length
+
+-- an interaction as a step, wherever its texts lie
+abbrev pub step_of : Interaction → Step
+step_of i =
+    record { hierarchy = i.hierarchy; kind = i.kind; label = i.label.now; type_tag = i.type_tag; type_name = i.type_name.now; length = i.length }
+
+-- a closer closes an opener that is the same in all but that it opens
+pub record Closes (closer opener : Step) : Type 0 where
+  pub ends : closer.hierarchy ≡ End
+  pub begins : opener.hierarchy ≡ Begin
+  pub kind : closer.kind ≡ opener.kind
+  pub label : closer.label ≡ opener.label
+  pub type_tag : closer.type_tag ≡ opener.type_tag
+  pub type_name : closer.type_name ≡ opener.type_name
+  pub length : closer.length ≡ opener.length
+
+-- a step as people read it: with the name of its type
+abbrev pub plain_text : Step → List ℕ
+plain_text s =
+    hierarchy_text s.hierarchy ++ (codes " " ++ (kind_text s.kind ++ (codes " " ++ (s.label ++ (codes " " ++ (length_text s.length ++ (codes " " ++ s.type_name)))))))
+
+-- a step as it is hashed: with its type's tag, and with the length of its label before the label
+abbrev pub alternate_text : Step → List ℕ
+alternate_text s =
+    hierarchy_text s.hierarchy ++ (codes " " ++ (kind_text s.kind ++ (codes " " ++ (decimal (length s.label) ++ (codes " " ++ (s.label ++ (codes " " ++ (length_text s.length ++ (codes " " ++ type_tag_text s.type_tag)))))))))

@@ -1,0 +1,248 @@
+// One step of an interactive protocol.
+ghost use Rattle.std.specs.Prelude.{◌≡◌, ◌↔◌, ℕ, Some, codes, IsTrue};
+ghost use Rattle.p3_fs_core.specs.Steps.{Step, step_of, Closes, plain_text};
+
+use super::{Hierarchy, Kind, Length, TypeTag};
+use crate::TranscriptField;
+use p3_field::{AlgebraIdentity, Named};
+use p3_symmetric::DigestHasher;
+use std::fmt;
+
+/// What a step is called: a text of the program itself.
+pub type Label = &'static str;
+
+/// One step of an interactive protocol: where it stands, what it is for, its label, and what it carries.
+///
+/// Two steps are equal where all six of their parts are, the name of their type too.
+#[derive(Clone, Copy, Debug, PartialEq, Eq, PartialOrd, Ord, Hash)]
+pub struct Interaction {
+    hierarchy: Hierarchy,
+    kind: Kind,
+    label: Label,
+    type_tag: TypeTag,
+    type_name: &'static str,
+    length: Length,
+}
+
+impl Interaction {
+    /// A step that carries elements of an algebra `A` over the field `F`. `D` digests the identity of the
+    /// algebra. A step of scalars is the one with `A = F`.
+    pub fn algebra<F: TranscriptField, A: AlgebraIdentity<F> + Named, D: DigestHasher>(
+        hierarchy: Hierarchy,
+        kind: Kind,
+        label: Label,
+        length: Length,
+    ) -> Self
+        ensures { step_of result ≡ record {
+          hierarchy = hierarchy;
+          kind = kind;
+          label = label.now;
+          type_tag = TypeTag.Algebra F.residues.order A.DIMENSION (D.digest_of A.identity);
+          type_name = A.name_bytes;
+          length = length;
+        } }
+    {
+        Interaction {
+            hierarchy,
+            kind,
+            label,
+            type_tag: F::algebra_tag(A::DIMENSION, D::digest(A::algebra_id())),
+            type_name: A::type_name(),
+            length,
+        }
+    }
+
+    /// A step that carries bytes as they are.
+    pub fn bytes(hierarchy: Hierarchy, kind: Kind, label: Label, length: Length) -> Self
+        ensures { step_of result ≡ record {
+          hierarchy = hierarchy;
+          kind = kind;
+          label = label.now;
+          type_tag = TypeTag.Bytes;
+          type_name = codes "u8";
+          length = length;
+        } }
+    {
+        Interaction {
+            hierarchy,
+            kind,
+            label,
+            type_tag: TypeTag::Bytes,
+            type_name: u8::type_name(),
+            length,
+        }
+    }
+
+    /// A step whose value the challenger alone knows how to observe. It carries no name of a type.
+    pub fn opaque(hierarchy: Hierarchy, kind: Kind, label: Label, length: Length) -> Self
+        ensures { step_of result ≡ record {
+          hierarchy = hierarchy;
+          kind = kind;
+          label = label.now;
+          type_tag = TypeTag.Opaque;
+          type_name = codes "opaque";
+          length = length;
+        } }
+    {
+        Interaction {
+            hierarchy,
+            kind,
+            label,
+            type_tag: TypeTag::Opaque,
+            type_name: "opaque",
+            length,
+        }
+    }
+
+    /// A step that draws numbers of `width` bits, as the low bits of a drawn element.
+    pub fn bits(
+        hierarchy: Hierarchy,
+        kind: Kind,
+        label: Label,
+        width: usize,
+        length: Length,
+    ) -> Self
+        ensures { step_of result ≡ record {
+          hierarchy = hierarchy;
+          kind = kind;
+          label = label.now;
+          type_tag = TypeTag.Bits width;
+          type_name = codes "usize";
+          length = length;
+        } }
+    {
+        Interaction {
+            hierarchy,
+            kind,
+            label,
+            type_tag: TypeTag::Bits { width },
+            type_name: usize::type_name(),
+            length,
+        }
+    }
+
+    /// A step that draws numbers of `width` bits, each as often as any other.
+    pub fn uniform_bits(
+        hierarchy: Hierarchy,
+        kind: Kind,
+        label: Label,
+        width: usize,
+        length: Length,
+    ) -> Self
+        ensures { step_of result ≡ record {
+          hierarchy = hierarchy;
+          kind = kind;
+          label = label.now;
+          type_tag = TypeTag.UniformBits width;
+          type_name = codes "usize";
+          length = length;
+        } }
+    {
+        Interaction {
+            hierarchy,
+            kind,
+            label,
+            type_tag: TypeTag::UniformBits { width },
+            type_name: usize::type_name(),
+            length,
+        }
+    }
+
+    /// The opener or the closer of a container, which carries nothing. `T` names the container for those who
+    /// read its steps.
+    pub fn marker<T: Named>(hierarchy: Hierarchy, kind: Kind, label: Label) -> Self
+        ensures { step_of result ≡ record {
+          hierarchy = hierarchy;
+          kind = kind;
+          label = label.now;
+          type_tag = TypeTag.Marker;
+          type_name = T.name_bytes;
+          length = Length.None;
+        } }
+    {
+        Interaction {
+            hierarchy,
+            kind,
+            label,
+            type_tag: TypeTag::Marker,
+            type_name: T::type_name(),
+            length: Length::None,
+        }
+    }
+
+    /// Where the step stands.
+    pub fn hierarchy(&self) -> Hierarchy
+        ensures { result ≡ (step_of self.now).hierarchy }
+    {
+        self.hierarchy
+    }
+
+    /// What the step is for.
+    pub fn kind(&self) -> Kind
+        ensures { result ≡ (step_of self.now).kind }
+    {
+        self.kind
+    }
+
+    /// What the step is called.
+    pub fn label(&self) -> Label
+        ensures { result.now ≡ (step_of self.now).label }
+    {
+        self.label
+    }
+
+    /// What the values of the step are, for its digest.
+    pub fn type_tag(&self) -> TypeTag
+        ensures { result ≡ (step_of self.now).type_tag }
+    {
+        self.type_tag
+    }
+
+    /// The name of the type of the step's values, for those who read it.
+    pub fn type_name(&self) -> &'static str
+        ensures { result.now ≡ (step_of self.now).type_name }
+    {
+        self.type_name
+    }
+
+    /// How many values the step carries.
+    pub fn length(&self) -> Length
+        ensures { result ≡ (step_of self.now).length }
+    {
+        self.length
+    }
+
+    /// The first of two steps closes the other: it is an End, the other is a Begin, and all else of them is
+    /// the same, the name of the type too.
+    pub fn closes(&self, other: &Self) -> bool
+        ensures { IsTrue result ↔ Closes (step_of self.now) (step_of other.now) }
+    {
+        self.hierarchy == Hierarchy::End
+            && other.hierarchy == Hierarchy::Begin
+            && self.kind == other.kind
+            && self.label == other.label
+            && self.type_tag == other.type_tag
+            && self.type_name == other.type_name
+            && self.length == other.length
+    }
+}
+
+impl fmt::Display for Interaction {
+    ghost output = { λ i. Some (plain_text (step_of i)) };
+
+    // The alternate form, `{:#}`, is the one that is hashed: it has the length of the label before the label,
+    // and the tag of the type in place of its name.
+    fn fmt<W: fmt::Write>(&self, f: &mut fmt::Formatter<W>) -> fmt::Result {
+        if f.alternate() {
+            write!(f, "{} {}", self.hierarchy, self.kind)?;
+            write!(f, " {} {}", self.label.len(), self.label)?;
+            write!(f, " {} {}", self.length, self.type_tag)
+        } else {
+            write!(
+                f,
+                "{} {} {} {} {}",
+                self.hierarchy, self.kind, self.label, self.length, self.type_name
+            )
+        }
+    }
+}

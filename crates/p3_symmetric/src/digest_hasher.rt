@@ -1,0 +1,12 @@
+ghost use Rattle.std.specs.Prelude.{◌≡◌, ℕ, List};
+
+/// A hash function of bytes that is given by its type alone: it takes a byte string to 32 bytes, and equal
+/// byte strings to equal digests. Nothing more is known of it.
+pub trait DigestHasher {
+    // The digest of a byte string.
+    ghost digest_of: { List ℕ → List ℕ };
+
+    /// The digest of a byte string. It takes no memory.
+    fn digest(message: &[u8]) -> [u8; 32]
+        ensures { result ≡ digest_of message.now };
+}
