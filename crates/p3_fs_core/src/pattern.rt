@@ -1,6 +1,8 @@
 //! Patterns: which steps a protocol takes, before any of them is taken.
 
 mod interaction;
+#[cfg(test)]
+mod interaction_tests;
 mod step;
 #[cfg(test)]
 mod tests;
