@@ -52,10 +52,10 @@ unfoldable pub after_draws : {S T : Type 0} → (S → Option T) → (S → S) �
 after_draws sampled after zero s = s
 after_draws sampled after (suc n) s = if is_some (sampled s) then after_draws sampled after n (after s) else after s
 
--- P holds of the state before some one of n draws in a row
-unfoldable pub SomeDraw : {S : Type 0} → (S → S) → (S → Type 0) → ℕ → S → Type 0
-SomeDraw after P zero s = ⊥
-SomeDraw after P (suc n) s = P s ⊎ SomeDraw after P n (after s)
+-- P holds of the state before one of n draws in a row, where those before it gave their values
+unfoldable pub SomeDraw : {S T : Type 0} → (S → Option T) → (S → S) → (S → Type 0) → ℕ → S → Type 0
+SomeDraw sampled after P zero s = ⊥
+SomeDraw sampled after P (suc n) s = P s ⊎ (IsSome (sampled s) × SomeDraw sampled after P n (after s))
 
 -- what n draws in a row that answer this error leave: those before the refused one gave their values
 unfoldable pub RefusesDraws : {S T : Type 0} → (S → Option T) → (S → S) → (S → Type 0) → (S → S → Type 0) → ℕ → ChallengerError → S → S → Type 0

@@ -2,9 +2,9 @@
 use Rattle.std.proofs.Common.{◌≡◌, ℕ, ◌<◌, ◌≤◌, ◌+◌, ◌-◌, ◌*◌, ◌/◌, ◌%◌, ◌^◌, min, List, ◌++◌, length, take, drop, replicate, refl, sym, ap, ◌∙◌, subst, arith}
 use Rattle.std.proofs.lemmas.Nat.{leading_length}
 use Rattle.std.specs.Int.{div_ceil}
-use Rattle.p3_fs_core.specs.Reading.{AreBytes, ReadOneWay}
+use Rattle.p3_fs_core.specs.Reading.{AreBytes, ReadsOneWayOn}
 use Rattle.p3_fs_core.specs.BigEndian.{big_endian, in_bytes, bytes_for}
-use Rattle.p3_fs_core.specs.BigEndianLaws.{fits-bytes_for, bytes_for-least, big_endian-in_bytes, in_bytes-big_endian, length-in_bytes, AreBytes-take, take-front, drop-front}
+use Rattle.p3_fs_core.specs.BigEndianLaws.{fits-bytes_for, bytes_for-least, big_endian-in_bytes, big_endian-below, in_bytes-big_endian, length-in_bytes, AreBytes-take, take-front, drop-front}
 use Rattle.std.proofs.lemmas.List.{length-take-le}
 use lib.Count.{count_leading_zeros}
 
@@ -32,6 +32,13 @@ counted_read_back width len spelled fits is =
     take-front width (in_bytes width len) (replicate (8 - width) 0) (length-in_bytes width len) in
     ap (λ bytes. big_endian (take width bytes)) is ∙ ap big_endian front ∙ big_endian-in_bytes width len fits
 
+-- a count that is read fits in its bytes
+pub counted_fits : (width number : ℕ) (buf : List ℕ) → AreBytes buf → width ≤ length buf → number ≡ big_endian (take width buf) → number < 256 ^ width
+counted_fits width number buf are_bytes long is =
+    let below = big_endian-below (take width buf) (AreBytes-take width buf are_bytes) in
+    let as_long : length (take width buf) ≡ width = length-take-le width buf long in
+    subst (λ (n : ℕ). n < 256 ^ width) (sym is) (subst (λ (k : ℕ). big_endian (take width buf) < 256 ^ k) as_long below)
+
 -- a count that is read is spelled so
 pub counted_spelled_back : (width number : ℕ) (buf : List ℕ) → AreBytes buf → width ≤ length buf → number ≡ big_endian (take width buf) → in_bytes width number ≡ take width buf
 counted_spelled_back width number buf are_bytes long is =
@@ -39,7 +46,7 @@ counted_spelled_back width number buf are_bytes long is =
     ∙ in_bytes-big_endian width (take width buf) (length-take-le width buf long) (AreBytes-take width buf are_bytes)
 
 -- whatever follows, counts of one width read one way
-pub counts_one_way : (width : ℕ) → ReadOneWay (λ n. n < 256 ^ width) (in_bytes width)
+pub counts_one_way : (width : ℕ) → ReadsOneWayOn (λ n. n < 256 ^ width) (in_bytes width)
 counts_one_way width x y a b x_fits y_fits e =
     let front : in_bytes width x ≡ in_bytes width y =
     sym (take-front width (in_bytes width x) a (length-in_bytes width x))

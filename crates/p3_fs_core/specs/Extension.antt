@@ -1,5 +1,26 @@
 -- An element of a vector space, coefficient by coefficient in the order of the basis.
-use Rattle.std.specs.Prelude.{ℕ, zero, suc, ◌*◌, List, [], ◌∷◌, length, codes, nat_lt, flat_map, Result, Ok, Err, if◌then◌else◌}
+use Rattle.std.specs.Prelude.{ℕ, zero, suc, ◌*◌, List, [], ◌∷◌, length, codes, nat_lt, flat_map, Option, Result, Ok, Err, if◌then◌else◌}
+use Rattle.std.specs.Option.{option_map}
+use Rattle.p3_challenger_core.specs.Sponge.{observed_all, draws, after_draws}
+
+-- the one spelling of an element: those of its coefficients, one behind another
+abbrev pub wire : {F A : Type 0} → (F → List ℕ) → (A → List F) → A → List ℕ
+wire base_wire coefficients x = flat_map base_wire (coefficients x)
+
+-- what an element feeds: what its coefficients feed
+abbrev pub symbols : {F A Symbol : Type 0} → (F → List Symbol) → (A → List F) → A → List Symbol
+symbols base_symbols coefficients x = flat_map base_symbols (coefficients x)
+
+-- the state after an element
+abbrev pub observed : {S F A : Type 0} → (S → F → S) → (A → List F) → S → A → S
+observed base_observed coefficients s x = observed_all base_observed s (coefficients x)
+
+-- the element that is drawn, coefficient 0 first, and the state after it
+abbrev pub sampled : {S F A : Type 0} → (S → Option F) → (S → S) → ℕ → (List F → A) → S → Option A
+sampled base after_base n element s = option_map element (draws base after_base n s)
+
+abbrev pub after_sampled : {S F : Type 0} → (S → Option F) → (S → S) → ℕ → S → S
+after_sampled base after_base n s = after_draws base after_base n s
 
 -- why bytes begin with no element
 abbrev pub not_enough_bytes : List ℕ

@@ -4,7 +4,6 @@ pub mod BigEndianLaws
 pub mod Scalar
 pub mod ScalarLaws
 pub mod SymbolLaws
-pub mod DrawLaws
 pub mod BytesToField
 pub mod BytesToFieldLaws
 pub mod Extension

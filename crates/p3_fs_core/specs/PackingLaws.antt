@@ -7,7 +7,7 @@ use Rattle.std.proofs.lemmas.Bool.{cases_lt}
 use Rattle.std.specs.Int.{w64, byte_at, bytes_low_first, from_le_bytes}
 use Rattle.p3_field.specs.Residues.{Residues, IsResidues}
 use Rattle.p3_field.specs.ResidueLaws.{of-injective}
-use Rattle.p3_fs_core.specs.Reading.{ReadOneWay, OneBegins, AreBytes}
+use Rattle.p3_fs_core.specs.Reading.{ReadsOneWayOn, OneBegins, AreBytes}
 use Rattle.p3_fs_core.specs.BigEndianLaws.{AreBytes-take, AreBytes-drop, one_more, take-front, drop-front, power_of_bytes}
 use Rattle.p3_fs_core.specs.AlphabetLaws.{begins_itself}
 use Rattle.p3_fs_core.specs.Packing.{little_endian, chunk_bytes, chunk_count, first_chunks, chunks, packed, IsPackable}
@@ -231,7 +231,7 @@ module _ {F : Type 0} (r : Residues F) (laws : IsResidues r) (size : ℕ) (fits 
       )
 
   -- whatever follows, packed byte strings read one way
-  pub packed-one_way : 0 < size → ReadOneWay (IsPackable r) (packed r size)
+  pub packed-one_way : 0 < size → ReadsOneWayOn (IsPackable r) (packed r size)
   packed-one_way positive a b x y a_is b_is e =
       let front : ◌≡◌ {A = F × List F} (r.of (length a), map element_of_chunk (chunks size a) ++ x) (r.of (length b), map element_of_chunk (chunks size b) ++ y) = cc in
       let same : length a ≡ length b = of-injective r laws (length a) (length b) a_is.1 b_is.1 (ap (λ p. p.0) front) in
@@ -248,7 +248,7 @@ is_below n m short = elim (cases_lt n m) [
 ]
 
 module _ {F : Type 0} (r : Residues F) (laws : IsResidues r) (bits : ℕ) (below : r.order < 2 ^ bits) (least : 2 ^ bits ≤ 2 * r.order) (large : 256 < r.order) where
-  pub field_packed-one_way : ReadOneWay (IsPackable r) (packed r (chunk_bytes bits))
+  pub field_packed-one_way : ReadsOneWayOn (IsPackable r) (packed r (chunk_bytes bits))
   field_packed-one_way =
       let positive = chunk_bytes-positive bits r.order large below in
       packed-one_way r laws (chunk_bytes bits) (chunk-below bits r.order (chunk_bytes bits) least (omega (arith, positive)) (omega arith)) positive

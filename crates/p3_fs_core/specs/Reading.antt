@@ -1,14 +1,15 @@
 -- What every spelling owes: that it reads one way.
 use Rattle.std.specs.Prelude.{◌≡◌, ℕ, ◌<◌, ◌⊎◌, List, ◌++◌, slice_index}
 
--- no spelling begins another, and no two values have one: whatever follows, a spelling reads one way
+-- of these values, no spelling begins another, and no two have one: whatever follows, a spelling reads one
+-- way
+abbrev pub ReadsOneWayOn : {T S : Type 0} → (T → Type 0) → (T → List S) → Type 0
+ReadsOneWayOn {T} {S} IsValue spelling =
+    (x y : T) (a b : List S) → IsValue x → IsValue y → spelling x ++ a ≡ spelling y ++ b → (x ≡ y) × (a ≡ b)
+
+-- the same of all values
 abbrev pub ReadsOneWay : {T S : Type 0} → (T → List S) → Type 0
 ReadsOneWay {T} {S} spelling = (x y : T) (a b : List S) → spelling x ++ a ≡ spelling y ++ b → (x ≡ y) × (a ≡ b)
-
--- the same of some values alone
-abbrev pub ReadOneWay : {T S : Type 0} → (T → Type 0) → (T → List S) → Type 0
-ReadOneWay {T} {S} IsValue spelling =
-    (x y : T) (a b : List S) → IsValue x → IsValue y → spelling x ++ a ≡ spelling y ++ b → (x ≡ y) × (a ≡ b)
 
 -- a number is a byte
 abbrev pub IsByte : ℕ → Type 0

@@ -6,7 +6,7 @@ use Rattle.std.proofs.lemmas.Fmt.{digits_is_IsNumeral}
 use Rattle.std.specs.Char.{digit_value}
 use Rattle.std.specs.Fmt.{decimal, digits, digit_glyph}
 use Rattle.std.specs.Str.Parse.{AllDigits, digits_value}
-use Rattle.p3_fs_core.specs.Reading.{ReadsOneWay, ReadOneWay, IsByte, AreBytes}
+use Rattle.p3_fs_core.specs.Reading.{ReadsOneWay, ReadsOneWayOn, IsByte, AreBytes}
 use Rattle.p3_fs_core.specs.StepTexts.{hierarchy_text, kind_text, length_text, hex_number, hex_text, hex_byte_text, algebra_end, type_tag_text}
 use Rattle.p3_fs_core.specs.declared.pattern.step.Hierarchy.{Hierarchy}
 use Rattle.p3_fs_core.specs.declared.pattern.step.Hierarchy.TheVariants.{Atomic, Begin, End}
@@ -63,7 +63,7 @@ hex_number-one_way m n a b m_fits n_fits a_ends b_ends e =
 glyph-injective : (d e : ℕ) → d < 16 → e < 16 → digit_glyph false d ≡ digit_glyph false e → d ≡ e
 glyph-injective d e d_fits e_fits same = grind (arith, nat_tests)
 
-hex_byte-one_way : ReadOneWay IsByte hex_byte_text
+hex_byte-one_way : ReadsOneWayOn IsByte hex_byte_text
 hex_byte-one_way x y a b x_is y_is e =
     let high : x / 16 ≡ y / 16 = glyph-injective (x / 16) (y / 16) (omega (arith, x_is)) (omega (arith, y_is)) (cc) in
     let low : x % 16 ≡ y % 16 = glyph-injective (x % 16) (y % 16) (omega arith) (omega arith) (cc) in
@@ -190,7 +190,7 @@ counted-one_way (Bounded _) m n a b m_fits n_fits e =
     (ap Bounded parts.0, parts.1)
 
 -- a length is read back, whatever follows
-pub length-one_way : ReadOneWay FitsLength length_text
+pub length-one_way : ReadsOneWayOn FitsLength length_text
 length-one_way x y a b x_fits y_fits e =
     let variant = counted x 0 in
     let same : variant ≡ counted y 0 = sym (counted-told x a) ∙ ap counted_of e ∙ counted-told y b in
@@ -331,7 +331,7 @@ refill-one_way (UniformBits _) j k m n d c xs ys a b x_fits y_fits e =
     (ap UniformBits parts.0, parts.1)
 
 -- a tag is read back, whatever follows
-pub type_tag-one_way : ReadOneWay FitsTag type_tag_text
+pub type_tag-one_way : ReadsOneWayOn FitsTag type_tag_text
 type_tag-one_way x y a b x_fits y_fits e =
     let same : shape x ≡ shape y = sym (shape-read x a) ∙ ap shape_of e ∙ shape-read y b in
     let own = refilled-own x in

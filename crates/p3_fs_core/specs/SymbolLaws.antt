@@ -4,7 +4,7 @@ use Rattle.std.specs.List.{flat_map}
 use Rattle.p3_field.specs.Residues.{Residues, IsResidues}
 use Rattle.p3_field.specs.ResidueLaws.{of-injective}
 use Rattle.p3_challenger_core.specs.Sponge.{IsNonEmpty, observed_all}
-use Rattle.p3_fs_core.specs.Reading.{ReadsOneWay, ReadOneWay, IsByte, AreBytes}
+use Rattle.p3_fs_core.specs.Reading.{ReadsOneWay, ReadsOneWayOn, IsByte, AreBytes}
 
 -- ---- one value
 
@@ -12,7 +12,7 @@ empty_or_not : {S : Type 0} (xs : List S) → (xs ≡ []) ⊎ IsNonEmpty xs
 empty_or_not [] = inl refl
 empty_or_not (x ∷ xs) = inr tt
 
-module _ {T S : Type 0} (IsValue : T → Type 0) (spelling : T → List S) (one_way : ReadOneWay IsValue spelling) where
+module _ {T S : Type 0} (IsValue : T → Type 0) (spelling : T → List S) (one_way : ReadsOneWayOn IsValue spelling) where
   -- a value that feeds nothing is every value
   only_value : (x y : T) → IsValue x → IsValue y → spelling x ≡ [] → x ≡ y
   only_value x y x_is y_is empty =
@@ -38,7 +38,7 @@ module _ {F S Symbol : Type 0} (r : Residues F) (laws : IsResidues r) (symbols :
       feeds s x (one_way-non_empty (λ _. Unit {0}) symbols (λ y z a b _ _ e. one_way y z a b e) x (r.of 0) (r.of 1) tt tt tt zero_is_not_one)
 
 -- so is a byte
-module _ {S Symbol : Type 0} (symbols : ℕ → List Symbol) (one_way : ReadOneWay IsByte symbols) (observed : S → ℕ → S) (fed : S → List Symbol → S) (feeds : (s : S) (x : ℕ) → IsNonEmpty (symbols x) → observed s x ≡ fed s (symbols x)) where
+module _ {S Symbol : Type 0} (symbols : ℕ → List Symbol) (one_way : ReadsOneWayOn IsByte symbols) (observed : S → ℕ → S) (fed : S → List Symbol → S) (feeds : (s : S) (x : ℕ) → IsNonEmpty (symbols x) → observed s x ≡ fed s (symbols x)) where
   pub byte-fed : (s : S) (byte : ℕ) → IsByte byte → observed s byte ≡ fed s (symbols byte)
   byte-fed s byte is = feeds s byte (one_way-non_empty IsByte symbols one_way byte 0 1 is (lit< tt) (lit< tt) (λ e. cc))
 
@@ -85,7 +85,7 @@ module _ {T S : Type 0} (spelling : T → List S) where
       (ap (λ z. z ∷ xs) first.0 ∙ ap (λ zs. y ∷ zs) others.0, others.1)
 
 -- bytes too
-pub bytes-one_way : {S : Type 0} (symbols : ℕ → List S) → ReadOneWay IsByte symbols → (xs ys : List ℕ) (a b : List S) → AreBytes xs → AreBytes ys → length xs ≡ length ys → flat_map symbols xs ++ a ≡ flat_map symbols ys ++ b → (xs ≡ ys) × (a ≡ b)
+pub bytes-one_way : {S : Type 0} (symbols : ℕ → List S) → ReadsOneWayOn IsByte symbols → (xs ys : List ℕ) (a b : List S) → AreBytes xs → AreBytes ys → length xs ≡ length ys → flat_map symbols xs ++ a ≡ flat_map symbols ys ++ b → (xs ≡ ys) × (a ≡ b)
 bytes-one_way symbols one_way [] [] a b x_are y_are same e = (refl, e)
 bytes-one_way symbols one_way [] (y ∷ ys) a b x_are y_are same e = absurd (omega (arith, same))
 bytes-one_way symbols one_way (x ∷ xs) [] a b x_are y_are same e = absurd (omega (arith, same))

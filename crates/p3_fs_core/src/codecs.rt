@@ -13,5 +13,5 @@ pub use decode_field::EXTRA_BYTES;
 pub(crate) use decode_field::{decode_field_be_canonical, encode_field_be, field_byte_size};
 pub use extension::ExtensionFieldCodec;
 pub use field_to_field::FieldToFieldCodec;
-pub use length_prefix::{bound_byte_width, decode_len_be, encode_len_be};
+pub use length_prefix::{bound_byte_width, counts_read_one_way, decode_len_be, encode_len_be};
 pub(crate) use little_endian::number_of_chunk;

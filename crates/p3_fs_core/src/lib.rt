@@ -10,7 +10,8 @@ mod unit;
 
 pub use codecs::{
     BytesToFieldCodec, Codec, EXTRA_BYTES, ExtensionFieldCodec, FieldToFieldCodec,
-    MIN_CHALLENGE_SECURITY_BITS, ScalarCodec, bound_byte_width, decode_len_be, encode_len_be,
+    MIN_CHALLENGE_SECURITY_BITS, ScalarCodec, bound_byte_width, counts_read_one_way, decode_len_be,
+    encode_len_be,
 };
 pub use error::TranscriptError;
 pub use pattern::{Hierarchy, Interaction, Kind, Label, Length, TypeTag};

@@ -1,6 +1,6 @@
 ghost use Rattle.std.specs.Prelude.{◌≡◌, ℕ, ◌<◌, ◌≤◌, List, ◌++◌, length, flat_map, OnOk, IfErr};
 ghost use Rattle.p3_challenger_core.specs.Sponge.{observed_all, LeavesInCalls, RefusesObserve};
-ghost use Rattle.p3_fs_core.specs.Reading.{AreBytes, IsByte, OneBegins, ReadOneWay};
+ghost use Rattle.p3_fs_core.specs.Reading.{AreBytes, IsByte, OneBegins, ReadsOneWayOn};
 ghost use Rattle.p3_fs_core.specs.Packing.{packed, chunk_bytes, IsPackable};
 ghost use Rattle.p3_fs_core.specs.Alphabet.{RefusesBytes, LeavesItems};
 
@@ -40,7 +40,7 @@ pub trait Unit {
             (LeavesItems C.observed C.may_leave (C.state challenger.old) (items bytes.now))
             (C.state challenger.old) e (C.state challenger.new)) }
         // What is observed is what the items feed, where the challenger feeds each in one way.
-        ensures fed { ReadOneWay is_item C.symbols → OnOk result (C.state challenger.new
+        ensures fed { ReadsOneWayOn is_item C.symbols → OnOk result (C.state challenger.new
             ≡ C.fed (C.state challenger.old) (flat_map C.symbols (items bytes.now))) };
 
     // Byte strings that begin one list of items begin one another. So byte strings of one length, and all
@@ -69,7 +69,14 @@ impl Unit for u8 {
     fn observe_bytes<C: CanObserve<u8>>(
         challenger: &mut C,
         bytes: &[u8],
-    ) -> Result<(), ChallengerError> {
+    ) -> Result<(), ChallengerError>
+        ensures ok { OnOk result (C.state challenger.new ≡ observed_all C.observed (C.state challenger.old) bytes.now) }
+        // What is left is what one slice may leave.
+        ensures err { IfErr result (λ e.
+            RefusesObserve (C.may_leave (C.state challenger.old) bytes.now) e (C.state challenger.new)) }
+        ensures fed { ReadsOneWayOn IsByte C.symbols → OnOk result (C.state challenger.new
+            ≡ C.fed (C.state challenger.old) (flat_map C.symbols bytes.now)) }
+    {
         challenger.observe_slice(bytes)
     }
 }
@@ -108,10 +115,10 @@ impl<F: PrimeField64> Unit for FieldUnit<F> {
         ensures err { IfErr result (λ e. RefusesBytes (F.residues.order ≤ length bytes.now)
             (LeavesItems C.observed C.may_leave (C.state challenger.old) (packed F.residues (chunk_bytes F.bit_length) bytes.now))
             (C.state challenger.old) e (C.state challenger.new)) }
-        ensures fed { ReadOneWay (λ _. Unit {0}) C.symbols → OnOk result (C.state challenger.new
+        ensures fed { ReadsOneWayOn (λ _. Unit {0}) C.symbols → OnOk result (C.state challenger.new
             ≡ C.fed (C.state challenger.old) (flat_map C.symbols (packed F.residues (chunk_bytes F.bit_length) bytes.now))) }
         // Whatever follows, the elements of a byte string that is short enough read one way.
-        ensures one_way { ReadOneWay (IsPackable F.residues) (packed F.residues (chunk_bytes F.bit_length)) }
+        ensures one_way { ReadsOneWayOn (IsPackable F.residues) (packed F.residues (chunk_bytes F.bit_length)) }
     {
         F::observe_seed(challenger, bytes)
     }

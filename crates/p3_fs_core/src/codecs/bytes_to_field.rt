@@ -11,16 +11,14 @@ use std::marker::PhantomData;
 /// [`EXTRA_BYTES`] bytes more than a spelling has, and is their big-endian number modulo the order.
 pub struct BytesToFieldCodec<F>(PhantomData<F>);
 
-// The most bytes that a draw takes.
+// The most bytes that a draw takes: a spelling has at most 8.
 const MOST_BYTES: usize = 24;
 
 impl<F: PrimeField64, C: CanObserve<u8> + CanSample<u8>> Codec<C, F> for BytesToFieldCodec<F> {
-    ghost use Rattle.std.specs.Prelude.{flat_map};
     ghost use Rattle.std.specs.Option.{option_map};
     ghost use Rattle.std.proofs.Common.{ap};
-    ghost use Rattle.p3_challenger_core.specs.Sponge.{observed_all};
     ghost use Rattle.p3_challenger_core.specs.SpongeLaws.{draws-none};
-    ghost use Rattle.p3_fs_core.specs.Reading.{ReadOneWay, IsByte};
+    ghost use Rattle.p3_fs_core.specs.Reading.{ReadsOneWayOn, IsByte};
     ghost use Rattle.p3_fs_core.specs.BigEndian.{bytes_for};
     ghost use Rattle.p3_fs_core.specs.Scalar as scalar;
     ghost use Rattle.p3_fs_core.specs.BytesToField as codec;
@@ -37,11 +35,11 @@ impl<F: PrimeField64, C: CanObserve<u8> + CanSample<u8>> Codec<C, F> for BytesTo
 
     ghost read = { scalar.read F.residues (bytes_for F.bit_length) };
 
-    ghost symbols = { λ x. flat_map C.symbols (scalar.wire F.residues (bytes_for F.bit_length) x) };
+    ghost symbols = { codec.symbols F.residues (bytes_for F.bit_length) C.symbols };
 
-    ghost is_fed_one_way = { ReadOneWay IsByte C.symbols };
+    ghost is_fed_one_way = { ReadsOneWayOn IsByte C.symbols };
 
-    ghost observed = { λ s x. observed_all C.observed s (scalar.wire F.residues (bytes_for F.bit_length) x) };
+    ghost observed = { codec.observed F.residues (bytes_for F.bit_length) C.observed };
 
     ghost may_leave = { λ s x t. C.may_leave s (scalar.wire F.residues (bytes_for F.bit_length) x) t };
 
@@ -49,9 +47,9 @@ impl<F: PrimeField64, C: CanObserve<u8> + CanSample<u8>> Codec<C, F> for BytesTo
 
     ghost after_sampled = { λ s. codec.after_sampled (bytes_for F.bit_length) C.sampled C.after_sampled s };
 
-    ghost meets_limit = { λ s. codec.SomeByte (bytes_for F.bit_length) C.after_sampled C.meets_limit s };
+    ghost meets_limit = { λ s. codec.SomeByte (bytes_for F.bit_length) C.sampled C.after_sampled C.meets_limit s };
 
-    ghost draw_may_leave = { λ s t. codec.SomeByte (bytes_for F.bit_length) C.after_sampled (λ u. C.draw_may_leave u t) s };
+    ghost draw_may_leave = { λ s t. codec.SomeByte (bytes_for F.bit_length) C.sampled C.after_sampled (λ u. C.draw_may_leave u t) s };
 
     ghost fixed_width = { length-wire F.residues F.are_residues (bytes_for F.bit_length) (order-fits F.bit_length F.residues.order F.bits_below) };
 

@@ -15,10 +15,10 @@ pub struct ExtensionFieldCodec<F, EF, BaseCodec>(PhantomData<(F, EF, BaseCodec)>
 
 impl<C: Sponge, F: Field, EF: BasedVectorSpace<F>, BaseCodec: ScalarCodec<C, F>> Codec<C, EF>
     for ExtensionFieldCodec<F, EF, BaseCodec> {
-    ghost use Rattle.std.specs.Prelude.{◌*◌, flat_map};
+    ghost use Rattle.std.specs.Prelude.{◌*◌};
     ghost use Rattle.std.specs.Option.{option_map};
     ghost use Rattle.std.proofs.Common.{ap};
-    ghost use Rattle.p3_challenger_core.specs.Sponge.{observed_all, draws, after_draws, SomeDraw, LeavesInCalls};
+    ghost use Rattle.p3_challenger_core.specs.Sponge.{SomeDraw, LeavesInCalls};
     ghost use Rattle.p3_challenger_core.specs.SpongeLaws.{draws-none};
     ghost use Rattle.p3_fs_core.specs.Extension as extension;
     ghost use Rattle.p3_fs_core.specs.ExtensionLaws.{length-wire, wire-one_way, read-wire, read-only, coefficients-fed, symbols-one_way};
@@ -29,25 +29,25 @@ impl<C: Sponge, F: Field, EF: BasedVectorSpace<F>, BaseCodec: ScalarCodec<C, F>>
 
     ghost width = { EF.DIMENSION * BaseCodec.width };
 
-    ghost wire = { λ x. flat_map BaseCodec.wire (EF.coefficients x) };
+    ghost wire = { extension.wire BaseCodec.wire EF.coefficients };
 
     ghost read = { extension.read BaseCodec.read BaseCodec.width EF.DIMENSION EF.element };
 
-    ghost symbols = { λ x. flat_map BaseCodec.symbols (EF.coefficients x) };
+    ghost symbols = { extension.symbols BaseCodec.symbols EF.coefficients };
 
     ghost is_fed_one_way = { BaseCodec.is_fed_one_way };
 
-    ghost observed = { λ s x. observed_all BaseCodec.observed s (EF.coefficients x) };
+    ghost observed = { extension.observed BaseCodec.observed EF.coefficients };
 
     ghost may_leave = { λ s x t. LeavesInCalls BaseCodec.observed BaseCodec.may_leave s (EF.coefficients x) t };
 
-    ghost sampled = { λ s. option_map EF.element (draws BaseCodec.sampled BaseCodec.after_sampled EF.DIMENSION s) };
+    ghost sampled = { extension.sampled BaseCodec.sampled BaseCodec.after_sampled EF.DIMENSION EF.element };
 
-    ghost after_sampled = { λ s. after_draws BaseCodec.sampled BaseCodec.after_sampled EF.DIMENSION s };
+    ghost after_sampled = { extension.after_sampled BaseCodec.sampled BaseCodec.after_sampled EF.DIMENSION };
 
-    ghost meets_limit = { λ s. SomeDraw BaseCodec.after_sampled BaseCodec.meets_limit EF.DIMENSION s };
+    ghost meets_limit = { λ s. SomeDraw BaseCodec.sampled BaseCodec.after_sampled BaseCodec.meets_limit EF.DIMENSION s };
 
-    ghost draw_may_leave = { λ s t. SomeDraw BaseCodec.after_sampled (λ u. BaseCodec.draw_may_leave u t) EF.DIMENSION s };
+    ghost draw_may_leave = { λ s t. SomeDraw BaseCodec.sampled BaseCodec.after_sampled (λ u. BaseCodec.draw_may_leave u t) EF.DIMENSION s };
 
     ghost fixed_width = { length-wire BaseCodec.wire BaseCodec.width BaseCodec.fixed_width EF.DIMENSION EF.coefficients EF.length_coefficients };
 

@@ -28,7 +28,10 @@ fn steps_print_with_the_names_of_their_types(rt: HostRuntime) -> Result<(), Fail
     for (step, text) in [
         (opener(), "Begin Protocol outer None ()"),
         (closer(), "End Protocol outer None ()"),
-        (leaf(Kind::Message, "commit"), "Atomic Message commit Scalar opaque"),
+        (
+            leaf(Kind::Message, "commit"),
+            "Atomic Message commit Scalar opaque",
+        ),
         (salt, "Atomic Salt salt Fixed(8) u8"),
         (width, "Atomic Challenge place Fixed(2) usize"),
     ] {
@@ -62,9 +65,18 @@ fn steps_print_in_the_alternate_form_with_their_tags(rt: HostRuntime) -> Result<
     );
     for (step, text) in [
         (opener(), "Begin Protocol 5 outer None Marker"),
-        (leaf(Kind::Message, "commit"), "Atomic Message 6 commit Scalar Opaque"),
-        (leaf(Kind::Message, "a\nb"), "Atomic Message 3 a\nb Scalar Opaque"),
-        (indices, "Atomic Challenge 7 indices Fixed(2) UniformBits(4)"),
+        (
+            leaf(Kind::Message, "commit"),
+            "Atomic Message 6 commit Scalar Opaque",
+        ),
+        (
+            leaf(Kind::Message, "a\nb"),
+            "Atomic Message 3 a\nb Scalar Opaque",
+        ),
+        (
+            indices,
+            "Atomic Challenge 7 indices Fixed(2) UniformBits(4)",
+        ),
         (
             scalar,
             "Atomic Public 5 input Scalar Algebra(2013265921^1;a72fd3d92f2500f8c462c7cc4e09a686e790c17124aed98ab23c30dd2d58009f)",

@@ -3,7 +3,7 @@ use Rattle.std.proofs.lemmas.List.{length-take-le}
 use Rattle.std.proofs.lemmas.Result.{err_from_is_err_and}
 use Rattle.p3_challenger_core.specs.Sponge.{RefusesDraws}
 use Rattle.p3_fs_core.specs.BigEndian.{bytes_for}
-use Rattle.p3_fs_core.specs.DrawLaws.{refused-in_row}
+use Rattle.p3_challenger_core.specs.DrawLaws.{refused-in_row}
 use Rattle.p3_fs_core.proofs.codecs.bytes_to_field.BytesToFieldCodecCodec.sample.Goals as goal
 
 -- one of the bytes is refused

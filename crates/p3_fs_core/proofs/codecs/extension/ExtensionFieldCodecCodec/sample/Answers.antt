@@ -3,7 +3,7 @@ use Rattle.std.specs.Option.{option_map}
 use Rattle.std.proofs.lemmas.List.{take_more_set}
 use Rattle.std.proofs.lemmas.Result.{err_from_is_err_and}
 use Rattle.p3_challenger_core.specs.DrawLaws.{drew-as, drew-one_more, drew-values, drew-state, drew-stops}
-use Rattle.p3_fs_core.specs.DrawLaws.{refused-in_row}
+use Rattle.p3_challenger_core.specs.DrawLaws.{refused-in_row}
 use Rattle.p3_fs_core.proofs.Coefficients.{whole-element}
 use Rattle.p3_fs_core.proofs.codecs.extension.ExtensionFieldCodecCodec.sample.Goals as goal
 
