@@ -1,9 +1,9 @@
-ghost use Rattle.std.specs.Prelude.{◌≡◌, ℕ, ◌<◌, ◌≤◌, List, [], ◌∷◌, ◌++◌, length, take, drop, flat_map, OnOk, OnErr, IfOk, IfErr};
+ghost use Rattle.std.specs.Prelude.{◌≡◌, ℕ, ◌<◌, ◌≤◌, List, [], ◌∷◌, ◌++◌, length, take, drop, flat_map, Ok, OnOk, OnErr, IfOk, IfErr};
 ghost use Rattle.p3_challenger_core.specs.Sponge.{observed_all, LeavesInCalls};
 ghost use Rattle.p3_fs_core.specs.Alphabet.{RefusesBytes};
 ghost use Rattle.p3_fs_core.specs.BigEndian.{bytes_for};
 ghost use Rattle.p3_fs_core.specs.Packing.{packed, chunk_bytes};
-ghost use Rattle.p3_fs_core.specs.Reading.{ReadsOneWay};
+ghost use Rattle.p3_fs_core.specs.Reading.{ReadsOneWay, AreBytes};
 ghost use Rattle.p3_fs_core.specs.Scalar.{wire, read};
 ghost use Rattle.p3_fs_core.specs.TranscriptError.{Decodes};
 
@@ -91,6 +91,30 @@ pub trait TranscriptField: PrimeField64 {
     {
         decode_field_be_canonical(bytes)
     }
+
+    // Each spelling has the width, and reads one way; what is spelled is read, whatever follows, and what is
+    // read is spelled so.
+    ghost fixed_width: { (x : Self) → length (wire Self.residues (bytes_for Self.bit_length) x) ≡ bytes_for Self.bit_length };
+
+    ghost reads_one_way: { ReadsOneWay (wire Self.residues (bytes_for Self.bit_length)) };
+
+    ghost reads_back: { (x : Self) (rest : List ℕ) →
+        read Self.residues (bytes_for Self.bit_length) (wire Self.residues (bytes_for Self.bit_length) x ++ rest) ≡ Ok (x, rest) };
+
+    ghost only_reads: { (bytes : List ℕ) (x : Self) (rest : List ℕ) → AreBytes bytes →
+        read Self.residues (bytes_for Self.bit_length) bytes ≡ Ok (x, rest) →
+        bytes ≡ wire Self.residues (bytes_for Self.bit_length) x ++ rest };
 }
 
-impl<F: PrimeField64> TranscriptField for F {}
+impl<F: PrimeField64> TranscriptField for F {
+    ghost use Rattle.p3_fs_core.specs.BigEndian.{bytes_for};
+    ghost use Rattle.p3_fs_core.specs.ScalarLaws.{order-fits, length-wire, wire-one_way, read-wire, read-only};
+
+    ghost fixed_width = { length-wire F.residues F.are_residues (bytes_for F.bit_length) (order-fits F.bit_length F.residues.order F.bits_below) };
+
+    ghost reads_one_way = { wire-one_way F.residues F.are_residues (bytes_for F.bit_length) (order-fits F.bit_length F.residues.order F.bits_below) };
+
+    ghost reads_back = { read-wire F.residues F.are_residues (bytes_for F.bit_length) (order-fits F.bit_length F.residues.order F.bits_below) };
+
+    ghost only_reads = { read-only F.residues F.are_residues (bytes_for F.bit_length) (order-fits F.bit_length F.residues.order F.bits_below) };
+}

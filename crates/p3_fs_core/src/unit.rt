@@ -1,4 +1,4 @@
-ghost use Rattle.std.specs.Prelude.{◌≡◌, ℕ, ◌<◌, ◌≤◌, List, ◌++◌, length, flat_map, OnOk, IfErr};
+ghost use Rattle.std.specs.Prelude.{◌≡◌, ℕ, ◌<◌, ◌≤◌, List, [], ◌∷◌, ◌++◌, length, flat_map, OnOk, IfErr};
 ghost use Rattle.p3_challenger_core.specs.Sponge.{observed_all, LeavesInCalls, RefusesObserve};
 ghost use Rattle.p3_fs_core.specs.Reading.{AreBytes, IsByte, OneBegins, ReadsOneWayOn};
 ghost use Rattle.p3_fs_core.specs.Packing.{packed, chunk_bytes, IsPackable};
@@ -10,6 +10,9 @@ use p3_field::PrimeField64;
 use std::marker::PhantomData;
 
 /// An alphabet of a sponge: how a byte string becomes its symbols.
+///
+/// It owes that byte strings which begin one list of items begin one another: so those of one length, and
+/// those of which none begins another, are told apart.
 pub trait Unit {
     /// What the sponge observes.
     type Item;
@@ -25,10 +28,11 @@ pub trait Unit {
     // What is an item: a number is a byte only where it is below 256.
     ghost is_item: { Self.Item → Type 0 };
 
-    /// Observes a byte string.
+    /// Observes a byte string. [`FieldUnit`] asks for a field of more than 256 elements.
     ///
     /// The errors are [`ChallengerError::TooLong`], with nothing absorbed, and
-    /// [`ChallengerError::OutOfMemory`].
+    /// [`ChallengerError::OutOfMemory`], which leaves what the refused observe of the challenger leaves, and
+    /// the items before it observed.
     fn observe_bytes<C: CanObserve<Self::Item>>(
         challenger: &mut C,
         bytes: &[u8],
@@ -83,8 +87,9 @@ impl Unit for u8 {
 
 /// The alphabet of a sponge of field elements, of a field of more than 256 elements.
 ///
-/// A byte string is its length, and then its bytes in chunks, each of as many bytes as are surely below
-/// the order: their number, the lowest byte first. The last chunk may be shorter.
+/// A byte string is its length, and then its bytes in chunks of `(bits - 1) / 8` bytes, `bits` being the bit
+/// length of the order: so many bytes are surely a number below it. A chunk is that number, the lowest byte
+/// first; the last one may be shorter.
 #[derive(Clone, Copy, Debug, Default, PartialEq, Eq, PartialOrd, Ord, Hash)]
 pub struct FieldUnit<F>(PhantomData<F>);
 
@@ -113,7 +118,8 @@ impl<F: PrimeField64> Unit for FieldUnit<F> {
             × (C.state challenger.new ≡ observed_all C.observed (C.state challenger.old)
             (packed F.residues (chunk_bytes F.bit_length) bytes.now))) }
         ensures err { IfErr result (λ e. RefusesBytes (F.residues.order ≤ length bytes.now)
-            (LeavesItems C.observed C.may_leave (C.state challenger.old) (packed F.residues (chunk_bytes F.bit_length) bytes.now))
+            (LeavesInCalls C.observed (λ s x t. C.may_leave s (x ∷ []) t) (C.state challenger.old)
+            (packed F.residues (chunk_bytes F.bit_length) bytes.now))
             (C.state challenger.old) e (C.state challenger.new)) }
         ensures fed { ReadsOneWayOn (λ _. Unit {0}) C.symbols → OnOk result (C.state challenger.new
             ≡ C.fed (C.state challenger.old) (flat_map C.symbols (packed F.residues (chunk_bytes F.bit_length) bytes.now))) }

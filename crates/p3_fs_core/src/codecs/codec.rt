@@ -10,9 +10,10 @@ use p3_challenger_core::{ChallengerError, Sponge};
 pub const MIN_CHALLENGE_SECURITY_BITS: u32 = 128;
 
 /// How the values of a type become symbols of a challenger, are drawn from it, and are spelled in the
-/// proof: a spelling is a fixed number of bytes, one for each value.
+/// proof: each value has one spelling, and all spellings have one width.
 pub trait Codec<C: Sponge, T> {
-    /// How near to uniform a draw is: its distance is at most 2 to the minus this.
+    /// How near to uniform a draw is, in bits: its distance is at most 2 to the minus this, beside the
+    /// challenger's own. It is the word of who writes the codec.
     const SECURITY_BITS: u32;
 
     ghost SECURITY_BITS: { ℕ };
@@ -52,7 +53,9 @@ pub trait Codec<C: Sponge, T> {
 
     /// Observes a value.
     ///
-    /// The one error is [`ChallengerError::OutOfMemory`].
+    /// The one error is [`ChallengerError::OutOfMemory`]. After it a beginning of the value may be observed:
+    /// of a scalar what one refused observe of the challenger leaves, and of an element of a vector space
+    /// the coefficients before the refused one.
     fn observe(challenger: &mut C, value: &T) -> Result<(), ChallengerError>
         ensures ok { OnOk result (C.state challenger.new ≡ observed (C.state challenger.old) value.now) }
         ensures err { IfErr result (λ e.
@@ -60,7 +63,8 @@ pub trait Codec<C: Sponge, T> {
 
     /// Draws a value. The codec has at least [`MIN_CHALLENGE_SECURITY_BITS`] of security.
     ///
-    /// The errors are [`ChallengerError::OutOfMemory`] and [`ChallengerError::DrawLimit`].
+    /// The errors are those of the challenger's draws: [`ChallengerError::DrawLimit`], after which the draws
+    /// are consumed, and [`ChallengerError::OutOfMemory`]. The draws before the refused one are done.
     fn sample(challenger: &mut C) -> Result<T, ChallengerError>
         requires { MIN_CHALLENGE_SECURITY_BITS ≤ SECURITY_BITS }
         ensures drawn { IfOk result (λ x. sampled (C.state challenger.old) ≡ Some x) }
@@ -79,7 +83,8 @@ pub trait Codec<C: Sponge, T> {
 
     /// The value whose spelling `bytes` begin with: their first [`wire_len`](Codec::wire_len) bytes.
     ///
-    /// The one error is [`TranscriptError::BadProofShape`], where they begin with no spelling.
+    /// The one error is [`TranscriptError::BadProofShape`], where they begin with no spelling; its reason is
+    /// the codec's own.
     fn decode(bytes: &[u8]) -> Result<T, TranscriptError>
         ensures exact { Decodes (read bytes.now) result }
         ensures found { IfOk result (λ x. bytes.now ≡ wire x ++ drop width bytes.now) }
@@ -106,7 +111,8 @@ pub trait Codec<C: Sponge, T> {
     ghost limit_gives_none: { (s : C.State) → meets_limit s → sampled s ≡ None };
 }
 
-/// A codec of the elements of a field: a spelling has at most 65535 bytes.
+/// A codec of the elements of a field: a spelling has at most 65535 bytes, so that an element of a vector
+/// space, of at most 65535 coefficients, has a width that is a `usize`.
 pub trait ScalarCodec<C: Sponge, F>: Codec<C, F> {
     ghost short: { Self.width ≤ 65535 };
 }

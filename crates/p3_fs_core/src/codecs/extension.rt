@@ -10,7 +10,9 @@ use std::marker::PhantomData;
 
 /// An element of a vector space through the codec of its coefficients, in the order of the basis.
 ///
-/// Its spelling is that of the coefficients one behind another. A draw draws coefficient 0 first.
+/// Its spelling is that of the coefficients one behind another. A draw draws coefficient 0 first. `decode`
+/// answers `not enough bytes for an extension-field encoding` where there are not enough for all of them,
+/// before any is read, and else the base codec's reason for the first coefficient that is none.
 pub struct ExtensionFieldCodec<F, EF, BaseCodec>(PhantomData<(F, EF, BaseCodec)>);
 
 impl<C: Sponge, F: Field, EF: BasedVectorSpace<F>, BaseCodec: ScalarCodec<C, F>> Codec<C, EF>
