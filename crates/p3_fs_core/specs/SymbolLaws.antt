@@ -42,6 +42,12 @@ module _ {S Symbol : Type 0} (symbols : ℕ → List Symbol) (one_way : ReadsOne
   pub byte-fed : (s : S) (byte : ℕ) → IsByte byte → observed s byte ≡ fed s (symbols byte)
   byte-fed s byte is = feeds s byte (one_way-non_empty IsByte symbols one_way byte 0 1 is (lit< tt) (lit< tt) (λ e. cc))
 
+-- values that are symbols read one way
+pub one_symbol_each : {T : Type 0} → ReadsOneWay {T = T} (λ x. x ∷ [])
+one_symbol_each {T} x y a b e =
+    let same : ◌≡◌ {A = T × List T} (x, a) (y, b) = cc in
+    (ap (λ p. p.0) same, ap (λ p. p.1) same)
+
 -- ---- values in a row
 
 module _ {S T Symbol : Type 0} (observed : S → T → S) (fed : S → List Symbol → S) (symbols : T → List Symbol) (fed_nothing : (s : S) → fed s [] ≡ s) (fed_more : (s : S) (a b : List Symbol) → fed (fed s a) b ≡ fed s (a ++ b)) where

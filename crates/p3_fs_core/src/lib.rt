@@ -11,7 +11,7 @@ mod unit;
 pub use codecs::{
     BytesToFieldCodec, Codec, EXTRA_BYTES, ExtensionFieldCodec, FieldToFieldCodec,
     MIN_CHALLENGE_SECURITY_BITS, ScalarCodec, bound_byte_width, counts_read_one_way, decode_len_be,
-    encode_len_be,
+    duplex_elements_read_one_way, encode_len_be, hash_values_read_one_way,
 };
 pub use error::TranscriptError;
 pub use pattern::{Hierarchy, Interaction, Kind, Label, Length, TypeTag};
