@@ -4,5 +4,5 @@ pub use p3_fs_core::{
     BytesToFieldCodec, Codec, EXTRA_BYTES, ExtensionFieldCodec, FieldToFieldCodec, FieldUnit,
     Hierarchy, Interaction, Kind, Label, Length, MIN_CHALLENGE_SECURITY_BITS, ScalarCodec,
     TranscriptError, TranscriptField, TypeTag, Unit, bound_byte_width, counts_read_one_way,
-    decode_len_be, encode_len_be, hash_values_read_one_way,
+    decode_len_be, duplex_elements_read_one_way, encode_len_be, hash_values_read_one_way,
 };
