@@ -6,3 +6,4 @@ pub mod Coefficients
 pub mod Packed
 pub mod HexDigits
 pub mod WorkedRows
+pub mod Recorded

@@ -5,6 +5,8 @@ mod codecs;
 mod error;
 mod packing;
 mod pattern;
+#[cfg(test)]
+mod tests;
 mod transcript_field;
 mod unit;
 
