@@ -1,7 +1,6 @@
 -- What a decoder answers, from what reading gives.
 use Rattle.std.proofs.Common.{◌≡◌, ℕ, List, ◌++◌, drop, Result, Ok, Err, refl, sym, ap, ◌∙◌, subst}
 use Rattle.std.specs.Result.{IfOk}
-use Rattle.p3_fs_core.specs.Reading.{AreBytes}
 use Rattle.p3_fs_core.specs.TranscriptError.{Decodes, IsBadShape}
 use Rattle.p3_fs_core.specs.declared.error.TranscriptError.{TranscriptError}
 

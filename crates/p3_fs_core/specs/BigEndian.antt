@@ -1,5 +1,5 @@
 -- Numbers as bytes, the highest first.
-use Rattle.std.specs.Prelude.{◌≡◌, ℕ, ◌+◌, ◌*◌, ◌/◌, List, [], ◌∷◌}
+use Rattle.std.specs.Prelude.{ℕ, ◌+◌, ◌*◌, ◌/◌, List, [], ◌∷◌}
 use Rattle.std.specs.Int.{bytes_high_first}
 
 -- the number that bytes are behind a number

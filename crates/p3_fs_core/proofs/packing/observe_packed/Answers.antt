@@ -1,5 +1,5 @@
-use Rattle.std.proofs.Common.{◌≡◌, ℕ, ◌<◌, List, [], ◌∷◌, length, map, min, sym, ap, ◌∙◌, subst, arith}
-use Rattle.std.specs.Slice.Iter.{chunks_rest, chunks_size}
+use Rattle.std.proofs.Common.{ℕ, ◌<◌, List, [], ◌∷◌, length, map, min, sym, ap, ◌∙◌, subst}
+use Rattle.std.specs.Slice.Iter.{chunks_rest}
 use Rattle.std.proofs.lemmas.Result.{err_from_is_err_and}
 use Rattle.p3_challenger_core.specs.Sponge.{RefusesObserve}
 use Rattle.p3_challenger_core.specs.CallLaws.{GoesOn}

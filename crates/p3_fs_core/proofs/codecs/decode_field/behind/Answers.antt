@@ -1,4 +1,3 @@
-use Rattle.std.proofs.Common.{◌≡◌}
 use Rattle.p3_fs_core.proofs.Behind.{behind-is}
 use Rattle.p3_fs_core.proofs.codecs.decode_field.behind.Goals as goal
 

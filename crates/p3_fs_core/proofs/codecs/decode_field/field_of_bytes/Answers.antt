@@ -1,4 +1,4 @@
-use Rattle.std.proofs.Common.{◌≡◌, get_or}
+use Rattle.std.proofs.Common.{get_or}
 use Rattle.p3_fs_core.specs.BytesToField.{challenge_of}
 use Rattle.p3_fs_core.proofs.Behind.{behind-step}
 use Rattle.p3_fs_core.proofs.codecs.decode_field.field_of_bytes.Goals as goal

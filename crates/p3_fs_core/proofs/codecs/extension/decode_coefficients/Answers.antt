@@ -1,8 +1,6 @@
-use Rattle.std.proofs.Common.{◌≡◌, ℕ, ◌+◌, ◌*◌, ◌<◌, ◌≤◌, List, [], ◌∷◌, ◌++◌, length, take, drop, Ok, Err, sym, ap, ◌∙◌, subst, arith}
+use Rattle.std.proofs.Common.{◌+◌, ◌*◌, ◌<◌, ◌≤◌, length, take, drop, Ok, Err, sym, ap, ◌∙◌, subst, arith}
 use Rattle.std.proofs.lemmas.List.{take_more_set}
 use Rattle.std.proofs.lemmas.Result.{err_from_is_err_and}
-use Rattle.p3_fs_core.specs.TranscriptError.{Decodes}
-use Rattle.p3_fs_core.specs.Extension.{read_coefficients}
 use Rattle.p3_fs_core.specs.ExtensionLaws.{behind_coefficient}
 use Rattle.p3_fs_core.specs.BigEndianLaws.{AreBytes-drop}
 use Rattle.p3_fs_core.proofs.Coefficients.{HasRead, has_read-next, has_read-stops, has_read-all, whole-element, decoded-here}

@@ -1,4 +1,3 @@
-use Rattle.std.proofs.Common.{rules}
 use Rattle.p3_fs_core.proofs.Counting.{width-enough, width-least}
 use Rattle.p3_fs_core.proofs.codecs.length_prefix.bound_byte_width.Goals as goal
 

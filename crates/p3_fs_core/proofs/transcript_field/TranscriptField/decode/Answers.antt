@@ -1,4 +1,4 @@
-use Rattle.std.proofs.Common.{◌≡◌, ◌++◌, arith}
+use Rattle.std.proofs.Common.{arith}
 use Rattle.p3_fs_core.specs.BigEndian.{bytes_for}
 use Rattle.p3_fs_core.specs.Scalar.{wire, read}
 use Rattle.p3_fs_core.specs.ScalarLaws.{read-wire, read-only, length-wire, order-fits}

@@ -1,4 +1,4 @@
-use Rattle.std.proofs.Common.{◌≡◌, ℕ, List, ◌∙◌, ap, subst}
+use Rattle.std.proofs.Common.{◌≡◌, ℕ, List, subst}
 use Rattle.std.specs.Result.{OnOk, IfErr}
 use Rattle.p3_challenger_core.specs.Sponge.{observed_all, RefusesObserve}
 use Rattle.p3_fs_core.specs.BigEndian.{bytes_for}

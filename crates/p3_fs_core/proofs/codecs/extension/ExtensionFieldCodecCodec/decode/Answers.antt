@@ -1,4 +1,4 @@
-use Rattle.std.proofs.Common.{◌≡◌, ℕ, ◌++◌, ◌*◌, flat_map, arith}
+use Rattle.std.proofs.Common.{◌*◌, flat_map, arith}
 use Rattle.p3_fs_core.specs.Extension as extension
 use Rattle.p3_fs_core.specs.ExtensionLaws.{length-wire, read-wire, read-only}
 use Rattle.p3_fs_core.specs.BigEndianLaws.{drop-front}

@@ -1,4 +1,4 @@
-use Rattle.std.proofs.Common.{◌≡◌, ◌-◌, take, length}
+use Rattle.std.proofs.Common.{◌-◌, take}
 use Rattle.p3_challenger_core.specs.DrawLaws.{Drew}
 use Rattle.p3_fs_core.proofs.codecs.extension.ExtensionFieldCodecCodec.sample.Given as goal
 
