@@ -9,6 +9,9 @@ use p3_challenger_core::{ChallengerError, Sponge};
 /// How many bits of security a codec must have before a challenge is drawn through it.
 pub const MIN_CHALLENGE_SECURITY_BITS: u32 = 128;
 
+// The condition of a draw names this number, so that it is the same whatever the constant says.
+const _: () = prove!(MIN_CHALLENGE_SECURITY_BITS == 128);
+
 /// How the values of a type become symbols of a challenger, are drawn from it, and are spelled in the
 /// proof: each value has one spelling, and all spellings have one width.
 pub trait Codec<C: Sponge, T> {
@@ -66,7 +69,7 @@ pub trait Codec<C: Sponge, T> {
     /// The errors are those of the challenger's draws: [`ChallengerError::DrawLimit`], after which the draws
     /// are consumed, and [`ChallengerError::OutOfMemory`]. The draws before the refused one are done.
     fn sample(challenger: &mut C) -> Result<T, ChallengerError>
-        requires { MIN_CHALLENGE_SECURITY_BITS ≤ SECURITY_BITS }
+        requires { 128 ≤ SECURITY_BITS }
         ensures drawn { IfOk result (λ x. sampled (C.state challenger.old) ≡ Some x) }
         ensures after { OnOk result (C.state challenger.new ≡ after_sampled (C.state challenger.old)) }
         ensures err { IfErr result (λ e.
