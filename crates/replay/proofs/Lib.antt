@@ -1,2 +1,3 @@
 mod Digests
 mod Layouts
+pub mod Observed

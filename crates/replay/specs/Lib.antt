@@ -1,1 +1,2 @@
 pub mod TestHashers
+pub mod Supply

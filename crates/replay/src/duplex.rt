@@ -101,9 +101,10 @@ impl<F: Extended, P: CryptographicPermutation<[F; W]>, const W: usize, const R: 
             Call::Draw(draw) => answer::numbers(alloc, drawn(alloc, self, draw)?.as_slice()),
             Call::Finalize => {
                 let digest = self.clone().finalize();
-                written(alloc, &digest[..])
+                answer::elements(alloc, &digest[..])
             }
             Call::State => state(alloc, self),
+            Call::Codec(_) => bail!("a challenger is no codec"),
         }
     }
 }
@@ -211,7 +212,7 @@ fn drawn<F: Extended, P: CryptographicPermutation<[F; W]>, const W: usize, const
         }
         Draw::AlgebraElement => {
             let element: F::Extension = challenger.sample_algebra_element()?;
-            numbers(alloc, element.as_basis_coefficients_slice())
+            answer::canonical_numbers(alloc, element.as_basis_coefficients_slice())
         }
         Draw::Bits(bits) => {
             let value = drawn_bits(challenger, *bits)?;
@@ -219,7 +220,7 @@ fn drawn<F: Extended, P: CryptographicPermutation<[F; W]>, const W: usize, const
         }
         Draw::Values(kind, n) => {
             let elements = arrays::draw_values(alloc, challenger, *kind, *n, F::ZERO)?;
-            numbers(alloc, elements.as_slice())
+            answer::canonical_numbers(alloc, elements.as_slice())
         }
     }
 }
@@ -239,9 +240,9 @@ fn state<F: Extended, P: CryptographicPermutation<[F; W]>, const W: usize, const
     alloc: Global,
     challenger: &DuplexChallenger<F, P, W, R>,
 ) -> Result<String> {
-    let cells = written(alloc, &challenger.sponge_state()[..])?;
-    let pending = written(alloc, challenger.input())?;
-    let outputs = written(alloc, challenger.output())?;
+    let cells = answer::elements(alloc, &challenger.sponge_state()[..])?;
+    let pending = answer::elements(alloc, challenger.input())?;
+    let outputs = answer::elements(alloc, challenger.output())?;
     Ok(format!(in alloc; "{cells} | {pending} | {outputs}")?)
 }
 
@@ -256,19 +257,6 @@ fn elements<F: PrimeField64>(alloc: Global, numbers: &[u64]) -> Result<Vec<F>> {
         found.push(element::<F>(*number)?)?;
     }
     Ok(found)
-}
-
-fn numbers<F: PrimeField64>(alloc: Global, elements: &[F]) -> Result<Vec<u64>> {
-    let mut found = Vec::new(alloc);
-    for element in elements {
-        found.push(element.as_canonical_u64())?;
-    }
-    Ok(found)
-}
-
-// The answer that these elements are.
-fn written<F: PrimeField64>(alloc: Global, elements: &[F]) -> Result<String> {
-    answer::numbers(alloc, numbers(alloc, elements)?.as_slice())
 }
 
 fn rows_of_elements<F: PrimeField64>(alloc: Global, rows: &[Vec<u64>]) -> Result<Vec<Vec<F>>> {

@@ -26,6 +26,8 @@ pub enum Call {
     Finalize,
     /// `st`: what the challenger has.
     State,
+    /// A call on no challenger.
+    Codec(CodecCall),
 }
 
 /// What is observed, as canonical numbers or bytes.
@@ -93,6 +95,38 @@ pub enum ValuesKind {
     Array,
 }
 
+/// A call on the codecs or the alphabet of a field.
+#[derive(Debug, Drop)]
+pub struct CodecCall {
+    pub kind: CodecCallKind,
+    pub field: FieldName,
+    pub bytes: Vec<u8>,
+}
+
+/// What is asked of a field.
+#[derive(Clone, Copy, Debug)]
+pub enum CodecCallKind {
+    /// `enc F HEX`: how the element of a number of 8 bytes is spelled.
+    Encode,
+    /// `dec F HEX`: the element that bytes begin with.
+    Decode,
+    /// `draw F HEX`: the element drawn from bytes, and how many of them are left.
+    Draw,
+    /// `unit F HEX`: the elements that a byte string is.
+    Observe,
+}
+
+/// A field.
+#[derive(Clone, Copy, Debug)]
+pub enum FieldName {
+    /// `bb`
+    BabyBear,
+    /// `gl`
+    Goldilocks,
+    /// `f257`
+    F257,
+}
+
 impl<'a> Line<'a> {
     /// Reads a line `SPEC | CALLS | ANSWERS`. The error says what is no such line, or that memory ran out.
     pub fn parse(alloc: Global, text: &'a str) -> Result<Line<'a>> {
@@ -118,6 +152,9 @@ impl Call {
         match name {
             "f" => Ok(Call::Finalize),
             "st" => Ok(Call::State),
+            "enc" | "dec" | "draw" | "unit" => {
+                Ok(Call::Codec(CodecCall::parse(alloc, name, words)?))
+            }
             _ if name.starts_with('o') => {
                 Ok(Call::Observe(Observation::parse(alloc, name, words)?))
             }
@@ -178,6 +215,40 @@ impl Draw {
             "sa" => Ok(Draw::Values(ValuesKind::Array, words.parse()?)),
             "b" => Ok(Draw::Bits(words.parse()?)),
             _ => bail!("an unknown call"),
+        }
+    }
+}
+
+impl CodecCall {
+    fn parse(alloc: Global, name: &str, words: &str) -> Result<CodecCall> {
+        let (field, bytes) = words.split_once(' ').unwrap_or((words, ""));
+        Ok(CodecCall {
+            kind: CodecCallKind::parse(name)?,
+            field: FieldName::parse(field)?,
+            bytes: hex::decode(alloc, bytes)?,
+        })
+    }
+}
+
+impl CodecCallKind {
+    fn parse(name: &str) -> Result<CodecCallKind> {
+        match name {
+            "enc" => Ok(CodecCallKind::Encode),
+            "dec" => Ok(CodecCallKind::Decode),
+            "draw" => Ok(CodecCallKind::Draw),
+            "unit" => Ok(CodecCallKind::Observe),
+            _ => bail!("an unknown call"),
+        }
+    }
+}
+
+impl FieldName {
+    fn parse(name: &str) -> Result<FieldName> {
+        match name {
+            "bb" => Ok(FieldName::BabyBear),
+            "gl" => Ok(FieldName::Goldilocks),
+            "f257" => Ok(FieldName::F257),
+            _ => bail!("an unknown field"),
         }
     }
 }

@@ -1,4 +1,5 @@
-//! The program `replay`: asks the challengers what the Rust crate was asked, and compares the answers.
+//! The program `replay`: asks the challengers and the codecs what the Rust crate was asked, and compares
+//! the answers.
 //! Its files lie in the folder that it runs in, or in the one that its argument names.
 #![tactic(auto)]
 
@@ -33,14 +34,19 @@ macro_rules! with_array {
 
 mod answer;
 mod arrays;
+mod codecs;
 mod duplex;
 mod hash;
 mod line;
+mod recorder;
 mod replay;
+mod supply;
 mod test_hashers;
 
 use anyhow::{Context, Result, bail};
+use codecs::Codecs;
 use line::Line;
+use replay::first_difference;
 use std::alloc::Global;
 use std::process::ExitCode;
 use std::{env, fs};
@@ -51,7 +57,7 @@ fn main(rt: HostRuntime) -> Result<ExitCode> {
         Some(word) => word.as_str(),
         None => ".",
     };
-    for name in ["duplex", "hash"] {
+    for name in ["duplex", "hash", "codecs"] {
         let path = format!(in rt.alloc(); "{folder}/{name}.txt")?;
         let text = fs::read_to_string(&rt, path.as_str()).context(path.as_str())?;
         match compare(rt.alloc(), text.as_str()).context(path.as_str())? {
@@ -107,9 +113,11 @@ fn compare(alloc: Global, text: &str) -> Result<Outcome> {
 
 // The first call of a line with another answer, and its answer.
 fn difference(alloc: Global, line: &Line<'_>) -> Result<Option<(usize, String)>> {
-    match line.spec.split_once(' ') {
-        Some(("duplex", spec)) => duplex::difference(alloc, spec, line.steps.as_slice()),
-        Some(("hash", spec)) => hash::difference(alloc, spec, line.steps.as_slice()),
+    let (kind, spec) = line.spec.split_once(' ').unwrap_or((line.spec, ""));
+    match kind {
+        "duplex" => duplex::difference(alloc, spec, line.steps.as_slice()),
+        "hash" => hash::difference(alloc, spec, line.steps.as_slice()),
+        "codec" => first_difference(alloc, Codecs, line.steps.as_slice()),
         _ => bail!("an unknown challenger"),
     }
 }

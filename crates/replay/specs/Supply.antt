@@ -1,0 +1,21 @@
+-- Draws from a list of what is still to be drawn.
+use Rattle.std.specs.Prelude.{◌≡◌, List, [], ◌∷◌, Option, Some, None, refl}
+
+-- the next draw, if one is left
+abbrev pub first_of : {T : Type 0} → List T → Option T
+first_of [] = None
+first_of (x ∷ xs) = Some x
+
+-- what is left after it
+abbrev pub rest_of : {T : Type 0} → List T → List T
+rest_of [] = []
+rest_of (x ∷ xs) = xs
+
+-- no draw is left
+abbrev pub IsUsedUp : {T : Type 0} → List T → Type 0
+IsUsedUp [] = Unit {0}
+IsUsedUp (x ∷ xs) = ⊥
+
+pub used_up-none : {T : Type 0} (left : List T) → IsUsedUp left → first_of left ≡ None
+used_up-none [] h = refl
+used_up-none (x ∷ xs) h = absurd h
