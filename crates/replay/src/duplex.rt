@@ -208,7 +208,7 @@ fn drawn<F: Extended, P: CryptographicPermutation<[F; W]>, const W: usize, const
         }
         Draw::Extension => {
             let element: F::Extension = challenger.sample()?;
-            numbers(alloc, element.as_basis_coefficients_slice())
+            answer::canonical_numbers(alloc, element.as_basis_coefficients_slice())
         }
         Draw::AlgebraElement => {
             let element: F::Extension = challenger.sample_algebra_element()?;
