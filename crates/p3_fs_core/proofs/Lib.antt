@@ -7,3 +7,4 @@ pub mod Packed
 pub mod HexDigits
 pub mod WorkedRows
 pub mod Recorded
+pub mod PatternGrammarLaws

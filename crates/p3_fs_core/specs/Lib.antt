@@ -16,3 +16,4 @@ pub mod TranscriptError
 pub mod StepTexts
 pub mod StepTextLaws
 pub mod Steps
+pub mod PatternGrammar
