@@ -8,3 +8,5 @@ pub mod HexDigits
 pub mod WorkedRows
 pub mod Recorded
 pub mod PatternGrammarLaws
+pub mod Seeking
+pub mod FirstFaults

@@ -196,7 +196,7 @@ seek-pattern _ _ (container kind opener closer inside rest allowed inner closes 
     ∙ seek-pattern opener.kind inside inner (suc n) (opener ∷ before)
     ∙ seek-begin n opener before closes.begins
 
-length-before : (before : List Step) → length (reversed_onto before []) ≡ length before
+pub length-before : (before : List Step) → length (reversed_onto before []) ≡ length before
 length-before before = let h = length-reversed before [] in omega arith
 
 -- the innermost opener is found, so it is the only one

@@ -17,3 +17,4 @@ pub mod StepTexts
 pub mod StepTextLaws
 pub mod Steps
 pub mod PatternGrammar
+pub mod PatternFaults

@@ -1,24 +1,127 @@
 ghost use Rattle.std.specs.Prelude.{◌≡◌};
 
+use crate::Interaction;
 use p3_challenger_core::ChallengerError;
 use std::alloc::{AllocError, AllocFailed};
 use thiserror::Error;
 
-/// Why a step of a transcript was refused.
+/// Why a step of a transcript was refused, or why steps are no pattern.
 #[derive(Clone, Debug, PartialEq, Eq, Drop, Error)]
 pub enum TranscriptError {
+    /// A closer stands where nothing is open.
+    #[error(transparent)]
+    MissingBegin(MissingBeginInfo),
+    /// A step is of a kind that the container around it does not allow.
+    #[error(transparent)]
+    InvalidKind(InvalidKindInfo),
+    /// A closer does not match the innermost opener that is still open.
+    #[error(transparent)]
+    MismatchedBeginEnd(MismatchedBeginEndInfo),
+    /// A container is still open at the end.
+    #[error(transparent)]
+    MissingEnd(MissingEndInfo),
     /// The proof is no spelling of what the step reads.
     #[error("bad proof shape: {reason}")]
     BadProofShape {
         /// What is wrong with it.
         reason: &'static str,
     },
+    /// The step is not the one that the pattern has next.
+    #[error(transparent)]
+    Pattern(PatternError),
     /// The challenger refused a call, for another reason than memory.
     #[error(transparent)]
     Challenger(ChallengerError),
+    /// The label of an instance would be too long for its length to be written.
+    #[error("label too long")]
+    LabelTooLong,
     /// An allocation was refused.
     #[error("out of memory")]
     OutOfMemory,
+}
+
+/// A closer where nothing is open.
+#[derive(Clone, Copy, Debug, PartialEq, Eq, Error)]
+#[error("missing begin for {end} at position {position}")]
+pub struct MissingBeginInfo {
+    /// Where the closer stands among the steps.
+    pub position: usize,
+    /// The closer.
+    pub end: Interaction,
+}
+
+/// A step, leaf or opener, of a kind that the container around it does not allow.
+#[derive(Clone, Copy, Debug, PartialEq, Eq, Error)]
+#[error("invalid kind {interaction} at {interaction_position} for sub-protocol {begin} opened at {begin_position}")]
+pub struct InvalidKindInfo {
+    /// Where the opener of the container stands among the steps.
+    pub begin_position: usize,
+    /// The opener of the container.
+    pub begin: Interaction,
+    /// Where the step stands among the steps.
+    pub interaction_position: usize,
+    /// The step.
+    pub interaction: Interaction,
+}
+
+/// A closer that does not match the innermost opener that is still open.
+#[derive(Clone, Copy, Debug, PartialEq, Eq, Error)]
+#[error("mismatched begin {begin} at {begin_position} versus end {end} at {end_position}")]
+pub struct MismatchedBeginEndInfo {
+    /// Where the opener stands among the steps.
+    pub begin_position: usize,
+    /// The opener.
+    pub begin: Interaction,
+    /// Where the closer stands among the steps.
+    pub end_position: usize,
+    /// The closer.
+    pub end: Interaction,
+}
+
+/// An opener that is still open at the end, the innermost one.
+#[derive(Clone, Copy, Debug, PartialEq, Eq, Error)]
+#[error("missing end for {begin} opened at position {position}")]
+pub struct MissingEndInfo {
+    /// Where the opener stands among the steps.
+    pub position: usize,
+    /// The opener.
+    pub begin: Interaction,
+}
+
+/// Why a step does not fit a pattern that is recorded or played.
+#[derive(Clone, Copy, Debug, PartialEq, Eq, Error)]
+pub enum PatternError {
+    /// A step was refused before, so nothing may follow.
+    #[error("already finished")]
+    Finished,
+    /// The pattern has no step left.
+    #[error("no more steps, received {received}")]
+    NoMoreSteps {
+        /// The step that came.
+        received: Interaction,
+    },
+    /// The pattern has another step next.
+    #[error("received {received}, expected {expected}")]
+    WrongStep {
+        /// The step that came.
+        received: Interaction,
+        /// The step that the pattern has next.
+        expected: Interaction,
+    },
+    /// The pattern has steps left at the end.
+    #[error("unplayed {expected}")]
+    Unplayed {
+        /// The first of them.
+        expected: Interaction,
+    },
+    /// A list is longer than the step lets it be.
+    #[error("length {len} exceeds {max}")]
+    OverCap {
+        /// How long the list is.
+        len: usize,
+        /// How long it may be.
+        max: usize,
+    },
 }
 
 impl From<ChallengerError> for TranscriptError {

@@ -15,7 +15,10 @@ pub use codecs::{
     MIN_CHALLENGE_SECURITY_BITS, ScalarCodec, bound_byte_width, counts_read_one_way, decode_len_be,
     duplex_elements_read_one_way, encode_len_be, hash_values_read_one_way,
 };
-pub use error::TranscriptError;
-pub use pattern::{Hierarchy, Interaction, Kind, Label, Length, TypeTag};
+pub use error::{
+    InvalidKindInfo, MismatchedBeginEndInfo, MissingBeginInfo, MissingEndInfo, PatternError,
+    TranscriptError,
+};
+pub use pattern::{Hierarchy, Interaction, InteractionPattern, Kind, Label, Length, TypeTag};
 pub use transcript_field::TranscriptField;
 pub use unit::{FieldUnit, Unit};

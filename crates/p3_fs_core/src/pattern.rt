@@ -3,9 +3,11 @@
 mod interaction;
 #[cfg(test)]
 mod interaction_tests;
+mod sequence;
 mod step;
 #[cfg(test)]
 mod tests;
 
 pub use interaction::{Interaction, Label};
+pub use sequence::InteractionPattern;
 pub use step::{Hierarchy, Kind, Length, TypeTag};

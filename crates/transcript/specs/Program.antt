@@ -12,7 +12,7 @@ use Rattle.p3_field.specs.declared.baby_bear.BabyBear.{BabyBear}
 use Rattle.p3_symmetric.specs.declared.sha256.Sha256Hasher.{Sha256Hasher}
 use Rattle.p3_challenger_core.specs.declared.error.ChallengerError.TheVariants as challenger
 use Rattle.p3_fs_core.specs.declared.error.TranscriptError.{TranscriptError}
-use Rattle.p3_fs_core.specs.declared.error.TranscriptError.TheVariants.{BadProofShape, Challenger, OutOfMemory}
+use Rattle.p3_fs_core.specs.declared.error.TranscriptError.TheVariants.{MissingBegin, InvalidKind, MismatchedBeginEnd, MissingEnd, BadProofShape, Pattern, Challenger, LabelTooLong, OutOfMemory}
 use Rattle.transcript.specs.First.{IsRun}
 
 -- a text writes a scalar: decimal digits, with any number of zeros in front
@@ -53,6 +53,12 @@ pub record WritesFirst (x : BabyBear) (old new : Option (List ℕ)) : Type 0 whe
 -- why an error refused a run, as the program says it
 abbrev pub reason_of : TranscriptError → List ℕ
 reason_of (BadProofShape reason) = reason.now
+reason_of (MissingBegin info) = codes "pattern"
+reason_of (InvalidKind info) = codes "pattern"
+reason_of (MismatchedBeginEnd info) = codes "pattern"
+reason_of (MissingEnd info) = codes "pattern"
+reason_of (Pattern e) = codes "pattern"
+reason_of LabelTooLong = codes "pattern"
 reason_of (Challenger challenger.DrawLimit) = codes "draw limit"
 reason_of (Challenger challenger.NoWitness) = codes "no witness"
 reason_of (Challenger challenger.TooLong) = codes "too long"

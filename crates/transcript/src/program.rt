@@ -44,6 +44,12 @@ pub fn reason(error: &TranscriptError) -> &'static str
 {
     match error {
         TranscriptError::BadProofShape { reason } => reason,
+        TranscriptError::MissingBegin(_)
+        | TranscriptError::InvalidKind(_)
+        | TranscriptError::MismatchedBeginEnd(_)
+        | TranscriptError::MissingEnd(_)
+        | TranscriptError::Pattern(_)
+        | TranscriptError::LabelTooLong => "pattern",
         TranscriptError::Challenger(ChallengerError::DrawLimit) => "draw limit",
         TranscriptError::Challenger(ChallengerError::NoWitness) => "no witness",
         TranscriptError::Challenger(ChallengerError::TooLong) => "too long",
