@@ -4,6 +4,8 @@ mod interaction;
 #[cfg(test)]
 mod interaction_tests;
 mod sequence;
+#[cfg(test)]
+mod sequence_tests;
 mod step;
 #[cfg(test)]
 mod tests;
