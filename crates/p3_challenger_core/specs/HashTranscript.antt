@@ -1,5 +1,5 @@
 -- A hash challenger call by call.
-use Rattle.std.specs.Prelude.{ℕ, ◌==◌, ◌-◌, List, [], ◌∷◌, ◌++◌, Option, slice_get, if◌then◌else◌}
+use Rattle.std.specs.Prelude.{ℕ, ◌==◌, ◌-◌, List, [], ◌∷◌, ◌++◌, Option, take, slice_get, if◌then◌else◌}
 
 -- what a hash challenger has: what the next flush hashes, and how many outputs of the last flush are
 -- left, which are the first places of its digest
@@ -33,6 +33,10 @@ flushed hash out_len s = record { pending = hash s.pending; outputs_left = out_l
 -- where a draw takes its output from: with none left it flushes first
 abbrev pub ready : {T : Type 0} → (List T → List T) → ℕ → HashTranscript T → HashTranscript T
 ready hash out_len s = if s.outputs_left == 0 then flushed hash out_len s else s
+
+-- the outputs left, the last of which is drawn next
+abbrev pub outputs : {T : Type 0} → HashTranscript T → List T
+outputs s = take s.outputs_left s.pending
 
 -- what a draw gives: the last output left
 abbrev pub last_output : {T : Type 0} → HashTranscript T → Option T

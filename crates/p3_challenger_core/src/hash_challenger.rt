@@ -1,7 +1,7 @@
 ghost use Rattle.std.specs.Prelude.{◌≡◌, ◌<◌, ℕ, List, OnOk, OnErr, IfOk, IfErr};
 ghost use Rattle.p3_challenger_core.specs.HashChain.{Call, run_calls, run_segments, segments};
 ghost use Rattle.p3_challenger_core.specs.HashState.{pending_of};
-ghost use Rattle.p3_challenger_core.specs.HashTranscript.{absorbing};
+ghost use Rattle.p3_challenger_core.specs.HashTranscript.{absorbing, outputs};
 ghost use Rattle.p3_challenger_core.specs.Sponge.{RefusesObserve, RefusesDraws};
 ghost use Rattle.p3_challenger_core.specs.declared.error.ChallengerError.{ChallengerError};
 
@@ -107,14 +107,31 @@ impl<T: Copy, H: CryptographicHasher<T, [T; OUT_LEN]>, const OUT_LEN: usize> Has
         let _ = &self.outputs_left;
     }
 
-    // What the next flush hashes.
-    fn pending(&self) -> &[T]
+    /// What the next hash takes: the digest of the last one, and what was observed since.
+    pub fn input(&self) -> &[T]
         ensures { result.now ≡ self.now.transcript.pending }
     {
         match &self.digest {
             Some(digest) => &digest[..],
             None => self.input_buffer.as_slice(),
         }
+    }
+
+    /// The outputs that are left. The last one is drawn next.
+    pub fn output(&self) -> &[T]
+        ensures { result.now ≡ outputs self.now.transcript }
+    {
+        match &self.digest {
+            Some(digest) => &digest[..self.outputs_left],
+            None => &[],
+        }
+    }
+
+    /// The hasher.
+    pub fn hasher(&self) -> &H
+        ensures { result.now ≡ self.now.hasher }
+    {
+        &self.hasher
     }
 
     // Adds the values to what is pending, and drops the outputs. A refused call changes nothing.
@@ -144,7 +161,7 @@ impl<T: Copy, H: CryptographicHasher<T, [T; OUT_LEN]>, const OUT_LEN: usize> Has
     fn flush(&mut self)
         ensures { self.new ≡ hash_state.flushed H.hash OUT_LEN self.old }
     {
-        self.digest = Some(self.hasher.hash_slice(self.pending()));
+        self.digest = Some(self.hasher.hash_slice(self.input()));
         self.outputs_left = OUT_LEN;
     }
 }
@@ -245,7 +262,7 @@ impl<T: Copy, H: CryptographicHasher<T, [T; OUT_LEN]>, const OUT_LEN: usize> Can
     ghost digest_of = { λ s. H.hash s.hasher s.transcript.pending };
 
     fn finalize(self) -> [T; OUT_LEN] {
-        self.hasher.hash_slice(self.pending())
+        self.hasher.hash_slice(self.input())
     }
 }
 

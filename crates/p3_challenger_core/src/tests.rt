@@ -152,6 +152,24 @@ fn an_empty_array_drops_the_outputs(rt: HostRuntime) -> Result<(), Fail> {
 }
 
 #[test]
+fn a_hash_challenger_shows_what_it_keeps(rt: HostRuntime) -> Result<(), Fail> {
+    let fresh = length_challenger(rt.alloc())?;
+    assert_eq!(rt; fresh.input(), [0, 1, 2, 3].as_slice());
+    assert!(rt; fresh.output().is_empty());
+    let mut challenger = two_drawn(rt.alloc())?;
+    // The digest has the places 4 to 35, of which the last two were drawn.
+    assert_eq!(rt; challenger.input().len(), 32);
+    assert_eq!(rt; challenger.output().len(), 30);
+    assert_eq!(rt; challenger.output().last(), Some(&33));
+    challenger.observe(7)?;
+    assert_eq!(rt; challenger.input().len(), 33);
+    assert_eq!(rt; challenger.input().last(), Some(&7));
+    assert!(rt; challenger.output().is_empty());
+    assert_eq!(rt; challenger.hasher().hash_slice(b"abc")[0], 3);
+    Ok(())
+}
+
+#[test]
 fn a_clone_goes_on_alike(rt: HostRuntime) -> Result<(), Fail> {
     let mut first = two_drawn(rt.alloc())?;
     let mut second = first.clone()?;

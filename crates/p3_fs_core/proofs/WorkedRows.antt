@@ -1,10 +1,19 @@
 -- Worked rows, computed on the definitions.
-use Rattle.std.proofs.Common.{◌≡◌, ◌%◌, [], ◌∷◌, Ok, Err, refl}
+use Rattle.std.proofs.Common.{◌≡◌, ◌%◌, [], ◌∷◌, Ok, Err, codes, refl}
+use Rattle.std.specs.List.{flat_map}
+use Rattle.std.specs.Fmt.{digits}
 use Rattle.p3_field.specs.BabyBearResidues as baby_bear
 use Rattle.p3_field.specs.F257Residues as f257
 use Rattle.p3_fs_core.specs.BigEndian.{big_endian, in_bytes, bytes_for}
 use Rattle.p3_fs_core.specs.Scalar as scalar
+use Rattle.p3_fs_core.specs.Extension as extension
 use Rattle.p3_fs_core.specs.Packing.{packed, chunk_bytes, first_chunks}
+use Rattle.p3_fs_core.specs.Steps.{Step, plain_text, alternate_text}
+use Rattle.p3_fs_core.specs.declared.pattern.step.Hierarchy.{Hierarchy}
+use Rattle.p3_fs_core.specs.declared.pattern.step.Hierarchy.TheVariants.{Atomic, Begin, End}
+use Rattle.p3_fs_core.specs.declared.pattern.step.Kind.TheVariants.{Protocol, Message}
+use Rattle.p3_fs_core.specs.declared.pattern.step.Length.TheVariants.{None, Scalar}
+use Rattle.p3_fs_core.specs.declared.pattern.step.TypeTag.TheVariants.{Marker, Opaque}
 
 -- how many bytes an element takes, and how many a chunk has
 widths : (bytes_for 31 ≡ 4) × (bytes_for 64 ≡ 8) × (bytes_for 9 ≡ 2)
@@ -56,3 +65,34 @@ drawn_of_64_bits = refl
 -- a count of three bytes
 counted : in_bytes 3 0x010203 ≡ 1 ∷ 2 ∷ 3 ∷ []
 counted = refl
+
+-- ---- an element of four coefficients
+
+-- 11, 13, 17, 19 are spelled 0000000b 0000000d 00000011 00000013; a byte fewer is too short
+spelled_four : flat_map (scalar.wire baby_bear.residues 4) (baby_bear.residues.of 11 ∷ baby_bear.residues.of 13 ∷ baby_bear.residues.of 17 ∷ baby_bear.residues.of 19 ∷ []) ≡ 0 ∷ 0 ∷ 0 ∷ 11 ∷ 0 ∷ 0 ∷ 0 ∷ 13 ∷ 0 ∷ 0 ∷ 0 ∷ 17 ∷ 0 ∷ 0 ∷ 0 ∷ 19 ∷ []
+spelled_four = refl
+
+read_four : extension.read (scalar.read baby_bear.residues 4) 4 4 (λ xs. xs) (0 ∷ 0 ∷ 0 ∷ 11 ∷ 0 ∷ 0 ∷ 0 ∷ 13 ∷ 0 ∷ 0 ∷ 0 ∷ 17 ∷ 0 ∷ 0 ∷ 0 ∷ 19 ∷ []) ≡ Ok (baby_bear.residues.of 11 ∷ baby_bear.residues.of 13 ∷ baby_bear.residues.of 17 ∷ baby_bear.residues.of 19 ∷ [], [])
+unfolding extension.read_all
+read_four = refl
+
+short_four : extension.read (scalar.read baby_bear.residues 4) 4 4 (λ xs. xs) (0 ∷ 0 ∷ 0 ∷ 11 ∷ 0 ∷ 0 ∷ 0 ∷ 13 ∷ 0 ∷ 0 ∷ 0 ∷ 17 ∷ 0 ∷ 0 ∷ 0 ∷ []) ≡ Err extension.not_enough_bytes
+short_four = refl
+
+-- ---- the texts of steps
+
+-- a marker of the type (), and an opaque value
+abbrev outer : Hierarchy → Step
+outer hierarchy =
+    record { hierarchy = hierarchy; kind = Protocol; label = codes "outer"; type_tag = Marker; type_name = codes "()"; length = None }
+
+abbrev commit : Step
+commit =
+    record { hierarchy = Atomic; kind = Message; label = codes "commit"; type_tag = Opaque; type_name = codes "opaque"; length = Scalar }
+
+plain_texts : (plain_text (outer Begin) ≡ codes "Begin Protocol outer None ()") × (plain_text commit ≡ codes "Atomic Message commit Scalar opaque")
+plain_texts = (refl, refl)
+
+alternate_texts : (alternate_text (outer End) ≡ codes "End Protocol 5 outer None Marker") × (alternate_text commit ≡ codes "Atomic Message 6 commit Scalar Opaque")
+unfolding digits
+alternate_texts = (refl, refl)

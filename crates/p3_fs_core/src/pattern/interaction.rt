@@ -1,6 +1,6 @@
 // One step of an interactive protocol.
 ghost use Rattle.std.specs.Prelude.{◌≡◌, ◌↔◌, ℕ, Some, codes, IsTrue};
-ghost use Rattle.p3_fs_core.specs.Steps.{Step, step_of, Closes, plain_text};
+ghost use Rattle.p3_fs_core.specs.Steps.{Step, step_of, Closes, plain_text, alternate_text};
 
 use super::{Hierarchy, Kind, Length, TypeTag};
 use crate::TranscriptField;
@@ -230,13 +230,10 @@ impl Interaction {
 impl fmt::Display for Interaction {
     ghost output = { λ i. Some (plain_text (step_of i)) };
 
-    // The alternate form, `{:#}`, is the one that is hashed: it has the length of the label before the label,
-    // and the tag of the type in place of its name.
+    // The alternate form, `{:#}`, is the one that is hashed.
     fn fmt<W: fmt::Write>(&self, f: &mut fmt::Formatter<W>) -> fmt::Result {
         if f.alternate() {
-            write!(f, "{} {}", self.hierarchy, self.kind)?;
-            write!(f, " {} {}", self.label.len(), self.label)?;
-            write!(f, " {} {}", self.length, self.type_tag)
+            write!(f, "{}", Alternate(self))
         } else {
             write!(
                 f,
@@ -244,5 +241,27 @@ impl fmt::Display for Interaction {
                 self.hierarchy, self.kind, self.label, self.length, self.type_name
             )
         }
+    }
+}
+
+// A step that prints as it is hashed: with the length of its label before the label, and with the tag of its
+// type in place of the type's name.
+#[derive(Clone, Copy)]
+struct Alternate<'a>(&'a Interaction);
+
+impl fmt::Display for Alternate<'_> {
+    ghost output = { λ alternate. Some (alternate_text (step_of alternate.0.now)) };
+
+    fn fmt<W: fmt::Write>(&self, f: &mut fmt::Formatter<W>) -> fmt::Result {
+        write!(
+            f,
+            "{} {} {} {} {} {}",
+            self.0.hierarchy,
+            self.0.kind,
+            self.0.label.len(),
+            self.0.label,
+            self.0.length,
+            self.0.type_tag
+        )
     }
 }

@@ -20,11 +20,9 @@ pub struct InteractionPattern {
 impl InteractionPattern {
     /// The pattern of these steps.
     ///
-    /// # Errors
-    ///
     /// Steps that are no pattern are refused with their first fault: [`TranscriptError::MissingBegin`],
     /// [`TranscriptError::InvalidKind`], [`TranscriptError::MismatchedBeginEnd`] or
-    /// [`TranscriptError::MissingEnd`].
+    /// [`TranscriptError::MissingEnd`]. The steps are gone then. It takes no memory.
     pub fn new(interactions: Vec<Interaction>) -> Result<Self, TranscriptError>
         ensures ok { IfOk result (λ pattern. (pattern.interactions.items ≡ interactions.items) × IsPattern Kind.Protocol (steps_of pattern)) }
         ensures err { IfErr result (λ e. NamesFirstFault (map step_of interactions.items) e) }
@@ -64,11 +62,7 @@ impl InteractionPattern {
         self.interactions.is_empty()
     }
 
-    /// An equal pattern.
-    ///
-    /// # Errors
-    ///
-    /// Memory was refused.
+    /// An equal pattern. The one error is that memory was refused.
     pub fn clone(&self) -> Result<Self, AllocError>
         ensures { IfOk result (λ pattern. pattern.interactions.items ≡ self.now.interactions.items) }
     {

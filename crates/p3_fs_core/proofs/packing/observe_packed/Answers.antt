@@ -2,10 +2,9 @@ use Rattle.std.proofs.Common.{ℕ, ◌<◌, List, [], ◌∷◌, length, map, mi
 use Rattle.std.specs.Slice.Iter.{chunks_rest}
 use Rattle.std.proofs.lemmas.Result.{err_from_is_err_and}
 use Rattle.p3_challenger_core.specs.Sponge.{RefusesObserve}
-use Rattle.p3_challenger_core.specs.CallLaws.{GoesOn}
+use Rattle.p3_challenger_core.specs.CallLaws.{GoesOn, calls-done, call-made, call-refused}
 use Rattle.p3_fs_core.specs.Packing.{packed, chunks, chunk_bytes, little_endian}
 use Rattle.p3_fs_core.specs.PackingLaws.{chunks-step, chunks-end}
-use Rattle.p3_fs_core.proofs.Packed.{goes-next, goes-refused, goes-end}
 use Rattle.p3_fs_core.proofs.packing.observe_packed.Goals as goal
 
 -- a chunk more is observed
@@ -32,7 +31,7 @@ loop-chunk-preserved g c =
       subst (λ (k : ℕ). 0 < k) (sym steps.0) kept.0,
       tt,
       steps.0 ∙ kept.2,
-      goes-next m.observed (λ s x t. m.may_leave s (x ∷ []) t) start values here (state c.observe-in-loop-chunk.new.self) (element chunk) (map element (chunks size rest)) moved on,
+      call-made m.observed (λ s x t. m.may_leave s (x ∷ []) t) start values here (state c.observe-in-loop-chunk.new.self) (element chunk) (map element (chunks size rest)) moved on,
     )
 
 -- a chunk is refused: those before it are observed
@@ -59,7 +58,7 @@ returns-in_err-observe-2-clause-err g c =
     let on = subst (λ (l : List (List ℕ)). GoesOn m.observed (λ s x t. m.may_leave s (x ∷ []) t) start values here (map element l)) split kept.3 in
     let value = c.from_u64-in-loop-chunk.ensures ∙ ap r.of c.number_of_chunk.ensures in
     let refused = subst (λ x. RefusesObserve (λ t. m.may_leave here (x ∷ []) t) e end) value c.in_err-observe-2.ensures.err in
-    rw (p.1, p.2) (goes-refused m.observed (λ s x t. m.may_leave s (x ∷ []) t) start values here end (element chunk) (map element (chunks size rest)) e refused on)
+    rw (p.1, p.2) (call-refused m.observed (λ s x t. m.may_leave s (x ∷ []) t) start values here end (element chunk) (map element (chunks size rest)) e refused on)
 
 pub returns-clause-ok : goal.returns-clause-ok
 returns-clause-ok g c =
@@ -75,5 +74,5 @@ returns-clause-ok g c =
     let start = state c.args.challenger.now in
     let values = packed r size c.args.bytes.now in
     let here = state c.loop-chunk.challenger in
-    goes-end m.observed (λ s x t. m.may_leave s (x ∷ []) t) start values here
+    calls-done m.observed (λ s x t. m.may_leave s (x ∷ []) t) start values here
     (subst (λ (l : List (List ℕ)). GoesOn m.observed (λ s x t. m.may_leave s (x ∷ []) t) start values here (map element l)) none kept.3)
