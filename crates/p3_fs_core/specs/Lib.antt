@@ -18,3 +18,7 @@ pub mod StepTextLaws
 pub mod Steps
 pub mod PatternGrammar
 pub mod PatternFaults
+pub mod Rendering
+pub mod Recording
+pub mod Playing
+pub mod Seed
