@@ -170,6 +170,27 @@ impl Interaction {
         }
     }
 
+    /// A step that carries values of the same type as this one. Nothing is hashed for it, so that many steps of
+    /// one algebra take one digest of its identity.
+    pub fn same_type(&self, hierarchy: Hierarchy, kind: Kind, label: Label, length: Length) -> Self
+        ensures { step_of result ≡ record {
+          hierarchy = hierarchy;
+          kind = kind;
+          label = label.now;
+          type_tag = (step_of self.now).type_tag;
+          type_name = (step_of self.now).type_name;
+          length = length;
+        } }
+    {
+        Interaction {
+            hierarchy,
+            kind,
+            label,
+            length,
+            ..*self
+        }
+    }
+
     /// Where the step stands.
     pub fn hierarchy(&self) -> Hierarchy
         ensures { result ≡ (step_of self.now).hierarchy }

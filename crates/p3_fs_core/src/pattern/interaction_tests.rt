@@ -107,3 +107,30 @@ fn a_closer_closes_the_opener_that_is_the_same(rt: HostRuntime) -> Result<(), Fa
     assert!(rt; of_another_type != closer());
     Ok(())
 }
+
+#[test]
+fn a_step_of_the_same_type_is_the_one_that_its_constructor_makes(rt: HostRuntime) {
+    let scalar = Interaction::algebra::<BabyBear, BabyBear, Sha256Hasher>(
+        Hierarchy::Atomic,
+        Kind::Public,
+        "input",
+        Length::Scalar,
+    );
+    let values = Interaction::algebra::<BabyBear, BabyBear, Sha256Hasher>(
+        Hierarchy::Atomic,
+        Kind::Message,
+        "values",
+        Length::Bounded(4),
+    );
+    let like_it = scalar.same_type(
+        Hierarchy::Atomic,
+        Kind::Message,
+        "values",
+        Length::Bounded(4),
+    );
+    assert_eq!(rt; like_it, values);
+    assert_eq!(rt;
+        values.same_type(Hierarchy::Atomic, Kind::Public, "input", Length::Scalar),
+        scalar
+    );
+}
