@@ -19,6 +19,7 @@ pub mod Steps
 pub mod PatternGrammar
 pub mod PatternFaults
 pub mod Rendering
+pub mod RenderingLaws
 pub mod Recording
 pub mod Playing
 pub mod Seed
