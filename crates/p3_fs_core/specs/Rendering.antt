@@ -5,7 +5,6 @@ use Rattle.p3_fs_core.specs.declared.pattern.step.Hierarchy.{Hierarchy}
 use Rattle.p3_fs_core.specs.declared.pattern.step.Hierarchy.TheVariants.{Atomic, Begin, End}
 use Rattle.p3_fs_core.specs.Steps.{Step}
 use Rattle.p3_fs_core.specs.StepTextLaws.{FitsLength, FitsTag}
-use Rattle.p3_fs_core.specs.Reading.{AreBytes}
 
 -- how many containers are open behind a step
 abbrev pub depth_behind : Hierarchy → ℕ → ℕ
