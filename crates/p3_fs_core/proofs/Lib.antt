@@ -10,3 +10,4 @@ pub mod Recorded
 pub mod PatternGrammarLaws
 pub mod Seeking
 pub mod FirstFaults
+mod Rendered

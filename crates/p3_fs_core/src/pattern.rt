@@ -3,6 +3,7 @@
 mod interaction;
 #[cfg(test)]
 mod interaction_tests;
+mod rendering;
 mod sequence;
 #[cfg(test)]
 mod sequence_tests;

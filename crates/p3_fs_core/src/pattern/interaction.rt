@@ -268,7 +268,7 @@ impl fmt::Display for Interaction {
 // A step that prints as it is hashed: with the length of its label before the label, and with the tag of its
 // type in place of the type's name.
 #[derive(Clone, Copy)]
-struct Alternate<'a>(&'a Interaction);
+pub(super) struct Alternate<'a>(pub(super) &'a Interaction);
 
 impl fmt::Display for Alternate<'_> {
     ghost output = { λ alternate. Some (alternate_text (step_of alternate.0.now)) };

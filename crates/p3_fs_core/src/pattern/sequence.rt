@@ -62,6 +62,11 @@ impl InteractionPattern {
         self.interactions.is_empty()
     }
 
+    // What the steps were allocated with.
+    pub(super) fn allocator(&self) -> Global {
+        *self.interactions.allocator()
+    }
+
     /// An equal pattern. The one error is that memory was refused.
     pub fn clone(&self) -> Result<Self, AllocError>
         ensures { IfOk result (λ pattern. pattern.interactions.items ≡ self.now.interactions.items) }
