@@ -1,11 +1,11 @@
 -- What is written of a line, and of the lines so far.
-use Rattle.std.proofs.Common.{◌≡◌, ℕ, zero, suc, ◌+◌, ◌-◌, ◌*◌, ◌<◌, ◌≤◌, List, [], ◌∷◌, ◌++◌, length, map, get_or, drop, replicate, codes, append_assoc, append-nil, add-one, refl, sym, ap, ◌∙◌, arith}
+use Rattle.std.proofs.Common.{◌≡◌, ℕ, zero, suc, ◌+◌, ◌-◌, ◌*◌, ◌<◌, ◌≤◌, List, [], ◌∷◌, ◌++◌, length, map, get_or, take, drop, replicate, codes, append_assoc, append-nil, add-one, refl, sym, ap, subst, ◌∙◌, arith}
 use Rattle.std.proofs.Math.Seq.{drop-cons}
-use Rattle.std.proofs.lemmas.List.{drop-map, drop_all, length-map}
+use Rattle.std.proofs.lemmas.List.{drop-map, drop_all, length-map, take_more, map-append}
 use Rattle.std.specs.List.{repeat}
 use Rattle.std.specs.Fmt.{decimal}
 use Rattle.p3_fs_core.specs.Steps.{Step, step_of}
-use Rattle.p3_fs_core.specs.Rendering.{depth_behind, indentation, padded, line, lines, position_digits, rendering}
+use Rattle.p3_fs_core.specs.Rendering.{depth_behind, indentation, padded, line, lines, position_digits, rendering, FitsTypes, AllFitTypes}
 use Rattle.p3_fs_core.specs.declared.pattern.interaction.Interaction.{Interaction}
 use Rattle.p3_fs_core.specs.declared.pattern.step.Hierarchy.{Hierarchy}
 use Rattle.p3_fs_core.specs.declared.pattern.step.Hierarchy.TheVariants.{Atomic, Begin, End}
@@ -72,3 +72,15 @@ all-lines text digits last position depth steps written past digits_is last_is s
     ap (λ front. codes "Plonky3 Fiat-Shamir Transcript (" ++ front) (append_assoc (decimal (length steps)) (codes " interactions)\n") written)
     ∙ ap (λ k. codes "Plonky3 Fiat-Shamir Transcript (" ++ (decimal k ++ (codes " interactions)\n" ++ written))) (sym count)
     ∙ ap (λ all. codes "Plonky3 Fiat-Shamir Transcript (" ++ (decimal (length (map step_of steps)) ++ (codes " interactions)\n" ++ all))) shown
+
+-- ---- steps whose numbers fit
+
+all_fit-more : (steps : List Step) (s : Step) → AllFitTypes steps → FitsTypes s → AllFitTypes (steps ++ (s ∷ []))
+all_fit-more [] s fit fits = (fits, tt)
+all_fit-more (first ∷ steps) s fit fits = (fit.0, all_fit-more steps s fit.1 fits)
+
+pub all_fit-next : (steps : List Interaction) (i : ℕ) (d : Interaction) → i < length steps → AllFitTypes (map step_of (take i steps)) → FitsTypes (step_of (get_or steps i d)) → AllFitTypes (map step_of (take (i + 1) steps))
+all_fit-next steps i d within fit fits =
+    let longer : map step_of (take (i + 1) steps) ≡ map step_of (take i steps) ++ (step_of (get_or steps i d) ∷ []) =
+    ap (map step_of) (take_more steps i d within) ∙ map-append step_of (take i steps) (get_or steps i d ∷ []) in
+    subst AllFitTypes (sym longer) (all_fit-more (map step_of (take i steps)) (step_of (get_or steps i d)) fit fits)

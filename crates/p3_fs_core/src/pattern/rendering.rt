@@ -1,13 +1,16 @@
 // The text of a whole pattern, and its digest.
-ghost use Rattle.std.specs.Prelude.{◌≡◌, ◌↔◌, ◌+◌, ◌*◌, ◌<◌, ◌^◌, ◌++◌, ℕ, List, Some, map, length, replicate, codes, IfOk, if◌then◌else◌};
+ghost use Rattle.std.specs.Prelude.{◌≡◌, ◌↔◌, ◌+◌, ◌*◌, ◌<◌, ◌^◌, ◌++◌, ℕ, List, Some, map, length, replicate, codes, IfOk, string_bytes, if◌then◌else◌};
 ghost use Rattle.std.specs.Fmt.{decimal};
 ghost use Rattle.std.specs.List.{repeat};
 ghost use Rattle.p3_fs_core.specs.Steps.{Step, step_of, plain_text, alternate_text};
 ghost use Rattle.p3_fs_core.specs.PatternFaults.{steps_of};
-ghost use Rattle.p3_fs_core.specs.Rendering.{depth_behind, indentation, padded, rendering};
+ghost use Rattle.p3_fs_core.specs.Rendering.{depth_behind, indentation, padded, rendering, SameButTypeNames, FitsTypes, AllFitTypes};
+ghost use Rattle.p3_fs_core.specs.StepTextLaws.{IsEnd, FitsLength, FitsTag};
 
 use super::interaction::Alternate;
-use super::{Hierarchy, Interaction, InteractionPattern};
+use super::{Hierarchy, Interaction, InteractionPattern, Length, TypeTag};
+use p3_symmetric::DigestHasher;
+use std::alloc::AllocError;
 use std::fmt;
 
 impl fmt::Display for InteractionPattern {
@@ -21,6 +24,88 @@ impl fmt::Display for InteractionPattern {
         };
         write!(f, "{rendering}")
     }
+}
+
+impl InteractionPattern {
+    /// The text of the pattern that is hashed, the same as `{:#}` prints. Below a header that counts the steps
+    /// it has a line for each: its position, in as many digits as the last one, two spaces for each container
+    /// around it, and the alternate text of the step, which says its type by its tag and not by its name.
+    ///
+    /// The one error is that memory was refused. The pattern stays as it is.
+    pub fn alternate(&self) -> Result<String, AllocError>
+        ensures { IfOk result (λ text. string_bytes text ≡ rendering alternate_text (steps_of self.now)) }
+    {
+        let rendering = Rendering {
+            steps: self.interactions(),
+            alternate: true,
+        };
+        rendering.to_string(self.allocator())
+    }
+
+    /// The digest of the pattern's alternate text, 32 bytes.
+    ///
+    /// Two patterns with the same steps, but for the names of their types, have the same text, and any other two
+    /// have different ones. So their digests differ too, unless `D` takes the two texts to one digest.
+    ///
+    /// The one error is that memory for the text was refused. The pattern stays as it is.
+    pub fn pattern_hash<D: DigestHasher>(&self) -> Result<[u8; 32], AllocError>
+        ensures digest { IfOk result (λ digest. digest ≡ D.digest_of (rendering alternate_text (steps_of self.now))) }
+        ensures fits { AllFitTypes (steps_of self.now) × (length (steps_of self.now) < 2 ^ 64) }
+        ensures one_way { (x y : List Step) → AllFitTypes x → AllFitTypes y → length x < 2 ^ 64 → length y < 2 ^ 64
+            → (rendering alternate_text x ≡ rendering alternate_text y ↔ SameButTypeNames x y) }
+    {
+        fit_types(self.interactions());
+        let text = self.alternate()?;
+        Ok(D::digest(text.as_bytes()))
+    }
+}
+
+// The numbers of each step fit their types. It does nothing but tell so.
+fn fit_types(steps: &[Interaction])
+    ensures { AllFitTypes (map step_of steps.now) }
+{
+    for step in steps {
+        fits_types(step);
+    }
+}
+
+// The numbers of a step fit their types. It does nothing but tell so.
+fn fits_types(step: &Interaction)
+    ensures { FitsTypes (step_of step.now) }
+{
+    let _label = step.label().len();
+    fits_length(step.length());
+    fits_tag(step.type_tag());
+}
+
+// The number of a length fits its type.
+fn fits_length(length: Length)
+    ensures { FitsLength length }
+{
+    match length {
+        Length::None | Length::Scalar => {}
+        Length::Fixed(_) | Length::Bounded(_) => {}
+    }
+}
+
+// The numbers of a tag fit their types.
+fn fits_tag(tag: TypeTag)
+    ensures { FitsTag tag }
+{
+    match tag {
+        TypeTag::Marker | TypeTag::Bytes | TypeTag::Opaque => {}
+        TypeTag::Algebra { degree, basis, .. } => fits_end(degree, basis),
+        TypeTag::BinaryTower { degree, basis, .. } => fits_end(degree, basis),
+        TypeTag::BinaryPolynomial { degree, basis, .. } => fits_end(degree, basis),
+        TypeTag::Bits { .. } | TypeTag::UniformBits { .. } => {}
+    }
+}
+
+// A degree fits its type, and a basis is 32 bytes.
+fn fits_end(degree: usize, basis: [u8; 32])
+    ensures { IsEnd degree basis }
+{
+    let _bytes: &[u8] = &basis;
 }
 
 // Steps that print below a header, a line each.
