@@ -11,3 +11,4 @@ pub mod PatternGrammarLaws
 pub mod Seeking
 pub mod FirstFaults
 mod Rendered
+pub mod StepEquality

@@ -1,9 +1,10 @@
 -- Playing a pattern step by step.
-use Rattle.std.specs.Prelude.{◌≡◌, ℕ, ◌+◌, ◌⊎◌, Bool, true, false, List, Option, Some, None, slice_get}
+use Rattle.std.specs.Prelude.{◌≡◌, ℕ, ◌+◌, ◌⊎◌, Bool, true, false, Option, Some, None, slice_get, length}
 use Rattle.p3_fs_core.specs.declared.error.TranscriptError.{TranscriptError}
 use Rattle.p3_fs_core.specs.declared.error.TranscriptError.TheVariants.{MissingBegin, InvalidKind, MismatchedBeginEnd, MissingEnd, BadProofShape, Pattern, Challenger, LabelTooLong, OutOfMemory}
 use Rattle.p3_fs_core.specs.declared.error.PatternError.{PatternError}
 use Rattle.p3_fs_core.specs.declared.error.PatternError.TheVariants.{Finished, NoMoreSteps, WrongStep, Unplayed, OverCap}
+use Rattle.p3_fs_core.specs.declared.pattern.interaction.Interaction.{Interaction}
 use Rattle.p3_fs_core.specs.declared.pattern.sequence.InteractionPattern.{InteractionPattern}
 use Rattle.p3_fs_core.specs.Steps.{Step, step_of}
 use Rattle.p3_fs_core.specs.PatternFaults.{steps_of}
@@ -17,6 +18,10 @@ pub record Playing : Type 0 where
 -- the step that the pattern has next, if it has one
 abbrev pub next_step : Playing → Option Step
 next_step playing = slice_get (steps_of playing.pattern) playing.position
+
+-- that step as it stands in the pattern
+abbrev pub next_interaction : Playing → Option Interaction
+next_interaction playing = slice_get playing.pattern.interactions.items playing.position
 
 -- the step is taken: nothing was refused before, and it is the next one
 pub record Plays (before : Playing) (s : Step) (after : Playing) : Type 0 where
@@ -36,6 +41,27 @@ IsNotNext next s (OverCap len max) = ⊥
 abbrev pub FaultOfPlay : Playing → Step → PatternError → Type 0
 FaultOfPlay before s e =
     ((before.finished ≡ true) × (e ≡ Finished)) ⊎ ((before.finished ≡ false) × IsNotNext (next_step before) s e)
+
+-- where the error carries the step that came, it is this one itself
+abbrev pub CarriesReceived : Interaction → PatternError → Type 0
+CarriesReceived interaction (NoMoreSteps received) = received ≡ interaction
+CarriesReceived interaction (WrongStep received expected) = received ≡ interaction
+CarriesReceived interaction Finished = Unit {0}
+CarriesReceived interaction (Unplayed expected) = Unit {0}
+CarriesReceived interaction (OverCap len max) = Unit {0}
+
+-- where the error carries the step that the pattern has next, it is that one itself
+abbrev pub CarriesNext : Playing → PatternError → Type 0
+CarriesNext playing (WrongStep received expected) = next_interaction playing ≡ Some expected
+CarriesNext playing (Unplayed expected) = next_interaction playing ≡ Some expected
+CarriesNext playing Finished = Unit {0}
+CarriesNext playing (NoMoreSteps received) = Unit {0}
+CarriesNext playing (OverCap len max) = Unit {0}
+
+-- all steps are taken, and none was refused
+pub record IsPlayed (playing : Playing) : Type 0 where
+  pub going : playing.finished ≡ false
+  pub end : playing.position ≡ length (steps_of playing.pattern)
 
 -- the error says why steps are left in the end, or that one was refused
 abbrev pub FaultOfPlayEnd : Playing → PatternError → Type 0

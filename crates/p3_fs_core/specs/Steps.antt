@@ -5,7 +5,9 @@ use Rattle.p3_fs_core.specs.declared.pattern.step.Hierarchy.{Hierarchy}
 use Rattle.p3_fs_core.specs.declared.pattern.step.Hierarchy.TheVariants.{Begin, End}
 use Rattle.p3_fs_core.specs.declared.pattern.step.Kind.{Kind}
 use Rattle.p3_fs_core.specs.declared.pattern.step.Length.{Length}
+use Rattle.p3_fs_core.specs.declared.pattern.step.Length.TheVariants.{None}
 use Rattle.p3_fs_core.specs.declared.pattern.step.TypeTag.{TypeTag}
+use Rattle.p3_fs_core.specs.declared.pattern.step.TypeTag.TheVariants.{Marker}
 use Rattle.p3_fs_core.specs.declared.pattern.interaction.Interaction.{Interaction}
 use Rattle.p3_fs_core.specs.StepTexts.{hierarchy_text, kind_text, length_text, type_tag_text}
 
@@ -22,6 +24,11 @@ pub record Step : Type 0 where
 abbrev pub step_of : Interaction → Step
 step_of i =
     record { hierarchy = i.hierarchy; kind = i.kind; label = i.label.now; type_tag = i.type_tag; type_name = i.type_name.now; length = i.length }
+
+-- the opener or the closer of a container, which carries nothing
+abbrev pub marker_of : Hierarchy → Kind → List ℕ → List ℕ → Step
+marker_of hierarchy kind label type_name =
+    record { hierarchy = hierarchy; kind = kind; label = label; type_tag = Marker; type_name = type_name; length = None }
 
 -- a closer closes an opener that is the same in all but that it opens
 pub record Closes (closer opener : Step) : Type 0 where

@@ -19,6 +19,9 @@ pub use error::{
     InvalidKindInfo, MismatchedBeginEndInfo, MissingBeginInfo, MissingEndInfo, PatternError,
     TranscriptError,
 };
-pub use pattern::{Hierarchy, Interaction, InteractionPattern, Kind, Label, Length, TypeTag};
+pub use pattern::{
+    Hierarchy, Interaction, InteractionPattern, Kind, Label, Length, Pattern, PatternPlayer,
+    TypeTag,
+};
 pub use transcript_field::TranscriptField;
 pub use unit::{FieldUnit, Unit};
