@@ -2,14 +2,16 @@
 use Rattle.std.proofs.Common.{◌≡◌, ℕ, ◌+◌, ◌<◌, List, [], ◌∷◌, ◌++◌, map, length, take, drop, slice_index_or, refl, sym, ap, subst, ◌∙◌, append_assoc, add-one}
 use Rattle.std.proofs.Math.Seq.{drop-cons}
 use Rattle.std.proofs.lemmas.List.{take-append-drop, map-append}
+use Rattle.std.specs.Prelude.{Result, Ok, Err, IfErr}
 use Rattle.p3_fs_core.specs.declared.error.TranscriptError.{TranscriptError}
 use Rattle.p3_fs_core.specs.declared.error.TranscriptError.TheVariants.{MissingBegin, InvalidKind, MismatchedBeginEnd, MissingEnd, BadProofShape, Pattern, Challenger, LabelTooLong, OutOfMemory}
 use Rattle.p3_fs_core.specs.declared.pattern.step.Hierarchy.TheVariants.{End}
 use Rattle.p3_fs_core.specs.declared.pattern.step.Kind.TheVariants.{Protocol}
 use Rattle.p3_fs_core.specs.declared.pattern.interaction.Interaction.{Interaction}
 use Rattle.p3_fs_core.specs.Steps.{Step, step_of, Closes}
-use Rattle.p3_fs_core.specs.PatternGrammar.{Allows, IsPattern, IsViable, IsInnermost, IsNoneOpen, StopsAt, IsFirstFault, missing_begin, invalid_kind, mismatched_begin_end, missing_end}
+use Rattle.p3_fs_core.specs.PatternGrammar.{Allows, IsPattern, IsViable, IsInnermost, StopsAt, IsFirstFault, missing_begin, invalid_kind, mismatched_begin_end, missing_end}
 use Rattle.p3_fs_core.specs.PatternFaults.{NamesFirstFault}
+use Rattle.p3_fs_core.specs.Recording.{NamesMissingEnd}
 use Rattle.p3_fs_core.proofs.PatternGrammarLaws.{closer-with_none_open, closer-mismatched, kind-invalid, pattern-none_open}
 
 abbrev stops : (before rest : List Step) (s : Step) (position : ℕ) → length before ≡ position → IsViable before → (IsViable (before ++ (s ∷ [])) → ⊥) → StopsAt (before ++ (s ∷ rest)) position s
@@ -65,3 +67,19 @@ split_at steps i d within =
 pub names-whole : (steps : List Interaction) (i : ℕ) (d : Interaction) (e : TranscriptError) → i < length steps → ((rest : List Step) → NamesFirstFault (map step_of (take i steps) ++ (step_of (slice_index_or steps i d) ∷ rest)) e) → NamesFirstFault (map step_of steps) e
 names-whole steps i d e within named =
     subst (λ (w : List Step). NamesFirstFault w e) (sym (split_at steps i d within)) (named (map step_of (drop (i + 1) steps)))
+
+-- an opener that is left open at the end is the first fault
+pub missing-first : (steps : List Step) (e : TranscriptError) → NamesMissingEnd steps e → NamesFirstFault steps e
+missing-first steps (MissingEnd info) h = h
+missing-first steps (MissingBegin info) h = absurd h
+missing-first steps (InvalidKind info) h = absurd h
+missing-first steps (MismatchedBeginEnd info) h = absurd h
+missing-first steps (BadProofShape reason) h = h
+missing-first steps (Pattern e) h = h
+missing-first steps (Challenger e) h = h
+missing-first steps LabelTooLong h = h
+missing-first steps OutOfMemory h = h
+
+pub missing-result : {T : Type 0} (steps : List Step) (result : Result T TranscriptError) → IfErr result (λ e. NamesMissingEnd steps e) → IfErr result (λ e. NamesFirstFault steps e)
+missing-result steps (Ok x) h = tt
+missing-result steps (Err e) h = missing-first steps e h

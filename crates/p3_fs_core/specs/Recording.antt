@@ -18,13 +18,16 @@ pub record Records (before : Recording) (s : Step) (after : Recording) : Type 0 
   pub viable : IsViable (before.steps ++ (s ∷ []))
   pub recorded : after ≡ record { steps = before.steps ++ (s ∷ []); finished = false }
 
--- why the step is refused: one was refused before; or the steps with this one have a fault, the first one of
--- them; or there is no fault, and memory was refused
+-- why the step may not come behind those: with it they have a fault, the first one of them; or there is no
+-- fault, and memory was refused
+abbrev pub FaultOfNext : List Step → Step → TranscriptError → Type 0
+FaultOfNext steps s e =
+    NamesFirstFault (steps ++ (s ∷ [])) e ⊎ (IsViable (steps ++ (s ∷ [])) × (e ≡ OutOfMemory))
+
+-- why the step is refused: one was refused before, or this one may not come next
 abbrev pub FaultOfStep : Recording → Step → TranscriptError → Type 0
 FaultOfStep before s e =
-    ((before.finished ≡ true) × (e ≡ Pattern Finished))
-    ⊎ ((before.finished ≡ false) × NamesFirstFault (before.steps ++ (s ∷ [])) e)
-    ⊎ ((before.finished ≡ false) × IsViable (before.steps ++ (s ∷ [])) × (e ≡ OutOfMemory))
+    ((before.finished ≡ true) × (e ≡ Pattern Finished)) ⊎ ((before.finished ≡ false) × FaultOfNext before.steps s e)
 
 -- the step is refused: nothing may follow it
 pub record RefusesToRecord (before : Recording) (s : Step) (e : TranscriptError) (after : Recording) : Type 0 where

@@ -21,7 +21,7 @@ pub use error::{
 };
 pub use pattern::{
     Hierarchy, Interaction, InteractionPattern, Kind, Label, Length, Pattern, PatternPlayer,
-    TypeTag,
+    PatternState, TypeTag,
 };
 pub use transcript_field::TranscriptField;
 pub use unit::{FieldUnit, Unit};

@@ -10,6 +10,7 @@ mod player;
 mod sequence;
 #[cfg(test)]
 mod sequence_tests;
+mod state;
 mod step;
 #[cfg(test)]
 mod tests;
@@ -19,6 +20,7 @@ pub use interaction::{Interaction, Label};
 use p3_field::Named;
 pub use player::PatternPlayer;
 pub use sequence::InteractionPattern;
+pub use state::PatternState;
 pub use step::{Hierarchy, Kind, Length, TypeTag};
 
 /// What takes the steps of a protocol one by one: it records them, or it holds them against a pattern.

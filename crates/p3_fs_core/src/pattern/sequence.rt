@@ -3,6 +3,7 @@ ghost use Rattle.std.specs.Prelude.{◌≡◌, ◌↔◌, [], ◌∷◌, ◌++�
 ghost use Rattle.p3_fs_core.specs.Steps.{Step, step_of};
 ghost use Rattle.p3_fs_core.specs.PatternGrammar.{Allows, IsPattern, IsViable, IsInnermost, IsNoneOpen};
 ghost use Rattle.p3_fs_core.specs.PatternFaults.{steps_of, NamesFirstFault};
+ghost use Rattle.p3_fs_core.specs.Recording.{NamesMissingEnd};
 
 use super::{Hierarchy, Interaction, Kind};
 use crate::{
@@ -29,6 +30,17 @@ impl InteractionPattern {
         ensures only { IsPattern Kind.Protocol (map step_of interactions.items) → IsOk result }
     {
         validate(&interactions)?;
+        Ok(InteractionPattern { interactions })
+    }
+
+    // The pattern of steps that were checked one by one, which is refused where a container is still open.
+    pub(super) fn recorded(interactions: Vec<Interaction>) -> Result<Self, TranscriptError>
+        requires { IsViable (map step_of interactions.items) }
+        ensures ok { IfOk result (λ pattern. (pattern.interactions.items ≡ interactions.items) × IsPattern Kind.Protocol (steps_of pattern)) }
+        ensures err { IfErr result (λ e. NamesMissingEnd (map step_of interactions.items) e) }
+        ensures only { IsPattern Kind.Protocol (map step_of interactions.items) → IsOk result }
+    {
+        check_end(&interactions)?;
         Ok(InteractionPattern { interactions })
     }
 
@@ -85,6 +97,15 @@ fn validate(steps: &[Interaction]) -> Result<(), TranscriptError>
     for position in 0..steps.len() {
         check_next(&steps[..position], steps[position])?;
     }
+    check_end(steps)
+}
+
+// The steps leave no container open.
+fn check_end(steps: &[Interaction]) -> Result<(), TranscriptError>
+    requires { IsViable (map step_of steps.now) }
+    ensures ok { OnOk result (IsPattern Kind.Protocol (map step_of steps.now)) }
+    ensures err { IfErr result (λ e. NamesMissingEnd (map step_of steps.now) e) }
+{
     match innermost(steps) {
         None => Ok(()),
         Some((position, begin)) => Err(TranscriptError::MissingEnd(MissingEndInfo {
@@ -95,7 +116,7 @@ fn validate(steps: &[Interaction]) -> Result<(), TranscriptError>
 }
 
 // The step may stand behind those before it. The fault is named alike whatever follows.
-fn check_next(before: &[Interaction], next: Interaction) -> Result<(), TranscriptError>
+pub(super) fn check_next(before: &[Interaction], next: Interaction) -> Result<(), TranscriptError>
     requires { IsViable (map step_of before.now) }
     ensures ok { OnOk result (IsViable (map step_of before.now ++ (step_of next ∷ []))) }
     ensures err { IfErr result (λ e. (rest : List Step) → NamesFirstFault (map step_of before.now ++ (step_of next ∷ rest)) e) }
