@@ -12,3 +12,4 @@ pub mod Seeking
 pub mod FirstFaults
 mod Rendered
 pub mod StepEquality
+pub mod Identifiers

@@ -23,3 +23,4 @@ pub mod RenderingLaws
 pub mod Recording
 pub mod Playing
 pub mod Seed
+pub mod SeedLaws

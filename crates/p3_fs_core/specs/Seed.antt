@@ -21,3 +21,17 @@ FitsCount chunk = length chunk < 2 ^ 32
 -- the seed: identifier, digest of the pattern, label behind its length, and a last byte
 abbrev pub seed_bytes : List ℕ → List ℕ → List ℕ → List ℕ
 seed_bytes id digest label = id ++ (digest ++ (counted label ++ (0x80 ∷ [])))
+
+-- what a seed is made of
+pub record SeedParts : Type 0 where
+  pub protocol_id : List ℕ
+  pub digest : List ℕ
+  pub label : List ℕ
+
+-- an identifier has 64 bytes, a digest 32, and a label fewer than its length can say in four
+abbrev pub AreSeedParts : SeedParts → Type 0
+AreSeedParts parts =
+    (length parts.protocol_id ≡ 64) × (length parts.digest ≡ 32) × FitsCount parts.label
+
+abbrev pub seed_of_parts : SeedParts → List ℕ
+seed_of_parts parts = seed_bytes parts.protocol_id parts.digest parts.label

@@ -2,6 +2,7 @@
 #![tactic(auto)]
 
 mod codecs;
+mod domain_separator;
 mod error;
 mod packing;
 mod pattern;
@@ -15,6 +16,7 @@ pub use codecs::{
     MIN_CHALLENGE_SECURITY_BITS, ScalarCodec, bound_byte_width, counts_read_one_way, decode_len_be,
     duplex_elements_read_one_way, encode_len_be, hash_values_read_one_way,
 };
+pub use domain_separator::{DomainSeparator, PROTOCOL_ID_LEN};
 pub use error::{
     InvalidKindInfo, MismatchedBeginEndInfo, MissingBeginInfo, MissingEndInfo, PatternError,
     TranscriptError,
