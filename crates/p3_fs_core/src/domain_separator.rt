@@ -1,14 +1,28 @@
 // What binds a transcript to a protocol, its pattern and the instance.
-ghost use Rattle.std.specs.Prelude.{◌≡◌, ℕ, ◌<◌, ◌≤◌, ◌^◌, List, [], ◌∷◌, ◌++◌, length, OnOk, IfOk, IfErr};
-ghost use Rattle.p3_fs_core.specs.Seed.{identifier};
+ghost use Rattle.std.specs.Prelude.{◌≡◌, ℕ, ◌+◌, ◌<◌, ◌≤◌, ◌^◌, List, [], ◌∷◌, ◌++◌, length, OnOk, IfOk, IfErr};
+ghost use Rattle.std.specs.List.{All, flat_map};
+ghost use Rattle.p3_challenger_core.specs.Sponge.{observed_all};
+ghost use Rattle.p3_fs_core.specs.Alphabet.{LeavesItems};
+ghost use Rattle.p3_fs_core.specs.Reading.{ReadsOneWayOn};
+ghost use Rattle.p3_fs_core.specs.Seed.{identifier, counted, label_of, FitsCount, RefusesChunk, seed_of, RefusesSeed, AreSeedParts, seed_of_parts};
 
-use crate::InteractionPattern;
+use crate::{InteractionPattern, TranscriptError, Unit};
+use p3_challenger_core::CanObserve;
+use p3_symmetric::DigestHasher;
 use std::alloc::{AllocError, Global};
 use std::marker::PhantomData;
 use std::rc::Rc;
 
 /// How many bytes the identifier of a protocol has.
 pub const PROTOCOL_ID_LEN: usize = 64;
+
+// The last byte of a seed.
+const CLOSING_BYTE: u8 = 0x80;
+
+// How many bytes a length is written in, and the greatest length of a label: the greatest that fits.
+const COUNT_LEN: usize = 4;
+
+const MAX_LABEL_LEN: usize = u32::MAX as usize;
 
 /// What binds a transcript to a protocol, its pattern and the instance.
 ///
@@ -77,6 +91,97 @@ impl<U, D> DomainSeparator<U, D> {
         ensures { result.now ≡ self.now.pattern }
     {
         &self.pattern
+    }
+
+    /// Adds a chunk at the end of the instance's label, behind its length in four bytes, the highest first.
+    /// So no two lists of chunks make one label.
+    ///
+    /// The errors are [`TranscriptError::LabelTooLong`], where the label would have 2^32 bytes or more, and
+    /// [`TranscriptError::OutOfMemory`]. Both leave the separator as it is.
+    pub fn instance(&mut self, chunk: &[u8]) -> Result<(), TranscriptError>
+        ensures ok { OnOk result (self.new.instance_label.items ≡ self.old.instance_label.items ++ counted chunk.now) }
+        ensures err { IfErr result (λ e. RefusesChunk (length self.old.instance_label.items + 4 + length chunk.now) e
+            × (self.new.instance_label.items ≡ self.old.instance_label.items)) }
+        ensures rest { (self.new.protocol_id ≡ self.old.protocol_id) × (self.new.pattern ≡ self.old.pattern) }
+        // The label is that of the chunks so far.
+        ensures chunks { OnOk result ((chunks : List (List ℕ)) → self.old.instance_label.items ≡ label_of chunks →
+            self.new.instance_label.items ≡ label_of (chunks ++ (chunk.now ∷ []))) }
+        // A label comes from one list of chunks.
+        ensures one_way { (x y : List (List ℕ)) → All FitsCount x → All FitsCount y → label_of x ≡ label_of y → x ≡ y }
+    {
+        let added = COUNT_LEN.saturating_add(chunk.len());
+        if added > MAX_LABEL_LEN - self.instance_label.len() {
+            return Err(TranscriptError::LabelTooLong);
+        }
+        // Room for both parts is asked for first: where it is refused, neither is added.
+        self.instance_label.reserve(added)?;
+        let count = chunk.len() as u32;
+        self.instance_label.extend_from_slice(&count.to_be_bytes())?;
+        self.instance_label.extend_from_slice(chunk)?;
+        Ok(())
+    }
+
+    /// An equal separator, which shares the pattern. The one error is that memory was refused.
+    pub fn clone(&self) -> Result<Self, AllocError>
+        ensures protocol_id { IfOk result (λ copy. copy.protocol_id ≡ self.now.protocol_id) }
+        ensures label { IfOk result (λ copy. copy.instance_label.items ≡ self.now.instance_label.items) }
+        ensures pattern { IfOk result (λ copy. copy.pattern.value ≡ self.now.pattern.value) }
+    {
+        Ok(DomainSeparator {
+            protocol_id: self.protocol_id,
+            instance_label: self.instance_label.clone()?,
+            pattern: self.pattern.clone()?,
+            alphabet: PhantomData,
+            hasher: PhantomData,
+        })
+    }
+}
+
+impl<U: Unit, D: DigestHasher> DomainSeparator<U, D> {
+    /// Observes the seed in one byte string: the identifier, the digest of the pattern, the label behind its
+    /// length in four bytes, and a byte 0x80.
+    ///
+    /// Conditions: `U` is an alphabet, as [`Unit::observe_bytes`] has it.
+    ///
+    /// The errors are [`ChallengerError::TooLong`](p3_challenger_core::ChallengerError::TooLong) in
+    /// [`TranscriptError::Challenger`], with nothing absorbed, and [`TranscriptError::OutOfMemory`], which
+    /// leaves the challenger as it is, or as [`Unit::observe_bytes`] leaves it.
+    pub fn seed<C: CanObserve<U::Item>>(&self, challenger: &mut C) -> Result<(), TranscriptError>
+        requires { U.is_alphabet }
+        ensures ok { let seed = seed_of D.digest_of self.now.protocol_id self.now.pattern.value self.now.instance_label.items in
+            OnOk result ((U.is_too_long (length seed) → ⊥)
+            × (C.state challenger.new ≡ observed_all C.observed (C.state challenger.old) (U.items seed))) }
+        ensures err { let seed = seed_of D.digest_of self.now.protocol_id self.now.pattern.value self.now.instance_label.items in
+            IfErr result (λ e. RefusesSeed (U.is_too_long (length seed))
+            (LeavesItems C.observed C.may_leave (C.state challenger.old) (U.items seed))
+            (C.state challenger.old) e (C.state challenger.new)) }
+        // What is observed is what the items feed, where the challenger feeds each in one way.
+        ensures fed { let seed = seed_of D.digest_of self.now.protocol_id self.now.pattern.value self.now.instance_label.items in
+            ReadsOneWayOn U.is_item C.symbols → OnOk result (C.state challenger.new
+            ≡ C.fed (C.state challenger.old) (flat_map C.symbols (U.items seed))) }
+        // Whatever follows, equal seeds come from equal identifiers, digests and labels.
+        ensures one_way { ReadsOneWayOn AreSeedParts seed_of_parts }
+    {
+        let seed = self.seed_bytes()?;
+        U::observe_bytes(challenger, &seed)?;
+        Ok(())
+    }
+
+    // The bytes of the seed.
+    fn seed_bytes(&self) -> Result<Vec<u8>, AllocError>
+        ensures { IfOk result (λ seed. seed.items
+            ≡ seed_of D.digest_of self.now.protocol_id self.now.pattern.value self.now.instance_label.items) }
+    {
+        let digest = self.pattern.pattern_hash::<D>()?;
+        let label_len = self.instance_label.len();
+        let len = PROTOCOL_ID_LEN + digest.len() + COUNT_LEN + label_len + 1;
+        let mut seed = Vec::with_capacity(*self.instance_label.allocator(), len)?;
+        seed.extend_from_slice(&self.protocol_id)?;
+        seed.extend_from_slice(&digest)?;
+        seed.extend_from_slice(&(label_len as u32).to_be_bytes())?;
+        seed.extend_from_slice(&self.instance_label)?;
+        seed.push(CLOSING_BYTE)?;
+        Ok(seed)
     }
 }
 
