@@ -42,9 +42,28 @@ RefusesChunk len (Challenger e) = ⊥
 abbrev pub seed_bytes : List ℕ → List ℕ → List ℕ → List ℕ
 seed_bytes id digest label = id ++ (digest ++ (counted label ++ (0x80 ∷ [])))
 
--- the seed of a protocol's identifier and pattern, and an instance's label
+-- ---- the seed of a separator
+
+-- what a seed is made of
+pub record SeedParts : Type 0 where
+  pub protocol_id : List ℕ
+  pub digest : List ℕ
+  pub label : List ℕ
+
+-- an identifier has 64 bytes, a digest 32, and a label no more than its length can say in four
+abbrev pub AreSeedParts : SeedParts → Type 0
+AreSeedParts parts = (length parts.protocol_id ≡ 64) × (length parts.digest ≡ 32) × FitsCount parts.label
+
+abbrev pub seed_of_parts : SeedParts → List ℕ
+seed_of_parts parts = seed_bytes parts.protocol_id parts.digest parts.label
+
+-- what the seed of a protocol's identifier and pattern, and an instance's label, is made of
+abbrev pub parts_of : (List ℕ → List ℕ) → List ℕ → InteractionPattern → List ℕ → SeedParts
+parts_of digest_of id pattern label =
+    record { protocol_id = id; digest = digest_of (rendering alternate_text (steps_of pattern)); label = label }
+
 abbrev pub seed_of : (List ℕ → List ℕ) → List ℕ → InteractionPattern → List ℕ → List ℕ
-seed_of digest_of id pattern label = seed_bytes id (digest_of (rendering alternate_text (steps_of pattern))) label
+seed_of digest_of id pattern label = seed_of_parts (parts_of digest_of id pattern label)
 
 -- What a seed that is refused leaves: memory for its bytes was refused, and nothing of it was observed; or
 -- it was too long for the alphabet, and nothing of it was observed; or memory was refused while it was
@@ -62,19 +81,3 @@ RefusesSeed IsTooLong MayLeave before (MissingEnd info) after = ⊥
 RefusesSeed IsTooLong MayLeave before (BadProofShape reason) after = ⊥
 RefusesSeed IsTooLong MayLeave before (Pattern e) after = ⊥
 RefusesSeed IsTooLong MayLeave before LabelTooLong after = ⊥
-
--- ---- what seeds tell apart
-
--- what a seed is made of
-pub record SeedParts : Type 0 where
-  pub protocol_id : List ℕ
-  pub digest : List ℕ
-  pub label : List ℕ
-
--- an identifier has 64 bytes, a digest 32, and a label fewer than its length can say in four
-abbrev pub AreSeedParts : SeedParts → Type 0
-AreSeedParts parts =
-    (length parts.protocol_id ≡ 64) × (length parts.digest ≡ 32) × FitsCount parts.label
-
-abbrev pub seed_of_parts : SeedParts → List ℕ
-seed_of_parts parts = seed_bytes parts.protocol_id parts.digest parts.label

@@ -4,7 +4,7 @@ ghost use Rattle.std.specs.List.{All, flat_map};
 ghost use Rattle.p3_challenger_core.specs.Sponge.{observed_all};
 ghost use Rattle.p3_fs_core.specs.Alphabet.{LeavesItems};
 ghost use Rattle.p3_fs_core.specs.Reading.{ReadsOneWayOn};
-ghost use Rattle.p3_fs_core.specs.Seed.{identifier, counted, label_of, FitsCount, RefusesChunk, seed_of, RefusesSeed, AreSeedParts, seed_of_parts};
+ghost use Rattle.p3_fs_core.specs.Seed.{identifier, counted, label_of, FitsCount, RefusesChunk, seed_of, RefusesSeed, AreSeedParts, parts_of, seed_of_parts};
 
 use crate::{InteractionPattern, TranscriptError, Unit};
 use p3_challenger_core::CanObserve;
@@ -159,7 +159,10 @@ impl<U: Unit, D: DigestHasher> DomainSeparator<U, D> {
         ensures fed { let seed = seed_of D.digest_of self.now.protocol_id self.now.pattern.value self.now.instance_label.items in
             ReadsOneWayOn U.is_item C.symbols → OnOk result (C.state challenger.new
             ≡ C.fed (C.state challenger.old) (flat_map C.symbols (U.items seed))) }
-        // Whatever follows, equal seeds come from equal identifiers, digests and labels.
+        // The seed is that of an identifier, a digest and a label. Whatever follows, equal seeds come from
+        // equal ones.
+        ensures parts { OnOk result (AreSeedParts
+            (parts_of D.digest_of self.now.protocol_id self.now.pattern.value self.now.instance_label.items)) }
         ensures one_way { ReadsOneWayOn AreSeedParts seed_of_parts }
     {
         let seed = self.seed_bytes()?;
@@ -169,8 +172,10 @@ impl<U: Unit, D: DigestHasher> DomainSeparator<U, D> {
 
     // The bytes of the seed.
     fn seed_bytes(&self) -> Result<Vec<u8>, AllocError>
-        ensures { IfOk result (λ seed. seed.items
+        ensures bytes { IfOk result (λ seed. seed.items
             ≡ seed_of D.digest_of self.now.protocol_id self.now.pattern.value self.now.instance_label.items) }
+        ensures parts { OnOk result (AreSeedParts
+            (parts_of D.digest_of self.now.protocol_id self.now.pattern.value self.now.instance_label.items)) }
     {
         let digest = self.pattern.pattern_hash::<D>()?;
         let label_len = self.instance_label.len();
