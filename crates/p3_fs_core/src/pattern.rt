@@ -5,8 +5,8 @@ ghost use Rattle.p3_fs_core.specs.Steps.{Step, step_of, marker_of};
 mod interaction;
 #[cfg(test)]
 mod interaction_tests;
-mod rendering;
 mod player;
+mod rendering;
 mod sequence;
 #[cfg(test)]
 mod sequence_tests;
