@@ -2,6 +2,8 @@
 //! nanoseconds for each, and otherwise nothing.
 #![tactic(auto)]
 
+mod patterns;
+
 use anyhow::Result;
 use p3_challenger_core::{CanObserve, CanSample, DuplexChallenger, HashChallenger};
 use p3_field::{BabyBear, PrimeCharacteristicRing, PrimeField64};
@@ -20,6 +22,9 @@ const DRAWS: u32 = 100_000;
 const SLICE: usize = 1000;
 
 const SLICES: u32 = 1000;
+
+// How many steps are recorded, printed and hashed for each length of a pattern.
+const STEPS: u32 = 100_000;
 
 fn main(rt: HostRuntime) -> Result<()> {
     let mut words = env::args(&rt)?.skip(1);
@@ -62,8 +67,38 @@ fn main(rt: HostRuntime) -> Result<()> {
         per(start.elapsed(&rt)?, OBSERVES)
     )?;
 
+    let mut steps = 0u64;
+    for length in [10u32, 100, 1000] {
+        let count = STEPS / length;
+        let start = Instant::now(&rt)?;
+        steps = steps.wrapping_add(patterns::recordings(rt.alloc(), length, count)?);
+        let recorded = per(start.elapsed(&rt)?, STEPS);
+        let pattern = patterns::record(rt.alloc(), length)?;
+        let start = Instant::now(&rt)?;
+        steps = steps.wrapping_add(patterns::renderings(&pattern, count)?);
+        let rendered = per(start.elapsed(&rt)?, STEPS);
+        let start = Instant::now(&rt)?;
+        steps = steps.wrapping_add(patterns::digests(&pattern, count)?);
+        let hashed = per(start.elapsed(&rt)?, STEPS);
+        println!(rt;
+            "pattern of {length} steps, a step: recorded {recorded:.1} ns, rendered {rendered:.1} ns, rendered and hashed {hashed:.1} ns"
+        )?;
+    }
+    let start = Instant::now(&rt)?;
+    steps = steps.wrapping_add(patterns::elements(STEPS));
+    println!(rt;
+        "an algebra step: {:.1} ns",
+        per(start.elapsed(&rt)?, STEPS)
+    )?;
+    let start = Instant::now(&rt)?;
+    steps = steps.wrapping_add(patterns::elements_of_one(STEPS));
+    println!(rt;
+        "an algebra step of the same type: {:.1} ns",
+        per(start.elapsed(&rt)?, STEPS)
+    )?;
+
     // The draws are shown so that none of them can be left out.
-    println!(rt; "drawn: {drawn} {turns} {}", chain.sample()?)?;
+    println!(rt; "drawn: {drawn} {turns} {} {steps}", chain.sample()?)?;
     Ok(())
 }
 

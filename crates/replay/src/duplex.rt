@@ -104,7 +104,7 @@ impl<F: Extended, P: CryptographicPermutation<[F; W]>, const W: usize, const R: 
                 answer::elements(alloc, &digest[..])
             }
             Call::State => state(alloc, self),
-            Call::Codec(_) => bail!("a challenger is no codec"),
+            Call::Codec(_) | Call::Pattern(_) => bail!("a challenger is no codec"),
         }
     }
 }

@@ -40,7 +40,7 @@ impl<H: CryptographicHasher<u8, [u8; 32]>> Replayed for HashChallenger<u8, H, 32
                 Ok(hex::encode(alloc, &digest[..])?)
             }
             Call::State => bail!("a hash challenger shows no state"),
-            Call::Codec(_) => bail!("a challenger is no codec"),
+            Call::Codec(_) | Call::Pattern(_) => bail!("a challenger is no codec"),
         }
     }
 }

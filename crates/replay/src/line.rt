@@ -1,3 +1,4 @@
+use crate::patterns::PatternCall;
 use anyhow::{Context, Result, bail};
 use std::alloc::Global;
 
@@ -28,6 +29,8 @@ pub enum Call {
     State,
     /// A call on no challenger.
     Codec(CodecCall),
+    /// A call on a list of steps.
+    Pattern(PatternCall),
 }
 
 /// What is observed, as canonical numbers or bytes.
@@ -155,6 +158,7 @@ impl Call {
             "enc" | "dec" | "draw" | "unit" => {
                 Ok(Call::Codec(CodecCall::parse(alloc, name, words)?))
             }
+            "step" | "v" | "rec" => Ok(Call::Pattern(PatternCall::parse(name, words)?)),
             _ if name.starts_with('o') => {
                 Ok(Call::Observe(Observation::parse(alloc, name, words)?))
             }
@@ -243,7 +247,8 @@ impl CodecCallKind {
 }
 
 impl FieldName {
-    fn parse(name: &str) -> Result<FieldName> {
+    /// Reads the name of a field.
+    pub fn parse(name: &str) -> Result<FieldName> {
         match name {
             "bb" => Ok(FieldName::BabyBear),
             "gl" => Ok(FieldName::Goldilocks),

@@ -1,4 +1,4 @@
-//! The program `replay`: asks the challengers and the codecs what the Rust crate was asked, and compares
+//! The program `replay`: asks the challengers, the codecs and the patterns what the Rust crate was asked, and compares
 //! the answers.
 //! Its files lie in the folder that it runs in, or in the one that its argument names.
 #![tactic(auto)]
@@ -38,6 +38,7 @@ mod codecs;
 mod duplex;
 mod hash;
 mod line;
+mod patterns;
 mod recorder;
 mod replay;
 mod supply;
@@ -46,6 +47,7 @@ mod test_hashers;
 use anyhow::{Context, Result, bail};
 use codecs::Codecs;
 use line::Line;
+use patterns::Steps;
 use replay::first_difference;
 use std::alloc::Global;
 use std::process::ExitCode;
@@ -57,7 +59,7 @@ fn main(rt: HostRuntime) -> Result<ExitCode> {
         Some(word) => word.as_str(),
         None => ".",
     };
-    for name in ["duplex", "hash", "codecs"] {
+    for name in ["duplex", "hash", "codecs", "patterns"] {
         let path = format!(in rt.alloc(); "{folder}/{name}.txt")?;
         let text = fs::read_to_string(&rt, path.as_str()).context(path.as_str())?;
         match compare(rt.alloc(), text.as_str()).context(path.as_str())? {
@@ -117,6 +119,7 @@ fn difference(alloc: Global, line: &Line<'_>) -> Result<Option<(usize, String)>>
     match kind {
         "duplex" => duplex::difference(alloc, spec, line.steps.as_slice()),
         "hash" => hash::difference(alloc, spec, line.steps.as_slice()),
+        "pattern" => first_difference(alloc, Steps::new(alloc), line.steps.as_slice()),
         "codec" => first_difference(alloc, Codecs, line.steps.as_slice()),
         _ => bail!("an unknown challenger"),
     }

@@ -1,3 +1,4 @@
 pub mod Scalar
 pub mod First
+pub mod Demo
 pub mod Program

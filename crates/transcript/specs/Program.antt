@@ -13,7 +13,10 @@ use Rattle.p3_symmetric.specs.declared.sha256.Sha256Hasher.{Sha256Hasher}
 use Rattle.p3_challenger_core.specs.declared.error.ChallengerError.TheVariants as challenger
 use Rattle.p3_fs_core.specs.declared.error.TranscriptError.{TranscriptError}
 use Rattle.p3_fs_core.specs.declared.error.TranscriptError.TheVariants.{MissingBegin, InvalidKind, MismatchedBeginEnd, MissingEnd, BadProofShape, Pattern, Challenger, LabelTooLong, OutOfMemory}
+use Rattle.transcript.specs.declared.program.Request.{Request}
+use Rattle.transcript.specs.declared.program.Request.TheVariants.{First, DemoPattern}
 use Rattle.transcript.specs.First.{IsRun}
+use Rattle.transcript.specs.Demo.{demo_text}
 
 -- a text writes a scalar: decimal digits, with any number of zeros in front
 pub record IsScalarText (text : List ℕ) (x : BabyBear) : Type 0 where
@@ -44,10 +47,20 @@ pub record IsFirstText (x : BabyBear) (text : List ℕ) : Type 0 where
   pub run : IsRun (λ _ message. sha256 message) 32 (record { transcript = absorbing []; hasher = record {} }) x challenge after
   pub text_is : text ≡ lines (wire x) challenge
 
--- a writer that held the old bytes holds those two lines behind them
-pub record WritesFirst (x : BabyBear) (old new : Option (List ℕ)) : Type 0 where
+-- the words of a command line ask for this
+abbrev pub Asks : List (List ℕ) → Request → Type 0
+Asks words (First x) = AsksFirst words x
+Asks words DemoPattern = words ≡ codes "pattern" ∷ []
+
+-- what is printed for it
+abbrev pub Answers : Request → List ℕ → Type 0
+Answers (First x) text = IsFirstText x text
+Answers DemoPattern text = text ≡ demo_text
+
+-- a writer that held the old bytes holds the answer behind them
+pub record Writes (request : Request) (old new : Option (List ℕ)) : Type 0 where
   pub text : List ℕ
-  pub is_first : IsFirstText x text
+  pub answers : Answers request text
   pub appends : Appends old new text
 
 -- why an error refused a run, as the program says it

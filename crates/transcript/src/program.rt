@@ -3,9 +3,10 @@ ghost use Rattle.std.specs.Io.KnownBytes.{Appends};
 ghost use Rattle.std.specs.Str.Parse.{IsNumeral, digits_value};
 ghost use Rattle.transcript.specs.Scalar.{order};
 ghost use Rattle.p3_field.specs.declared.baby_bear.BabyBear.{BabyBear};
-ghost use Rattle.transcript.specs.Program.{IsScalarText, AsksFirst, IsFirstText, lines, WritesFirst, usage_line, out_of_memory_line, reason_of};
+ghost use Rattle.transcript.specs.Program.{IsScalarText, Asks, AsksFirst, Answers, IsFirstText, lines, Writes, usage_line, out_of_memory_line, reason_of};
+ghost use Rattle.transcript.specs.Demo.{demo_text};
 
-use crate::first;
+use crate::{demo, first};
 use p3_challenger::fs::TranscriptError;
 use p3_challenger::{ChallengerError, HashChallenger};
 use p3_field::{BabyBear, PrimeField32, PrimeField64};
@@ -21,18 +22,27 @@ const REFUSED: u8 = 1;
 
 const USAGE: u8 = 2;
 
+/// What a command line asks for.
+#[derive(Clone, Copy, Debug, PartialEq, Eq)]
+pub enum Request {
+    /// To send this scalar and to draw one.
+    First(BabyBear),
+    /// The pattern of the demo protocol.
+    DemoPattern,
+}
+
 /// The whole program: answers the words of its command line, without the program's name, and gives
 /// the exit status: 0 where it is done, 1 where something was refused or a write failed, and 2, with
 /// the usage line, for words that ask for nothing.
 pub fn run<R: Read, W: Write>(alloc: Global, words: &[&str], _reader: &mut R, writer: &mut W) -> u8
     ensures statuses { result ≤ 2 }
-    ensures done { result ≡ 0 → (x : BabyBear) × (AsksFirst (map (λ word. word.now) words.now) x
-        × WritesFirst x (W.contents writer.old) (W.contents writer.new)) }
-    ensures usage { result ≡ 2 → ((x : BabyBear) → AsksFirst (map (λ word. word.now) words.now) x → ⊥)
+    ensures done { result ≡ 0 → (request : Request) × (Asks (map (λ word. word.now) words.now) request
+        × Writes request (W.contents writer.old) (W.contents writer.new)) }
+    ensures usage { result ≡ 2 → ((request : Request) → Asks (map (λ word. word.now) words.now) request → ⊥)
         × Appends (W.contents writer.old) (W.contents writer.new) usage_line }
 {
-    let status = match parse_first(words) {
-        Some(value) => write_first(alloc, value, writer),
+    let status = match parse(words) {
+        Some(request) => write_answer(alloc, request, writer),
         None => write_usage(writer),
     };
     status.unwrap_or(REFUSED)
@@ -66,13 +76,13 @@ fn write_usage<W: Write>(writer: &mut W) -> io::Result<u8>
     Ok(USAGE)
 }
 
-// Runs the first path, and writes its answer.
-fn write_first<W: Write>(alloc: Global, value: BabyBear, writer: &mut W) -> io::Result<u8>
+// Writes what is asked for.
+fn write_answer<W: Write>(alloc: Global, request: Request, writer: &mut W) -> io::Result<u8>
     ensures { IfOk result (λ status.
-        ((status ≡ 0) × WritesFirst value (W.contents writer.old) (W.contents writer.new))
+        ((status ≡ 0) × Writes request (W.contents writer.old) (W.contents writer.new))
         ⊎ ((status ≡ 1) × Appends (W.contents writer.old) (W.contents writer.new) out_of_memory_line)) }
 {
-    match first_text(alloc, value) {
+    match answer(alloc, request) {
         Ok(text) => {
             writer.write_all(text.as_bytes())?;
             Ok(DONE)
@@ -82,6 +92,27 @@ fn write_first<W: Write>(alloc: Global, value: BabyBear, writer: &mut W) -> io::
             Ok(REFUSED)
         }
     }
+}
+
+fn answer(alloc: Global, request: Request) -> Result<String, TranscriptError>
+    ensures ok { IfOk result (λ text. Answers request (string_bytes text)) }
+    ensures err { IfErr result (λ e. e ≡ TranscriptError.OutOfMemory) }
+{
+    match request {
+        Request::First(value) => first_text(alloc, value),
+        Request::DemoPattern => pattern_text(alloc),
+    }
+}
+
+// The text of the demo pattern that is hashed, and its digest.
+fn pattern_text(alloc: Global) -> Result<String, TranscriptError>
+    ensures ok { IfOk result (λ text. string_bytes text ≡ demo_text) }
+    ensures err { IfErr result (λ e. e ≡ TranscriptError.OutOfMemory) }
+{
+    let pattern = demo::pattern(alloc)?;
+    let text = pattern.alternate()?;
+    let digest = hex::encode(alloc, pattern.pattern_hash::<Sha256Hasher>()?)?;
+    Ok(format!(in alloc; "{text}digest {digest}\n")?)
 }
 
 // Sends a scalar, draws one, and verifies the proof.
@@ -109,13 +140,13 @@ fn first_lines(alloc: Global, wire: &[u8], challenge: BabyBear) -> Result<String
     format!(in alloc; "wire {wire}\nchallenge {challenge}\n")
 }
 
-// The scalar of the command `first`, if that is what the words ask for.
-fn parse_first(words: &[&str]) -> Option<BabyBear>
-    ensures some { IfSome result (λ x. AsksFirst (map (λ word. word.now) words.now) x) }
-    ensures none { IfNone result ((x : BabyBear) → AsksFirst (map (λ word. word.now) words.now) x → ⊥) }
+fn parse(words: &[&str]) -> Option<Request>
+    ensures some { IfSome result (λ request. Asks (map (λ word. word.now) words.now) request) }
+    ensures none { IfNone result ((request : Request) → Asks (map (λ word. word.now) words.now) request → ⊥) }
 {
     match words {
-        [name, scalar] if *name == "first" => parse_scalar(scalar),
+        [name] if *name == "pattern" => Some(Request::DemoPattern),
+        [name, scalar] if *name == "first" => Some(Request::First(parse_scalar(scalar)?)),
         _ => None,
     }
 }

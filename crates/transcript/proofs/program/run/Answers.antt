@@ -1,7 +1,7 @@
 use Rattle.std.proofs.Common.{◌≡◌, ◌⊎◌, ℕ, List, Option, subst, inl, inr, arith, sym, ap, ◌∙◌}
 use Rattle.std.specs.Io.KnownBytes.{Appends}
 use Rattle.std.specs.Result.{result_unwrap_or}
-use Rattle.transcript.specs.Program.{WritesFirst, usage_line, out_of_memory_line}
+use Rattle.transcript.specs.Program.{Writes, usage_line, out_of_memory_line}
 use Rattle.transcript.proofs.ProgramLemmas.{answered}
 use Rattle.transcript.proofs.program.run.Goals as goal
 use Rattle.transcript.proofs.program.run.Goals.{in-Some, in-None}
@@ -10,14 +10,14 @@ use Rattle.transcript.proofs.program.run.Goals.{in-Some, in-None}
 pub returns-clause-done : goal.returns-clause-done
 returns-clause-done g c =
     let old = g.W.Write.contents c.args.writer.now in
-    elim c.match-parse_first.branch [
+    elim c.match-parse.branch [
       | in-Some w ↦ λ done.
-          let x = w.in-Some.value in
-          let new = g.W.Write.contents w.write_first-status.new.writer in
-          let P : ℕ → Type 0 = λ status. ((status ≡ 0) × WritesFirst x old new) ⊎ ((status ≡ 1) × Appends old new out_of_memory_line) in
+          let request = w.in-Some.request in
+          let new = g.W.Write.contents w.write_answer-status.new.writer in
+          let P : ℕ → Type 0 = λ status. ((status ≡ 0) × Writes request old new) ⊎ ((status ≡ 1) × Appends old new out_of_memory_line) in
           let status = ap (λ s. result_unwrap_or s 1) (sym w.status-is) ∙ sym c.unwrap_or.ensures ∙ done in
-          elim (answered w.write_first-status.result P 0 w.write_first-status.ensures status (λ e. absurd (omega arith))) [
-            | inl wrote ↦ (x, (w.in-Some.ensures.some, subst (λ (t : Option (List ℕ)). WritesFirst x old t) (ap g.W.Write.contents (sym w.writer-is)) wrote.1))
+          elim (answered w.write_answer-status.result P 0 w.write_answer-status.ensures status (λ e. absurd (omega arith))) [
+            | inl wrote ↦ (request, (w.in-Some.ensures.some, subst (λ (t : Option (List ℕ)). Writes request old t) (ap g.W.Write.contents (sym w.writer-is)) wrote.1))
             | inr refused ↦ absurd (omega arith)
           ]
       | in-None w ↦ λ done.
@@ -32,13 +32,13 @@ returns-clause-done g c =
 pub returns-clause-usage : goal.returns-clause-usage
 returns-clause-usage g c =
     let old = g.W.Write.contents c.args.writer.now in
-    elim c.match-parse_first.branch [
+    elim c.match-parse.branch [
       | in-Some w ↦ λ usage.
-          let x = w.in-Some.value in
-          let new = g.W.Write.contents w.write_first-status.new.writer in
-          let P : ℕ → Type 0 = λ status. ((status ≡ 0) × WritesFirst x old new) ⊎ ((status ≡ 1) × Appends old new out_of_memory_line) in
+          let request = w.in-Some.request in
+          let new = g.W.Write.contents w.write_answer-status.new.writer in
+          let P : ℕ → Type 0 = λ status. ((status ≡ 0) × Writes request old new) ⊎ ((status ≡ 1) × Appends old new out_of_memory_line) in
           let status = ap (λ s. result_unwrap_or s 1) (sym w.status-is) ∙ sym c.unwrap_or.ensures ∙ usage in
-          elim (answered w.write_first-status.result P 2 w.write_first-status.ensures status (λ e. absurd (omega arith))) [
+          elim (answered w.write_answer-status.result P 2 w.write_answer-status.ensures status (λ e. absurd (omega arith))) [
             | inl wrote ↦ absurd (omega arith)
             | inr refused ↦ absurd (omega arith)
           ]
