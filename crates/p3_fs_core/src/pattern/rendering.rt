@@ -83,8 +83,7 @@ fn fits_length(length: Length)
     ensures { FitsLength length }
 {
     match length {
-        Length::None | Length::Scalar => {}
-        Length::Fixed(_) | Length::Bounded(_) => {}
+        Length::None | Length::Scalar | Length::Fixed(_) | Length::Bounded(_) => {}
     }
 }
 
@@ -93,11 +92,14 @@ fn fits_tag(tag: TypeTag)
     ensures { FitsTag tag }
 {
     match tag {
-        TypeTag::Marker | TypeTag::Bytes | TypeTag::Opaque => {}
-        TypeTag::Algebra { degree, basis, .. } => fits_end(degree, basis),
-        TypeTag::BinaryTower { degree, basis, .. } => fits_end(degree, basis),
-        TypeTag::BinaryPolynomial { degree, basis, .. } => fits_end(degree, basis),
-        TypeTag::Bits { .. } | TypeTag::UniformBits { .. } => {}
+        TypeTag::Algebra { degree, basis, .. }
+        | TypeTag::BinaryTower { degree, basis, .. }
+        | TypeTag::BinaryPolynomial { degree, basis, .. } => fits_end(degree, basis),
+        TypeTag::Marker
+        | TypeTag::Bytes
+        | TypeTag::Opaque
+        | TypeTag::Bits { .. }
+        | TypeTag::UniformBits { .. } => {}
     }
 }
 
@@ -105,7 +107,6 @@ fn fits_tag(tag: TypeTag)
 fn fits_end(degree: usize, basis: [u8; 32])
     ensures { IsEnd degree basis }
 {
-    let _bytes: &[u8] = &basis;
 }
 
 // Steps that print below a header, a line each.
