@@ -1,10 +1,14 @@
--- A number's digits in base 16, in two parts.
-use Rattle.std.proofs.Common.{◌≡◌, ℕ, zero, suc, ◌+◌, ◌-◌, ◌*◌, ◌/◌, ◌%◌, ◌^◌, ◌<◌, ◌≤◌, false, List, [], ◌∷◌, ◌++◌, length, replicate, refl, sym, ap, ◌∙◌, inl, inr, lit<, arith, append_assoc, append-nil, eq-eqb, ne_eqb, pow-suc}
+-- A number's digits in base 16, in two parts, and those of bytes.
+use Rattle.std.proofs.Common.{◌≡◌, ℕ, zero, suc, ◌+◌, ◌-◌, ◌*◌, ◌/◌, ◌%◌, ◌^◌, ◌<◌, ◌≤◌, false, List, [], ◌∷◌, ◌++◌, length, replicate, slice_index, refl, sym, ap, ◌∙◌, inl, inr, lit<, arith, append_assoc, append-nil, eq-eqb, ne_eqb, pow-suc}
 use Rattle.std.proofs.lemmas.Bool.{cases_lt}
 use Rattle.std.proofs.lemmas.List.{length-append}
 use Rattle.std.proofs.Math.Nat.{mul_left_comm, mul-pos}
 use Rattle.std.specs.Fmt.{digit_glyph, digits, digits_onto, padded_integral, format_spec, char_count}
-use Rattle.p3_fs_core.specs.StepTexts.{hex_number}
+use Rattle.std.proofs.lemmas.Bool.Decides.{nat_tests}
+use Rattle.std.specs.Str.{IsAscii}
+use Rattle.hex.specs.Hex.{lower_digits, encode_with, encode_lower}
+use Rattle.p3_fs_core.specs.Reading.{AreBytes}
+use Rattle.p3_fs_core.specs.StepTexts.{hex_number, hex_text}
 
 -- the digit of a number below 16
 abbrev glyph : ℕ → ℕ
@@ -166,3 +170,44 @@ hex_number-parts high low some fits small =
     ∙ onto-append 48 high (low_digits 16 low [])
     ∙ ap (λ ds. ds ++ low_digits 16 low []) (onto-room 48 64 high [] (omega arith) (omega (arith, fits)) (omega arith) (omega (arith, fits)))
     ∙ ap (λ ds. onto 64 high [] ++ ds) (sym (sixteen_wide-is low small))
+
+-- ---- the digits of bytes
+
+-- a digit is that of the table
+glyph-of_table : (d : ℕ) → d < 16 → slice_index lower_digits d ≡ glyph d
+glyph-of_table zero fits = refl
+glyph-of_table (suc zero) fits = refl
+glyph-of_table (suc (suc zero)) fits = refl
+glyph-of_table (suc (suc (suc zero))) fits = refl
+glyph-of_table (suc (suc (suc (suc zero)))) fits = refl
+glyph-of_table (suc (suc (suc (suc (suc zero))))) fits = refl
+glyph-of_table (suc (suc (suc (suc (suc (suc zero)))))) fits = refl
+glyph-of_table (suc (suc (suc (suc (suc (suc (suc zero))))))) fits = refl
+glyph-of_table (suc (suc (suc (suc (suc (suc (suc (suc zero)))))))) fits = refl
+glyph-of_table (suc (suc (suc (suc (suc (suc (suc (suc (suc zero))))))))) fits = refl
+glyph-of_table (suc (suc (suc (suc (suc (suc (suc (suc (suc (suc zero)))))))))) fits = refl
+glyph-of_table (suc (suc (suc (suc (suc (suc (suc (suc (suc (suc (suc zero))))))))))) fits = refl
+glyph-of_table (suc (suc (suc (suc (suc (suc (suc (suc (suc (suc (suc (suc zero)))))))))))) fits = refl
+glyph-of_table (suc (suc (suc (suc (suc (suc (suc (suc (suc (suc (suc (suc (suc zero))))))))))))) fits = refl
+glyph-of_table (suc (suc (suc (suc (suc (suc (suc (suc (suc (suc (suc (suc (suc (suc zero)))))))))))))) fits = refl
+glyph-of_table (suc (suc (suc (suc (suc (suc (suc (suc (suc (suc (suc (suc (suc (suc (suc zero))))))))))))))) fits = refl
+glyph-of_table (suc (suc (suc (suc (suc (suc (suc (suc (suc (suc (suc (suc (suc (suc (suc (suc d)))))))))))))))) fits = absurd (omega (arith, fits))
+
+-- a byte's digits in the table are those of its text
+pub hex_text-of_table : (bytes : List ℕ) → AreBytes bytes → encode_lower bytes ≡ hex_text bytes
+unfolding encode_with
+hex_text-of_table [] are = refl
+hex_text-of_table (byte ∷ bytes) are =
+    let fits : byte < 256 = are zero in
+    ap (λ d. d ∷ slice_index lower_digits (byte % 16) ∷ encode_lower bytes) (glyph-of_table (byte / 16) (omega (arith, fits)))
+    ∙ ap (λ d. glyph (byte / 16) ∷ d ∷ encode_lower bytes) (glyph-of_table (byte % 16) (omega arith))
+    ∙ ap (λ ds. glyph (byte / 16) ∷ glyph (byte % 16) ∷ ds) (hex_text-of_table bytes (λ i. are (suc i)))
+
+glyph-ascii : (d : ℕ) → d < 16 → glyph d < 128
+glyph-ascii d fits = grind (arith, nat_tests)
+
+pub hex_text-ascii : (bytes : List ℕ) → AreBytes bytes → IsAscii (hex_text bytes)
+hex_text-ascii [] are i = lit< tt
+hex_text-ascii (byte ∷ bytes) are zero = glyph-ascii (byte / 16) (let fits : byte < 256 = are zero in omega (arith, fits))
+hex_text-ascii (byte ∷ bytes) are (suc zero) = glyph-ascii (byte % 16) (omega arith)
+hex_text-ascii (byte ∷ bytes) are (suc (suc i)) = hex_text-ascii bytes (λ j. are (suc j)) i

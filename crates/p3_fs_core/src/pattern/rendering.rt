@@ -106,8 +106,7 @@ fn fits_tag(tag: TypeTag)
 // A degree fits its type, and a basis is 32 bytes.
 fn fits_end(degree: usize, basis: [u8; 32])
     ensures { IsEnd degree basis }
-{
-}
+{}
 
 // Steps that print below a header, a line each.
 #[derive(Clone, Copy)]

@@ -1,6 +1,7 @@
 //! What a step of an interactive protocol is: where it stands, what it is for, and what it carries.
 
-ghost use Rattle.std.specs.Prelude.{Some};
+ghost use Rattle.std.specs.Prelude.{◌≡◌, Some};
+ghost use Rattle.std.specs.Str.{IsAscii};
 ghost use Rattle.p3_fs_core.specs.StepTexts.{hierarchy_text, kind_text, length_text, type_tag_text, hex_text, hex_number};
 
 use std::fmt;
@@ -176,19 +177,29 @@ impl fmt::Display for TypeTag {
     }
 }
 
-// Bytes that print as two digits each.
+// A digest that prints as two digits for each byte.
 #[derive(Clone, Copy)]
-struct Hex<'a>(&'a [u8]);
+struct Hex<'a>(&'a [u8; 32]);
 
 impl fmt::Display for Hex<'_> {
     ghost output = { λ hex. Some (hex_text hex.0.now) };
 
+    // All digits go out in one write. A formatted write for each byte would take most of the time of printing a
+    // pattern.
     fn fmt<W: fmt::Write>(&self, f: &mut fmt::Formatter<W>) -> fmt::Result {
-        for &byte in self.0 {
-            write!(f, "{byte:02x}")?;
-        }
-        Ok(())
+        let digits = hex_digits(*self.0);
+        f.write_str(str::from_utf8(&digits).unwrap())
     }
+}
+
+// Two digits for each byte.
+fn hex_digits(digest: [u8; 32]) -> [u8; 64]
+    ensures digits { result ≡ hex_text digest }
+    ensures ascii { IsAscii result }
+{
+    let mut digits = [0; 64];
+    hex::encode_to_slice(digest.as_slice(), &mut digits).unwrap();
+    digits
 }
 
 // A number that prints in base 16. The contract of `{:x}` ends at 64 bits, so each half is written by itself.
