@@ -7,6 +7,8 @@ mod interaction;
 mod interaction_tests;
 mod player;
 mod rendering;
+#[cfg(test)]
+mod rendering_tests;
 mod sequence;
 #[cfg(test)]
 mod sequence_tests;

@@ -2,7 +2,6 @@ use Rattle.std.proofs.Common.{rules, ◌≡◌, sym, subst, ◌∙◌}
 use Rattle.std.specs.Str.{IsAscii}
 use Rattle.hex.specs.Hex.{encode_lower}
 use Rattle.p3_fs_core.specs.Reading.{AreBytes}
-use Rattle.p3_fs_core.specs.StepTexts.{hex_text}
 use Rattle.p3_fs_core.proofs.HexDigits.{hex_text-of_table, hex_text-ascii}
 use Rattle.p3_fs_core.proofs.pattern.step.hex_digits.Goals as goal
 

@@ -1,4 +1,4 @@
-use Rattle.std.proofs.Common.{◌≡◌, ◌+◌, ◌-◌, ◌*◌, ◌++◌, length, codes, replicate, if◌then◌else◌, sym, ap, ◌∙◌, rules, arith}
+use Rattle.std.proofs.Common.{◌≡◌, ◌-◌, ◌*◌, ◌++◌, length, codes, replicate, if◌then◌else◌, sym, ap, ◌∙◌, rules}
 use Rattle.std.specs.Fmt.{HasWritten, decimal}
 use Rattle.std.specs.List.{repeat}
 use Rattle.std.proofs.Output.{has_written_append, has_written_of_eq}

@@ -1,4 +1,4 @@
-use Rattle.std.proofs.Common.{rules, ◌≡◌, ◌+◌, ◌≤◌, ◌<◌, ◌++◌, ℕ, List, length, codes, if◌then◌else◌, IsOk, ap, ◌∙◌, arith}
+use Rattle.std.proofs.Common.{rules, ◌+◌, ◌≤◌, ◌++◌, ℕ, List, length, codes, if◌then◌else◌, IsOk, arith}
 use Rattle.std.specs.Fmt.{HasWritten, decimal}
 use Rattle.std.proofs.Output.{has_written_append, has_written_of_eq}
 use Rattle.p3_fs_core.specs.Steps.{Step, plain_text, alternate_text}
