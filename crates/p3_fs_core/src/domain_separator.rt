@@ -83,7 +83,7 @@ impl<U, D> DomainSeparator<U, D> {
     pub fn instance_label(&self) -> &[u8]
         ensures { result.now ≡ self.now.instance_label.items }
     {
-        &self.instance_label
+        self.instance_label.as_slice()
     }
 
     /// The pattern of the protocol.
@@ -181,10 +181,10 @@ impl<U: Unit, D: DigestHasher> DomainSeparator<U, D> {
         let label_len = self.instance_label.len();
         let len = PROTOCOL_ID_LEN + digest.len() + COUNT_LEN + label_len + 1;
         let mut seed = Vec::with_capacity(*self.instance_label.allocator(), len)?;
-        seed.extend_from_slice(&self.protocol_id)?;
+        seed.extend_from_slice(self.protocol_id())?;
         seed.extend_from_slice(&digest)?;
         seed.extend_from_slice(&(label_len as u32).to_be_bytes())?;
-        seed.extend_from_slice(&self.instance_label)?;
+        seed.extend_from_slice(self.instance_label())?;
         seed.push(CLOSING_BYTE)?;
         Ok(seed)
     }
