@@ -3,6 +3,8 @@
 
 mod codecs;
 mod domain_separator;
+#[cfg(test)]
+mod domain_separator_tests;
 mod error;
 mod packing;
 mod pattern;

@@ -1,5 +1,5 @@
 mod alphabets;
-mod challengers;
+pub(crate) mod challengers;
 mod codecs;
 mod extensions;
 mod lengths;
