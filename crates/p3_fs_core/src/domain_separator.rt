@@ -19,9 +19,10 @@ pub const PROTOCOL_ID_LEN: usize = 64;
 // The last byte of a seed.
 const CLOSING_BYTE: u8 = 0x80;
 
-// How many bytes a length is written in, and the greatest length of a label: the greatest that fits.
+// How many bytes a length is written in.
 const COUNT_LEN: usize = 4;
 
+// The greatest length of a label: the greatest that fits in so many bytes.
 const MAX_LABEL_LEN: usize = u32::MAX as usize;
 
 /// What binds a transcript to a protocol, its pattern and the instance.
