@@ -34,72 +34,75 @@ fn main(rt: HostRuntime) -> Result<()> {
     if word.as_str() != "run" {
         return Ok(());
     }
+    // The sums are shown so that nothing of what makes them can be left out.
+    let duplex = bench_duplex(&rt)?;
+    let chain = bench_chain(&rt)?;
+    let patterns = bench_patterns(&rt)?;
+    let steps = bench_steps(&rt)?;
+    println!(rt; "sums: {duplex} {chain} {patterns} {steps}")?;
+    Ok(())
+}
 
+fn bench_duplex(rt: &HostRuntime) -> Result<u64> {
     let mut duplex = Duplex::new(Turn, 1);
-    let start = Instant::now(&rt)?;
+    let start = Instant::now(rt)?;
     duplex_observes(&mut duplex)?;
-    println!(rt;
-        "duplex, an observe: {:.1} ns",
-        per(start.elapsed(&rt)?, OBSERVES)
-    )?;
-    let start = Instant::now(&rt)?;
+    let observe = per(start.elapsed(rt)?, OBSERVES);
+    let start = Instant::now(rt)?;
     let drawn = duplex_draws(&mut duplex)?;
-    println!(rt; "duplex, a draw: {:.1} ns", per(start.elapsed(&rt)?, DRAWS))?;
-    let start = Instant::now(&rt)?;
+    let draw = per(start.elapsed(rt)?, DRAWS);
+    let start = Instant::now(rt)?;
     let turns = duplex_turns(&mut duplex)?;
+    let turn = per(start.elapsed(rt)?, DRAWS);
     println!(rt;
-        "duplex, an observe and a draw in turn: {:.1} ns",
-        per(start.elapsed(&rt)?, DRAWS)
+        "duplex: an observe {observe:.1} ns, a draw {draw:.1} ns, both in turn {turn:.1} ns"
     )?;
+    Ok(drawn.wrapping_add(turns))
+}
 
-    let mut chain = Chain::new(Vec::new(rt.alloc()), Sha256Hasher);
-    let start = Instant::now(&rt)?;
-    chain_observes(&mut chain)?;
-    println!(rt;
-        "hash, a byte alone: {:.1} ns",
-        per(start.elapsed(&rt)?, OBSERVES)
-    )?;
-    let mut chain = Chain::new(Vec::new(rt.alloc()), Sha256Hasher);
-    let start = Instant::now(&rt)?;
-    chain_slices(&mut chain)?;
-    println!(rt;
-        "hash, a byte by slice: {:.1} ns",
-        per(start.elapsed(&rt)?, OBSERVES)
-    )?;
+fn bench_chain(rt: &HostRuntime) -> Result<u64> {
+    let mut alone = Chain::new(Vec::new(rt.alloc()), Sha256Hasher);
+    let start = Instant::now(rt)?;
+    chain_observes(&mut alone)?;
+    let byte = per(start.elapsed(rt)?, OBSERVES);
+    let mut slices = Chain::new(Vec::new(rt.alloc()), Sha256Hasher);
+    let start = Instant::now(rt)?;
+    chain_slices(&mut slices)?;
+    let by_slice = per(start.elapsed(rt)?, OBSERVES);
+    println!(rt; "hash: a byte alone {byte:.1} ns, by slice {by_slice:.1} ns")?;
+    Ok(u64::from(alone.sample()?).wrapping_add(u64::from(slices.sample()?)))
+}
 
-    let mut steps = 0u64;
+fn bench_patterns(rt: &HostRuntime) -> Result<u64> {
+    let mut sum = 0u64;
     for length in [10u32, 100, 1000] {
         let count = STEPS / length;
-        let start = Instant::now(&rt)?;
-        steps = steps.wrapping_add(patterns::recordings(rt.alloc(), length, count)?);
-        let recorded = per(start.elapsed(&rt)?, STEPS);
+        let start = Instant::now(rt)?;
+        sum = sum.wrapping_add(patterns::recordings(rt.alloc(), length, count)?);
+        let recorded = per(start.elapsed(rt)?, STEPS);
         let pattern = patterns::record(rt.alloc(), length)?;
-        let start = Instant::now(&rt)?;
-        steps = steps.wrapping_add(patterns::renderings(&pattern, count)?);
-        let rendered = per(start.elapsed(&rt)?, STEPS);
-        let start = Instant::now(&rt)?;
-        steps = steps.wrapping_add(patterns::digests(&pattern, count)?);
-        let hashed = per(start.elapsed(&rt)?, STEPS);
+        let start = Instant::now(rt)?;
+        sum = sum.wrapping_add(patterns::renderings(&pattern, count)?);
+        let rendered = per(start.elapsed(rt)?, STEPS);
+        let start = Instant::now(rt)?;
+        sum = sum.wrapping_add(patterns::digests(&pattern, count)?);
+        let hashed = per(start.elapsed(rt)?, STEPS);
         println!(rt;
-            "pattern of {length} steps, a step: recorded {recorded:.1} ns, rendered {rendered:.1} ns, rendered and hashed {hashed:.1} ns"
+            "a step of {length}: recorded {recorded:.1} ns, rendered {rendered:.1} ns, rendered and hashed {hashed:.1} ns"
         )?;
     }
-    let start = Instant::now(&rt)?;
-    steps = steps.wrapping_add(patterns::elements(STEPS));
-    println!(rt;
-        "an algebra step: {:.1} ns",
-        per(start.elapsed(&rt)?, STEPS)
-    )?;
-    let start = Instant::now(&rt)?;
-    steps = steps.wrapping_add(patterns::elements_of_one(STEPS));
-    println!(rt;
-        "an algebra step of the same type: {:.1} ns",
-        per(start.elapsed(&rt)?, STEPS)
-    )?;
+    Ok(sum)
+}
 
-    // The draws are shown so that none of them can be left out.
-    println!(rt; "drawn: {drawn} {turns} {} {steps}", chain.sample()?)?;
-    Ok(())
+fn bench_steps(rt: &HostRuntime) -> Result<u64> {
+    let start = Instant::now(rt)?;
+    let made = patterns::elements(STEPS);
+    let step = per(start.elapsed(rt)?, STEPS);
+    let start = Instant::now(rt)?;
+    let alike = patterns::elements_of_one(STEPS);
+    let of_one = per(start.elapsed(rt)?, STEPS);
+    println!(rt; "an algebra step: made {step:.1} ns, made of another one {of_one:.1} ns")?;
+    Ok(made.wrapping_add(alike))
 }
 
 // Nanoseconds for each of so many operations.
