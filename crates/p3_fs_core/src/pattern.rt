@@ -9,10 +9,14 @@ mod player;
 mod rendering;
 #[cfg(test)]
 mod rendering_tests;
+#[cfg(test)]
+mod player_tests;
 mod sequence;
 #[cfg(test)]
 mod sequence_tests;
 mod state;
+#[cfg(test)]
+mod state_tests;
 mod step;
 #[cfg(test)]
 mod tests;
