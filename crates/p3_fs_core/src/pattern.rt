@@ -6,11 +6,11 @@ mod interaction;
 #[cfg(test)]
 mod interaction_tests;
 mod player;
+#[cfg(test)]
+mod player_tests;
 mod rendering;
 #[cfg(test)]
 mod rendering_tests;
-#[cfg(test)]
-mod player_tests;
 mod sequence;
 #[cfg(test)]
 mod sequence_tests;
