@@ -10,6 +10,7 @@ pub mod Recorded
 pub mod PatternGrammarLaws
 pub mod Seeking
 pub mod FirstFaults
+pub mod OneFault
 mod Rendered
 pub mod StepEquality
 pub mod Identifiers

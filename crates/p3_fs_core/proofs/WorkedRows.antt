@@ -1,5 +1,5 @@
 -- Worked rows, computed on the definitions.
-use Rattle.std.proofs.Common.{◌≡◌, ◌%◌, [], ◌∷◌, Ok, Err, codes, refl}
+use Rattle.std.proofs.Common.{◌≡◌, ℕ, ◌%◌, List, [], ◌∷◌, ◌++◌, replicate, Ok, Err, codes, refl, inl, inr}
 use Rattle.std.specs.List.{flat_map}
 use Rattle.std.specs.Fmt.{digits}
 use Rattle.p3_field.specs.BabyBearResidues as baby_bear
@@ -8,10 +8,15 @@ use Rattle.p3_fs_core.specs.BigEndian.{big_endian, in_bytes, bytes_for}
 use Rattle.p3_fs_core.specs.Scalar as scalar
 use Rattle.p3_fs_core.specs.Extension as extension
 use Rattle.p3_fs_core.specs.Packing.{packed, chunk_bytes, first_chunks}
-use Rattle.p3_fs_core.specs.Steps.{Step, plain_text, alternate_text}
+use Rattle.p3_fs_core.specs.Steps.{Step, Closes, plain_text, alternate_text}
+use Rattle.p3_fs_core.specs.Rendering.{rendering}
+use Rattle.p3_fs_core.specs.Seed.{identifier, label_of, seed_bytes}
+use Rattle.p3_fs_core.specs.PatternGrammar.{Allows, IsPattern, nothing, leaf, container, IsViable, IsInnermost, IsFirstFault, missing_begin, invalid_kind, missing_end}
+use Rattle.p3_fs_core.proofs.FirstFaults.{first-missing_begin, first-invalid_kind, first-missing_end}
 use Rattle.p3_fs_core.specs.declared.pattern.step.Hierarchy.{Hierarchy}
 use Rattle.p3_fs_core.specs.declared.pattern.step.Hierarchy.TheVariants.{Atomic, Begin, End}
-use Rattle.p3_fs_core.specs.declared.pattern.step.Kind.TheVariants.{Protocol, Message}
+use Rattle.p3_fs_core.specs.declared.pattern.step.Kind.{Kind}
+use Rattle.p3_fs_core.specs.declared.pattern.step.Kind.TheVariants.{Protocol, Message, Challenge}
 use Rattle.p3_fs_core.specs.declared.pattern.step.Length.TheVariants.{None, Scalar}
 use Rattle.p3_fs_core.specs.declared.pattern.step.TypeTag.TheVariants.{Marker, Opaque}
 
@@ -96,3 +101,68 @@ plain_texts = (refl, refl)
 alternate_texts : (alternate_text (outer End) ≡ codes "End Protocol 5 outer None Marker") × (alternate_text commit ≡ codes "Atomic Message 6 commit Scalar Opaque")
 unfolding digits
 alternate_texts = (refl, refl)
+
+-- ---- the text of a pattern
+
+three : rendering alternate_text (outer Begin ∷ commit ∷ outer End ∷ []) ≡ codes "Plonky3 Fiat-Shamir Transcript (3 interactions)\n0 Begin Protocol 5 outer None Marker\n1   Atomic Message 6 commit Scalar Opaque\n2 End Protocol 5 outer None Marker\n"
+unfolding digits
+three = refl
+
+three_plain : rendering plain_text (outer Begin ∷ commit ∷ outer End ∷ []) ≡ codes "Plonky3 Fiat-Shamir Transcript (3 interactions)\n0 Begin Protocol outer None ()\n1   Atomic Message commit Scalar opaque\n2 End Protocol outer None ()\n"
+unfolding digits
+three_plain = refl
+
+-- a label of three bytes, one of them a newline
+two_lines : Step
+two_lines = record commit { label = codes "a\nb" }
+
+newline : rendering alternate_text (two_lines ∷ []) ≡ codes "Plonky3 Fiat-Shamir Transcript (1 interactions)\n0 Atomic Message 3 a\nb Scalar Opaque\n"
+unfolding digits two_lines
+newline = refl
+
+no_steps : rendering alternate_text [] ≡ codes "Plonky3 Fiat-Shamir Transcript (0 interactions)\n"
+unfolding digits
+no_steps = refl
+
+-- ---- seeds
+
+-- version 7, name p3, one chunk hello
+seeded : (digest : List ℕ) → seed_bytes (identifier 7 (codes "p3")) digest (label_of (codes "hello" ∷ [])) ≡ 7 ∷ 112 ∷ 51 ∷ (replicate 60 0 ++ (2 ∷ (digest ++ (0 ∷ 0 ∷ 0 ∷ 9 ∷ 0 ∷ 0 ∷ 0 ∷ 5 ∷ (codes "hello" ++ (128 ∷ []))))))
+seeded digest = refl
+
+-- ---- first faults
+
+-- a lone closer, at position 0
+lone : IsFirstFault (outer End ∷ []) (missing_begin 0 (outer End))
+lone = first-missing_begin [] [] (outer End) 0 refl ([], nothing Protocol) (nothing Protocol) refl
+
+-- the opener and the closer of a container of messages, and a challenge
+messages : Hierarchy → Step
+messages hierarchy = record (outer hierarchy) { kind = Message }
+
+challenge : Step
+challenge = record (outer Begin) { kind = Challenge }
+
+closed : (kind : Kind) → Closes (record (outer End) { kind = kind }) (record (outer Begin) { kind = kind })
+closed kind =
+    record { ends = refl; begins = refl; kind = refl; label = refl; type_tag = refl; type_name = refl; length = refl }
+
+one_open : (kind : Kind) → IsViable (record (outer Begin) { kind = kind } ∷ [])
+one_open kind =
+    (record (outer End) { kind = kind } ∷ [], container Protocol _ _ [] [] (inl refl) (nothing kind) (closed kind) (nothing Protocol))
+
+-- in a container of messages the opener of one of challenges, at position 1
+foreign : IsFirstFault (messages Begin ∷ challenge ∷ []) (invalid_kind 0 (messages Begin) 1 challenge)
+unfolding messages challenge
+foreign =
+    first-invalid_kind (messages Begin ∷ []) [] challenge 1 0 (messages Begin) refl (one_open Message)
+    (record { before = []; inside = []; split = refl; place = refl; begins = refl; pattern = nothing Message })
+    (λ is. absurd (cc))
+    (λ allowed. elim allowed [ inl is ↦ absurd (cc) | inr is ↦ absurd (cc) ])
+
+-- two openers, of which the second is named
+two_open : IsFirstFault (outer Begin ∷ outer Begin ∷ []) (missing_end 1 (outer Begin))
+two_open =
+    first-missing_end (outer Begin ∷ outer Begin ∷ []) 1 (outer Begin)
+    (outer End ∷ outer End ∷ [], container Protocol _ (outer End) (outer Begin ∷ outer End ∷ []) [] (inl refl) (container Protocol _ (outer End) [] [] (inl refl) (nothing Protocol) (closed Protocol) (nothing Protocol)) (closed Protocol) (nothing Protocol))
+    (record { before = outer Begin ∷ []; inside = []; split = refl; place = refl; begins = refl; pattern = nothing Protocol })

@@ -1,5 +1,5 @@
 // One step of an interactive protocol.
-ghost use Rattle.std.specs.Prelude.{◌≡◌, ◌↔◌, ℕ, Some, codes, IsTrue};
+ghost use Rattle.std.specs.Prelude.{◌≡◌, ◌↔◌, ℕ, true, Some, codes, IsTrue};
 ghost use Rattle.p3_fs_core.specs.Steps.{Step, step_of, Closes, plain_text, alternate_text};
 
 use super::{Hierarchy, Kind, Length, TypeTag};
@@ -246,6 +246,15 @@ impl Interaction {
             && self.type_name == other.type_name
             && self.length == other.length
     }
+
+    /// Two steps compare equal exactly where their six parts are the same, wherever their texts lie. Order and
+    /// hash agree with that, as they do of every type.
+    ///
+    /// A law: the body is empty, and a caller cites the clause.
+    #[tactic(auto, using(crate::proofs::StepEquality::equal_steps))]
+    pub fn compared_by_parts()
+        ensures { (a b : Interaction) → (⟦<Interaction as PartialEq>⟧.eq a b ≡ true ↔ step_of a ≡ step_of b) }
+    {}
 }
 
 impl fmt::Display for Interaction {

@@ -1,7 +1,7 @@
 // The steps of a whole protocol.
-ghost use Rattle.std.specs.Prelude.{◌≡◌, ◌↔◌, [], ◌∷◌, ◌++◌, List, Some, None, map, length, IfOk, IfErr, IfSome, IfNone, OnOk, IsOk, IsTrue};
+ghost use Rattle.std.specs.Prelude.{◌≡◌, ◌↔◌, true, [], ◌∷◌, ◌++◌, List, Some, None, map, length, IfOk, IfErr, IfSome, IfNone, OnOk, IsOk, IsTrue};
 ghost use Rattle.p3_fs_core.specs.Steps.{Step, step_of};
-ghost use Rattle.p3_fs_core.specs.PatternGrammar.{Allows, IsPattern, IsViable, IsInnermost, IsNoneOpen};
+ghost use Rattle.p3_fs_core.specs.PatternGrammar.{Allows, IsPattern, IsViable, IsInnermost, IsNoneOpen, Fault, IsFirstFault};
 ghost use Rattle.p3_fs_core.specs.PatternFaults.{steps_of, NamesFirstFault};
 ghost use Rattle.p3_fs_core.specs.Recording.{NamesMissingEnd};
 
@@ -28,6 +28,8 @@ impl InteractionPattern {
         ensures ok { IfOk result (λ pattern. (pattern.interactions.items ≡ interactions.items) × IsPattern Kind.Protocol (steps_of pattern)) }
         ensures err { IfErr result (λ e. NamesFirstFault (map step_of interactions.items) e) }
         ensures only { IsPattern Kind.Protocol (map step_of interactions.items) → IsOk result }
+        // A list of steps has one first fault at most.
+        ensures one_fault { (steps : List Step) (f g : Fault) → IsFirstFault steps f → IsFirstFault steps g → f ≡ g }
     {
         validate(&interactions)?;
         Ok(InteractionPattern { interactions })
@@ -78,6 +80,15 @@ impl InteractionPattern {
     pub(super) fn allocator(&self) -> Global {
         *self.interactions.allocator()
     }
+
+    /// Two patterns compare equal exactly where they have the same steps. Order and hash agree with that, as
+    /// they do of every type.
+    ///
+    /// A law: the body is empty, and a caller cites the clause.
+    #[tactic(auto, using(crate::proofs::StepEquality::equal_patterns))]
+    pub fn compared_by_steps()
+        ensures { (a b : InteractionPattern) → (⟦<InteractionPattern as PartialEq>⟧.eq a b ≡ true ↔ steps_of a ≡ steps_of b) }
+    {}
 
     /// An equal pattern. The one error is that memory was refused.
     pub fn clone(&self) -> Result<Self, AllocError>

@@ -4,6 +4,7 @@ use Rattle.p3_fs_core.specs.declared.pattern.interaction.Interaction.{Interactio
 use Rattle.p3_fs_core.specs.Steps.{step_of}
 use Rattle.p3_fs_core.specs.PatternGrammar.{IsPattern}
 use Rattle.p3_fs_core.proofs.FirstFaults.{names-no_pattern}
+use Rattle.p3_fs_core.proofs.OneFault.{one_fault}
 use Rattle.p3_fs_core.proofs.pattern.sequence.InteractionPattern.new.Goals as goal
 
 -- steps with a first fault are no pattern
@@ -11,3 +12,9 @@ pub returns-in_err-validate-clause-only : goal.returns-in_err-validate-clause-on
 returns-in_err-validate-clause-only c = λ pattern.
     let lent = subst (λ (xs : List Interaction). IsPattern Protocol (map step_of xs)) (sym c.deref.ensures.value) pattern in
     absurd (names-no_pattern (map step_of c.deref.result.now) c.in_err-validate.field-0.0 c.in_err-validate.ensures.err lent)
+
+pub returns-in_err-validate-clause-one_fault : goal.returns-in_err-validate-clause-one_fault
+returns-in_err-validate-clause-one_fault c = one_fault
+
+pub returns-clause-one_fault : goal.returns-clause-one_fault
+returns-clause-one_fault c = one_fault
