@@ -81,7 +81,7 @@ pub fn elements_of_one(count: u32) -> u64 {
     let first = element();
     let mut sum = 0u64;
     for _ in 0..count {
-        let step = first.same_type(Hierarchy::Atomic, Kind::Message, "value", Length::Scalar);
+        let step = first.of_same_type(Hierarchy::Atomic, Kind::Message, "value", Length::Scalar);
         sum = sum.wrapping_add(step.label().len() as u64);
     }
     sum

@@ -18,11 +18,11 @@ pub record Records (before : Recording) (s : Step) (after : Recording) : Type 0 
   pub viable : IsViable (before.steps ++ (s ∷ []))
   pub recorded : after ≡ record { steps = before.steps ++ (s ∷ []); finished = false }
 
--- why the step may not come behind those: with it they have a fault, the first one of them; or there is no
--- fault, and memory was refused
+-- why the step is refused behind those: no pattern begins with them and this one, and this is their first
+-- fault; or some pattern does, and memory was refused
 abbrev pub FaultOfNext : List Step → Step → TranscriptError → Type 0
 FaultOfNext steps s e =
-    NamesFirstFault (steps ++ (s ∷ [])) e ⊎ (IsViable (steps ++ (s ∷ [])) × (e ≡ OutOfMemory))
+    ((IsViable (steps ++ (s ∷ [])) → ⊥) × NamesFirstFault (steps ++ (s ∷ [])) e) ⊎ (IsViable (steps ++ (s ∷ [])) × (e ≡ OutOfMemory))
 
 -- why the step is refused: one was refused before, or this one may not come next
 abbrev pub FaultOfStep : Recording → Step → TranscriptError → Type 0

@@ -40,7 +40,7 @@ RefusesChunk len (Challenger e) = ⊥
 
 -- the seed: identifier, digest of the pattern, label behind its length, and a last byte
 abbrev pub seed_bytes : List ℕ → List ℕ → List ℕ → List ℕ
-seed_bytes id digest label = id ++ (digest ++ (counted label ++ (0x80 ∷ [])))
+seed_bytes protocol_id digest label = protocol_id ++ (digest ++ (counted label ++ (0x80 ∷ [])))
 
 -- ---- the seed of a separator
 
@@ -59,11 +59,11 @@ seed_of_parts parts = seed_bytes parts.protocol_id parts.digest parts.label
 
 -- what the seed of a protocol's identifier and pattern, and an instance's label, is made of
 abbrev pub parts_of : (List ℕ → List ℕ) → List ℕ → InteractionPattern → List ℕ → SeedParts
-parts_of digest_of id pattern label =
-    record { protocol_id = id; digest = digest_of (rendering alternate_text (steps_of pattern)); label = label }
+parts_of digest_of protocol_id pattern label =
+    record { protocol_id = protocol_id; digest = digest_of (rendering alternate_text (steps_of pattern)); label = label }
 
 abbrev pub seed_of : (List ℕ → List ℕ) → List ℕ → InteractionPattern → List ℕ → List ℕ
-seed_of digest_of id pattern label = seed_of_parts (parts_of digest_of id pattern label)
+seed_of digest_of protocol_id pattern label = seed_of_parts (parts_of digest_of protocol_id pattern label)
 
 -- What a seed that is refused leaves: memory for its bytes was refused, and nothing of it was observed; or
 -- it was too long for the alphabet, and nothing of it was observed; or memory was refused while it was

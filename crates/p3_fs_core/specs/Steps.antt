@@ -40,6 +40,11 @@ pub record Closes (closer opener : Step) : Type 0 where
   pub type_name : closer.type_name ≡ opener.type_name
   pub length : closer.length ≡ opener.length
 
+-- how many values a step of the type carries: a marker carries none
+abbrev pub carried_by : TypeTag → Length → Length
+carried_by Marker length = None
+carried_by tag length = length
+
 -- a step as people read it: with the name of its type
 abbrev pub plain_text : Step → List ℕ
 plain_text s =

@@ -1,7 +1,10 @@
 ghost use Rattle.std.specs.Prelude.{◌≤◌, length};
 
 use crate::tests::challengers::Recorder;
-use crate::{DomainSeparator, FieldUnit, InteractionPattern, TranscriptError};
+use crate::{
+    DomainSeparator, FieldUnit, Hierarchy, Interaction, InteractionPattern, Kind, Length,
+    TranscriptError,
+};
 use p3_challenger_core::{CanObserve, ChallengerError};
 use p3_field::{BabyBear, F257, PrimeCharacteristicRing, PrimeField64};
 use p3_symmetric::Sha256Hasher;
@@ -144,5 +147,24 @@ fn the_longest_name_fills_the_identifier(rt: HostRuntime) -> Result<(), Fail> {
     want[63] = 62;
     assert_eq!(rt; separator.protocol_id(), &want);
     assert!(rt; separator.pattern().is_empty());
+    Ok(())
+}
+
+#[test]
+fn separators_of_other_names_and_patterns_differ(rt: HostRuntime) -> Result<(), Fail> {
+    let first: Separator<u8> = separator(rt.alloc(), 1, b"n")?;
+    let renamed: Separator<u8> = separator(rt.alloc(), 1, b"m")?;
+    let later: Separator<u8> = separator(rt.alloc(), 2, b"n")?;
+    let step = Interaction::bytes(Hierarchy::Atomic, Kind::Message, "m", Length::Fixed(1));
+    let steps = vec![in rt.alloc(); step]?;
+    let with_a_step: Separator<u8> = DomainSeparator::new(
+        rt.alloc(),
+        1,
+        b"n",
+        InteractionPattern::new(steps)?,
+    )?;
+    assert!(rt; first != renamed);
+    assert!(rt; first != later);
+    assert!(rt; first != with_a_step);
     Ok(())
 }

@@ -26,7 +26,7 @@ pub enum TranscriptError {
         /// What is wrong with it.
         reason: &'static str,
     },
-    /// The step is not the one that the pattern has next.
+    /// The step does not fit the pattern that is recorded or played.
     #[error(transparent)]
     Pattern(PatternError),
     /// The challenger refused a call, for another reason than memory.

@@ -46,6 +46,12 @@ pub trait Pattern {
     fn abort(self);
 
     /// Takes a step. It is refused where it may not come next, and no step is taken from then on.
+    ///
+    /// A recorder answers [`TranscriptError::MissingBegin`], [`TranscriptError::InvalidKind`] or
+    /// [`TranscriptError::MismatchedBeginEnd`], and [`TranscriptError::OutOfMemory`] for a step that may come. A
+    /// player answers [`PatternError::NoMoreSteps`](crate::PatternError::NoMoreSteps) or
+    /// [`PatternError::WrongStep`](crate::PatternError::WrongStep). Each answers
+    /// [`PatternError::Finished`](crate::PatternError::Finished) where it refused a step before.
     fn interact(&mut self, interaction: Interaction) -> Result<(), TranscriptError>
         ensures ok { OnOk result (takes self.old (step_of interaction) self.new) }
         ensures err { IfErr result (λ e. refuses self.old (step_of interaction) e self.new) };

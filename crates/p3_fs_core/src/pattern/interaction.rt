@@ -1,6 +1,6 @@
 // One step of an interactive protocol.
 ghost use Rattle.std.specs.Prelude.{◌≡◌, ◌↔◌, ℕ, true, Some, codes, IsTrue};
-ghost use Rattle.p3_fs_core.specs.Steps.{Step, step_of, Closes, plain_text, alternate_text};
+ghost use Rattle.p3_fs_core.specs.Steps.{Step, step_of, Closes, carried_by, plain_text, alternate_text};
 
 use super::{Hierarchy, Kind, Length, TypeTag};
 use crate::TranscriptField;
@@ -73,7 +73,7 @@ impl Interaction {
         }
     }
 
-    /// A step whose value the challenger alone knows how to observe. It carries no name of a type.
+    /// A step whose value the challenger alone knows how to observe. The name of its type is `opaque`.
     pub fn opaque(hierarchy: Hierarchy, kind: Kind, label: Label, length: Length) -> Self
         ensures { step_of result ≡ record {
           hierarchy = hierarchy;
@@ -171,17 +171,27 @@ impl Interaction {
     }
 
     /// A step that carries values of the same type as this one. Nothing is hashed for it, so that many steps of
-    /// one algebra take one digest of its identity.
-    pub fn same_type(&self, hierarchy: Hierarchy, kind: Kind, label: Label, length: Length) -> Self
+    /// one algebra take one digest of its identity. Of a marker it makes a marker, whatever the length.
+    pub fn of_same_type(
+        &self,
+        hierarchy: Hierarchy,
+        kind: Kind,
+        label: Label,
+        length: Length,
+    ) -> Self
         ensures { step_of result ≡ record {
           hierarchy = hierarchy;
           kind = kind;
           label = label.now;
           type_tag = (step_of self.now).type_tag;
           type_name = (step_of self.now).type_name;
-          length = length;
+          length = carried_by (step_of self.now).type_tag length;
         } }
     {
+        let length = match self.type_tag {
+            TypeTag::Marker => Length::None,
+            _ => length,
+        };
         Interaction {
             hierarchy,
             kind,

@@ -122,7 +122,7 @@ fn a_step_of_the_same_type_is_the_one_that_its_constructor_makes(rt: HostRuntime
         "values",
         Length::Bounded(4),
     );
-    let like_it = scalar.same_type(
+    let like_it = scalar.of_same_type(
         Hierarchy::Atomic,
         Kind::Message,
         "values",
@@ -130,7 +130,33 @@ fn a_step_of_the_same_type_is_the_one_that_its_constructor_makes(rt: HostRuntime
     );
     assert_eq!(rt; like_it, values);
     assert_eq!(rt;
-        values.same_type(Hierarchy::Atomic, Kind::Public, "input", Length::Scalar),
+        values.of_same_type(Hierarchy::Atomic, Kind::Public, "input", Length::Scalar),
         scalar
     );
+}
+
+#[test]
+fn steps_are_ordered_part_by_part(rt: HostRuntime) {
+    let steps = [
+        Interaction::bytes(Hierarchy::Atomic, Kind::Public, "a", Length::Fixed(2)),
+        Interaction::bytes(Hierarchy::Atomic, Kind::Message, "a", Length::Fixed(1)),
+        Interaction::bytes(Hierarchy::Atomic, Kind::Message, "a", Length::Fixed(2)),
+        Interaction::opaque(Hierarchy::Atomic, Kind::Message, "a", Length::Fixed(1)),
+        Interaction::bytes(Hierarchy::Atomic, Kind::Message, "ab", Length::Fixed(1)),
+        Interaction::bytes(Hierarchy::Atomic, Kind::Message, "b", Length::None),
+        Interaction::marker::<()>(Hierarchy::Begin, Kind::Protocol, "a"),
+        Interaction::marker::<u8>(Hierarchy::Begin, Kind::Protocol, "a"),
+        Interaction::marker::<()>(Hierarchy::End, Kind::Protocol, "a"),
+    ];
+    for (i, x) in steps.iter().enumerate() {
+        for (j, y) in steps.iter().enumerate() {
+            assert_eq!(rt; x.cmp(y), i.cmp(&j), "{x} and {y}");
+        }
+    }
+}
+
+#[test]
+fn a_marker_of_the_same_type_carries_nothing(rt: HostRuntime) {
+    let closer = opener().of_same_type(Hierarchy::End, Kind::Protocol, "outer", Length::Fixed(3));
+    assert_eq!(rt; closer, self::closer());
 }

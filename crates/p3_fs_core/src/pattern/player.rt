@@ -93,7 +93,7 @@ impl PatternPlayer {
         self.pattern.interactions().get(self.position)
     }
 
-    /// Spends the player. It is well exactly where no step was refused and none is left.
+    /// Spends the player. It answers `Ok` exactly where no step was refused and none is left.
     ///
     /// Else the error is [`PatternError::Finished`] where a step was refused, and [`PatternError::Unplayed`]
     /// with the next step where there is one.

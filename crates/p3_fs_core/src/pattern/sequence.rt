@@ -130,7 +130,8 @@ fn check_end(steps: &[Interaction]) -> Result<(), TranscriptError>
 pub(super) fn check_next(before: &[Interaction], next: Interaction) -> Result<(), TranscriptError>
     requires { IsViable (map step_of before.now) }
     ensures ok { OnOk result (IsViable (map step_of before.now ++ (step_of next ∷ []))) }
-    ensures err { IfErr result (λ e. (rest : List Step) → NamesFirstFault (map step_of before.now ++ (step_of next ∷ rest)) e) }
+    ensures err { IfErr result (λ e. (IsViable (map step_of before.now ++ (step_of next ∷ [])) → ⊥)
+        × ((rest : List Step) → NamesFirstFault (map step_of before.now ++ (step_of next ∷ rest)) e)) }
 {
     let position = before.len();
     let Some((begin_position, begin)) = innermost(before) else {

@@ -16,7 +16,7 @@ use std::marker::{Model, PhantomData};
 ///
 /// A recorder must be spent, by [`finalize`](PatternState::finalize) or [`abort`](Pattern::abort). Once it
 /// refused a step it refuses all.
-#[derive(Debug)]
+#[derive_where(Debug)]
 pub struct PatternState<U> {
     interactions: Vec<Interaction>,
     finished: bool,

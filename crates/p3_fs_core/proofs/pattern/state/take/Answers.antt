@@ -2,6 +2,7 @@ use Rattle.std.proofs.Common.{[], ◌∷◌, ◌++◌, List, map, inl, refl, sub
 use Rattle.std.proofs.lemmas.Result.{err_from_is_err_and}
 use Rattle.p3_fs_core.specs.declared.pattern.interaction.Interaction.{Interaction}
 use Rattle.p3_fs_core.specs.Steps.{step_of}
+use Rattle.p3_fs_core.specs.PatternGrammar.{IsViable}
 use Rattle.p3_fs_core.specs.PatternFaults.{NamesFirstFault}
 use Rattle.p3_fs_core.proofs.pattern.state.take.Goals as goal
 
@@ -9,5 +10,8 @@ pub returns-in_err-check_next-clause-err : goal.returns-in_err-check_next-clause
 returns-in_err-check_next-clause-err c =
     let p = err_from_is_err_and c.from_residual.result c.from_residual.ensures.1 in
     let s = step_of c.args.next in
-    let named = subst (λ (xs : List Interaction). NamesFirstFault (map step_of xs ++ (s ∷ [])) c.in_err-check_next.field-0.0) c.deref.ensures.value (c.in_err-check_next.ensures.err []) in
+    let fault = c.in_err-check_next.ensures.err in
+    let named =
+    subst (λ (xs : List Interaction). (IsViable (map step_of xs ++ (s ∷ [])) → ⊥) × NamesFirstFault (map step_of xs ++ (s ∷ [])) c.in_err-check_next.field-0.0) c.deref.ensures.value
+    (fault.0, fault.1 []) in
     rw (p.1, p.2) (inl named, refl)
