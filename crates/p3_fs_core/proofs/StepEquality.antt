@@ -1,5 +1,5 @@
 -- Interactions compare equal exactly where they are one step.
-use Rattle.std.proofs.Common.{◌≡◌, ◌↔◌, ℕ, Bool, true, false, ◌&&◌, List, [], ◌∷◌, map, Bor, refl, sym, ap, ◌∙◌, rules}
+use Rattle.std.proofs.Common.{◌≡◌, ◌↔◌, ℕ, Bool, true, false, ◌&&◌, List, [], ◌∷◌, map, nat_eq, Bor, refl, sym, ap, ◌∙◌, rules}
 use Rattle.p3_fs_core.specs.declared.pattern.step.Hierarchy.{Hierarchy}
 use Rattle.p3_fs_core.specs.declared.pattern.step.Kind.{Kind}
 use Rattle.p3_fs_core.specs.declared.pattern.step.Length.{Length}
@@ -47,12 +47,16 @@ text-same a b e = search rules
 text-self : (a b : Bor (List ℕ)) → a.now ≡ b.now → texts.ghosts.eq a b ≡ true
 text-self a b e = search rules
 
-both : (a b : Bool) → a && b ≡ true → (a ≡ true) × (b ≡ true)
+-- so do byte strings
+pub bytes-self : (xs ys : List ℕ) → xs ≡ ys → pointwise nat_eq xs ys ≡ true
+bytes-self xs ys e = search rules
+
+pub both : (a b : Bool) → a && b ≡ true → (a ≡ true) × (b ≡ true)
 both true true e = (refl, refl)
 both true false e = absurd (cc)
 both false b e = absurd (cc)
 
-and : (a b : Bool) → a ≡ true → b ≡ true → a && b ≡ true
+pub and : (a b : Bool) → a ≡ true → b ≡ true → a && b ≡ true
 and a b e f = cc
 
 pub same-step : (a b : Interaction) → interactions.ghosts.eq a b ≡ true → step_of b ≡ step_of a
@@ -83,7 +87,7 @@ step-same a b e =
 pub equal_steps : (a b : Interaction) → (interactions.ghosts.eq a b ≡ true ↔ step_of a ≡ step_of b)
 equal_steps a b = (λ e. sym (same-step a b e), λ e. step-same a b (sym e))
 
-same-items : (xs ys : List Interaction) → pointwise interactions.ghosts.eq xs ys ≡ true → map step_of xs ≡ map step_of ys
+pub same-items : (xs ys : List Interaction) → pointwise interactions.ghosts.eq xs ys ≡ true → map step_of xs ≡ map step_of ys
 same-items [] [] e = refl
 same-items [] (y ∷ ys) e = absurd (cc)
 same-items (x ∷ xs) [] e = absurd (cc)
@@ -91,7 +95,7 @@ same-items (x ∷ xs) (y ∷ ys) e =
     let p = both _ _ e in
     ap (λ s. s ∷ map step_of xs) (sym (same-step x y p.0)) ∙ ap (λ rest. step_of y ∷ rest) (same-items xs ys p.1)
 
-items-same : (xs ys : List Interaction) → map step_of xs ≡ map step_of ys → pointwise interactions.ghosts.eq xs ys ≡ true
+pub items-same : (xs ys : List Interaction) → map step_of xs ≡ map step_of ys → pointwise interactions.ghosts.eq xs ys ≡ true
 items-same [] [] e = refl
 items-same [] (y ∷ ys) e = absurd (cc)
 items-same (x ∷ xs) [] e = absurd (cc)

@@ -1,8 +1,9 @@
 // What binds a transcript to a protocol, its pattern and the instance.
-ghost use Rattle.std.specs.Prelude.{◌≡◌, ℕ, ◌+◌, ◌<◌, ◌≤◌, ◌^◌, List, [], ◌∷◌, ◌++◌, length, OnOk, IfOk, IfErr};
+ghost use Rattle.std.specs.Prelude.{◌≡◌, ◌↔◌, ℕ, true, ◌+◌, ◌<◌, ◌≤◌, ◌^◌, List, [], ◌∷◌, ◌++◌, length, OnOk, IfOk, IfErr};
 ghost use Rattle.std.specs.List.{All, flat_map};
 ghost use Rattle.p3_challenger_core.specs.Sponge.{observed_all};
 ghost use Rattle.p3_fs_core.specs.Alphabet.{LeavesItems};
+ghost use Rattle.p3_fs_core.specs.PatternFaults.{steps_of};
 ghost use Rattle.p3_fs_core.specs.Reading.{ReadsOneWayOn};
 ghost use Rattle.p3_fs_core.specs.Seed.{identifier, counted, label_of, FitsCount, RefusesChunk, seed_of, RefusesSeed, AreSeedParts, parts_of, seed_of_parts};
 
@@ -121,6 +122,16 @@ impl<U, D> DomainSeparator<U, D> {
         self.instance_label.extend_from_slice(chunk)?;
         Ok(())
     }
+
+    /// Two separators compare equal exactly where they have one identifier, one label and the same steps.
+    ///
+    /// A law: the body is empty, and a caller cites the clause.
+    pub fn compared_by_parts(&self, other: &Self)
+        ensures { ⟦<DomainSeparator<U, D> as PartialEq>⟧.eq self.now other.now ≡ true ↔ (
+            (self.now.protocol_id ≡ other.now.protocol_id)
+            × (self.now.instance_label.items ≡ other.now.instance_label.items)
+            × (steps_of self.now.pattern.value ≡ steps_of other.now.pattern.value)) }
+    {}
 
     /// An equal separator, which shares the pattern. The one error is that memory was refused.
     pub fn clone(&self) -> Result<Self, AllocError>
