@@ -1,5 +1,5 @@
 // Playing a pattern step by step.
-ghost use Rattle.std.specs.Prelude.{◌≡◌, ◌↔◌, ◌+◌, [], false, Some, length, slice_get, option_copied, IsTrue, IfErr, IfSome, IfNone, OnOk, IsOk};
+ghost use Rattle.std.specs.Prelude.{◌≡◌, ◌↔◌, ◌+◌, [], false, Some, length, slice_get, option_copied, IsTrue, IfErr, OnOk, IsOk};
 ghost use Rattle.p3_fs_core.specs.Steps.{step_of};
 ghost use Rattle.p3_fs_core.specs.PatternFaults.{steps_of};
 ghost use Rattle.p3_fs_core.specs.Playing.{Plays, RefusesToPlay, FaultOfPlay, FaultOfPlayEnd, IsPatternError, IsPlayed, CarriesReceived, CarriesNext, next_step, next_interaction};
@@ -103,42 +103,44 @@ impl PatternPlayer {
         ensures next { IfErr result (λ e. IsPatternError (CarriesNext self) e) }
         ensures only { IsPlayed self → IsOk result }
     {
-        let fault = self.fault_of_end();
+        let checked = self.check_end();
         self.abort();
-        match fault {
-            None => Ok(()),
-            Some(fault) => Err(TranscriptError::Pattern(fault)),
+        match checked {
+            Ok(()) => Ok(()),
+            Err(fault) => Err(TranscriptError::Pattern(fault)),
         }
     }
 
-    // Why the step may not come now.
-    fn fault_of(&self, received: Interaction) -> Option<PatternError>
-        ensures some { IfSome result (λ e. FaultOfPlay self.now (step_of received) e × CarriesReceived received e × CarriesNext self.now e) }
-        ensures none { IfNone result ((self.now.finished ≡ false) × (next_step self.now ≡ Some (step_of received))) }
+    // The step is the next one, and none was refused.
+    fn check(&self, received: Interaction) -> Result<(), PatternError>
+        ensures ok { OnOk result ((self.now.finished ≡ false) × (next_step self.now ≡ Some (step_of received))) }
+        ensures err { IfErr result (λ e. FaultOfPlay self.now (step_of received) e × CarriesReceived received e × CarriesNext self.now e) }
     {
         if self.finished {
-            return Some(PatternError::Finished);
+            return Err(PatternError::Finished);
         }
         let Some(&expected) = self.next_interaction() else {
-            return Some(PatternError::NoMoreSteps { received });
+            return Err(PatternError::NoMoreSteps { received });
         };
         if is_same(&received, &expected) {
-            None
+            Ok(())
         } else {
-            Some(PatternError::WrongStep { received, expected })
+            Err(PatternError::WrongStep { received, expected })
         }
     }
 
-    // Why the pattern is not played to its end.
-    fn fault_of_end(&self) -> Option<PatternError>
-        ensures some { IfSome result (λ e. FaultOfPlayEnd self.now e × CarriesNext self.now e) }
-        ensures none { IfNone result (IsPlayed self.now) }
+    // All steps are taken, and none was refused.
+    fn check_end(&self) -> Result<(), PatternError>
+        ensures ok { OnOk result (IsPlayed self.now) }
+        ensures err { IfErr result (λ e. FaultOfPlayEnd self.now e × CarriesNext self.now e) }
     {
         if self.finished {
-            return Some(PatternError::Finished);
+            return Err(PatternError::Finished);
         }
-        let &expected = self.next_interaction()?;
-        Some(PatternError::Unplayed { expected })
+        match self.next_interaction() {
+            None => Ok(()),
+            Some(&expected) => Err(PatternError::Unplayed { expected }),
+        }
     }
 }
 
@@ -168,12 +170,12 @@ impl Pattern for PatternPlayer {
         ensures received { IfErr result (λ e. IsPatternError (CarriesReceived interaction) e) }
         ensures next { IfErr result (λ e. IsPatternError (CarriesNext self.old) e) }
     {
-        match self.fault_of(interaction) {
-            None => {
+        match self.check(interaction) {
+            Ok(()) => {
                 self.position += 1;
                 Ok(())
             }
-            Some(fault) => {
+            Err(fault) => {
                 self.finished = true;
                 Err(TranscriptError::Pattern(fault))
             }
