@@ -1,6 +1,5 @@
 -- Steps have one first fault at most.
 use Rattle.std.proofs.Common.{◌≡◌, ℕ, ◌⊎◌, List, [], ◌∷◌, ◌++◌, length, refl, sym, ap, subst, ◌∙◌, inl, inr, append_assoc}
-use Rattle.p3_fs_core.specs.declared.pattern.step.Hierarchy.{Hierarchy}
 use Rattle.p3_fs_core.specs.declared.pattern.step.Hierarchy.TheVariants.{End}
 use Rattle.p3_fs_core.specs.declared.pattern.step.Kind.TheVariants.{Protocol}
 use Rattle.p3_fs_core.specs.Steps.{Step}

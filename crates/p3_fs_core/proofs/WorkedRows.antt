@@ -11,7 +11,7 @@ use Rattle.p3_fs_core.specs.Packing.{packed, chunk_bytes, first_chunks}
 use Rattle.p3_fs_core.specs.Steps.{Step, Closes, plain_text, alternate_text}
 use Rattle.p3_fs_core.specs.Rendering.{rendering}
 use Rattle.p3_fs_core.specs.Seed.{identifier, label_of, seed_bytes}
-use Rattle.p3_fs_core.specs.PatternGrammar.{Allows, IsPattern, nothing, leaf, container, IsViable, IsInnermost, IsFirstFault, missing_begin, invalid_kind, missing_end}
+use Rattle.p3_fs_core.specs.PatternGrammar.{nothing, container, IsViable, IsFirstFault, missing_begin, invalid_kind, missing_end}
 use Rattle.p3_fs_core.proofs.FirstFaults.{first-missing_begin, first-invalid_kind, first-missing_end}
 use Rattle.p3_fs_core.specs.declared.pattern.step.Hierarchy.{Hierarchy}
 use Rattle.p3_fs_core.specs.declared.pattern.step.Hierarchy.TheVariants.{Atomic, Begin, End}

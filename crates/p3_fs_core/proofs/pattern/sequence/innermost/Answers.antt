@@ -1,6 +1,5 @@
-use Rattle.std.proofs.Common.{◌≡◌, [], Option, Some, None, ℕ, ◌+◌, ◌-◌, ◌<◌, map, length, take, refl, sym, ap, ◌∙◌, subst, arith}
-use Rattle.std.proofs.Math.Seq.{take-length}
-use Rattle.p3_fs_core.specs.Steps.{Step, step_of}
+use Rattle.std.proofs.Common.{◌≡◌, [], ◌-◌, map, take, sym, ap, ◌∙◌, arith}
+use Rattle.p3_fs_core.specs.Steps.{step_of}
 use Rattle.p3_fs_core.proofs.PatternGrammarLaws.{seek, reversed_onto, seek-some, seek-none}
 use Rattle.p3_fs_core.proofs.Seeking.{past-atomic, past-end, past-begin, at-opener}
 use Rattle.p3_fs_core.proofs.pattern.sequence.innermost.Goals as goal

@@ -1,4 +1,4 @@
-use Rattle.std.proofs.Common.{◌≡◌, ℕ, ◌+◌, ◌≤◌, [], map, length, take}
+use Rattle.std.proofs.Common.{◌≡◌, ◌+◌, ◌≤◌, [], map, length, take}
 use Rattle.p3_fs_core.specs.Steps.{step_of}
 use Rattle.p3_fs_core.proofs.PatternGrammarLaws.{seek, reversed_onto}
 use Rattle.p3_fs_core.proofs.pattern.sequence.innermost.Given as goal

@@ -1,4 +1,4 @@
-use Rattle.std.proofs.Common.{◌≡◌, List, map, sym, subst}
+use Rattle.std.proofs.Common.{List, map, sym, subst}
 use Rattle.p3_fs_core.specs.declared.pattern.step.Kind.TheVariants.{Protocol}
 use Rattle.p3_fs_core.specs.declared.pattern.interaction.Interaction.{Interaction}
 use Rattle.p3_fs_core.specs.Steps.{step_of}
