@@ -81,11 +81,7 @@ fn fits_types(step: &Interaction)
 // The number of a length fits its type.
 fn fits_length(length: Length)
     ensures { FitsLength length }
-{
-    match length {
-        Length::None | Length::Scalar | Length::Fixed(_) | Length::Bounded(_) => {}
-    }
-}
+{}
 
 // The numbers of a tag fit their types.
 fn fits_tag(tag: TypeTag)
