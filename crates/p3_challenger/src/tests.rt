@@ -1,8 +1,12 @@
 // What this crate shows is used by its paths here.
-use crate::fs::{BytesToFieldCodec, Codec, FieldUnit, TranscriptField, Unit};
+use crate::fs::{
+    BytesToFieldCodec, Codec, DomainSeparator, FieldUnit, Pattern, PatternPlayer, PatternState,
+    TranscriptField, Unit,
+};
 use crate::{CanObserve, CanSample, DuplexChallenger, HashChallenger};
 use p3_field::{BabyBear, PrimeCharacteristicRing};
-use p3_symmetric::{Sha256Hasher, Turn};
+use p3_symmetric::{CryptographicHasher, Sha256Hasher, Turn};
+use std::rc::Rc;
 use std::test::Fail;
 
 #[test]
@@ -34,5 +38,37 @@ fn a_seed_is_its_bytes_in_the_field(rt: HostRuntime) -> Result<(), Fail> {
         [4, 197121, 4].map(BabyBear::from_u32).as_slice()
     );
     assert_eq!(rt; by_unit.input(), by_seed.input());
+    Ok(())
+}
+
+#[test]
+fn a_pattern_is_recorded_played_and_seeds_a_challenger(rt: HostRuntime) -> Result<(), Fail> {
+    let mut recorder: PatternState<u8> = PatternState::new(rt.alloc());
+    assert!(rt; recorder.begin_protocol::<()>("outer").is_ok());
+    assert!(rt; recorder.end_protocol::<()>("outer").is_ok());
+    let pattern = recorder.finalize()?;
+    let text = pattern.alternate()?;
+    let mut player = PatternPlayer::new(Rc::new(rt.alloc(), pattern.clone()?)?);
+    assert!(rt; player.begin_protocol::<()>("outer").is_ok());
+    assert!(rt; player.end_protocol::<()>("outer").is_ok());
+    player.finalize()?;
+
+    let separator: DomainSeparator<u8, Sha256Hasher> = DomainSeparator::new(
+        rt.alloc(),
+        1,
+        b"n",
+        pattern,
+    )?;
+    let fresh: HashChallenger<u8, Sha256Hasher, 32> = HashChallenger::new(
+        Vec::new(rt.alloc()),
+        Sha256Hasher,
+    );
+    let mut seeded = fresh.clone()?;
+    separator.seed(&mut seeded)?;
+    let mut by_hand = fresh;
+    by_hand.observe_slice(separator.protocol_id())?;
+    by_hand.observe_slice(&Sha256Hasher.hash_slice(text.as_bytes()))?;
+    by_hand.observe_slice(&[0, 0, 0, 0, 0x80])?;
+    assert_eq!(rt; seeded.input(), by_hand.input());
     Ok(())
 }
