@@ -36,7 +36,7 @@ first-missing_end steps position opener viable is =
     (viable, (λ pattern. pattern-none_open steps pattern position opener is), is)
 
 -- steps with which some pattern begins have fronts with which some pattern begins
-viable-front : (before rest : List Step) (s : Step) → IsPattern Protocol (before ++ (s ∷ rest)) → IsViable (before ++ (s ∷ []))
+pub viable-front : (before rest : List Step) (s : Step) → IsPattern Protocol (before ++ (s ∷ rest)) → IsViable (before ++ (s ∷ []))
 viable-front before rest s pattern = (rest, subst (IsPattern Protocol) (sym (append_assoc before (s ∷ []) rest)) pattern)
 
 stops-no_pattern : (steps : List Step) (position : ℕ) (s : Step) → StopsAt steps position s → IsPattern Protocol steps → ⊥

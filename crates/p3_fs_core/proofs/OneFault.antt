@@ -5,14 +5,12 @@ use Rattle.p3_fs_core.specs.declared.pattern.step.Kind.TheVariants.{Protocol}
 use Rattle.p3_fs_core.specs.Steps.{Step}
 use Rattle.p3_fs_core.specs.PatternGrammar.{IsPattern, IsViable, IsInnermost, IsNoneOpen, StopsAt, Fault, missing_begin, invalid_kind, mismatched_begin_end, missing_end, IsFirstFault}
 use Rattle.p3_fs_core.proofs.PatternGrammarLaws.{only-innermost}
+use Rattle.p3_fs_core.proofs.FirstFaults.{viable-front}
 
 -- steps that begin a pattern begin one up to each of them
 front-viable : (before rest : List Step) (s : Step) → IsViable (before ++ (s ∷ rest)) → IsViable (before ++ (s ∷ []))
 front-viable before rest s viable =
-    let behind = rest ++ viable.0 in
-    let regrouped : (before ++ (s ∷ rest)) ++ viable.0 ≡ (before ++ (s ∷ [])) ++ behind =
-    append_assoc before (s ∷ rest) viable.0 ∙ sym (append_assoc before (s ∷ []) behind) in
-    (behind, subst (IsPattern Protocol) regrouped viable.1)
+    viable-front before (rest ++ viable.0) s (subst (IsPattern Protocol) (append_assoc before (s ∷ rest) viable.0) viable.1)
 
 -- of two steps of a list one is the other, or stands before it
 abbrev Apart : List Step → Step → List Step → Type 0

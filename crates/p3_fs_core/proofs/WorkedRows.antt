@@ -1,5 +1,5 @@
 -- Worked rows, computed on the definitions.
-use Rattle.std.proofs.Common.{◌≡◌, ℕ, ◌%◌, List, [], ◌∷◌, ◌++◌, replicate, Ok, Err, codes, refl, inl, inr}
+use Rattle.std.proofs.Common.{◌≡◌, ℕ, ◌%◌, List, [], ◌∷◌, ◌++◌, replicate, Ok, Err, codes, get_or, refl, ap, inl, inr, arith}
 use Rattle.std.specs.List.{flat_map}
 use Rattle.std.specs.Fmt.{digits}
 use Rattle.p3_field.specs.BabyBearResidues as baby_bear
@@ -11,8 +11,8 @@ use Rattle.p3_fs_core.specs.Packing.{packed, chunk_bytes, first_chunks}
 use Rattle.p3_fs_core.specs.Steps.{Step, Closes, plain_text, alternate_text}
 use Rattle.p3_fs_core.specs.Rendering.{rendering}
 use Rattle.p3_fs_core.specs.Seed.{identifier, label_of, seed_bytes}
-use Rattle.p3_fs_core.specs.PatternGrammar.{nothing, container, IsViable, IsFirstFault, missing_begin, invalid_kind, missing_end}
-use Rattle.p3_fs_core.proofs.FirstFaults.{first-missing_begin, first-invalid_kind, first-missing_end}
+use Rattle.p3_fs_core.specs.PatternGrammar.{nothing, container, IsViable, IsFirstFault, missing_begin, invalid_kind, mismatched_begin_end, missing_end}
+use Rattle.p3_fs_core.proofs.FirstFaults.{first-missing_begin, first-invalid_kind, first-mismatched, first-missing_end}
 use Rattle.p3_fs_core.specs.declared.pattern.step.Hierarchy.{Hierarchy}
 use Rattle.p3_fs_core.specs.declared.pattern.step.Hierarchy.TheVariants.{Atomic, Begin, End}
 use Rattle.p3_fs_core.specs.declared.pattern.step.Kind.{Kind}
@@ -166,3 +166,20 @@ two_open =
     first-missing_end (outer Begin ∷ outer Begin ∷ []) 1 (outer Begin)
     (outer End ∷ outer End ∷ [], container Protocol _ (outer End) (outer Begin ∷ outer End ∷ []) [] (inl refl) (container Protocol _ (outer End) [] [] (inl refl) (nothing Protocol) (closed Protocol) (nothing Protocol)) (closed Protocol) (nothing Protocol))
     (record { before = outer Begin ∷ []; inside = []; split = refl; place = refl; begins = refl; pattern = nothing Protocol })
+
+-- under two openers the inner one is named: a closer of another label, at position 2
+inner : Step
+inner = record (outer Begin) { label = codes "inner" }
+
+under_two : IsViable (outer Begin ∷ inner ∷ [])
+unfolding inner
+under_two =
+    (record (outer End) { label = codes "inner" } ∷ outer End ∷ [], container Protocol _ (outer End) (inner ∷ record (outer End) { label = codes "inner" } ∷ []) [] (inl refl) (container Protocol _ (record (outer End) { label = codes "inner" }) [] [] (inl refl) (nothing Protocol) (record { ends = refl; begins = refl; kind = refl; label = refl; type_tag = refl; type_name = refl; length = refl }) (nothing Protocol)) (closed Protocol) (nothing Protocol))
+
+mismatched : IsFirstFault (outer Begin ∷ inner ∷ outer End ∷ []) (mismatched_begin_end 1 inner 2 (outer End))
+unfolding inner
+mismatched =
+    first-mismatched (outer Begin ∷ inner ∷ []) [] (outer End) 2 1 inner refl under_two
+    (record { before = outer Begin ∷ []; inside = []; split = refl; place = refl; begins = refl; pattern = nothing Protocol })
+    refl
+    (λ closes. let first : 111 ≡ 105 = ap (λ (label : List ℕ). get_or label 0 0) closes.label in absurd (omega (arith, first)))

@@ -60,6 +60,14 @@ take-front k xs ys is = subst (λ (n : ℕ). take n (xs ++ ys) ≡ xs) is (take-
 pub drop-front : {A : Type 0} (k : ℕ) (xs ys : List A) → length xs ≡ k → drop k (xs ++ ys) ≡ ys
 drop-front k xs ys is = subst (λ (n : ℕ). drop n (xs ++ ys) ≡ ys) is (drop-append_seam xs ys)
 
+-- equally long fronts of one list are one, and so is what is behind them
+pub front-one_way : {A : Type 0} (xs ys a b : List A) → length xs ≡ length ys → xs ++ a ≡ ys ++ b → (xs ≡ ys) × (a ≡ b)
+front-one_way xs ys a b same e =
+    let k = length ys in (
+      sym (take-front k xs a same) ∙ ap (take k) e ∙ take-append_seam ys b,
+      sym (drop-front k xs a same) ∙ ap (drop k) e ∙ drop-append_seam ys b,
+    )
+
 -- ---- the number of bytes
 
 -- a front of bytes is bytes

@@ -1,6 +1,7 @@
 -- Laws of the text of steps: the alternate one tells lists of steps apart, but for the names of their types.
 use Rattle.std.proofs.Common.{◌≡◌, ◌↔◌, ℕ, zero, suc, ◌+◌, ◌*◌, ◌≤◌, ◌<◌, ◌^◌, List, [], ◌∷◌, ◌++◌, length, map, replicate, drop, codes, append_assoc, refl, sym, ap, ◌∙◌, lit<, lit≤, arith}
 use Rattle.std.specs.Fmt.{decimal}
+use Rattle.p3_fs_core.specs.BigEndianLaws.{front-one_way}
 use Rattle.p3_fs_core.specs.StepTexts.{hierarchy_text, kind_text, length_text, type_tag_text}
 use Rattle.p3_fs_core.specs.StepTextLaws.{decimal-one_way, hierarchy-one_way, kind-one_way, length-one_way, type_tag-one_way}
 use Rattle.p3_fs_core.specs.Steps.{Step, alternate_text}
@@ -9,16 +10,6 @@ use Rattle.p3_fs_core.specs.declared.pattern.step.Hierarchy.{Hierarchy}
 use Rattle.p3_fs_core.specs.declared.pattern.step.Hierarchy.TheVariants.{Atomic, Begin, End}
 
 -- ---- parts of a text
-
--- equally long lists at the front of one list are one
-front-one_way : (xs ys a b : List ℕ) → length xs ≡ length ys → xs ++ a ≡ ys ++ b → (xs ≡ ys) × (a ≡ b)
-front-one_way [] [] a b same e = (refl, e)
-front-one_way [] (y ∷ ys) a b same e = absurd (omega (arith, same))
-front-one_way (x ∷ xs) [] a b same e = absurd (omega (arith, same))
-front-one_way (x ∷ xs) (y ∷ ys) a b same e =
-    let first : x ≡ y = cc in
-    let others = front-one_way xs ys a b (omega (arith, same)) (cc) in
-    (ap (λ z. z ∷ xs) first ∙ ap (λ zs. y ∷ zs) others.0, others.1)
 
 -- one list at the front of two that are one
 rest-one_way : (xs a b : List ℕ) → xs ++ a ≡ xs ++ b → a ≡ b

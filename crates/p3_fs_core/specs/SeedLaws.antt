@@ -1,19 +1,12 @@
 -- Laws of what binds a transcript.
-use Rattle.std.proofs.Common.{◌≡◌, ℕ, zero, suc, ◌≤◌, ◌<◌, ◌-◌, List, [], ◌∷◌, ◌++◌, length, take, drop, replicate, refl, sym, ap, ◌∙◌, append_assoc, arith}
+use Rattle.std.proofs.Common.{◌≡◌, ℕ, zero, suc, ◌≤◌, ◌<◌, ◌-◌, List, [], ◌∷◌, ◌++◌, length, drop, replicate, refl, sym, ap, ◌∙◌, append_assoc, arith}
 use Rattle.std.specs.List.{All}
 use Rattle.std.proofs.lemmas.List.{append-nil, length-append, length-replicate}
 use Rattle.std.proofs.lemmas.Grind.{flat_map-append}
 use Rattle.p3_fs_core.specs.Reading.{ReadsOneWayOn}
 use Rattle.p3_fs_core.specs.BigEndian.{big_endian, in_bytes}
-use Rattle.p3_fs_core.specs.BigEndianLaws.{length-in_bytes, take-front, drop-front, big_endian-in_bytes}
+use Rattle.p3_fs_core.specs.BigEndianLaws.{length-in_bytes, drop-front, front-one_way, big_endian-in_bytes}
 use Rattle.p3_fs_core.specs.Seed.{identifier, counted, label_of, FitsCount, SeedParts, AreSeedParts, seed_of_parts}
-
--- fronts of one length, and what is behind them
-same_front : (k : ℕ) (xs ys a b : List ℕ) → length xs ≡ k → length ys ≡ k → xs ++ a ≡ ys ++ b → (xs ≡ ys) × (a ≡ b)
-same_front k xs ys a b x_is y_is e =
-    let front : xs ≡ ys = sym (take-front k xs a x_is) ∙ ap (take k) e ∙ take-front k ys b y_is in
-    let behind : a ≡ b = sym (drop-front k xs a x_is) ∙ ap (drop k) e ∙ drop-front k ys b y_is in
-    (front, behind)
 
 -- ---- counted byte strings
 
@@ -21,10 +14,10 @@ same_front k xs ys a b x_is y_is e =
 pub counted_one_way : ReadsOneWayOn FitsCount counted
 counted_one_way x y a b x_fits y_fits e =
     let count = λ (bytes : List ℕ). in_bytes 4 (length bytes) in
-    let counts = same_front 4 (count x) (count y) (x ++ a) (y ++ b) (length-in_bytes 4 (length x)) (length-in_bytes 4 (length y)) (sym (append_assoc (count x) x a) ∙ e ∙ append_assoc (count y) y b) in
+    let counts = front-one_way (count x) (count y) (x ++ a) (y ++ b) (length-in_bytes 4 (length x) ∙ sym (length-in_bytes 4 (length y))) (sym (append_assoc (count x) x a) ∙ e ∙ append_assoc (count y) y b) in
     let as_long : length x ≡ length y =
     sym (big_endian-in_bytes 4 (length x) x_fits) ∙ ap big_endian counts.0 ∙ big_endian-in_bytes 4 (length y) y_fits in
-    same_front (length y) x y a b as_long refl counts.1
+    front-one_way x y a b as_long counts.1
 
 -- ---- labels
 
@@ -70,8 +63,8 @@ pub seed_one_way : ReadsOneWayOn AreSeedParts seed_of_parts
 seed_one_way x y a b x_are y_are e =
     let end : List ℕ = 0x80 ∷ [] in
     let whole = sym (regroup x.protocol_id x.digest (counted x.label) end a) ∙ e ∙ regroup y.protocol_id y.digest (counted y.label) end b in
-    let ids = same_front 64 x.protocol_id y.protocol_id (x.digest ++ (counted x.label ++ (end ++ a))) (y.digest ++ (counted y.label ++ (end ++ b))) x_are.0 y_are.0 whole in
-    let digests = same_front 32 x.digest y.digest (counted x.label ++ (end ++ a)) (counted y.label ++ (end ++ b)) x_are.1 y_are.1 ids.1 in
+    let ids = front-one_way x.protocol_id y.protocol_id (x.digest ++ (counted x.label ++ (end ++ a))) (y.digest ++ (counted y.label ++ (end ++ b))) (x_are.0 ∙ sym y_are.0) whole in
+    let digests = front-one_way x.digest y.digest (counted x.label ++ (end ++ a)) (counted y.label ++ (end ++ b)) (x_are.1 ∙ sym y_are.1) ids.1 in
     let labels = counted_one_way x.label y.label (end ++ a) (end ++ b) x_are.2 y_are.2 digests.1 in
     (same_parts x y ids.0 digests.0 labels.0, ap (drop 1) labels.1)
 
@@ -93,4 +86,4 @@ identifier_one_way v w a b a_short b_short e =
     let as_long : length a ≡ length b = cc in
     let version : v ≡ w = cc in
     let behind = λ (name : List ℕ). replicate (62 - length name) 0 ++ (length name ∷ []) in
-    (version, (same_front (length b) a b (behind a) (behind b) as_long refl rest).0)
+    (version, (front-one_way a b (behind a) (behind b) as_long rest).0)
