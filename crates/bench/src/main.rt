@@ -5,7 +5,7 @@
 mod patterns;
 
 use anyhow::Result;
-use p3_challenger_core::{CanObserve, CanSample, DuplexChallenger, HashChallenger};
+use p3_challenger::{CanObserve, CanSample, DuplexChallenger, HashChallenger};
 use p3_field::{BabyBear, PrimeCharacteristicRing, PrimeField64};
 use p3_symmetric::{Sha256Hasher, Turn};
 use std::env;

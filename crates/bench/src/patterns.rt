@@ -1,10 +1,10 @@
 // How long patterns take.
 use anyhow::Result;
-use p3_field::BabyBear;
-use p3_fs_core::{
+use p3_challenger::fs::{
     Hierarchy, Interaction, InteractionPattern, Kind, Length, Pattern, PatternState,
     TranscriptError,
 };
+use p3_field::BabyBear;
 use p3_symmetric::Sha256Hasher;
 use std::alloc::Global;
 

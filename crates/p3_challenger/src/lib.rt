@@ -1,12 +1,15 @@
 //! Fiat-Shamir challengers: what a prover and a verifier say goes in, and their random challenges
 //! come out, the same for both.
+//!
+//! This crate has no code of its own. It shows the challengers at its root and typed transcripts
+//! under [`fs`], and to those who write contracts all definitions, so that a user names one crate.
 #![tactic(auto)]
 
 pub mod fs;
-#[cfg(test)]
-mod tests;
 
 pub use p3_challenger_core::{
-    CanFinalizeDigest, CanObserve, CanSample, CanSampleBits, ChallengerError, DuplexChallenger,
-    FieldChallenger, HashChallenger, Sponge, sample_array,
+    CanFinalizeDigest, CanObserve, CanSample, CanSampleBits, ChallengerError, FieldChallenger,
+    Sponge, sample_array,
 };
+pub use p3_duplex::DuplexChallenger;
+pub use p3_hash_challenger::HashChallenger;

@@ -2,7 +2,7 @@ ghost use Rattle.std.specs.Prelude.{◌≡◌, ◌-◌, ◌∷◌, Some, OnOk, I
 ghost use Rattle.p3_challenger_core.specs.Sponge.{observed_all, draws, after_draws, LeavesInCalls, RefusesObserve, RefusesDraws};
 
 use crate::{CanObserve, CanSample, CanSampleBits, ChallengerError};
-use p3_field::{Algebra, BasedVectorSpace, Field};
+use p3_field_core::{Algebra, BasedVectorSpace, Field};
 
 /// A challenger of the elements of a field, and of the vector spaces over it.
 pub trait FieldChallenger<F: Field>: CanObserve<F> + CanSample<F> + CanSampleBits<usize> {

@@ -2,7 +2,7 @@
 ghost use Rattle.std.specs.Prelude.{◌≡◌};
 
 use crate::{CanObserve, CanSample, CanSampleBits, ChallengerError, FieldChallenger, Sponge};
-use p3_field::Field;
+use p3_field_core::Field;
 use std::alloc::Global;
 
 impl<C: Sponge> Sponge for &mut C {

@@ -2,7 +2,7 @@
 use Rattle.std.proofs.Common.{◌≡◌, ℕ, ◌<◌, ◌≤◌, ◌+◌, ◌-◌, ◌*◌, ◌^◌, List, ◌++◌, length, take, drop, replicate, sym, ap, ◌∙◌, subst, arith}
 use Rattle.std.proofs.lemmas.Nat.{leading_length}
 use Rattle.std.specs.Int.{div_ceil}
-use Rattle.p3_fs_core.specs.Reading.{AreBytes, ReadsOneWayOn}
+use Rattle.p3_challenger_core.specs.Reading.{AreBytes, ReadsOneWayOn}
 use Rattle.p3_fs_core.specs.BigEndian.{big_endian, in_bytes, bytes_for}
 use Rattle.p3_fs_core.specs.BigEndianLaws.{fits-bytes_for, bytes_for-least, big_endian-in_bytes, big_endian-below, in_bytes-big_endian, length-in_bytes, AreBytes-take, take-front, drop-front}
 use Rattle.std.proofs.lemmas.List.{length-take-le}

@@ -7,7 +7,7 @@ use Rattle.std.specs.Fmt.{digit_glyph, digits, digits_onto, padded_integral, for
 use Rattle.std.proofs.lemmas.Bool.Decides.{nat_tests}
 use Rattle.std.specs.Str.{IsAscii}
 use Rattle.hex.specs.Hex.{lower_digits, encode_with, encode_lower}
-use Rattle.p3_fs_core.specs.Reading.{AreBytes}
+use Rattle.p3_challenger_core.specs.Reading.{AreBytes}
 use Rattle.p3_fs_core.specs.StepTexts.{hex_number, hex_text}
 
 -- the digit of a number below 16

@@ -1,21 +1,17 @@
 -- Interactions compare equal exactly where they are one step.
-use Rattle.std.proofs.Common.{◌≡◌, ◌↔◌, ℕ, Bool, true, false, ◌&&◌, List, [], ◌∷◌, map, nat_eq, Bor, refl, sym, ap, ◌∙◌, rules}
-use Rattle.p3_fs_core.specs.declared.pattern.step.Hierarchy.{Hierarchy}
-use Rattle.p3_fs_core.specs.declared.pattern.step.Kind.{Kind}
-use Rattle.p3_fs_core.specs.declared.pattern.step.Length.{Length}
-use Rattle.p3_fs_core.specs.declared.pattern.step.TypeTag.{TypeTag}
-use Rattle.p3_fs_core.specs.declared.pattern.interaction.Interaction.{Interaction}
+use Rattle.std.proofs.Common.{◌≡◌, ◌↔◌, ℕ, Bool, true, false, ◌&&◌, List, Bor, refl, sym, ap, rules}
+use Rattle.p3_fs_core.specs.declared.step.Hierarchy.{Hierarchy}
+use Rattle.p3_fs_core.specs.declared.step.Kind.{Kind}
+use Rattle.p3_fs_core.specs.declared.step.Length.{Length}
+use Rattle.p3_fs_core.specs.declared.step.TypeTag.{TypeTag}
+use Rattle.p3_fs_core.specs.declared.interaction.Interaction.{Interaction}
 use Rattle.p3_fs_core.specs.Steps.{step_of}
-use Rattle.std.specs.Cmp.Lexicographic.{pointwise}
 use Rattle.std.specs.contracts.prelude.RefStrPartialEq.TheImpl as texts
-use Rattle.p3_fs_core.specs.contracts.pattern.step.HierarchyPartialEq.TheImpl as hierarchies
-use Rattle.p3_fs_core.specs.contracts.pattern.step.KindPartialEq.TheImpl as kinds
-use Rattle.p3_fs_core.specs.contracts.pattern.step.LengthPartialEq.TheImpl as lengths
-use Rattle.p3_fs_core.specs.contracts.pattern.step.TypeTagPartialEq.TheImpl as tags
-use Rattle.p3_fs_core.specs.contracts.pattern.interaction.InteractionPartialEq.TheImpl as interactions
-use Rattle.p3_fs_core.specs.contracts.pattern.sequence.InteractionPatternPartialEq.TheImpl as patterns
-use Rattle.p3_fs_core.specs.declared.pattern.sequence.InteractionPattern.{InteractionPattern}
-use Rattle.p3_fs_core.specs.PatternFaults.{steps_of}
+use Rattle.p3_fs_core.specs.contracts.step.HierarchyPartialEq.TheImpl as hierarchies
+use Rattle.p3_fs_core.specs.contracts.step.KindPartialEq.TheImpl as kinds
+use Rattle.p3_fs_core.specs.contracts.step.LengthPartialEq.TheImpl as lengths
+use Rattle.p3_fs_core.specs.contracts.step.TypeTagPartialEq.TheImpl as tags
+use Rattle.p3_fs_core.specs.contracts.interaction.InteractionPartialEq.TheImpl as interactions
 
 hierarchy-same : (a b : Hierarchy) → hierarchies.ghosts.eq a b ≡ true → a ≡ b
 hierarchy-same a b e = search rules
@@ -46,10 +42,6 @@ text-same a b e = search rules
 
 text-self : (a b : Bor (List ℕ)) → a.now ≡ b.now → texts.ghosts.eq a b ≡ true
 text-self a b e = search rules
-
--- so do byte strings
-pub bytes-self : (xs ys : List ℕ) → xs ≡ ys → pointwise nat_eq xs ys ≡ true
-bytes-self xs ys e = search rules
 
 pub both : (a b : Bool) → a && b ≡ true → (a ≡ true) × (b ≡ true)
 both true true e = (refl, refl)
@@ -86,23 +78,3 @@ step-same a b e =
 
 pub equal_steps : (a b : Interaction) → (interactions.ghosts.eq a b ≡ true ↔ step_of a ≡ step_of b)
 equal_steps a b = (λ e. sym (same-step a b e), λ e. step-same a b (sym e))
-
-pub same-items : (xs ys : List Interaction) → pointwise interactions.ghosts.eq xs ys ≡ true → map step_of xs ≡ map step_of ys
-same-items [] [] e = refl
-same-items [] (y ∷ ys) e = absurd (cc)
-same-items (x ∷ xs) [] e = absurd (cc)
-same-items (x ∷ xs) (y ∷ ys) e =
-    let p = both _ _ e in
-    ap (λ s. s ∷ map step_of xs) (sym (same-step x y p.0)) ∙ ap (λ rest. step_of y ∷ rest) (same-items xs ys p.1)
-
-pub items-same : (xs ys : List Interaction) → map step_of xs ≡ map step_of ys → pointwise interactions.ghosts.eq xs ys ≡ true
-items-same [] [] e = refl
-items-same [] (y ∷ ys) e = absurd (cc)
-items-same (x ∷ xs) [] e = absurd (cc)
-items-same (x ∷ xs) (y ∷ ys) e =
-    let first : step_of x ≡ step_of y = cc in
-    and _ _ (step-same x y (sym first)) (items-same xs ys (cc))
-
-pub equal_patterns : (a b : InteractionPattern) → (patterns.ghosts.eq a b ≡ true ↔ steps_of a ≡ steps_of b)
-equal_patterns a b =
-    (same-items a.interactions.items b.interactions.items, items-same a.interactions.items b.interactions.items)

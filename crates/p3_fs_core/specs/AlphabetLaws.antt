@@ -1,6 +1,6 @@
 -- Laws of the alphabet of bytes.
 use Rattle.std.proofs.Common.{◌≡◌, List, [], ◌∷◌, ◌++◌, inl, inr, refl, sym, ap, ◌∙◌, append-nil}
-use Rattle.p3_fs_core.specs.Reading.{OneBegins}
+use Rattle.p3_challenger_core.specs.Reading.{OneBegins}
 
 behind : {S : Type 0} (c d : S) (a b : List S) → c ≡ d → OneBegins a b → OneBegins (c ∷ a) (d ∷ b)
 behind c d a b same (inl h) = inl (h.0, ap (λ l. c ∷ l) h.1 ∙ ap (λ z. z ∷ b) same)

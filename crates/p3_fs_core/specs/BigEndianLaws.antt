@@ -4,9 +4,9 @@ use Rattle.std.proofs.lemmas.Bool.{cases_lt}
 use Rattle.std.proofs.Math.Nat.{div-add-mod, div-div-eq-div-mul, div-eq_of_lt, div-one, mod-lt, lt-mul-div-succ, zero-add, suc-add}
 use Rattle.std.proofs.lemmas.Nat.{pow_pos, pow-add, be_bytes_8}
 use Rattle.std.proofs.Math.Seq.{take-append_seam, drop-append_seam}
-use Rattle.std.proofs.lemmas.List.{length-append, length-replicate, length-drop, take-replicate, drop_all}
+use Rattle.std.proofs.lemmas.List.{length-append, length-replicate, length-drop, take-replicate, take_all, drop_all}
 use Rattle.std.specs.Int.{w64, byte_at, from_be_bytes}
-use Rattle.p3_fs_core.specs.Reading.{AreBytes}
+use Rattle.p3_challenger_core.specs.Reading.{AreBytes}
 use Rattle.p3_fs_core.specs.BigEndian.{big_endian, big_endian_after, in_bytes, bytes_for}
 
 -- ---- the bytes of a number
@@ -199,3 +199,13 @@ pub drop-word : (width n : ℕ) → width ≤ 8 → drop (8 - width) (in_bytes 8
 drop-word width n small =
     let split : 8 ≡ 8 - width + width = omega arith in
     ap (λ k. drop (8 - width) (in_bytes k n)) split ∙ drop-in_bytes (8 - width) width n
+
+-- the end of a machine word that has a number of fewer bytes
+pub word_end : (width k n m : ℕ) (word : List ℕ) → k ≡ width → k ≤ 8 → m ≡ n → word ≡ in_bytes 8 m → take (8 - (8 - k)) (drop (8 - k) word) ≡ in_bytes width n
+word_end width k n m word same small number is =
+    let end : drop (8 - k) word ≡ in_bytes k m = ap (drop (8 - k)) is ∙ drop-word k m small in
+    let whole : length (in_bytes k m) ≤ 8 - (8 - k) = omega (arith, length-in_bytes k m) in
+    ap (take (8 - (8 - k))) end
+    ∙ take_all (8 - (8 - k)) (in_bytes k m) whole
+    ∙ ap (λ w. in_bytes w m) same
+    ∙ ap (in_bytes width) number

@@ -1,7 +1,7 @@
 -- A byte string as elements of a field: its length, and then its bytes in chunks.
 use Rattle.std.specs.Prelude.{ℕ, zero, suc, ◌+◌, ◌-◌, ◌*◌, ◌/◌, ◌<◌, List, [], ◌∷◌, length, map, take, drop}
-use Rattle.p3_field.specs.Residues.{Residues}
-use Rattle.p3_fs_core.specs.Reading.{AreBytes}
+use Rattle.p3_field_core.specs.Residues.{Residues}
+use Rattle.p3_challenger_core.specs.Reading.{AreBytes}
 
 -- the number that bytes are, the lowest first
 abbrev pub little_endian : List ℕ → ℕ

@@ -5,9 +5,9 @@ use Rattle.std.proofs.lemmas.Nat.{pow-add, le_bytes_8}
 use Rattle.std.proofs.lemmas.List.{take-append-drop, take_all, drop_all, drop-replicate, length-append, length-replicate, length-take, length-drop, nil_from_length}
 use Rattle.std.proofs.lemmas.Bool.{cases_lt}
 use Rattle.std.specs.Int.{w64, byte_at, bytes_low_first, from_le_bytes}
-use Rattle.p3_field.specs.Residues.{Residues, IsResidues}
-use Rattle.p3_field.specs.ResidueLaws.{of-injective}
-use Rattle.p3_fs_core.specs.Reading.{ReadsOneWayOn, OneBegins, AreBytes}
+use Rattle.p3_field_core.specs.Residues.{Residues, IsResidues}
+use Rattle.p3_field_core.specs.ResidueLaws.{of-injective}
+use Rattle.p3_challenger_core.specs.Reading.{ReadsOneWayOn, OneBegins, AreBytes}
 use Rattle.p3_fs_core.specs.BigEndianLaws.{AreBytes-take, AreBytes-drop, one_more, take-front, drop-front, power_of_bytes}
 use Rattle.p3_fs_core.specs.AlphabetLaws.{begins_itself}
 use Rattle.p3_fs_core.specs.Packing.{little_endian, chunk_bytes, chunk_count, first_chunks, chunks, packed, IsPackable}

@@ -1,7 +1,7 @@
 -- An element of a prime field in the proof: its canonical number, the highest byte first, in as few bytes
 -- as the order needs.
 use Rattle.std.specs.Prelude.{ℕ, List, length, take, drop, codes, nat_lt, Result, Ok, Err, if◌then◌else◌}
-use Rattle.p3_field.specs.Residues.{Residues}
+use Rattle.p3_field_core.specs.Residues.{Residues}
 use Rattle.p3_fs_core.specs.BigEndian.{big_endian, in_bytes}
 
 -- the one spelling of an element

@@ -2,9 +2,9 @@
 use Rattle.std.proofs.Common.{◌≡◌, ℕ, ◌<◌, ◌≤◌, ◌*◌, ◌^◌, List, ◌++◌, length, take, drop, Bool, true, false, nat_lt, if◌then◌else◌, Result, Ok, Err, refl, sym, ap, ◌∙◌, inl, inr, pow_mono, arith}
 use Rattle.std.proofs.lemmas.Bool.Decides.{nat_tests}
 use Rattle.std.proofs.lemmas.List.{take-append-drop, length-take-le, length-append}
-use Rattle.p3_field.specs.Residues.{Residues, IsResidues}
-use Rattle.p3_field.specs.ResidueLaws.{number_of-below}
-use Rattle.p3_fs_core.specs.Reading.{ReadsOneWay, AreBytes}
+use Rattle.p3_field_core.specs.Residues.{Residues, IsResidues}
+use Rattle.p3_field_core.specs.ResidueLaws.{number_of-below}
+use Rattle.p3_challenger_core.specs.Reading.{ReadsOneWay, AreBytes}
 use Rattle.std.proofs.lemmas.Bool.{cases_lt}
 use Rattle.p3_fs_core.specs.BigEndian.{big_endian, in_bytes, bytes_for}
 use Rattle.p3_fs_core.specs.BigEndianLaws.{big_endian-in_bytes, in_bytes-big_endian, length-in_bytes, AreBytes-take, take-front, drop-front, fits-bytes_for}

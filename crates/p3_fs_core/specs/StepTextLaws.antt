@@ -6,17 +6,17 @@ use Rattle.std.proofs.lemmas.Fmt.{digits_is_IsNumeral}
 use Rattle.std.specs.Char.{digit_value}
 use Rattle.std.specs.Fmt.{decimal, digits, digit_glyph}
 use Rattle.std.specs.Str.Parse.{AllDigits, digits_value}
-use Rattle.p3_fs_core.specs.Reading.{ReadsOneWay, ReadsOneWayOn, IsByte, AreBytes}
+use Rattle.p3_challenger_core.specs.Reading.{ReadsOneWay, ReadsOneWayOn, IsByte, AreBytes}
 use Rattle.p3_fs_core.specs.StepTexts.{hierarchy_text, kind_text, length_text, hex_number, hex_text, hex_byte_text, algebra_end, type_tag_text}
-use Rattle.p3_fs_core.specs.declared.pattern.step.Hierarchy.{Hierarchy}
-use Rattle.p3_fs_core.specs.declared.pattern.step.Hierarchy.TheVariants.{Atomic, Begin, End}
-use Rattle.p3_fs_core.specs.declared.pattern.step.Kind.{Kind}
-use Rattle.p3_fs_core.specs.declared.pattern.step.Kind.TheVariants.{Protocol, Public, Message, Hint, Challenge, Pow, Salt}
-use Rattle.p3_fs_core.specs.declared.pattern.step.Length.{Length}
-use Rattle.p3_fs_core.specs.declared.pattern.step.Length.TheVariants.{None, Scalar, Fixed, Bounded}
-use Rattle.p3_fs_core.specs.declared.pattern.step.TypeTag.{TypeTag}
-use Rattle.p3_fs_core.specs.declared.pattern.step.TypeTag.TheVariants.{Marker, Bytes, Algebra, BinaryTower, BinaryPolynomial, Opaque, Bits, UniformBits}
-use Rattle.p3_fs_core.specs.SymbolLaws.{bytes-one_way}
+use Rattle.p3_fs_core.specs.declared.step.Hierarchy.{Hierarchy}
+use Rattle.p3_fs_core.specs.declared.step.Hierarchy.TheVariants.{Atomic, Begin, End}
+use Rattle.p3_fs_core.specs.declared.step.Kind.{Kind}
+use Rattle.p3_fs_core.specs.declared.step.Kind.TheVariants.{Protocol, Public, Message, Hint, Challenge, Pow, Salt}
+use Rattle.p3_fs_core.specs.declared.step.Length.{Length}
+use Rattle.p3_fs_core.specs.declared.step.Length.TheVariants.{None, Scalar, Fixed, Bounded}
+use Rattle.p3_fs_core.specs.declared.step.TypeTag.{TypeTag}
+use Rattle.p3_fs_core.specs.declared.step.TypeTag.TheVariants.{Marker, Bytes, Algebra, BinaryTower, BinaryPolynomial, Opaque, Bits, UniformBits}
+use Rattle.p3_challenger_core.specs.SymbolLaws.{bytes-one_way}
 
 -- ---- numbers
 

@@ -2,14 +2,14 @@
 use Rattle.std.specs.Prelude.{ℕ, ◌/◌, ◌%◌, false, List, [], ◌∷◌, ◌++◌, codes}
 use Rattle.std.specs.List.{flat_map}
 use Rattle.std.specs.Fmt.{decimal, digits, digit_glyph}
-use Rattle.p3_fs_core.specs.declared.pattern.step.Hierarchy.{Hierarchy}
-use Rattle.p3_fs_core.specs.declared.pattern.step.Hierarchy.TheVariants.{Atomic, Begin, End}
-use Rattle.p3_fs_core.specs.declared.pattern.step.Kind.{Kind}
-use Rattle.p3_fs_core.specs.declared.pattern.step.Kind.TheVariants.{Protocol, Public, Message, Hint, Challenge, Pow, Salt}
-use Rattle.p3_fs_core.specs.declared.pattern.step.Length.{Length}
-use Rattle.p3_fs_core.specs.declared.pattern.step.Length.TheVariants.{None, Scalar, Fixed, Bounded}
-use Rattle.p3_fs_core.specs.declared.pattern.step.TypeTag.{TypeTag}
-use Rattle.p3_fs_core.specs.declared.pattern.step.TypeTag.TheVariants.{Marker, Bytes, Algebra, BinaryTower, BinaryPolynomial, Opaque, Bits, UniformBits}
+use Rattle.p3_fs_core.specs.declared.step.Hierarchy.{Hierarchy}
+use Rattle.p3_fs_core.specs.declared.step.Hierarchy.TheVariants.{Atomic, Begin, End}
+use Rattle.p3_fs_core.specs.declared.step.Kind.{Kind}
+use Rattle.p3_fs_core.specs.declared.step.Kind.TheVariants.{Protocol, Public, Message, Hint, Challenge, Pow, Salt}
+use Rattle.p3_fs_core.specs.declared.step.Length.{Length}
+use Rattle.p3_fs_core.specs.declared.step.Length.TheVariants.{None, Scalar, Fixed, Bounded}
+use Rattle.p3_fs_core.specs.declared.step.TypeTag.{TypeTag}
+use Rattle.p3_fs_core.specs.declared.step.TypeTag.TheVariants.{Marker, Bytes, Algebra, BinaryTower, BinaryPolynomial, Opaque, Bits, UniformBits}
 
 abbrev pub hierarchy_text : Hierarchy → List ℕ
 hierarchy_text Atomic = codes "Atomic"

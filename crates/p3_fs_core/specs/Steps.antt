@@ -1,14 +1,14 @@
 -- Steps of an interactive protocol, as contracts see them.
 use Rattle.std.specs.Prelude.{◌≡◌, ℕ, List, ◌++◌, length, codes}
 use Rattle.std.specs.Fmt.{decimal}
-use Rattle.p3_fs_core.specs.declared.pattern.step.Hierarchy.{Hierarchy}
-use Rattle.p3_fs_core.specs.declared.pattern.step.Hierarchy.TheVariants.{Begin, End}
-use Rattle.p3_fs_core.specs.declared.pattern.step.Kind.{Kind}
-use Rattle.p3_fs_core.specs.declared.pattern.step.Length.{Length}
-use Rattle.p3_fs_core.specs.declared.pattern.step.Length.TheVariants.{None}
-use Rattle.p3_fs_core.specs.declared.pattern.step.TypeTag.{TypeTag}
-use Rattle.p3_fs_core.specs.declared.pattern.step.TypeTag.TheVariants.{Marker}
-use Rattle.p3_fs_core.specs.declared.pattern.interaction.Interaction.{Interaction}
+use Rattle.p3_fs_core.specs.declared.step.Hierarchy.{Hierarchy}
+use Rattle.p3_fs_core.specs.declared.step.Hierarchy.TheVariants.{Begin, End}
+use Rattle.p3_fs_core.specs.declared.step.Kind.{Kind}
+use Rattle.p3_fs_core.specs.declared.step.Length.{Length}
+use Rattle.p3_fs_core.specs.declared.step.Length.TheVariants.{None}
+use Rattle.p3_fs_core.specs.declared.step.TypeTag.{TypeTag}
+use Rattle.p3_fs_core.specs.declared.step.TypeTag.TheVariants.{Marker}
+use Rattle.p3_fs_core.specs.declared.interaction.Interaction.{Interaction}
 use Rattle.p3_fs_core.specs.StepTexts.{hierarchy_text, kind_text, length_text, type_tag_text}
 
 -- what a step is: six things, of which two are texts

@@ -126,7 +126,7 @@ pub enum PatternError {
 
 impl From<ChallengerError> for TranscriptError {
     ghost use Rattle.std.specs.Prelude.{◌≡◌};
-    ghost use Rattle.p3_fs_core.specs.TranscriptError.{transcript_error};
+    ghost use Rattle.p3_fs_core.specs.Errors.{transcript_error};
 
     ghost from_gives = { λ error e. e ≡ transcript_error error };
 

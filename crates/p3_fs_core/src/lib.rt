@@ -1,31 +1,22 @@
-//! Typed transcripts: how values become symbols for the sponge and bytes in the proof.
+//! What typed transcripts are made of: steps and their types, why a step is refused, and how elements of
+//! fields, byte strings and counts are spelled.
 #![tactic(auto)]
 
-mod codecs;
-mod domain_separator;
-#[cfg(test)]
-mod domain_separator_tests;
+mod big_endian;
+mod decode_field;
 mod error;
+mod interaction;
+mod length_prefix;
+mod little_endian;
 mod packing;
-mod pattern;
-#[cfg(test)]
-mod tests;
+mod step;
 mod transcript_field;
-mod unit;
 
-pub use codecs::{
-    BytesToFieldCodec, Codec, EXTRA_BYTES, ExtensionFieldCodec, FieldToFieldCodec,
-    MIN_CHALLENGE_SECURITY_BITS, ScalarCodec, bound_byte_width, counts_read_one_way, decode_len_be,
-    duplex_elements_read_one_way, encode_len_be, hash_values_read_one_way,
-};
-pub use domain_separator::{DomainSeparator, PROTOCOL_ID_LEN};
 pub use error::{
     InvalidKindInfo, MismatchedBeginEndInfo, MissingBeginInfo, MissingEndInfo, PatternError,
     TranscriptError,
 };
-pub use pattern::{
-    Hierarchy, Interaction, InteractionPattern, Kind, Label, Length, Pattern, PatternPlayer,
-    PatternState, TypeTag,
-};
+pub use interaction::{Alternate, Interaction, Label};
+pub use length_prefix::{bound_byte_width, counts_read_one_way, decode_len_be, encode_len_be};
+pub use step::{Hierarchy, Kind, Length, TypeTag};
 pub use transcript_field::TranscriptField;
-pub use unit::{FieldUnit, Unit};

@@ -3,9 +3,9 @@ ghost use Rattle.std.specs.Prelude.{◌≡◌, ◌<◌, ◌≤◌, [], ◌∷◌
 ghost use Rattle.p3_challenger_core.specs.Sponge.{observed_all, LeavesInCalls, RefusesObserve};
 ghost use Rattle.p3_fs_core.specs.Packing.{packed, chunk_bytes};
 
-use crate::codecs::number_of_chunk;
+use crate::little_endian::number_of_chunk;
 use p3_challenger_core::{CanObserve, ChallengerError};
-use p3_field::PrimeField64;
+use p3_field_core::PrimeField64;
 
 // How many bytes a chunk has.
 fn bytes_per_element<F: PrimeField64>() -> usize

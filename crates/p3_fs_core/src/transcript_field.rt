@@ -3,15 +3,15 @@ ghost use Rattle.p3_challenger_core.specs.Sponge.{observed_all, LeavesInCalls};
 ghost use Rattle.p3_fs_core.specs.Alphabet.{RefusesBytes};
 ghost use Rattle.p3_fs_core.specs.BigEndian.{bytes_for};
 ghost use Rattle.p3_fs_core.specs.Packing.{packed, chunk_bytes};
-ghost use Rattle.p3_fs_core.specs.Reading.{ReadsOneWay, AreBytes};
+ghost use Rattle.p3_challenger_core.specs.Reading.{ReadsOneWay, AreBytes};
 ghost use Rattle.p3_fs_core.specs.Scalar.{wire, read};
-ghost use Rattle.p3_fs_core.specs.TranscriptError.{Decodes};
+ghost use Rattle.p3_fs_core.specs.Errors.{Decodes};
 
-use crate::codecs::{decode_field_be_canonical, encode_field_be, field_byte_size};
+use crate::decode_field::{decode_field_be_canonical, encode_field_be, field_byte_size};
 use crate::packing::observe_packed;
 use crate::{TranscriptError, TypeTag};
 use p3_challenger_core::{CanObserve, ChallengerError};
-use p3_field::PrimeField64;
+use p3_field_core::PrimeField64;
 
 /// A field whose elements stand in a transcript: each has one spelling in the proof, its canonical
 /// number with the highest byte first, in as few bytes as the order needs.
@@ -56,9 +56,10 @@ pub trait TranscriptField: PrimeField64 {
         observe_packed(challenger, bytes)
     }
 
-    /// How many bytes an element takes in the proof.
+    /// How many bytes an element takes in the proof: at most 8.
     final fn wire_len() -> usize
-        ensures { result ≡ bytes_for Self.bit_length }
+        ensures width { result ≡ bytes_for Self.bit_length }
+        ensures most { result ≤ 8 }
     {
         field_byte_size::<Self>()
     }

@@ -1,7 +1,7 @@
 -- A permutation for tests: the cells turn round, and each gets its place and one added.
 use Rattle.std.specs.Prelude.{ℕ, ◌+◌, ◌%◌, List, map, slice_index_or}
 use Rattle.std.specs.List.{range_with_len}
-use Rattle.p3_field.specs.Residues.{Residues, plus}
+use Rattle.p3_field_core.specs.Residues.{Residues, plus}
 
 -- cell i after a turn by k places; past the last one, the element 0 is turned
 abbrev pub turned_cell : {F : Type 0} → Residues F → ℕ → ℕ → List F → ℕ → F

@@ -7,8 +7,6 @@ mod hasher;
 mod merkle_cap;
 mod permutation;
 mod sha256;
-#[cfg(test)]
-mod tests;
 mod turn;
 
 pub use digest_hasher::DigestHasher;

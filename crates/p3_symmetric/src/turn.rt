@@ -1,9 +1,9 @@
 ghost use Rattle.std.specs.Prelude.{◌≡◌, ◌<◌, ◌+◌, ◌%◌};
-ghost use Rattle.p3_field.specs.Residues.{plus};
+ghost use Rattle.p3_field_core.specs.Residues.{plus};
 ghost use Rattle.p3_symmetric.specs.Turn.{turned};
 
 use crate::CryptographicPermutation;
-use p3_field::{PrimeCharacteristicRing, PrimeField64};
+use p3_field_core::{PrimeCharacteristicRing, PrimeField64};
 
 /// A permutation for tests, of no strength at all: the cells turn round by `K` places, and cell `i`
 /// gets `i + 1` added.

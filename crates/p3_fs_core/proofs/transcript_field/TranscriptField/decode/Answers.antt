@@ -3,7 +3,7 @@ use Rattle.p3_fs_core.specs.BigEndian.{bytes_for}
 use Rattle.p3_fs_core.specs.Scalar.{wire, read}
 use Rattle.p3_fs_core.specs.ScalarLaws.{read-wire, read-only, length-wire, order-fits}
 use Rattle.p3_fs_core.specs.BigEndianLaws.{drop-front}
-use Rattle.p3_fs_core.proofs.Decoding.{decoded-found, decoded-only}
+use Rattle.p3_fs_core.specs.DecodingLaws.{decoded-found, decoded-only}
 use Rattle.p3_fs_core.proofs.transcript_field.TranscriptField.decode.Goals as goal
 
 pub returns-clause-found : goal.returns-clause-found

@@ -1,7 +1,7 @@
 use Rattle.std.proofs.Common.{◌≡◌, subst}
 use Rattle.std.specs.Result.{OnOk}
 use Rattle.p3_fs_core.specs.Packing.{packed, chunk_bytes}
-use Rattle.p3_fs_core.specs.SymbolLaws.{element-fed, all-fed, every-fed}
+use Rattle.p3_challenger_core.specs.SymbolLaws.{element-fed, all-fed, every-fed}
 use Rattle.p3_fs_core.proofs.transcript_field.TranscriptField.observe_seed.Goals as goal
 
 pub returns-clause-fed : goal.returns-clause-fed

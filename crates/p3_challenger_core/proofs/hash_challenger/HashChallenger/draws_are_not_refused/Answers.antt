@@ -1,8 +1,0 @@
-use Rattle.p3_challenger_core.specs.HashState.{sampled, after_sampled}
-use Rattle.p3_challenger_core.specs.SpongeLaws.{draws-not_refused}
-use Rattle.p3_challenger_core.proofs.hash_challenger.HashChallenger.draws_are_not_refused.Goals as goal
-
-pub returns : goal.returns
-returns g c =
-    let hash = g.H.CryptographicHasher.hash in
-    draws-not_refused (sampled hash g.row.OUT_LEN) (after_sampled hash g.row.OUT_LEN)

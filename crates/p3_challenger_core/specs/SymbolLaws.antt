@@ -1,0 +1,102 @@
+-- Laws of what values feed a challenger.
+use Rattle.std.proofs.Common.{◌≡◌, ℕ, zero, suc, ◌<◌, ◌⊎◌, inl, inr, lit<, List, [], ◌∷◌, ◌++◌, length, refl, sym, ap, ◌∙◌, append_assoc, arith}
+use Rattle.std.specs.List.{flat_map}
+use Rattle.p3_field_core.specs.Residues.{Residues, IsResidues}
+use Rattle.p3_field_core.specs.ResidueLaws.{of-injective}
+use Rattle.p3_challenger_core.specs.Sponge.{IsNonEmpty, observed_all}
+use Rattle.p3_challenger_core.specs.Reading.{ReadsOneWay, ReadsOneWayOn, IsByte, AreBytes}
+
+-- ---- one value
+
+empty_or_not : {S : Type 0} (xs : List S) → (xs ≡ []) ⊎ IsNonEmpty xs
+empty_or_not [] = inl refl
+empty_or_not (x ∷ xs) = inr tt
+
+module _ {T S : Type 0} (IsValue : T → Type 0) (spelling : T → List S) (one_way : ReadsOneWayOn IsValue spelling) where
+  -- a value that feeds nothing is every value
+  only_value : (x y : T) → IsValue x → IsValue y → spelling x ≡ [] → x ≡ y
+  only_value x y x_is y_is empty =
+      (one_way x y (spelling y ++ []) [] x_is y_is (ap (λ a. a ++ (spelling y ++ [])) empty)).0
+
+  -- so each feeds something, where two differ
+  pub one_way-non_empty : (x y z : T) → IsValue x → IsValue y → IsValue z → (y ≡ z → ⊥) → IsNonEmpty (spelling x)
+  one_way-non_empty x y z x_is y_is z_is differ = elim (empty_or_not (spelling x)) [
+    | inl empty ↦ absurd (differ (sym (only_value x y x_is y_is empty) ∙ only_value x z x_is z_is empty))
+    | inr some ↦ some
+  ]
+
+-- an element of a field is what it feeds, where elements are fed in one way
+module _ {F S Symbol : Type 0} (r : Residues F) (laws : IsResidues r) (symbols : F → List Symbol) (one_way : ReadsOneWay symbols) (observed : S → F → S) (fed : S → List Symbol → S) (feeds : (s : S) (x : F) → IsNonEmpty (symbols x) → observed s x ≡ fed s (symbols x)) where
+  zero_is_not_one : r.of 0 ≡ r.of 1 → ⊥
+  zero_is_not_one same =
+      let positive : 0 < r.order = omega (arith, laws.above_one) in
+      let equal : 0 ≡ 1 = of-injective r laws 0 1 positive laws.above_one same in
+      absurd (omega (arith, equal))
+
+  pub element-fed : (s : S) (x : F) → observed s x ≡ fed s (symbols x)
+  element-fed s x =
+      feeds s x (one_way-non_empty (λ _. Unit {0}) symbols (λ y z a b _ _ e. one_way y z a b e) x (r.of 0) (r.of 1) tt tt tt zero_is_not_one)
+
+-- so is a byte
+module _ {S Symbol : Type 0} (symbols : ℕ → List Symbol) (one_way : ReadsOneWayOn IsByte symbols) (observed : S → ℕ → S) (fed : S → List Symbol → S) (feeds : (s : S) (x : ℕ) → IsNonEmpty (symbols x) → observed s x ≡ fed s (symbols x)) where
+  pub byte-fed : (s : S) (byte : ℕ) → IsByte byte → observed s byte ≡ fed s (symbols byte)
+  byte-fed s byte is = feeds s byte (one_way-non_empty IsByte symbols one_way byte 0 1 is (lit< tt) (lit< tt) (λ e. cc))
+
+-- values that are symbols read one way
+pub one_symbol_each : {T : Type 0} → ReadsOneWay {T = T} (λ x. x ∷ [])
+one_symbol_each {T} x y a b e =
+    let same : ◌≡◌ {A = T × List T} (x, a) (y, b) = cc in
+    (ap (λ p. p.0) same, ap (λ p. p.1) same)
+
+-- ---- values in a row
+
+module _ {S T Symbol : Type 0} (observed : S → T → S) (fed : S → List Symbol → S) (symbols : T → List Symbol) (fed_nothing : (s : S) → fed s [] ≡ s) (fed_more : (s : S) (a b : List Symbol) → fed (fed s a) b ≡ fed s (a ++ b)) where
+  -- each of them is what it feeds
+  abbrev pub AreFed : List T → Type 0
+  AreFed [] = Unit {0}
+  AreFed (x ∷ xs) = ((s : S) → observed s x ≡ fed s (symbols x)) × AreFed xs
+
+  -- values in a row are what they feed in a row
+  pub all-fed : (s : S) (xs : List T) → AreFed xs → observed_all observed s xs ≡ fed s (flat_map symbols xs)
+  all-fed s [] each = sym (fed_nothing s)
+  all-fed s (x ∷ xs) each =
+      ap (λ t. observed_all observed t xs) (each.0 s)
+      ∙ all-fed (fed s (symbols x)) xs each.1
+      ∙ fed_more s (symbols x) (flat_map symbols xs)
+
+  pub every-fed : ((s : S) (x : T) → observed s x ≡ fed s (symbols x)) → (xs : List T) → AreFed xs
+  every-fed each [] = tt
+  every-fed each (x ∷ xs) = (λ s. each s x, every-fed each xs)
+
+pub bytes-fed : {S Symbol : Type 0} (observed : S → ℕ → S) (fed : S → List Symbol → S) (symbols : ℕ → List Symbol) (fed_nothing : (s : S) → fed s [] ≡ s) (fed_more : (s : S) (a b : List Symbol) → fed (fed s a) b ≡ fed s (a ++ b)) → ((s : S) (byte : ℕ) → IsByte byte → observed s byte ≡ fed s (symbols byte)) → (bytes : List ℕ) → AreBytes bytes → AreFed observed fed symbols fed_nothing fed_more bytes
+bytes-fed observed fed symbols fed_nothing fed_more each [] h = tt
+bytes-fed observed fed symbols fed_nothing fed_more each (byte ∷ bytes) h = (
+  λ s. each s byte (h zero),
+  bytes-fed observed fed symbols fed_nothing fed_more each bytes (λ i. h (suc i)),
+)
+
+-- as many values in a row read one way, where each does
+module _ {T S : Type 0} (spelling : T → List S) where
+  behind_one : (x : T) (xs : List T) (a : List S) → flat_map spelling (x ∷ xs) ++ a ≡ spelling x ++ (flat_map spelling xs ++ a)
+  behind_one x xs a = append_assoc (spelling x) (flat_map spelling xs) a
+
+  pub row-one_way : ReadsOneWay spelling → (xs ys : List T) (a b : List S) → length xs ≡ length ys → flat_map spelling xs ++ a ≡ flat_map spelling ys ++ b → (xs ≡ ys) × (a ≡ b)
+  row-one_way one_way [] [] a b same e = (refl, e)
+  row-one_way one_way [] (y ∷ ys) a b same e = absurd (omega (arith, same))
+  row-one_way one_way (x ∷ xs) [] a b same e = absurd (omega (arith, same))
+  row-one_way one_way (x ∷ xs) (y ∷ ys) a b same e =
+      let first = one_way x y (flat_map spelling xs ++ a) (flat_map spelling ys ++ b) (sym (behind_one x xs a) ∙ e ∙ behind_one y ys b) in
+      let fewer : length xs ≡ length ys = omega (arith, same) in
+      let others = row-one_way one_way xs ys a b fewer first.1 in
+      (ap (λ z. z ∷ xs) first.0 ∙ ap (λ zs. y ∷ zs) others.0, others.1)
+
+-- bytes too
+pub bytes-one_way : {S : Type 0} (symbols : ℕ → List S) → ReadsOneWayOn IsByte symbols → (xs ys : List ℕ) (a b : List S) → AreBytes xs → AreBytes ys → length xs ≡ length ys → flat_map symbols xs ++ a ≡ flat_map symbols ys ++ b → (xs ≡ ys) × (a ≡ b)
+bytes-one_way symbols one_way [] [] a b x_are y_are same e = (refl, e)
+bytes-one_way symbols one_way [] (y ∷ ys) a b x_are y_are same e = absurd (omega (arith, same))
+bytes-one_way symbols one_way (x ∷ xs) [] a b x_are y_are same e = absurd (omega (arith, same))
+bytes-one_way symbols one_way (x ∷ xs) (y ∷ ys) a b x_are y_are same e =
+    let first = one_way x y (flat_map symbols xs ++ a) (flat_map symbols ys ++ b) (x_are zero) (y_are zero) (sym (behind_one symbols x xs a) ∙ e ∙ behind_one symbols y ys b) in
+    let fewer : length xs ≡ length ys = omega (arith, same) in
+    let others = bytes-one_way symbols one_way xs ys a b (λ i. x_are (suc i)) (λ i. y_are (suc i)) fewer first.1 in
+    (ap (λ z. z ∷ xs) first.0 ∙ ap (λ zs. y ∷ zs) others.0, others.1)

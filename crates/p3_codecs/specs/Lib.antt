@@ -1,0 +1,4 @@
+pub mod BytesToField
+pub mod BytesToFieldLaws
+pub mod Extension
+pub mod ExtensionLaws

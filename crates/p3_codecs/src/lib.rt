@@ -1,0 +1,14 @@
+//! How values become symbols for the sponge and bytes in the proof: the alphabets and the codecs.
+#![tactic(auto)]
+
+mod bytes_to_field;
+mod codec;
+mod extension;
+mod field_to_field;
+mod unit;
+
+pub use bytes_to_field::{BytesToFieldCodec, EXTRA_BYTES};
+pub use codec::{Codec, MIN_CHALLENGE_SECURITY_BITS, ScalarCodec};
+pub use extension::ExtensionFieldCodec;
+pub use field_to_field::FieldToFieldCodec;
+pub use unit::{FieldUnit, Unit};

@@ -1,0 +1,131 @@
+ghost use Rattle.std.specs.Prelude.{◌≡◌, ℕ, ◌<◌, ◌≤◌, List, [], ◌∷◌, ◌++◌, length, flat_map, OnOk, IfErr};
+ghost use Rattle.p3_challenger_core.specs.Sponge.{observed_all, LeavesInCalls, RefusesObserve};
+ghost use Rattle.p3_challenger_core.specs.Reading.{AreBytes, IsByte, OneBegins, ReadsOneWayOn};
+ghost use Rattle.p3_fs_core.specs.Packing.{packed, chunk_bytes, IsPackable};
+ghost use Rattle.p3_fs_core.specs.Alphabet.{RefusesBytes, LeavesItems};
+
+use p3_challenger_core::{CanObserve, ChallengerError};
+use p3_field_core::PrimeField64;
+use p3_fs_core::TranscriptField;
+use std::marker::PhantomData;
+
+/// An alphabet of a sponge: how a byte string becomes its symbols.
+///
+/// It owes that byte strings which begin one list of items begin one another: so those of one length, and
+/// those of which none begins another, are told apart.
+pub trait Unit {
+    /// What the sponge observes.
+    type Item;
+
+    // The condition under which this is an alphabet.
+    ghost is_alphabet: { Type 0 };
+
+    // What a byte string is in this alphabet, and the lengths that are too long for it.
+    ghost items: { List ℕ → List Self.Item };
+
+    ghost is_too_long: { ℕ → Type 0 };
+
+    // What is an item: a number is a byte only where it is below 256.
+    ghost is_item: { Self.Item → Type 0 };
+
+    /// Observes a byte string. [`FieldUnit`] asks for a field of more than 256 elements.
+    ///
+    /// The errors are [`ChallengerError::TooLong`], with nothing absorbed, and
+    /// [`ChallengerError::OutOfMemory`], which leaves what the refused observe of the challenger leaves, and
+    /// the items before it observed.
+    fn observe_bytes<C: CanObserve<Self::Item>>(
+        challenger: &mut C,
+        bytes: &[u8],
+    ) -> Result<(), ChallengerError>
+        requires { is_alphabet }
+        ensures ok { OnOk result ((is_too_long (length bytes.now) → ⊥)
+            × (C.state challenger.new ≡ observed_all C.observed (C.state challenger.old) (items bytes.now))) }
+        ensures err { IfErr result (λ e. RefusesBytes (is_too_long (length bytes.now))
+            (LeavesItems C.observed C.may_leave (C.state challenger.old) (items bytes.now))
+            (C.state challenger.old) e (C.state challenger.new)) }
+        // What is observed is what the items feed, where the challenger feeds each in one way.
+        ensures fed { ReadsOneWayOn is_item C.symbols → OnOk result (C.state challenger.new
+            ≡ C.fed (C.state challenger.old) (flat_map C.symbols (items bytes.now))) };
+
+    // Byte strings that begin one list of items begin one another. So byte strings of one length, and all
+    // those of which none begins another, read one way.
+    ghost begins: { is_alphabet → (a b : List ℕ) (x y : List Self.Item) → AreBytes a → AreBytes b
+        → (is_too_long (length a) → ⊥) → (is_too_long (length b) → ⊥)
+        → items a ++ x ≡ items b ++ y → OneBegins a b };
+}
+
+impl Unit for u8 {
+    ghost use Rattle.p3_fs_core.specs.AlphabetLaws.{one_begins};
+
+    type Item = u8;
+
+    ghost is_alphabet = { Unit {0} };
+
+    ghost items = { λ bytes. bytes };
+
+    // A byte sponge takes every byte string as it is.
+    ghost is_too_long = { λ _. ⊥ };
+
+    ghost is_item = { IsByte };
+
+    ghost begins = { λ _ a b x y _ _ _ _ e. one_begins a b x y e };
+
+    fn observe_bytes<C: CanObserve<u8>>(
+        challenger: &mut C,
+        bytes: &[u8],
+    ) -> Result<(), ChallengerError>
+        ensures ok { OnOk result (C.state challenger.new ≡ observed_all C.observed (C.state challenger.old) bytes.now) }
+        // What is left is what one slice may leave.
+        ensures err { IfErr result (λ e.
+            RefusesObserve (C.may_leave (C.state challenger.old) bytes.now) e (C.state challenger.new)) }
+        ensures fed { ReadsOneWayOn IsByte C.symbols → OnOk result (C.state challenger.new
+            ≡ C.fed (C.state challenger.old) (flat_map C.symbols bytes.now)) }
+    {
+        challenger.observe_slice(bytes)
+    }
+}
+
+/// The alphabet of a sponge of field elements, of a field of more than 256 elements.
+///
+/// A byte string is its length, and then its bytes in chunks of `(bits - 1) / 8` bytes, `bits` being the bit
+/// length of the order: so many bytes are surely a number below it. A chunk is that number, the lowest byte
+/// first; the last one may be shorter.
+#[derive(Clone, Copy, Debug, Default, PartialEq, Eq, PartialOrd, Ord, Hash)]
+pub struct FieldUnit<F>(PhantomData<F>);
+
+impl<F: PrimeField64> Unit for FieldUnit<F> {
+    ghost use Rattle.p3_fs_core.specs.PackingLaws.{packed-begins};
+
+    type Item = F;
+
+    ghost is_alphabet = { 256 < F.residues.order };
+
+    ghost items = { packed F.residues (chunk_bytes F.bit_length) };
+
+    // The length is an element too.
+    ghost is_too_long = { λ len. F.residues.order ≤ len };
+
+    ghost is_item = { λ _. Unit {0} };
+
+    ghost begins = { packed-begins F.residues F.are_residues F.bit_length F.bits_below F.bits_least };
+
+    fn observe_bytes<C: CanObserve<F>>(
+        challenger: &mut C,
+        bytes: &[u8],
+    ) -> Result<(), ChallengerError>
+        requires { 256 < F.residues.order }
+        ensures ok { OnOk result ((F.residues.order ≤ length bytes.now → ⊥)
+            × (C.state challenger.new ≡ observed_all C.observed (C.state challenger.old)
+            (packed F.residues (chunk_bytes F.bit_length) bytes.now))) }
+        ensures err { IfErr result (λ e. RefusesBytes (F.residues.order ≤ length bytes.now)
+            (LeavesInCalls C.observed (λ s x t. C.may_leave s (x ∷ []) t) (C.state challenger.old)
+            (packed F.residues (chunk_bytes F.bit_length) bytes.now))
+            (C.state challenger.old) e (C.state challenger.new)) }
+        ensures fed { ReadsOneWayOn (λ _. Unit {0}) C.symbols → OnOk result (C.state challenger.new
+            ≡ C.fed (C.state challenger.old) (flat_map C.symbols (packed F.residues (chunk_bytes F.bit_length) bytes.now))) }
+        // Whatever follows, the elements of a byte string that is short enough read one way.
+        ensures one_way { ReadsOneWayOn (IsPackable F.residues) (packed F.residues (chunk_bytes F.bit_length)) }
+    {
+        F::observe_seed(challenger, bytes)
+    }
+}

@@ -1,0 +1,4 @@
+pub mod Drawing
+pub mod DuplexChains
+pub mod Overwriting
+pub mod Pushing

@@ -1,0 +1,18 @@
+use Rattle.std.proofs.Common.{◌≡◌, length, take, subst, arith}
+use Rattle.std.proofs.lemmas.List.{length-take-le}
+use Rattle.p3_duplex.specs.DuplexTranscript.{DuplexSponge}
+use Rattle.p3_duplex.specs.DuplexState.{Duplex}
+use Rattle.p3_duplex.proofs.DuplexChains.{Fits, run_calls-segments}
+use Rattle.p3_duplex.proofs.duplex_challenger.DuplexChallenger.follows_duplex_transcript.Goals as goal
+
+-- a challenger keeps what the transcript asks of its sponge
+pub returns : goal.returns
+returns g c =
+    let rate = g.row.RATE in
+    let inside = c.self.inside in
+    let keeps = c.self.invariant in
+    let long : length (take inside.inputs inside.input_buffer) ≡ inside.inputs = length-take-le inside.inputs inside.input_buffer (omega (arith, c.self.told2)) in
+    let sponge : DuplexSponge g.row.F.Denot = record { cells = inside.sponge_state; pending = take inside.inputs inside.input_buffer; outputs_left = inside.outputs_left } in
+    let inside_fits : Fits rate sponge = record { short = omega (arith, long); left = keeps.left; none_left = λ more. keeps.none_left (omega (arith, long, more)) } in
+    let fits : Fits rate c.args.self.now.sponge = subst (λ (d : Duplex g.row.F.Denot g.row.P.Denot). Fits rate d.sponge) c.self.view_is inside_fits in
+    run_calls-segments g.F.PrimeCharacteristicRing.residues (g.P.CryptographicPermutation.permutation c.args.self.now.permutation) rate keeps.positive c.args.self.now.sponge fits

@@ -1,0 +1,4 @@
+pub mod DuplexChain
+pub mod DuplexState
+pub mod DuplexStateLaws
+pub mod DuplexTranscript

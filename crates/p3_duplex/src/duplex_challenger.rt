@@ -1,0 +1,413 @@
+ghost use Rattle.std.specs.Prelude.{◌≡◌, ◌<◌, ◌≤◌, ℕ, List, Some, length, replicate, take};
+ghost use Rattle.p3_field_core.specs.Residues.{plus};
+ghost use Rattle.p3_duplex.specs.DuplexChain.{Call, run_calls, run_segments, segments};
+ghost use Rattle.p3_duplex.specs.DuplexTranscript.{absorbing, overwritten, fresh, outputs};
+ghost use Rattle.p3_challenger_core.specs.Sponge.{RefusesDraws};
+ghost use Rattle.p3_challenger_core.specs.declared.error.ChallengerError.{ChallengerError};
+
+mod bits;
+mod digests;
+
+use p3_challenger_core::{CanFinalizeDigest, CanObserve, CanSample, ChallengerError, Sponge};
+use p3_field_core::{BasedVectorSpace, PrimeCharacteristicRing, PrimeField64};
+use p3_symmetric::CryptographicPermutation;
+use std::marker::Model;
+
+/// A challenger made of a permutation of `WIDTH` cells, of which the first `RATE` are the rate.
+///
+/// What is observed is pending until it fills the rate, or until a draw finds no output left. Then it
+/// is absorbed: its values are written over the rate with zeros behind them, their number is added to
+/// the cell behind the rate, and the cells are permuted. The cells of the rate are then the outputs,
+/// drawn from the last one backwards. An observation drops the outputs left, and a draw that finds
+/// none, and nothing pending, permutes the cells.
+///
+/// No call but [`sample_vec`](CanSample::sample_vec) takes memory, and no other is refused.
+#[derive(Debug, Drop)]
+pub struct DuplexChallenger<F, P, const WIDTH: usize, const RATE: usize> {
+    sponge_state: [F; WIDTH],
+    // Its first `inputs` places are what is pending; the others are of no meaning.
+    input_buffer: [F; RATE],
+    inputs: usize,
+    // How many outputs are left to draw: the first cells of the rate.
+    outputs_left: usize,
+    permutation: P,
+    draw_limit: u64,
+}
+
+impl<F, P, const WIDTH: usize, const RATE: usize> Model for DuplexChallenger<F, P, WIDTH, RATE> {
+    ghost use Rattle.std.specs.Prelude.{take};
+    ghost use Rattle.p3_duplex.specs.DuplexState.{Duplex, KeepsRate};
+
+    ghost Value = { Duplex F P };
+
+    ghost view = { λ c. record {
+      sponge = record {
+        cells = c.sponge_state;
+        pending = take c.inputs c.input_buffer;
+        outputs_left = c.outputs_left;
+      };
+      permutation = c.permutation;
+      draw_limit = c.draw_limit;
+    } };
+
+    ghost invariant = { λ c. KeepsRate WIDTH RATE c.inputs c.outputs_left c.draw_limit };
+}
+
+impl<
+    F: PrimeField64,
+    P: CryptographicPermutation<[F; WIDTH]>,
+    const WIDTH: usize,
+    const RATE: usize,
+> DuplexChallenger<F, P, WIDTH, RATE> {
+    ghost use Rattle.p3_duplex.specs.DuplexState as duplex_state;
+
+    /// A challenger of zeros, with nothing pending and no output.
+    ///
+    /// `draw_limit` is for draws that may refuse candidates: how many they take at most. A draw of one
+    /// element takes the first.
+    pub fn new(permutation: P, draw_limit: u64) -> Self
+        requires rate { 0 < RATE }
+        requires capacity { RATE < WIDTH }
+        requires count { RATE ≤ 255 }
+        requires draws { 1 ≤ draw_limit }
+        ensures { result ≡ record {
+          sponge = fresh F.residues WIDTH;
+          permutation = permutation;
+          draw_limit = draw_limit;
+        } }
+    {
+        DuplexChallenger {
+            sponge_state: [zero(); WIDTH],
+            input_buffer: [zero(); RATE],
+            inputs: 0,
+            outputs_left: 0,
+            permutation,
+            draw_limit,
+        }
+    }
+
+    /// The duplex transcript, whole: from this challenger on, every list of calls gives the answers,
+    /// and leaves the sponge, that its segments name.
+    ///
+    /// A law: the body is empty, and a caller cites the clause.
+    pub fn follows_duplex_transcript(&self)
+        ensures { (calls : List (Call F)) →
+            run_calls F.residues (P.permutation self.now.permutation) RATE self.now.sponge calls
+            ≡ run_segments F.residues (P.permutation self.now.permutation) RATE self.now.sponge (segments calls) }
+    {
+        let _ = &self.outputs_left;
+    }
+
+    /// Draws are never refused, whatever is drawn: no number of them leaves any challenger with an
+    /// error.
+    ///
+    /// A law: the body is empty, and a caller cites the clause.
+    pub fn draws_are_not_refused<A: BasedVectorSpace<F>>(&self)
+        ensures { (n : ℕ) (e : ChallengerError) (s t : duplex_state.Duplex F P) →
+            ¬ (RefusesDraws
+            (λ u. Some (A.element (duplex_state.drawn F.residues P.permutation RATE A.DIMENSION u)))
+            (λ u. duplex_state.after_drawn F.residues P.permutation RATE A.DIMENSION u)
+            (λ _. ⊥) (λ _ _. ⊥) n e s t) }
+    {
+        let _ = &self.outputs_left;
+    }
+
+    /// The cells: the first `RATE` are the rate, and the others the capacity.
+    pub fn sponge_state(&self) -> &[F; WIDTH]
+        ensures { result.now ≡ self.now.sponge.cells }
+    {
+        &self.sponge_state
+    }
+
+    /// What is pending, in the order in which it was observed.
+    pub fn input(&self) -> &[F]
+        ensures { result.now ≡ self.now.sponge.pending }
+    {
+        &self.input_buffer[..self.inputs]
+    }
+
+    /// The outputs that are left. The last one is drawn next.
+    pub fn output(&self) -> &[F]
+        ensures { result.now ≡ outputs self.now.sponge }
+    {
+        &self.sponge_state[..self.outputs_left]
+    }
+
+    /// The permutation.
+    pub fn permutation(&self) -> &P
+        ensures { result.now ≡ self.now.permutation }
+    {
+        &self.permutation
+    }
+
+    /// The same challenger once more. It takes no memory, so it cannot fail.
+    pub fn clone(&self) -> Self
+        ensures { result ≡ self.now }
+    {
+        DuplexChallenger {
+            sponge_state: self.sponge_state,
+            input_buffer: self.input_buffer,
+            inputs: self.inputs,
+            outputs_left: self.outputs_left,
+            permutation: self.permutation,
+            draw_limit: self.draw_limit,
+        }
+    }
+
+    // The rate.
+    fn rate(&self) -> [F; RATE]
+        ensures { result ≡ take RATE self.now.sponge.cells }
+    {
+        let mut rate = self.input_buffer;
+        rate.copy_from_slice(&self.sponge_state[..RATE]);
+        rate
+    }
+
+    // Absorbs what is pending, or only permutes where nothing is. All outputs are left.
+    fn duplex(&mut self)
+        ensures { self.new ≡ duplex_state.duplexed F.residues P.permutation RATE self.old }
+    {
+        absorb::<F, P, WIDTH, RATE>(
+            &mut self.sponge_state,
+            &self.input_buffer[..self.inputs],
+            &self.permutation,
+        );
+        self.inputs = 0;
+        self.outputs_left = RATE;
+    }
+
+    // Draws a value: the last output left, after a permutation where none is.
+    fn draw(&mut self) -> F
+        ensures value { result ≡ duplex_state.sampled F.residues P.permutation RATE self.old }
+        ensures after { self.new ≡ duplex_state.after_sampled F.residues P.permutation RATE self.old }
+    {
+        if self.outputs_left == 0 {
+            self.duplex();
+        }
+        self.outputs_left -= 1;
+        self.sponge_state[self.outputs_left]
+    }
+
+    // Makes a value pending, and absorbs what is pending once that fills the rate.
+    fn push(&mut self, value: F)
+        ensures { self.new ≡ duplex_state.observed F.residues P.permutation RATE self.old value }
+    {
+        self.input_buffer[self.inputs] = value;
+        self.inputs += 1;
+        self.outputs_left = 0;
+        if self.inputs == RATE {
+            absorb::<F, P, WIDTH, RATE>(
+                &mut self.sponge_state,
+                &self.input_buffer[..],
+                &self.permutation,
+            );
+            self.inputs = 0;
+            self.outputs_left = RATE;
+        }
+    }
+
+    // Makes the values of an array pending, one after another.
+    fn push_array<const N: usize>(&mut self, values: &[F; N])
+        ensures { self.new ≡ duplex_state.fed F.residues P.permutation RATE self.old values.now }
+    {
+        for i in 0..N {
+            self.push(values[i]);
+        }
+    }
+
+    // Makes values pending, one after another.
+    pub(crate) fn push_all(&mut self, values: &[F])
+        ensures { self.new ≡ duplex_state.fed F.residues P.permutation RATE self.old values.now }
+    {
+        for i in 0..values.len() {
+            self.push(values[i]);
+        }
+    }
+}
+
+impl<
+    F: PrimeField64,
+    P: CryptographicPermutation<[F; WIDTH]>,
+    const WIDTH: usize,
+    const RATE: usize,
+> Sponge for DuplexChallenger<F, P, WIDTH, RATE> {
+    ghost use Rattle.std.specs.Prelude.{refl};
+    ghost use Rattle.p3_duplex.specs.DuplexState as duplex_state;
+    ghost use Rattle.p3_duplex.specs.DuplexStateLaws.{fed-append};
+
+    type State = Self;
+
+    type Symbol = F;
+
+    ghost state = { λ c. c };
+
+    ghost fed = { λ s xs. duplex_state.fed F.residues P.permutation RATE s xs };
+
+    ghost fed_nothing = { λ _. refl };
+
+    ghost fed_more = { fed-append F.residues P.permutation RATE };
+}
+
+impl<
+    F: PrimeField64,
+    P: CryptographicPermutation<[F; WIDTH]>,
+    const WIDTH: usize,
+    const RATE: usize,
+> CanObserve<F> for DuplexChallenger<F, P, WIDTH, RATE> {
+    ghost use Rattle.std.specs.Prelude.{[], ◌∷◌, refl};
+    ghost use Rattle.p3_duplex.specs.DuplexState as duplex_state;
+
+    ghost symbols = { λ x. x ∷ [] };
+
+    ghost observed = { λ s x. duplex_state.observed F.residues P.permutation RATE s x };
+
+    // An observation takes no memory: it is never refused.
+    ghost may_leave = { λ _ _ _. ⊥ };
+
+    ghost feeds = { λ s x _. refl };
+
+    fn observe(&mut self, value: F) -> Result<(), ChallengerError> {
+        self.push(value);
+        Ok(())
+    }
+
+    fn observe_slice(&mut self, values: &[F]) -> Result<(), ChallengerError> {
+        self.push_all(values);
+        Ok(())
+    }
+}
+
+impl<
+    F: PrimeField64,
+    P: CryptographicPermutation<[F; WIDTH]>,
+    const WIDTH: usize,
+    const RATE: usize,
+    const N: usize,
+> CanObserve<[F; N]> for DuplexChallenger<F, P, WIDTH, RATE> {
+    ghost use Rattle.std.specs.Prelude.{refl};
+    ghost use Rattle.p3_duplex.specs.DuplexState as duplex_state;
+
+    ghost symbols = { λ xs. xs };
+
+    ghost observed = { λ s xs. duplex_state.fed F.residues P.permutation RATE s xs };
+
+    // An observation takes no memory: it is never refused.
+    ghost may_leave = { λ _ _ _. ⊥ };
+
+    ghost feeds = { λ s xs _. refl };
+
+    fn observe(&mut self, values: [F; N]) -> Result<(), ChallengerError> {
+        self.push_array(&values);
+        Ok(())
+    }
+
+    fn observe_slice(&mut self, values: &[[F; N]]) -> Result<(), ChallengerError> {
+        for i in 0..values.len() {
+            self.push_array(&values[i]);
+        }
+        Ok(())
+    }
+}
+
+impl<
+    F: PrimeField64,
+    A: BasedVectorSpace<F>,
+    P: CryptographicPermutation<[F; WIDTH]>,
+    const WIDTH: usize,
+    const RATE: usize,
+> CanSample<A> for DuplexChallenger<F, P, WIDTH, RATE> {
+    ghost use Rattle.std.specs.Prelude.{Some};
+    ghost use Rattle.p3_duplex.specs.DuplexState as duplex_state;
+
+    // The element whose coefficients are the next values, coefficient 0 first.
+    ghost sampled = { λ s. Some (A.element (duplex_state.drawn F.residues P.permutation RATE A.DIMENSION s)) };
+
+    ghost after_sampled = { λ s. duplex_state.after_drawn F.residues P.permutation RATE A.DIMENSION s };
+
+    // A draw takes no memory and has no limit: it is never refused.
+    ghost draw_may_leave = { λ _ _. ⊥ };
+
+    ghost meets_limit = { λ _. ⊥ };
+
+    ghost limit_gives_none = { λ _ h. absurd h };
+
+    fn sample(&mut self) -> Result<A, ChallengerError> {
+        let mut element = A::zero();
+        for i in 0..A::DIMENSION {
+            element = element.with_coefficient(i, self.draw());
+        }
+        Ok(element)
+    }
+}
+
+impl<
+    F: PrimeField64,
+    P: CryptographicPermutation<[F; WIDTH]>,
+    const WIDTH: usize,
+    const RATE: usize,
+> CanFinalizeDigest for DuplexChallenger<F, P, WIDTH, RATE> {
+    ghost use Rattle.p3_duplex.specs.DuplexState as duplex_state;
+
+    type Digest = [F; RATE];
+
+    // The rate after one more permutation, whether values are pending or not.
+    ghost digest_of = { λ s. duplex_state.digest F.residues P.permutation RATE s };
+
+    fn finalize(self) -> [F; RATE] {
+        let mut challenger = self;
+        challenger.duplex();
+        challenger.rate()
+    }
+}
+
+// The element 0.
+fn zero<F: PrimeField64>() -> F
+    ensures { result ≡ F.residues.of 0 }
+{
+    F::ZERO
+}
+
+// The element that is a number more.
+fn plus_number<F: PrimeField64>(x: F, n: u64) -> F
+    ensures { result ≡ plus F.residues x n }
+{
+    x + F::from_u64(n)
+}
+
+// Writes a block over the rate, and how many values it has into the cell behind it.
+fn overwrite<F: PrimeField64>(cells: &mut [F], block: &[F], rate: usize)
+    requires fits { length block.now ≤ rate }
+    requires capacity { rate < length cells.old }
+    ensures { cells.new ≡ overwritten F.residues rate cells.old block.now }
+{
+    let counted = plus_number(cells[rate], block.len() as u64);
+    cells[..block.len()].copy_from_slice(block);
+    fill_zeros(&mut cells[block.len()..rate]);
+    cells[rate] = counted;
+}
+
+// Makes each cell zero.
+fn fill_zeros<F: PrimeField64>(cells: &mut [F])
+    ensures { cells.new ≡ replicate (length cells.old) (F.residues.of 0) }
+{
+    for i in 0..cells.len() {
+        cells[i] = zero();
+    }
+}
+
+// Absorbs a block; an empty one only permutes.
+fn absorb<
+    F: PrimeField64,
+    P: CryptographicPermutation<[F; WIDTH]>,
+    const WIDTH: usize,
+    const RATE: usize,
+>(cells: &mut [F; WIDTH], block: &[F], permutation: &P)
+    requires fits { length block.now ≤ RATE }
+    requires capacity { RATE < WIDTH }
+    ensures { cells.new ≡ P.permutation permutation.now (absorbing F.residues RATE cells.old block.now) }
+{
+    if !block.is_empty() {
+        overwrite(&mut cells[..], block, RATE);
+    }
+    permutation.permute_mut(cells);
+}

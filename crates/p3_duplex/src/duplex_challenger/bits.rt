@@ -1,0 +1,48 @@
+// Numbers of some bits, drawn from a duplex challenger: the low bits of one element.
+ghost use Rattle.std.specs.Prelude.{◌≡◌, ◌^◌, ◌≤◌, ◌%◌};
+
+use crate::DuplexChallenger;
+use p3_challenger_core::{CanSample, CanSampleBits, ChallengerError, FieldChallenger};
+use p3_field_core::{PrimeField64, log2_ceil_u64};
+use p3_symmetric::CryptographicPermutation;
+
+impl<
+    F: PrimeField64,
+    P: CryptographicPermutation<[F; WIDTH]>,
+    const WIDTH: usize,
+    const RATE: usize,
+> CanSampleBits<usize> for DuplexChallenger<F, P, WIDTH, RATE> {
+    ghost use Rattle.std.specs.Prelude.{Some, ◌^◌, ◌%◌};
+    ghost use Rattle.p3_duplex.specs.DuplexState as duplex_state;
+    ghost use Rattle.p3_challenger_core.specs.Bits.{most_bits_of};
+
+    // The greatest number of bits, below 64, whose power of two is below the order.
+    ghost most_bits = { most_bits_of F.residues.order };
+
+    ghost sampled_bits = { λ bits s. Some (F.residues.number (duplex_state.sampled F.residues P.permutation RATE s) % 2 ^ bits) };
+
+    ghost after_bits = { λ _ s. duplex_state.after_sampled F.residues P.permutation RATE s };
+
+    // A draw takes no memory and has no limit: it is never refused.
+    ghost bits_meet_limit = { λ _ _. ⊥ };
+
+    ghost bits_may_leave = { λ _ _ _. ⊥ };
+
+    ghost bits_limit_gives_none = { λ _ _ h. absurd h };
+
+    fn max_bits() -> usize {
+        (log2_ceil_u64(F::ORDER_U64) - 1) as usize
+    }
+
+    fn sample_bits(&mut self, bits: usize) -> Result<usize, ChallengerError> {
+        let element: F = self.sample()?;
+        Ok((element.as_canonical_u64() % (1 << bits)) as usize)
+    }
+}
+
+impl<
+    F: PrimeField64,
+    P: CryptographicPermutation<[F; WIDTH]>,
+    const WIDTH: usize,
+    const RATE: usize,
+> FieldChallenger<F> for DuplexChallenger<F, P, WIDTH, RATE> {}

@@ -1,0 +1,178 @@
+// What a duplex challenger observes beside single values and arrays: digests, caps and lists of
+// lists, each value by value. None of it is ever refused.
+ghost use Rattle.std.specs.Prelude.{◌≡◌};
+ghost use Rattle.p3_challenger_core.specs.Sponge.{observed_all};
+
+use crate::DuplexChallenger;
+use p3_challenger_core::{CanObserve, ChallengerError};
+use p3_field_core::PrimeField64;
+use p3_symmetric::{CryptographicPermutation, Hash, MerkleCap};
+
+impl<
+    F: PrimeField64,
+    P: CryptographicPermutation<[F; WIDTH]>,
+    const WIDTH: usize,
+    const RATE: usize,
+> DuplexChallenger<F, P, WIDTH, RATE> {
+    ghost use Rattle.p3_duplex.specs.DuplexState as duplex_state;
+
+    // Makes the values of the roots pending, root by root.
+    fn push_roots<const N: usize>(&mut self, roots: &[[F; N]])
+        ensures { self.new ≡ observed_all (λ s root. duplex_state.fed F.residues P.permutation RATE s root) self.old roots.now }
+    {
+        for i in 0..roots.len() {
+            self.push_all(&roots[i][..]);
+        }
+    }
+
+    // Makes the values of the lists pending, list by list.
+    fn push_lists(&mut self, lists: &[Vec<F>])
+        ensures { self.new ≡ observed_all (λ s list. duplex_state.fed F.residues P.permutation RATE s list.items) self.old lists.now }
+    {
+        for i in 0..lists.len() {
+            self.push_all(lists[i].as_slice());
+        }
+    }
+}
+
+impl<
+    F: PrimeField64,
+    M,
+    P: CryptographicPermutation<[F; WIDTH]>,
+    const WIDTH: usize,
+    const RATE: usize,
+    const N: usize,
+> CanObserve<Hash<M, F, N>> for DuplexChallenger<F, P, WIDTH, RATE> {
+    ghost use Rattle.std.specs.Prelude.{refl};
+    ghost use Rattle.std.specs.List.{flat_map};
+    ghost use Rattle.p3_challenger_core.specs.Sponge.{observed_all};
+    ghost use Rattle.p3_duplex.specs.DuplexState as duplex_state;
+    ghost use Rattle.p3_duplex.specs.DuplexStateLaws.{fed-flat_map};
+
+    ghost symbols = { λ digest. digest };
+
+    ghost observed = { λ s digest. duplex_state.fed F.residues P.permutation RATE s digest };
+
+    // An observation takes no memory: it is never refused.
+    ghost may_leave = { λ _ _ _. ⊥ };
+
+    ghost feeds = { λ _ _ _. refl };
+
+    fn observe(&mut self, value: Hash<M, F, N>) -> Result<(), ChallengerError> {
+        self.push_all(&value.as_ref()[..]);
+        Ok(())
+    }
+
+    fn observe_slice(&mut self, values: &[Hash<M, F, N>]) -> Result<(), ChallengerError> {
+        for i in 0..values.len() {
+            self.push_all(&values[i].as_ref()[..]);
+        }
+        Ok(())
+    }
+}
+
+impl<
+    F: PrimeField64,
+    M,
+    P: CryptographicPermutation<[F; WIDTH]>,
+    const WIDTH: usize,
+    const RATE: usize,
+    const N: usize,
+> CanObserve<MerkleCap<M, [F; N]>> for DuplexChallenger<F, P, WIDTH, RATE> {
+    ghost use Rattle.std.specs.Prelude.{refl};
+    ghost use Rattle.std.specs.List.{flat_map};
+    ghost use Rattle.p3_challenger_core.specs.Sponge.{observed_all};
+    ghost use Rattle.p3_duplex.specs.DuplexState as duplex_state;
+    ghost use Rattle.p3_duplex.specs.DuplexStateLaws.{fed-flat_map};
+
+    ghost symbols = { λ cap. flat_map (λ root. root) cap };
+
+    ghost observed = { λ s cap. observed_all (λ u root. duplex_state.fed F.residues P.permutation RATE u root) s cap };
+
+    // An observation takes no memory: it is never refused.
+    ghost may_leave = { λ _ _ _. ⊥ };
+
+    ghost feeds = { λ s cap _. fed-flat_map F.residues P.permutation RATE (λ root. root) s cap };
+
+    fn observe(&mut self, value: MerkleCap<M, [F; N]>) -> Result<(), ChallengerError> {
+        self.push_roots(value.roots());
+        Ok(())
+    }
+
+    fn observe_slice(&mut self, values: &[MerkleCap<M, [F; N]>]) -> Result<(), ChallengerError> {
+        for i in 0..values.len() {
+            self.push_roots(values[i].roots());
+        }
+        Ok(())
+    }
+}
+
+impl<
+    F: PrimeField64,
+    M,
+    P: CryptographicPermutation<[F; WIDTH]>,
+    const WIDTH: usize,
+    const RATE: usize,
+    const N: usize,
+> CanObserve<&MerkleCap<M, [F; N]>> for DuplexChallenger<F, P, WIDTH, RATE> {
+    ghost use Rattle.std.specs.Prelude.{refl};
+    ghost use Rattle.std.specs.List.{flat_map};
+    ghost use Rattle.p3_challenger_core.specs.Sponge.{observed_all};
+    ghost use Rattle.p3_duplex.specs.DuplexState as duplex_state;
+    ghost use Rattle.p3_duplex.specs.DuplexStateLaws.{fed-flat_map};
+
+    ghost symbols = { λ cap. flat_map (λ root. root) cap.now };
+
+    ghost observed = { λ s cap. observed_all (λ u root. duplex_state.fed F.residues P.permutation RATE u root) s cap.now };
+
+    // An observation takes no memory: it is never refused.
+    ghost may_leave = { λ _ _ _. ⊥ };
+
+    ghost feeds = { λ s cap _. fed-flat_map F.residues P.permutation RATE (λ root. root) s cap.now };
+
+    fn observe(&mut self, value: &MerkleCap<M, [F; N]>) -> Result<(), ChallengerError> {
+        self.push_roots(value.roots());
+        Ok(())
+    }
+
+    fn observe_slice(&mut self, values: &[&MerkleCap<M, [F; N]>]) -> Result<(), ChallengerError> {
+        for i in 0..values.len() {
+            self.push_roots(values[i].roots());
+        }
+        Ok(())
+    }
+}
+
+impl<
+    F: PrimeField64,
+    P: CryptographicPermutation<[F; WIDTH]>,
+    const WIDTH: usize,
+    const RATE: usize,
+> CanObserve<Vec<Vec<F>>> for DuplexChallenger<F, P, WIDTH, RATE> {
+    ghost use Rattle.std.specs.Prelude.{refl};
+    ghost use Rattle.std.specs.List.{flat_map};
+    ghost use Rattle.p3_challenger_core.specs.Sponge.{observed_all};
+    ghost use Rattle.p3_duplex.specs.DuplexState as duplex_state;
+    ghost use Rattle.p3_duplex.specs.DuplexStateLaws.{fed-flat_map};
+
+    ghost symbols = { λ lists. flat_map (λ list. list.items) lists.items };
+
+    ghost observed = { λ s lists. observed_all (λ u list. duplex_state.fed F.residues P.permutation RATE u list.items) s lists.items };
+
+    // An observation takes no memory: it is never refused.
+    ghost may_leave = { λ _ _ _. ⊥ };
+
+    ghost feeds = { λ s lists _. fed-flat_map F.residues P.permutation RATE (λ list. list.items) s lists.items };
+
+    fn observe(&mut self, value: Vec<Vec<F>>) -> Result<(), ChallengerError> {
+        self.push_lists(value.as_slice());
+        Ok(())
+    }
+
+    fn observe_slice(&mut self, values: &[Vec<Vec<F>>]) -> Result<(), ChallengerError> {
+        for i in 0..values.len() {
+            self.push_lists(values[i].as_slice());
+        }
+        Ok(())
+    }
+}

@@ -1,0 +1,9 @@
+//! The challenger made of a permutation. It draws elements of every vector space over its field, and
+//! so of the field itself, by their coefficients.
+#![tactic(auto)]
+
+mod duplex_challenger;
+mod prefix_code;
+
+pub use duplex_challenger::DuplexChallenger;
+pub use prefix_code::duplex_elements_read_one_way;

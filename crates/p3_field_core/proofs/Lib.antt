@@ -1,0 +1,2 @@
+pub mod BitLengths
+pub mod Powers

@@ -1,0 +1,4 @@
+pub mod Coefficients
+pub mod CoeffsCoefficients
+pub mod ResidueLaws
+pub mod Residues

@@ -1,0 +1,101 @@
+ghost use Rattle.std.specs.Prelude.{◌≡◌, ℕ, ◌-◌, ◌<◌, ◌≤◌, List, ◌∷◌, length, replicate, slice_set};
+
+use crate::{Field, PrimeCharacteristicRing};
+
+/// A vector space over a field, on a basis: an element is its list of coefficients.
+pub trait BasedVectorSpace<F: PrimeCharacteristicRing>: Copy {
+    /// How many coefficients an element has: from 1 to 65535.
+    const DIMENSION: usize;
+
+    ghost DIMENSION: { ℕ };
+
+    // The coefficients of an element, in the order of the basis.
+    ghost coefficients: { Self → List F };
+
+    // The element of as many coefficients as the dimension.
+    ghost element: { List F → Self };
+
+    /// The coefficients, in the order of the basis.
+    fn as_basis_coefficients_slice(&self) -> &[F]
+        ensures { result.now ≡ coefficients self.now };
+
+    /// The element whose coefficients are all 0.
+    fn zero() -> Self
+        ensures { coefficients result ≡ replicate DIMENSION (F.residues.of 0) };
+
+    /// The element with one coefficient replaced.
+    fn with_coefficient(self, index: usize, value: F) -> Self
+        requires { index < DIMENSION }
+        ensures { coefficients result ≡ slice_set (coefficients self) index value };
+
+    ghost at_least_one: { 0 < DIMENSION };
+
+    ghost at_most: { DIMENSION ≤ 65535 };
+
+    // An element is its coefficients: as many as the dimension, and no two elements have the same.
+    ghost length_coefficients: { (x : Self) → length (coefficients x) ≡ DIMENSION };
+
+    ghost same_coefficients: { (x y : Self) → coefficients x ≡ coefficients y → x ≡ y };
+
+    // Every list of that length is the coefficients of an element.
+    ghost coefficients_element: { (xs : List F) → length xs ≡ DIMENSION → coefficients (element xs) ≡ xs };
+}
+
+/// A vector space that the field lies in: a value of the field is the element with this value as its
+/// coefficient 0, and no other.
+pub trait Algebra<F: PrimeCharacteristicRing>: BasedVectorSpace<F> + From<F> {
+    ghost from_law: { (value : F) (x : Self) → Self.from_gives value x
+        → Self.coefficients x ≡ value ∷ replicate (Self.DIMENSION - 1) (F.residues.of 0) };
+}
+
+/// An algebra that says which one it is.
+pub trait AlgebraIdentity<F: PrimeCharacteristicRing>: Algebra<F> {
+    // The bytes of the identity.
+    ghost identity: { List ℕ };
+
+    /// A text of its own for each algebra: its construction, with the order of the field.
+    fn algebra_id() -> &'static [u8]
+        ensures { result.now ≡ identity };
+}
+
+impl<F: Field> BasedVectorSpace<F> for F {
+    ghost use Rattle.std.specs.Prelude.{[], refl};
+    ghost use Rattle.std.proofs.Common.{lit<, lit≤};
+    ghost use Rattle.p3_field_core.specs.Coefficients.{one_coefficient, element_of_one, coefficients-element_of_one};
+
+    const DIMENSION: usize = 1;
+
+    ghost DIMENSION = { 1 };
+
+    ghost coefficients = { λ x. x ∷ [] };
+
+    ghost element = { element_of_one (F.residues.of 0) };
+
+    ghost at_least_one = { lit< tt };
+
+    ghost at_most = { lit≤ tt };
+
+    ghost length_coefficients = { λ _. refl };
+
+    ghost same_coefficients = { one_coefficient };
+
+    ghost coefficients_element = { coefficients-element_of_one (F.residues.of 0) };
+
+    fn as_basis_coefficients_slice(&self) -> &[F] {
+        std::slice::from_ref(self)
+    }
+
+    fn zero() -> F {
+        F::ZERO
+    }
+
+    fn with_coefficient(self, _index: usize, value: F) -> F {
+        value
+    }
+}
+
+impl<F: Field> Algebra<F> for F {
+    ghost use Rattle.p3_field_core.specs.Coefficients.{of_itself};
+
+    ghost from_law = { of_itself };
+}

@@ -1,0 +1,109 @@
+ghost use Rattle.std.specs.Prelude.{◌≡◌, length};
+
+use crate::{Algebra, BasedVectorSpace, Field, Named};
+use std::alloc::AllocError;
+
+/// An array of coefficients: an element of a vector space of dimension `D` over a field.
+#[derive(Debug, PartialEq, Eq)]
+pub struct Coeffs<F, const D: usize> {
+    coefficients: [F; D],
+    ghost full: { length coefficients ≡ D },
+}
+
+impl<F: Copy, const D: usize> Clone for Coeffs<F, D> {
+    ghost use Rattle.std.specs.Prelude.{◌≡◌, ⊤};
+
+    ghost is_clone = { λ x y. y ≡ x };
+
+    ghost is_infallible = { λ _. ⊤ };
+
+    fn clone(&self) -> Result<Self, AllocError> {
+        Ok(*self)
+    }
+}
+
+impl<F: Copy, const D: usize> Copy for Coeffs<F, D> {}
+
+impl<F: Field, const D: usize> Coeffs<F, D> {
+    ghost use Rattle.std.specs.Prelude.{◌≡◌};
+    ghost use Rattle.p3_field_core.specs.CoeffsCoefficients.{coefficients_of};
+
+    /// The element with these coefficients.
+    pub fn new(coefficients: [F; D]) -> Self
+        ensures { coefficients_of result ≡ coefficients }
+    {
+        Coeffs { coefficients }
+    }
+}
+
+impl<F: Field> BasedVectorSpace<F> for Coeffs<F, 4> {
+    ghost use Rattle.std.proofs.Common.{lit<, lit≤};
+    ghost use Rattle.p3_field_core.specs.CoeffsCoefficients as coeffs;
+
+    const DIMENSION: usize = 4;
+
+    ghost DIMENSION = { 4 };
+
+    ghost coefficients = { coeffs.coefficients_of };
+
+    ghost element = { coeffs.element_of (F.residues.of 0) };
+
+    ghost at_least_one = { lit< tt };
+
+    ghost at_most = { lit≤ tt };
+
+    ghost length_coefficients = { coeffs.length-coefficients };
+
+    ghost same_coefficients = { coeffs.coefficients-injective };
+
+    ghost coefficients_element = { coeffs.coefficients-element_of (F.residues.of 0) };
+
+    fn as_basis_coefficients_slice(&self) -> &[F] {
+        &self.coefficients[..]
+    }
+
+    fn zero() -> Self {
+        Coeffs {
+            coefficients: [F::ZERO; 4],
+        }
+    }
+
+    fn with_coefficient(self, index: usize, value: F) -> Self {
+        let mut coefficients = self.coefficients;
+        coefficients[index] = value;
+        Coeffs::new(coefficients)
+    }
+}
+
+impl<F: Field> From<F> for Coeffs<F, 4> {
+    ghost use Rattle.std.specs.Prelude.{◌≡◌, ◌∷◌, replicate};
+    ghost use Rattle.p3_field_core.specs.CoeffsCoefficients as coeffs;
+
+    ghost from_gives = { λ value x.
+        coeffs.coefficients_of x ≡ value ∷ replicate 3 (F.residues.of 0) };
+
+    fn from(value: F) -> Self {
+        Coeffs {
+            coefficients: [value, F::ZERO, F::ZERO, F::ZERO],
+        }
+    }
+}
+
+impl<F: Field> Algebra<F> for Coeffs<F, 4> {
+    ghost from_law = { λ _ _ given. given };
+}
+
+// The name of the type, whatever its field and dimension.
+const COEFFS: &str = "Coeffs";
+
+impl<F, const D: usize> Named for Coeffs<F, D> {
+    ghost use Rattle.std.specs.Prelude.{codes};
+
+    const NAME: &'static str = COEFFS;
+
+    ghost name_bytes = { codes "Coeffs" };
+
+    fn type_name() -> &'static str {
+        COEFFS
+    }
+}

@@ -1,0 +1,84 @@
+ghost use Rattle.std.specs.Prelude.{◌≡◌, ℕ, ◌-◌};
+ghost use Rattle.p3_field_core.specs.Residues.{Residues, IsResidues, sum_of, difference_of, product_of, power_of};
+
+use crate::exponentiation::power;
+use std::ops::{Add, Mul, Sub};
+
+/// The ring of the residues modulo a prime, the order.
+///
+/// Contracts see an element by its canonical number, which is below the order.
+pub trait PrimeCharacteristicRing: Copy
+    + Add<Self, Output = Self>
+    + Sub<Self, Output = Self>
+    + Mul<Self, Output = Self> {
+    /// The element 0.
+    const ZERO: Self;
+
+    ghost ZERO: { Self };
+
+    /// The element 1.
+    const ONE: Self;
+
+    ghost ONE: { Self };
+
+    /// The element that gives 0 with 1.
+    const NEG_ONE: Self;
+
+    ghost NEG_ONE: { Self };
+
+    // The order, the canonical number of an element, and the element that a number is.
+    ghost residues: { Residues Self };
+
+    /// The element that a number is modulo the order.
+    fn from_u8(value: u8) -> Self
+        ensures { result ≡ residues.of value };
+
+    /// The element that a number is modulo the order.
+    fn from_u16(value: u16) -> Self
+        ensures { result ≡ residues.of value };
+
+    /// The element that a number is modulo the order.
+    fn from_u32(value: u32) -> Self
+        ensures { result ≡ residues.of value };
+
+    /// The element that a number is modulo the order.
+    fn from_u64(value: u64) -> Self
+        ensures { result ≡ residues.of value };
+
+    /// The element to a power; the power 0 is 1, also of 0.
+    final fn exp_u64(self, exponent: u64) -> Self
+        ensures { result ≡ power_of residues self exponent }
+    {
+        power(self, exponent)
+    }
+
+    // The elements are exactly the numbers below the order.
+    ghost are_residues: { IsResidues residues };
+
+    // The constants are the elements of 0, of 1 and of the order less 1.
+    ghost zero_is: { ZERO ≡ residues.of 0 };
+
+    ghost one_is: { ONE ≡ residues.of 1 };
+
+    ghost neg_one_is: { NEG_ONE ≡ residues.of (residues.order - 1) };
+
+    ghost number_zero: { residues.number ZERO ≡ 0 };
+
+    ghost number_one: { residues.number ONE ≡ 1 };
+
+    ghost number_neg_one: { residues.number NEG_ONE ≡ residues.order - 1 };
+
+    // Every two elements have a sum, a difference and a product: those of their numbers, modulo the
+    // order.
+    ghost can_add_law: { (x y : Self) → Self.can_add x y };
+
+    ghost add_law: { (x y r : Self) → Self.add_gives x y r → r ≡ sum_of residues x y };
+
+    ghost can_sub_law: { (x y : Self) → Self.can_sub x y };
+
+    ghost sub_law: { (x y r : Self) → Self.sub_gives x y r → r ≡ difference_of residues x y };
+
+    ghost can_mul_law: { (x y : Self) → Self.can_mul x y };
+
+    ghost mul_law: { (x y r : Self) → Self.mul_gives x y r → r ≡ product_of residues x y };
+}

@@ -1,8 +1,0 @@
-use Rattle.std.proofs.Common.{◌≡◌, ◌++◌, take}
-use Rattle.std.specs.List.{flat_map}
-use Rattle.p3_fs_core.proofs.codecs.extension.ExtensionFieldCodecCodec.encode.Given as goal
-
--- the coefficients so far are spelled
-abbrev pub invariant-loop-coefficient : goal.invariant-loop-coefficient
-invariant-loop-coefficient g l =
-    l.out.items ≡ l.initial.out.items ++ flat_map g.BaseCodec.Codec.wire (take l.coefficient-index l.coefficients)

@@ -1,9 +1,0 @@
-use Rattle.std.proofs.Common.{length, ◌<◌}
-use Rattle.p3_fs_core.proofs.pattern.state_tests.+is_pattern.Given as goal
-
-abbrev pub decreases-is_pattern : goal.decreases-is_pattern
-decreases-is_pattern l = length l.steps.now
-
--- what stands behind the opener is shorter than all
-abbrev pub invariant-loop-at : goal.invariant-loop-at
-invariant-loop-at l = length l.rest < length l.steps

@@ -1,0 +1,306 @@
+// One step of an interactive protocol.
+ghost use Rattle.std.specs.Prelude.{◌≡◌, ◌↔◌, ℕ, true, Some, codes, IsTrue};
+ghost use Rattle.p3_fs_core.specs.Steps.{Step, step_of, Closes, carried_by, plain_text, alternate_text};
+
+use crate::{Hierarchy, Kind, Length, TranscriptField, TypeTag};
+use p3_field_core::{AlgebraIdentity, Named};
+use p3_symmetric::DigestHasher;
+use std::fmt;
+
+/// What a step is called: a text of the program itself.
+pub type Label = &'static str;
+
+/// One step of an interactive protocol: where it stands, what it is for, its label, and what it carries.
+///
+/// Two steps are equal where all six of their parts are, the name of their type too.
+#[derive(Clone, Copy, Debug, PartialEq, Eq, PartialOrd, Ord, Hash)]
+pub struct Interaction {
+    hierarchy: Hierarchy,
+    kind: Kind,
+    label: Label,
+    type_tag: TypeTag,
+    type_name: &'static str,
+    length: Length,
+}
+
+impl Interaction {
+    /// A step that carries elements of an algebra `A` over the field `F`. `D` digests the identity of the
+    /// algebra. A step of scalars is the one with `A = F`.
+    pub fn algebra<F: TranscriptField, A: AlgebraIdentity<F> + Named, D: DigestHasher>(
+        hierarchy: Hierarchy,
+        kind: Kind,
+        label: Label,
+        length: Length,
+    ) -> Self
+        ensures { step_of result ≡ record {
+          hierarchy = hierarchy;
+          kind = kind;
+          label = label.now;
+          type_tag = TypeTag.Algebra F.residues.order A.DIMENSION (D.digest_of A.identity);
+          type_name = A.name_bytes;
+          length = length;
+        } }
+    {
+        Interaction {
+            hierarchy,
+            kind,
+            label,
+            type_tag: F::algebra_tag(A::DIMENSION, D::digest(A::algebra_id())),
+            type_name: A::type_name(),
+            length,
+        }
+    }
+
+    /// A step that carries bytes as they are.
+    pub fn bytes(hierarchy: Hierarchy, kind: Kind, label: Label, length: Length) -> Self
+        ensures { step_of result ≡ record {
+          hierarchy = hierarchy;
+          kind = kind;
+          label = label.now;
+          type_tag = TypeTag.Bytes;
+          type_name = codes "u8";
+          length = length;
+        } }
+    {
+        Interaction {
+            hierarchy,
+            kind,
+            label,
+            type_tag: TypeTag::Bytes,
+            type_name: u8::type_name(),
+            length,
+        }
+    }
+
+    /// A step whose value the challenger alone knows how to observe. The name of its type is `opaque`.
+    pub fn opaque(hierarchy: Hierarchy, kind: Kind, label: Label, length: Length) -> Self
+        ensures { step_of result ≡ record {
+          hierarchy = hierarchy;
+          kind = kind;
+          label = label.now;
+          type_tag = TypeTag.Opaque;
+          type_name = codes "opaque";
+          length = length;
+        } }
+    {
+        Interaction {
+            hierarchy,
+            kind,
+            label,
+            type_tag: TypeTag::Opaque,
+            type_name: "opaque",
+            length,
+        }
+    }
+
+    /// A step that draws numbers of `width` bits, as the low bits of a drawn element.
+    pub fn bits(
+        hierarchy: Hierarchy,
+        kind: Kind,
+        label: Label,
+        width: usize,
+        length: Length,
+    ) -> Self
+        ensures { step_of result ≡ record {
+          hierarchy = hierarchy;
+          kind = kind;
+          label = label.now;
+          type_tag = TypeTag.Bits width;
+          type_name = codes "usize";
+          length = length;
+        } }
+    {
+        Interaction {
+            hierarchy,
+            kind,
+            label,
+            type_tag: TypeTag::Bits { width },
+            type_name: usize::type_name(),
+            length,
+        }
+    }
+
+    /// A step that draws numbers of `width` bits, each as often as any other.
+    pub fn uniform_bits(
+        hierarchy: Hierarchy,
+        kind: Kind,
+        label: Label,
+        width: usize,
+        length: Length,
+    ) -> Self
+        ensures { step_of result ≡ record {
+          hierarchy = hierarchy;
+          kind = kind;
+          label = label.now;
+          type_tag = TypeTag.UniformBits width;
+          type_name = codes "usize";
+          length = length;
+        } }
+    {
+        Interaction {
+            hierarchy,
+            kind,
+            label,
+            type_tag: TypeTag::UniformBits { width },
+            type_name: usize::type_name(),
+            length,
+        }
+    }
+
+    /// The opener or the closer of a container, which carries nothing. `T` names the container for those who
+    /// read its steps.
+    pub fn marker<T: Named>(hierarchy: Hierarchy, kind: Kind, label: Label) -> Self
+        ensures { step_of result ≡ record {
+          hierarchy = hierarchy;
+          kind = kind;
+          label = label.now;
+          type_tag = TypeTag.Marker;
+          type_name = T.name_bytes;
+          length = Length.None;
+        } }
+    {
+        Interaction {
+            hierarchy,
+            kind,
+            label,
+            type_tag: TypeTag::Marker,
+            type_name: T::type_name(),
+            length: Length::None,
+        }
+    }
+
+    /// A step that carries values of the same type as this one. Nothing is hashed for it, so that many steps of
+    /// one algebra take one digest of its identity. Of a marker it makes a marker, whatever the length.
+    pub fn of_same_type(
+        &self,
+        hierarchy: Hierarchy,
+        kind: Kind,
+        label: Label,
+        length: Length,
+    ) -> Self
+        ensures { step_of result ≡ record {
+          hierarchy = hierarchy;
+          kind = kind;
+          label = label.now;
+          type_tag = (step_of self.now).type_tag;
+          type_name = (step_of self.now).type_name;
+          length = carried_by (step_of self.now).type_tag length;
+        } }
+    {
+        let length = match self.type_tag {
+            TypeTag::Marker => Length::None,
+            _ => length,
+        };
+        Interaction {
+            hierarchy,
+            kind,
+            label,
+            length,
+            ..*self
+        }
+    }
+
+    /// Where the step stands.
+    pub fn hierarchy(&self) -> Hierarchy
+        ensures { result ≡ (step_of self.now).hierarchy }
+    {
+        self.hierarchy
+    }
+
+    /// What the step is for.
+    pub fn kind(&self) -> Kind
+        ensures { result ≡ (step_of self.now).kind }
+    {
+        self.kind
+    }
+
+    /// What the step is called.
+    pub fn label(&self) -> Label
+        ensures { result.now ≡ (step_of self.now).label }
+    {
+        self.label
+    }
+
+    /// What the values of the step are, for its digest.
+    pub fn type_tag(&self) -> TypeTag
+        ensures { result ≡ (step_of self.now).type_tag }
+    {
+        self.type_tag
+    }
+
+    /// The name of the type of the step's values, for those who read it.
+    pub fn type_name(&self) -> &'static str
+        ensures { result.now ≡ (step_of self.now).type_name }
+    {
+        self.type_name
+    }
+
+    /// How many values the step carries.
+    pub fn length(&self) -> Length
+        ensures { result ≡ (step_of self.now).length }
+    {
+        self.length
+    }
+
+    /// The first of two steps closes the other: it is an End, the other is a Begin, and all else of them is
+    /// the same, the name of the type too.
+    pub fn closes(&self, other: &Self) -> bool
+        ensures { IsTrue result ↔ Closes (step_of self.now) (step_of other.now) }
+    {
+        self.hierarchy == Hierarchy::End
+            && other.hierarchy == Hierarchy::Begin
+            && self.kind == other.kind
+            && self.label == other.label
+            && self.type_tag == other.type_tag
+            && self.type_name == other.type_name
+            && self.length == other.length
+    }
+
+    /// Two steps compare equal exactly where their six parts are the same, wherever their texts lie. Order and
+    /// hash agree with that, as they do of every type.
+    ///
+    /// A law: the body is empty, and a caller cites the clause.
+    #[tactic(auto, using(crate::proofs::StepEquality::equal_steps))]
+    pub fn compared_by_parts()
+        ensures { (a b : Interaction) → (⟦<Interaction as PartialEq>⟧.eq a b ≡ true ↔ step_of a ≡ step_of b) }
+    {}
+}
+
+impl fmt::Display for Interaction {
+    ghost output = { λ i. Some (plain_text (step_of i)) };
+
+    // The alternate form, `{:#}`, is the one that is hashed.
+    fn fmt<W: fmt::Write>(&self, f: &mut fmt::Formatter<W>) -> fmt::Result {
+        if f.alternate() {
+            write!(f, "{}", Alternate(self))
+        } else {
+            write!(
+                f,
+                "{} {} {} {} {}",
+                self.hierarchy, self.kind, self.label, self.length, self.type_name
+            )
+        }
+    }
+}
+
+/// A step that prints as it is hashed: with the length of its label before the label, and with the tag of its
+/// type in place of the type's name. It is what `{:#}` prints of the step.
+#[derive(Clone, Copy)]
+pub struct Alternate<'a>(pub &'a Interaction);
+
+impl fmt::Display for Alternate<'_> {
+    ghost output = { λ alternate. Some (alternate_text (step_of alternate.0.now)) };
+
+    fn fmt<W: fmt::Write>(&self, f: &mut fmt::Formatter<W>) -> fmt::Result {
+        write!(
+            f,
+            "{} {} {} {} {} {}",
+            self.0.hierarchy,
+            self.0.kind,
+            self.0.label.len(),
+            self.0.label,
+            self.0.length,
+            self.0.type_tag
+        )
+    }
+}

@@ -1,0 +1,51 @@
+// The count of a bounded step: how many bytes it takes, and those bytes.
+ghost use Rattle.std.specs.Prelude.{◌≡◌, ℕ, ◌-◌, ◌^◌, ◌<◌, ◌≤◌, ◌++◌, length, take, replicate};
+ghost use Rattle.p3_fs_core.specs.BigEndian.{big_endian, in_bytes};
+ghost use Rattle.p3_challenger_core.specs.Reading.{ReadsOneWayOn};
+
+use crate::big_endian::{leading_bytes, number_of_bytes};
+
+/// The least number of bytes that hold every number up to `max`: 0 bytes for 0.
+pub fn bound_byte_width(max: usize) -> usize
+    ensures enough { max < 256 ^ result }
+    ensures least { (width : ℕ) → max < 256 ^ width → result ≤ width }
+    ensures most { result ≤ 8 }
+{
+    let bits = usize::BITS - max.leading_zeros();
+    bits.div_ceil(8) as usize
+}
+
+/// A count in the first `width` bytes, the highest first, with zeros behind.
+///
+/// Conditions: `width` is at most 8, and the count fits in so many bytes.
+#[tactic(auto, using(crate::proofs::Counting::counted_read_back))]
+pub fn encode_len_be(len: usize, width: usize) -> [u8; 8]
+    requires width { width ≤ 8 }
+    requires fits { len < 256 ^ width }
+    ensures spelled { result ≡ in_bytes width len ++ replicate (8 - width) 0 }
+    ensures read_back { big_endian (take width result) ≡ len }
+{
+    leading_bytes(len as u64, width)
+}
+
+/// The count whose spelling in `width` bytes `buf` begins with.
+///
+/// Conditions: `width` is at most 8, and `buf` has so many bytes.
+#[tactic(auto, using(crate::proofs::Counting::counted_fits, crate::proofs::Counting::counted_spelled_back))]
+pub fn decode_len_be(buf: &[u8], width: usize) -> usize
+    requires width { width ≤ 8 }
+    requires long { width ≤ length buf.now }
+    ensures fits { result < 256 ^ width }
+    ensures number { result ≡ big_endian (take width buf.now) }
+    ensures spelled_back { in_bytes width result ≡ take width buf.now }
+{
+    number_of_bytes(&buf[..width]) as usize
+}
+
+/// Whatever follows, counts of one width read one way: no spelling of a count begins another's.
+///
+/// A law: the body is empty, and a caller cites the clause.
+#[tactic(auto, using(crate::proofs::Counting::counts_one_way))]
+pub fn counts_read_one_way()
+    ensures { (width : ℕ) → ReadsOneWayOn (λ count. count < 256 ^ width) (in_bytes width) }
+{}

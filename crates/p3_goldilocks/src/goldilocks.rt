@@ -1,0 +1,221 @@
+ghost use Rattle.std.specs.Prelude.{◌<◌};
+
+mod folding;
+
+use folding::folded;
+use p3_field_core::{
+    AlgebraIdentity, Field, Named, PrimeCharacteristicRing, PrimeField, PrimeField64,
+};
+use std::ops::{Add, Mul, Sub};
+
+/// An element of the prime field of order 2^64 - 2^32 + 1, kept as its canonical number.
+///
+/// The number is below the order, and the type says so: two equal elements have equal numbers.
+#[derive(Clone, Copy, Debug, PartialEq, Eq, PartialOrd, Ord, Hash)]
+pub struct Goldilocks {
+    value: u64,
+    ghost canonical: { value < 18446744069414584321 },
+}
+
+// The order of the field.
+const ORDER: u64 = 18446744069414584321;
+
+impl Goldilocks {
+    ghost use Rattle.std.specs.Prelude.{◌≡◌, ◌*◌, ◌<◌};
+    ghost use Rattle.p3_goldilocks.specs.GoldilocksResidues.{order, residues};
+
+    // The element that a number below twice the order is modulo the order.
+    fn reduced_once(value: u128) -> Goldilocks
+        requires { value < 2 * order }
+        ensures { result ≡ residues.of value }
+    {
+        let order = u128::from(ORDER);
+        let value = if value < order { value } else { value - order };
+        Goldilocks {
+            value: value as u64,
+        }
+    }
+}
+
+impl Default for Goldilocks {
+    ghost use Rattle.std.specs.Prelude.{◌≡◌};
+    ghost use Rattle.p3_goldilocks.specs.GoldilocksResidues.{residues};
+
+    ghost is_default = { λ x. x ≡ residues.of 0 };
+
+    fn default() -> Goldilocks {
+        Goldilocks::ZERO
+    }
+}
+
+impl Add for Goldilocks {
+    ghost use Rattle.std.specs.Prelude.{◌≡◌};
+    ghost use Rattle.p3_field_core.specs.Residues.{sum_of};
+    ghost use Rattle.p3_goldilocks.specs.GoldilocksResidues.{residues};
+
+    type Output = Goldilocks;
+
+    ghost add_gives = { λ x y r. r ≡ sum_of residues x y };
+
+    fn add(self, rhs: Goldilocks) -> Goldilocks {
+        Goldilocks::reduced_once(u128::from(self.value) + u128::from(rhs.value))
+    }
+}
+
+impl Sub for Goldilocks {
+    ghost use Rattle.std.specs.Prelude.{◌≡◌};
+    ghost use Rattle.p3_field_core.specs.Residues.{difference_of};
+    ghost use Rattle.p3_goldilocks.specs.GoldilocksResidues.{residues};
+
+    type Output = Goldilocks;
+
+    ghost sub_gives = { λ x y r. r ≡ difference_of residues x y };
+
+    fn sub(self, rhs: Goldilocks) -> Goldilocks {
+        Goldilocks::reduced_once(u128::from(self.value) + u128::from(ORDER - rhs.value))
+    }
+}
+
+impl Mul for Goldilocks {
+    ghost use Rattle.std.specs.Prelude.{◌≡◌};
+    ghost use Rattle.p3_field_core.specs.Residues.{product_of};
+    ghost use Rattle.p3_goldilocks.specs.GoldilocksResidues.{residues};
+
+    type Output = Goldilocks;
+
+    ghost mul_gives = { λ x y r. r ≡ product_of residues x y };
+
+    fn mul(self, rhs: Goldilocks) -> Goldilocks {
+        Goldilocks::reduced_once(folded(u128::from(self.value) * u128::from(rhs.value)))
+    }
+}
+
+impl PrimeCharacteristicRing for Goldilocks {
+    ghost use Rattle.std.specs.Prelude.{refl};
+    ghost use Rattle.p3_goldilocks.specs.GoldilocksResidues as goldilocks;
+
+    const ZERO: Goldilocks = Goldilocks { value: 0 };
+
+    ghost ZERO = { goldilocks.residues.of 0 };
+
+    const ONE: Goldilocks = Goldilocks { value: 1 };
+
+    ghost ONE = { goldilocks.residues.of 1 };
+
+    const NEG_ONE: Goldilocks = Goldilocks {
+        value: 18446744069414584320,
+    };
+
+    ghost NEG_ONE = { goldilocks.residues.of 18446744069414584320 };
+
+    ghost residues = { goldilocks.residues };
+
+    ghost are_residues = { goldilocks.laws };
+
+    ghost zero_is = { refl };
+
+    ghost one_is = { refl };
+
+    ghost neg_one_is = { refl };
+
+    ghost number_zero = { refl };
+
+    ghost number_one = { refl };
+
+    ghost number_neg_one = { refl };
+
+    ghost can_add_law = { λ _ _. tt };
+
+    ghost add_law = { λ _ _ _ given. given };
+
+    ghost can_sub_law = { λ _ _. tt };
+
+    ghost sub_law = { λ _ _ _ given. given };
+
+    ghost can_mul_law = { λ _ _. tt };
+
+    ghost mul_law = { λ _ _ _ given. given };
+
+    fn from_u8(value: u8) -> Goldilocks {
+        Goldilocks::reduced_once(u128::from(value))
+    }
+
+    fn from_u16(value: u16) -> Goldilocks {
+        Goldilocks::reduced_once(u128::from(value))
+    }
+
+    fn from_u32(value: u32) -> Goldilocks {
+        Goldilocks::reduced_once(u128::from(value))
+    }
+
+    fn from_u64(value: u64) -> Goldilocks {
+        Goldilocks::reduced_once(u128::from(value))
+    }
+}
+
+impl Field for Goldilocks {
+    ghost use Rattle.std.proofs.Common.{lit<, lit≤};
+
+    ghost bit_length = { 64 };
+
+    ghost bits_below = { lit< tt };
+
+    ghost bits_least = { lit≤ tt };
+
+    ghost fits_in_memory = { lit< tt };
+
+    ghost default_law = { λ _ given. given };
+
+    fn bits() -> usize {
+        64
+    }
+}
+
+impl PrimeField for Goldilocks {
+    fn order() -> u128 {
+        18446744069414584321
+    }
+}
+
+impl PrimeField64 for Goldilocks {
+    ghost use Rattle.std.specs.Prelude.{refl};
+    ghost use Rattle.std.proofs.Common.{lit<};
+
+    const ORDER_U64: u64 = ORDER;
+
+    ghost ORDER_U64 = { 18446744069414584321 };
+
+    ghost order_u64_is = { refl };
+
+    ghost fits_u64 = { lit< tt };
+
+    fn from_canonical(value: u64) -> Goldilocks {
+        Goldilocks::reduced_once(u128::from(value))
+    }
+
+    fn as_canonical_u64(&self) -> u64 {
+        self.value
+    }
+}
+
+impl Named for Goldilocks {
+    ghost use Rattle.std.specs.Prelude.{codes};
+
+    const NAME: &'static str = "Goldilocks";
+
+    ghost name_bytes = { codes "Goldilocks" };
+
+    fn type_name() -> &'static str {
+        Self::NAME
+    }
+}
+
+impl AlgebraIdentity<Goldilocks> for Goldilocks {
+    ghost use Rattle.std.specs.Prelude.{codes};
+
+    ghost identity = { codes "prime:18446744069414584321" };
+
+    fn algebra_id() -> &'static [u8] {
+        b"prime:18446744069414584321"
+    }
+}

@@ -1,0 +1,4 @@
+pub mod HashChain
+pub mod HashState
+pub mod HashStateLaws
+pub mod HashTranscript

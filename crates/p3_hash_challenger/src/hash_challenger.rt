@@ -1,0 +1,298 @@
+ghost use Rattle.std.specs.Prelude.{◌≡◌, ◌<◌, ℕ, List, OnOk, OnErr, IfOk, IfErr};
+ghost use Rattle.p3_hash_challenger.specs.HashChain.{Call, run_calls, run_segments, segments};
+ghost use Rattle.p3_hash_challenger.specs.HashState.{pending_of};
+ghost use Rattle.p3_hash_challenger.specs.HashTranscript.{absorbing, outputs};
+ghost use Rattle.p3_challenger_core.specs.Sponge.{RefusesObserve, RefusesDraws};
+ghost use Rattle.p3_challenger_core.specs.declared.error.ChallengerError.{ChallengerError};
+
+mod digests;
+
+use p3_challenger_core::{CanFinalizeDigest, CanObserve, CanSample, ChallengerError, Sponge};
+use p3_symmetric::CryptographicHasher;
+use std::alloc::AllocError;
+use std::marker::Model;
+
+/// A challenger made of a hash function.
+///
+/// What is observed is pending until a draw finds no output left. Then all that is pending is
+/// hashed. The digest is pending in its place, so that each hash chains to the one before, and its
+/// places are the outputs, drawn from the last one backwards. An observation drops the outputs left.
+#[derive(Debug, Drop)]
+pub struct HashChallenger<T, H, const OUT_LEN: usize> {
+    // What is pending, where `digest` is `None`; else of no meaning, and kept for its capacity.
+    input_buffer: Vec<T>,
+    // The digest of the last flush, while nothing was observed since: all that is pending.
+    digest: Option<[T; OUT_LEN]>,
+    // How many places of the digest are left to draw: its first ones.
+    outputs_left: usize,
+    hasher: H,
+}
+
+impl<T, H, const OUT_LEN: usize> Model for HashChallenger<T, H, OUT_LEN> {
+    ghost use Rattle.std.specs.Prelude.{◌≡◌, ◌<◌, ◌≤◌};
+    ghost use Rattle.std.specs.Option.{ForNone};
+    ghost use Rattle.p3_hash_challenger.specs.HashState.{HashState, pending_of};
+
+    ghost Value = { HashState T H };
+
+    ghost view = { λ c. record {
+      transcript = record { pending = pending_of c.digest c.input_buffer.items; outputs_left = c.outputs_left };
+      hasher = c.hasher;
+    } };
+
+    ghost invariant = { λ c.
+        (0 < OUT_LEN) × ((c.outputs_left ≤ OUT_LEN) × ForNone c.digest (c.outputs_left ≡ 0)) };
+}
+
+impl<T: Copy, H: CryptographicHasher<T, [T; OUT_LEN]>, const OUT_LEN: usize> HashChallenger<
+    T,
+    H,
+    OUT_LEN,
+> {
+    ghost use Rattle.p3_hash_challenger.specs.HashState as hash_state;
+
+    /// A challenger that has the initial state pending, and no output.
+    pub fn new(initial_state: Vec<T>, hasher: H) -> Self
+        requires { 0 < OUT_LEN }
+        ensures { result ≡ record { transcript = absorbing initial_state.items; hasher = hasher } }
+    {
+        HashChallenger {
+            input_buffer: initial_state,
+            digest: None,
+            outputs_left: 0,
+            hasher,
+        }
+    }
+
+    /// An equal challenger, which shares nothing with this one.
+    ///
+    /// The one error is [`ChallengerError::OutOfMemory`].
+    pub fn clone(&self) -> Result<Self, ChallengerError>
+        ensures ok { IfOk result (λ c. c ≡ self.now) }
+        ensures err { IfErr result (λ e. e ≡ ChallengerError.OutOfMemory) }
+    {
+        let alloc = *self.input_buffer.allocator();
+        let input_buffer = match &self.digest {
+            Some(_) => Vec::new(alloc),
+            None => Vec::from_slice(alloc, self.input_buffer.as_slice())?,
+        };
+        Ok(HashChallenger {
+            input_buffer,
+            digest: self.digest,
+            outputs_left: self.outputs_left,
+            hasher: self.hasher,
+        })
+    }
+
+    /// The hash chain, whole: from this challenger on, every list of calls gives the answers, and
+    /// leaves the challenger, that its segments name.
+    ///
+    /// A law: the body is empty, and a caller cites the clause.
+    pub fn follows_hash_chain(&self)
+        ensures { (calls : List (Call T)) →
+            run_calls (H.hash self.now.hasher) OUT_LEN self.now.transcript calls
+            ≡ run_segments (H.hash self.now.hasher) OUT_LEN self.now.transcript (segments calls) }
+    {
+        let _ = &self.outputs_left;
+    }
+
+    /// Draws are never refused: no number of them leaves any challenger with an error.
+    ///
+    /// A law: the body is empty, and a caller cites the clause.
+    pub fn draws_are_not_refused(&self)
+        ensures { (n : ℕ) (e : ChallengerError) (s t : hash_state.HashState T H) →
+            ¬ (RefusesDraws (hash_state.sampled H.hash OUT_LEN) (hash_state.after_sampled H.hash OUT_LEN)
+            (λ _. ⊥) (λ _ _. ⊥) n e s t) }
+    {
+        let _ = &self.outputs_left;
+    }
+
+    /// What the next hash takes: the digest of the last one, and what was observed since.
+    pub fn input(&self) -> &[T]
+        ensures { result.now ≡ self.now.transcript.pending }
+    {
+        match &self.digest {
+            Some(digest) => &digest[..],
+            None => self.input_buffer.as_slice(),
+        }
+    }
+
+    /// The outputs that are left. The last one is drawn next.
+    pub fn output(&self) -> &[T]
+        ensures { result.now ≡ outputs self.now.transcript }
+    {
+        match &self.digest {
+            Some(digest) => &digest[..self.outputs_left],
+            None => &[],
+        }
+    }
+
+    /// The hasher.
+    pub fn hasher(&self) -> &H
+        ensures { result.now ≡ self.now.hasher }
+    {
+        &self.hasher
+    }
+
+    // Adds the values to what is pending, and drops the outputs. A refused call changes nothing.
+    fn absorb(&mut self, values: &[T]) -> Result<(), ChallengerError>
+        ensures ok { OnOk result (self.new ≡ hash_state.array_observed self.old values.now) }
+        ensures err { IfErr result (λ e. RefusesObserve (λ t. t ≡ self.old) e self.new) }
+    {
+        copy_digest(&self.digest, &mut self.input_buffer)?;
+        self.input_buffer.extend_from_slice(values)?;
+        self.digest = None;
+        self.outputs_left = 0;
+        Ok(())
+    }
+
+    // Feeds the values: as `absorb`, but nothing changes where there are none.
+    fn feed(&mut self, values: &[T]) -> Result<(), ChallengerError>
+        ensures ok { OnOk result (self.new ≡ hash_state.fed self.old values.now) }
+        ensures err { IfErr result (λ e. RefusesObserve (λ t. t ≡ self.old) e self.new) }
+    {
+        if values.is_empty() {
+            return Ok(());
+        }
+        self.absorb(values)
+    }
+
+    // Hashes all that is pending. The digest is pending in its place, and all of it is left to draw.
+    fn flush(&mut self)
+        ensures { self.new ≡ hash_state.flushed H.hash OUT_LEN self.old }
+    {
+        self.digest = Some(self.hasher.hash_slice(self.input()));
+        self.outputs_left = OUT_LEN;
+    }
+}
+
+// Makes the buffer what is pending, so that values can be added behind it.
+fn copy_digest<T: Copy, const OUT_LEN: usize>(
+    digest: &Option<[T; OUT_LEN]>,
+    buffer: &mut Vec<T>,
+) -> Result<(), AllocError>
+    ensures ok { OnOk result (buffer.new.items ≡ pending_of digest.now buffer.old.items) }
+    ensures err { OnErr result (pending_of digest.now buffer.new.items ≡ pending_of digest.now buffer.old.items) }
+{
+    if let Some(digest) = digest {
+        buffer.clear();
+        buffer.extend_from_slice(&digest[..])?;
+    }
+    Ok(())
+}
+
+impl<T: Copy, H: CryptographicHasher<T, [T; OUT_LEN]>, const OUT_LEN: usize> Sponge
+    for HashChallenger<T, H, OUT_LEN> {
+    ghost use Rattle.std.specs.Prelude.{refl};
+    ghost use Rattle.p3_hash_challenger.specs.HashState as hash_state;
+    ghost use Rattle.p3_hash_challenger.specs.HashStateLaws.{fed-append};
+
+    type State = Self;
+
+    type Symbol = T;
+
+    ghost state = { λ c. c };
+
+    ghost fed = { λ s xs. hash_state.fed s xs };
+
+    ghost fed_nothing = { λ _. refl };
+
+    ghost fed_more = { fed-append };
+}
+
+impl<T: Copy, H: CryptographicHasher<T, [T; OUT_LEN]>, const OUT_LEN: usize> CanObserve<T>
+    for HashChallenger<T, H, OUT_LEN> {
+    ghost use Rattle.std.specs.Prelude.{◌≡◌, [], ◌∷◌, refl};
+    ghost use Rattle.p3_hash_challenger.specs.HashState as hash_state;
+
+    ghost symbols = { λ x. x ∷ [] };
+
+    ghost observed = { λ s x. hash_state.observed s x };
+
+    // A refused call changes nothing.
+    ghost may_leave = { λ s _ t. t ≡ s };
+
+    ghost feeds = { λ s x _. refl };
+
+    fn observe(&mut self, value: T) -> Result<(), ChallengerError> {
+        copy_digest(&self.digest, &mut self.input_buffer)?;
+        self.input_buffer.push(value)?;
+        self.digest = None;
+        self.outputs_left = 0;
+        Ok(())
+    }
+
+    fn observe_slice(&mut self, values: &[T]) -> Result<(), ChallengerError> {
+        self.feed(values)
+    }
+}
+
+impl<T: Copy, H: CryptographicHasher<T, [T; OUT_LEN]>, const OUT_LEN: usize> CanSample<T>
+    for HashChallenger<T, H, OUT_LEN> {
+    ghost use Rattle.p3_hash_challenger.specs.HashState as hash_state;
+
+    ghost sampled = { λ s. hash_state.sampled H.hash OUT_LEN s };
+
+    ghost after_sampled = { λ s. hash_state.after_sampled H.hash OUT_LEN s };
+
+    // A draw takes no memory and has no limit: it is never refused.
+    ghost draw_may_leave = { λ _ _. ⊥ };
+
+    ghost meets_limit = { λ _. ⊥ };
+
+    ghost limit_gives_none = { λ _ h. absurd h };
+
+    fn sample(&mut self) -> Result<T, ChallengerError> {
+        if self.outputs_left == 0 {
+            self.flush();
+        }
+        self.outputs_left -= 1;
+        match &self.digest {
+            Some(digest) => Ok(digest[self.outputs_left]),
+            None => unreachable!(),
+        }
+    }
+}
+
+impl<T: Copy, H: CryptographicHasher<T, [T; OUT_LEN]>, const OUT_LEN: usize> CanFinalizeDigest
+    for HashChallenger<T, H, OUT_LEN> {
+    type Digest = [T; OUT_LEN];
+
+    // One more hash of all that is pending, whatever outputs are left.
+    ghost digest_of = { λ s. H.hash s.hasher s.transcript.pending };
+
+    fn finalize(self) -> [T; OUT_LEN] {
+        self.hasher.hash_slice(self.input())
+    }
+}
+
+impl<
+    T: Copy,
+    H: CryptographicHasher<T, [T; OUT_LEN]>,
+    const N: usize,
+    const OUT_LEN: usize,
+> CanObserve<[T; N]> for HashChallenger<T, H, OUT_LEN> {
+    ghost use Rattle.p3_challenger_core.specs.Sponge.{LeavesBeginning};
+    ghost use Rattle.p3_hash_challenger.specs.HashState as hash_state;
+    ghost use Rattle.p3_hash_challenger.specs.HashStateLaws.{array_observed-fed};
+
+    ghost symbols = { λ xs. xs };
+
+    ghost observed = { λ s xs. hash_state.array_observed s xs };
+
+    // A refused call has observed the arrays before the refused one.
+    ghost may_leave = { λ s xss t. LeavesBeginning hash_state.array_observed s xss t };
+
+    ghost feeds = { array_observed-fed };
+
+    fn observe(&mut self, value: [T; N]) -> Result<(), ChallengerError> {
+        self.absorb(&value[..])
+    }
+
+    fn observe_slice(&mut self, values: &[[T; N]]) -> Result<(), ChallengerError> {
+        for value in values {
+            self.absorb(&value[..])?;
+        }
+        Ok(())
+    }
+}

@@ -1,0 +1,168 @@
+// What a hash challenger observes beside single values and arrays: digests, caps and lists of lists.
+// Each feeds its values in order, by one call a digest or a list.
+ghost use Rattle.std.specs.Prelude.{◌≡◌, List, OnOk, IfErr, map};
+ghost use Rattle.std.specs.List.{flat_map};
+ghost use Rattle.p3_challenger_core.specs.Sponge.{RefusesObserve, LeavesBeginning};
+
+use crate::HashChallenger;
+use p3_challenger_core::{CanObserve, ChallengerError};
+use p3_symmetric::{CryptographicHasher, Hash, MerkleCap};
+
+impl<T: Copy, H: CryptographicHasher<T, [T; OUT_LEN]>, const OUT_LEN: usize> HashChallenger<
+    T,
+    H,
+    OUT_LEN,
+> {
+    ghost use Rattle.p3_hash_challenger.specs.HashState as hash_state;
+
+    // Feeds the roots in order. A refused call has fed the roots before the refused one.
+    fn feed_roots<const N: usize>(&mut self, roots: &[[T; N]]) -> Result<(), ChallengerError>
+        ensures ok { OnOk result (self.new ≡ hash_state.fed self.old (flat_map (λ root. root) roots.now)) }
+        ensures err { IfErr result (λ e.
+            RefusesObserve (LeavesBeginning hash_state.fed self.old roots.now) e self.new) }
+    {
+        for root in roots {
+            self.feed(&root[..])?;
+        }
+        Ok(())
+    }
+
+    // Feeds the lists in order. A refused call has fed the lists before the refused one.
+    fn feed_lists(&mut self, lists: &[Vec<T>]) -> Result<(), ChallengerError>
+        ensures ok { OnOk result (self.new ≡ hash_state.fed self.old (flat_map (λ list. list.items) lists.now)) }
+        ensures err { IfErr result (λ e.
+            RefusesObserve (LeavesBeginning (λ s list. hash_state.fed s list.items) self.old lists.now) e self.new) }
+    {
+        for list in lists {
+            self.feed(list.as_slice())?;
+        }
+        Ok(())
+    }
+}
+
+impl<
+    F,
+    T: Copy,
+    H: CryptographicHasher<T, [T; OUT_LEN]>,
+    const N: usize,
+    const OUT_LEN: usize,
+> CanObserve<Hash<F, T, N>> for HashChallenger<T, H, OUT_LEN> {
+    ghost use Rattle.std.specs.Prelude.{refl};
+    ghost use Rattle.p3_challenger_core.specs.Sponge.{LeavesBeginning};
+    ghost use Rattle.p3_hash_challenger.specs.HashState as hash_state;
+
+    ghost symbols = { λ digest. digest };
+
+    ghost observed = { λ s digest. hash_state.fed s digest };
+
+    // A refused call has fed the digests before the refused one.
+    ghost may_leave = { λ s digests t. LeavesBeginning hash_state.fed s digests t };
+
+    ghost feeds = { λ _ _ _. refl };
+
+    fn observe(&mut self, value: Hash<F, T, N>) -> Result<(), ChallengerError> {
+        self.feed(&value.as_ref()[..])
+    }
+
+    fn observe_slice(&mut self, values: &[Hash<F, T, N>]) -> Result<(), ChallengerError> {
+        for digest in values {
+            self.feed(&digest.as_ref()[..])?;
+        }
+        Ok(())
+    }
+}
+
+impl<
+    F,
+    T: Copy,
+    H: CryptographicHasher<T, [T; OUT_LEN]>,
+    const N: usize,
+    const OUT_LEN: usize,
+> CanObserve<MerkleCap<F, [T; N]>> for HashChallenger<T, H, OUT_LEN> {
+    ghost use Rattle.std.specs.Prelude.{refl};
+    ghost use Rattle.std.specs.List.{flat_map};
+    ghost use Rattle.p3_challenger_core.specs.Sponge.{LeavesBeginning};
+    ghost use Rattle.p3_hash_challenger.specs.HashState as hash_state;
+
+    ghost symbols = { λ cap. flat_map (λ root. root) cap };
+
+    ghost observed = { λ s cap. hash_state.fed s (flat_map (λ root. root) cap) };
+
+    // A refused call has fed the roots before the refused one.
+    ghost may_leave = { λ s caps t. LeavesBeginning hash_state.fed s (flat_map (λ cap. cap) caps) t };
+
+    ghost feeds = { λ _ _ _. refl };
+
+    fn observe(&mut self, value: MerkleCap<F, [T; N]>) -> Result<(), ChallengerError> {
+        self.feed_roots(value.roots())
+    }
+
+    fn observe_slice(&mut self, values: &[MerkleCap<F, [T; N]>]) -> Result<(), ChallengerError> {
+        for cap in values {
+            self.feed_roots(cap.roots())?;
+        }
+        Ok(())
+    }
+}
+
+impl<
+    F,
+    T: Copy,
+    H: CryptographicHasher<T, [T; OUT_LEN]>,
+    const N: usize,
+    const OUT_LEN: usize,
+> CanObserve<&MerkleCap<F, [T; N]>> for HashChallenger<T, H, OUT_LEN> {
+    ghost use Rattle.std.specs.Prelude.{refl};
+    ghost use Rattle.std.specs.List.{flat_map};
+    ghost use Rattle.p3_challenger_core.specs.Sponge.{LeavesBeginning};
+    ghost use Rattle.p3_hash_challenger.specs.HashState as hash_state;
+
+    ghost symbols = { λ cap. flat_map (λ root. root) cap.now };
+
+    ghost observed = { λ s cap. hash_state.fed s (flat_map (λ root. root) cap.now) };
+
+    // A refused call has fed the roots before the refused one.
+    ghost may_leave = { λ s caps t. LeavesBeginning hash_state.fed s (flat_map (λ cap. cap.now) caps) t };
+
+    ghost feeds = { λ _ _ _. refl };
+
+    fn observe(&mut self, value: &MerkleCap<F, [T; N]>) -> Result<(), ChallengerError> {
+        self.feed_roots(value.roots())
+    }
+
+    fn observe_slice(&mut self, values: &[&MerkleCap<F, [T; N]>]) -> Result<(), ChallengerError> {
+        for cap in values {
+            self.feed_roots(cap.roots())?;
+        }
+        Ok(())
+    }
+}
+
+impl<T: Copy, H: CryptographicHasher<T, [T; OUT_LEN]>, const OUT_LEN: usize> CanObserve<Vec<Vec<T>>>
+    for HashChallenger<T, H, OUT_LEN> {
+    ghost use Rattle.std.specs.Prelude.{refl};
+    ghost use Rattle.std.specs.List.{flat_map};
+    ghost use Rattle.p3_challenger_core.specs.Sponge.{LeavesBeginning};
+    ghost use Rattle.p3_hash_challenger.specs.HashState as hash_state;
+
+    ghost symbols = { λ lists. flat_map (λ list. list.items) lists.items };
+
+    ghost observed = { λ s lists. hash_state.fed s (flat_map (λ list. list.items) lists.items) };
+
+    // A refused call has fed the lists before the refused one.
+    ghost may_leave = { λ s groups t.
+        LeavesBeginning (λ u list. hash_state.fed u list.items) s (flat_map (λ lists. lists.items) groups) t };
+
+    ghost feeds = { λ _ _ _. refl };
+
+    fn observe(&mut self, value: Vec<Vec<T>>) -> Result<(), ChallengerError> {
+        self.feed_lists(value.as_slice())
+    }
+
+    fn observe_slice(&mut self, values: &[Vec<Vec<T>>]) -> Result<(), ChallengerError> {
+        for lists in values {
+            self.feed_lists(lists.as_slice())?;
+        }
+        Ok(())
+    }
+}

@@ -1,0 +1,8 @@
+//! The challenger made of a hash function. It draws values of that function.
+#![tactic(auto)]
+
+mod hash_challenger;
+mod prefix_code;
+
+pub use hash_challenger::HashChallenger;
+pub use prefix_code::hash_values_read_one_way;

@@ -1,0 +1,6 @@
+pub mod PatternFaults
+pub mod PatternGrammar
+pub mod Playing
+pub mod Recording
+pub mod Rendering
+pub mod RenderingLaws

@@ -1,0 +1,53 @@
+-- Recording a pattern step by step.
+use Rattle.std.specs.Prelude.{◌≡◌, ◌⊎◌, Bool, true, false, List, [], ◌∷◌, ◌++◌}
+use Rattle.p3_fs_core.specs.declared.error.TranscriptError.{TranscriptError}
+use Rattle.p3_fs_core.specs.declared.error.TranscriptError.TheVariants.{MissingBegin, InvalidKind, MismatchedBeginEnd, MissingEnd, BadProofShape, Pattern, Challenger, LabelTooLong, OutOfMemory}
+use Rattle.p3_fs_core.specs.declared.error.PatternError.TheVariants.{Finished}
+use Rattle.p3_fs_core.specs.Steps.{Step, step_of}
+use Rattle.p3_patterns.specs.PatternGrammar.{IsViable, IsFirstFault, missing_end}
+use Rattle.p3_patterns.specs.PatternFaults.{NamesFirstFault}
+
+-- a recorder: the steps that it took, and whether it refused one since
+pub record Recording : Type 0 where
+  pub steps : List Step
+  pub finished : Bool
+
+-- the step is taken: nothing was refused before, and some pattern begins with the steps and this one
+pub record Records (before : Recording) (s : Step) (after : Recording) : Type 0 where
+  pub going : before.finished ≡ false
+  pub viable : IsViable (before.steps ++ (s ∷ []))
+  pub recorded : after ≡ record { steps = before.steps ++ (s ∷ []); finished = false }
+
+-- why the step is refused behind those: no pattern begins with them and this one, and this is their first
+-- fault; or some pattern does, and memory was refused
+abbrev pub FaultOfNext : List Step → Step → TranscriptError → Type 0
+FaultOfNext steps s e =
+    ((IsViable (steps ++ (s ∷ [])) → ⊥) × NamesFirstFault (steps ++ (s ∷ [])) e) ⊎ (IsViable (steps ++ (s ∷ [])) × (e ≡ OutOfMemory))
+
+-- why the step is refused: one was refused before, or this one may not come next
+abbrev pub FaultOfStep : Recording → Step → TranscriptError → Type 0
+FaultOfStep before s e =
+    ((before.finished ≡ true) × (e ≡ Pattern Finished)) ⊎ ((before.finished ≡ false) × FaultOfNext before.steps s e)
+
+-- the step is refused: nothing may follow it
+pub record RefusesToRecord (before : Recording) (s : Step) (e : TranscriptError) (after : Recording) : Type 0 where
+  pub fault : FaultOfStep before s e
+  pub finished : after ≡ record { steps = before.steps; finished = true }
+
+-- the error names the innermost opener that the steps leave open at their end
+abbrev pub NamesMissingEnd : List Step → TranscriptError → Type 0
+NamesMissingEnd steps (MissingEnd info) = IsFirstFault steps (missing_end info.position (step_of info.begin))
+NamesMissingEnd steps (MissingBegin info) = ⊥
+NamesMissingEnd steps (InvalidKind info) = ⊥
+NamesMissingEnd steps (MismatchedBeginEnd info) = ⊥
+NamesMissingEnd steps (BadProofShape reason) = ⊥
+NamesMissingEnd steps (Pattern e) = ⊥
+NamesMissingEnd steps (Challenger e) = ⊥
+NamesMissingEnd steps LabelTooLong = ⊥
+NamesMissingEnd steps OutOfMemory = ⊥
+
+-- why a recording is no pattern in the end: a step was refused, or a container is still open
+abbrev pub FaultOfEnd : Recording → TranscriptError → Type 0
+FaultOfEnd recording e =
+    ((recording.finished ≡ true) × (e ≡ Pattern Finished))
+    ⊎ ((recording.finished ≡ false) × NamesMissingEnd recording.steps e)

@@ -1,0 +1,14 @@
+//! Patterns: which steps a protocol takes, before any of them is taken. They are recorded, printed, digested
+//! and played.
+#![tactic(auto)]
+
+mod pattern;
+mod player;
+mod rendering;
+mod sequence;
+mod state;
+
+pub use pattern::Pattern;
+pub use player::PatternPlayer;
+pub use sequence::InteractionPattern;
+pub use state::PatternState;

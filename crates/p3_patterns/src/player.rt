@@ -1,0 +1,185 @@
+// Playing a pattern step by step.
+ghost use Rattle.std.specs.Prelude.{◌≡◌, ◌↔◌, ◌+◌, [], false, Some, length, slice_get, option_copied, IsTrue, IfErr, OnOk, IsOk};
+ghost use Rattle.p3_fs_core.specs.Steps.{step_of};
+ghost use Rattle.p3_patterns.specs.PatternFaults.{steps_of};
+ghost use Rattle.p3_patterns.specs.Playing.{Plays, RefusesToPlay, FaultOfPlay, FaultOfPlayEnd, IsPatternError, IsPlayed, CarriesReceived, CarriesNext, next_step, next_interaction};
+
+use crate::{InteractionPattern, Pattern};
+use p3_fs_core::{Interaction, PatternError, TranscriptError};
+use std::marker::Model;
+use std::rc::Rc;
+
+/// Holds the steps that are taken against a pattern: each must be the one that the pattern has next.
+///
+/// A player must be spent, by [`finalize`](PatternPlayer::finalize) or [`abort`](Pattern::abort). Once it
+/// refused a step it refuses all.
+#[derive(Debug)]
+pub struct PatternPlayer {
+    pattern: Rc<InteractionPattern>,
+    position: usize,
+    finished: bool,
+}
+
+impl Model for PatternPlayer {
+    ghost use Rattle.std.specs.Prelude.{◌≤◌, length};
+    ghost use Rattle.p3_patterns.specs.PatternFaults.{steps_of};
+    ghost use Rattle.p3_patterns.specs.Playing.{Playing};
+
+    ghost Value = { Playing };
+
+    ghost view = { λ p. record { pattern = p.pattern.value; position = p.position; finished = p.finished } };
+
+    ghost invariant = { λ p. p.position ≤ length (steps_of p.pattern.value) };
+}
+
+impl PatternPlayer {
+    /// A player of which no step was taken yet.
+    pub fn new(pattern: Rc<InteractionPattern>) -> Self
+        ensures { result ≡ record { pattern = pattern.value; position = 0; finished = false } }
+    {
+        PatternPlayer {
+            pattern,
+            position: 0,
+            finished: false,
+        }
+    }
+
+    /// The pattern that is played.
+    pub fn pattern(&self) -> &InteractionPattern
+        ensures { result.now ≡ self.now.pattern }
+    {
+        &self.pattern
+    }
+
+    /// How many steps were taken.
+    pub fn position(&self) -> usize
+        ensures { result ≡ self.now.position }
+    {
+        self.position
+    }
+
+    /// How many steps the pattern has.
+    pub fn len(&self) -> usize
+        ensures { result ≡ length (steps_of self.now.pattern) }
+    {
+        self.pattern.len()
+    }
+
+    /// The pattern has no steps.
+    pub fn is_empty(&self) -> bool
+        ensures { IsTrue result ↔ steps_of self.now.pattern ≡ [] }
+    {
+        self.pattern.is_empty()
+    }
+
+    /// How many steps of the pattern were not taken yet.
+    pub fn remaining(&self) -> usize
+        ensures { self.now.position + result ≡ length (steps_of self.now.pattern) }
+    {
+        self.len() - self.position
+    }
+
+    /// A step was refused, so none is taken any more.
+    pub fn is_finalized(&self) -> bool
+        ensures { result ≡ self.now.finished }
+    {
+        self.finished
+    }
+
+    /// The step that the pattern has next, if it has one.
+    pub fn next_interaction(&self) -> Option<&Interaction>
+        ensures { option_copied result ≡ next_interaction self.now }
+    {
+        self.pattern.interactions().get(self.position)
+    }
+
+    /// Spends the player. It answers `Ok` exactly where no step was refused and none is left.
+    ///
+    /// Else the error is [`PatternError::Finished`] where a step was refused, and [`PatternError::Unplayed`]
+    /// with the next step where there is one.
+    pub fn finalize(self) -> Result<(), TranscriptError>
+        ensures ok { OnOk result (IsPlayed self) }
+        ensures err { IfErr result (λ e. IsPatternError (FaultOfPlayEnd self) e) }
+        ensures next { IfErr result (λ e. IsPatternError (CarriesNext self) e) }
+        ensures only { IsPlayed self → IsOk result }
+    {
+        let checked = self.check_end();
+        self.abort();
+        match checked {
+            Ok(()) => Ok(()),
+            Err(fault) => Err(TranscriptError::Pattern(fault)),
+        }
+    }
+
+    // The step is the next one, and none was refused.
+    fn check(&self, received: Interaction) -> Result<(), PatternError>
+        ensures ok { OnOk result ((self.now.finished ≡ false) × (next_step self.now ≡ Some (step_of received))) }
+        ensures err { IfErr result (λ e. FaultOfPlay self.now (step_of received) e × CarriesReceived received e × CarriesNext self.now e) }
+    {
+        if self.finished {
+            return Err(PatternError::Finished);
+        }
+        let Some(&expected) = self.next_interaction() else {
+            return Err(PatternError::NoMoreSteps { received });
+        };
+        if is_same(&received, &expected) {
+            Ok(())
+        } else {
+            Err(PatternError::WrongStep { received, expected })
+        }
+    }
+
+    // All steps are taken, and none was refused.
+    fn check_end(&self) -> Result<(), PatternError>
+        ensures ok { OnOk result (IsPlayed self.now) }
+        ensures err { IfErr result (λ e. FaultOfPlayEnd self.now e × CarriesNext self.now e) }
+    {
+        if self.finished {
+            return Err(PatternError::Finished);
+        }
+        match self.next_interaction() {
+            None => Ok(()),
+            Some(&expected) => Err(PatternError::Unplayed { expected }),
+        }
+    }
+}
+
+// The two are one step.
+fn is_same(received: &Interaction, expected: &Interaction) -> bool
+    ensures { IsTrue result ↔ step_of expected.now ≡ step_of received.now }
+{
+    Interaction::compared_by_parts();
+    received == expected
+}
+
+impl Pattern for PatternPlayer {
+    ghost takes = { Plays };
+
+    ghost refuses = { RefusesToPlay };
+
+    fn abort(self) {
+        let PatternPlayer {
+            pattern: _,
+            position: _,
+            finished: _,
+        } = self;
+    }
+
+    fn interact(&mut self, interaction: Interaction) -> Result<(), TranscriptError>
+        ensures ok { OnOk result (Plays self.old (step_of interaction) self.new) }
+        ensures err { IfErr result (λ e. RefusesToPlay self.old (step_of interaction) e self.new) }
+        ensures received { IfErr result (λ e. IsPatternError (CarriesReceived interaction) e) }
+        ensures next { IfErr result (λ e. IsPatternError (CarriesNext self.old) e) }
+    {
+        match self.check(interaction) {
+            Ok(()) => {
+                self.position += 1;
+                Ok(())
+            }
+            Err(fault) => {
+                self.finished = true;
+                Err(TranscriptError::Pattern(fault))
+            }
+        }
+    }
+}

@@ -1,0 +1,213 @@
+// The text of a whole pattern, and its digest.
+ghost use Rattle.std.specs.Prelude.{◌≡◌, ◌↔◌, ◌+◌, ◌*◌, ◌<◌, ◌^◌, ◌++◌, ℕ, List, Some, map, length, replicate, codes, IfOk, string_bytes, if◌then◌else◌};
+ghost use Rattle.std.specs.Fmt.{decimal};
+ghost use Rattle.std.specs.List.{repeat};
+ghost use Rattle.p3_fs_core.specs.Steps.{Step, step_of, plain_text, alternate_text};
+ghost use Rattle.p3_patterns.specs.PatternFaults.{steps_of};
+ghost use Rattle.p3_patterns.specs.Rendering.{depth_behind, indentation, padded, rendering, SameButTypeNames, FitsTypes, AllFitTypes};
+ghost use Rattle.p3_fs_core.specs.StepTextLaws.{IsEnd, FitsLength, FitsTag};
+
+use crate::InteractionPattern;
+use p3_fs_core::{Alternate, Hierarchy, Interaction, Length, TypeTag};
+use p3_symmetric::DigestHasher;
+use std::alloc::AllocError;
+use std::fmt;
+
+impl fmt::Display for InteractionPattern {
+    ghost output = { λ pattern. Some (rendering plain_text (steps_of pattern)) };
+
+    // The alternate form, `{:#}`, is the one that is hashed.
+    fn fmt<W: fmt::Write>(&self, f: &mut fmt::Formatter<W>) -> fmt::Result {
+        let rendering = Rendering {
+            steps: self.interactions(),
+            alternate: f.alternate(),
+        };
+        write!(f, "{rendering}")
+    }
+}
+
+impl InteractionPattern {
+    /// The text of the pattern that is hashed, the same as `{:#}` prints. Below a header that counts the steps
+    /// it has a line for each: its position, in as many digits as the last one, two spaces for each container
+    /// around it, and the alternate text of the step, which says its type by its tag and not by its name.
+    ///
+    /// The one error is that memory was refused. The pattern stays as it is.
+    pub fn alternate(&self) -> Result<String, AllocError>
+        ensures { IfOk result (λ text. string_bytes text ≡ rendering alternate_text (steps_of self.now)) }
+    {
+        let rendering = Rendering {
+            steps: self.interactions(),
+            alternate: true,
+        };
+        rendering.to_string(self.allocator())
+    }
+
+    /// The digest of the pattern's alternate text, 32 bytes.
+    ///
+    /// Two patterns with the same steps, but for the names of their types, have the same text, and any other two
+    /// have different ones. So their digests differ too, unless `D` takes the two texts to one digest.
+    ///
+    /// The one error is that memory for the text was refused. The pattern stays as it is.
+    pub fn pattern_hash<D: DigestHasher>(&self) -> Result<[u8; 32], AllocError>
+        ensures digest { IfOk result (λ digest. digest ≡ D.digest_of (rendering alternate_text (steps_of self.now))) }
+        ensures fits { AllFitTypes (steps_of self.now) × (length (steps_of self.now) < 2 ^ 64) }
+        ensures one_way { (x y : List Step) → AllFitTypes x → AllFitTypes y → length x < 2 ^ 64 → length y < 2 ^ 64
+            → (rendering alternate_text x ≡ rendering alternate_text y ↔ SameButTypeNames x y) }
+    {
+        fit_types(self.interactions());
+        let text = self.alternate()?;
+        Ok(D::digest(text.as_bytes()))
+    }
+}
+
+// The numbers of each step fit their types. It does nothing but tell so.
+fn fit_types(steps: &[Interaction])
+    ensures { AllFitTypes (map step_of steps.now) }
+{
+    for step in steps {
+        fits_types(step);
+    }
+}
+
+// The numbers of a step fit their types. It does nothing but tell so.
+fn fits_types(step: &Interaction)
+    ensures { FitsTypes (step_of step.now) }
+{
+    let _label = step.label().len();
+    fits_length(step.length());
+    fits_tag(step.type_tag());
+}
+
+// The number of a length fits its type.
+fn fits_length(length: Length)
+    ensures { FitsLength length }
+{}
+
+// The numbers of a tag fit their types.
+fn fits_tag(tag: TypeTag)
+    ensures { FitsTag tag }
+{
+    match tag {
+        TypeTag::Algebra { degree, basis, .. }
+        | TypeTag::BinaryTower { degree, basis, .. }
+        | TypeTag::BinaryPolynomial { degree, basis, .. } => fits_end(degree, basis),
+        TypeTag::Marker
+        | TypeTag::Bytes
+        | TypeTag::Opaque
+        | TypeTag::Bits { .. }
+        | TypeTag::UniformBits { .. } => {}
+    }
+}
+
+// A degree fits its type, and a basis is 32 bytes.
+fn fits_end(degree: usize, basis: [u8; 32])
+    ensures { IsEnd degree basis }
+{}
+
+// Steps that print below a header, a line each.
+#[derive(Clone, Copy)]
+struct Rendering<'a> {
+    steps: &'a [Interaction],
+    alternate: bool,
+}
+
+impl fmt::Display for Rendering<'_> {
+    ghost output = { λ all. Some (rendering (λ s. if all.alternate then alternate_text s else plain_text s) (map step_of all.steps.now)) };
+
+    fn fmt<W: fmt::Write>(&self, f: &mut fmt::Formatter<W>) -> fmt::Result {
+        let count = self.steps.len();
+        let digits = decimal_digits(count.saturating_sub(1));
+        writeln!(f, "Plonky3 Fiat-Shamir Transcript ({count} interactions)")?;
+        let mut depth: usize = 0;
+        for (position, step) in self.steps.iter().enumerate() {
+            let line = Line {
+                digits,
+                position,
+                indentation: indentation(step.hierarchy(), depth),
+                step,
+                alternate: self.alternate,
+            };
+            write!(f, "{line}")?;
+            depth = depth_behind(step.hierarchy(), depth);
+        }
+        Ok(())
+    }
+}
+
+// How far a step is indented, where so many containers are open: a closer stands where its opener does.
+fn indentation(hierarchy: Hierarchy, depth: usize) -> usize
+    ensures { result ≡ indentation hierarchy depth }
+{
+    match hierarchy {
+        Hierarchy::Atomic | Hierarchy::Begin => depth,
+        Hierarchy::End => depth.saturating_sub(1),
+    }
+}
+
+// How many containers are open behind a step, where so many are open before it.
+fn depth_behind(hierarchy: Hierarchy, depth: usize) -> usize
+    requires { depth < usize.MAX }
+    ensures { result ≡ depth_behind hierarchy depth }
+{
+    match hierarchy {
+        Hierarchy::Atomic => depth,
+        Hierarchy::Begin => depth + 1,
+        Hierarchy::End => depth.saturating_sub(1),
+    }
+}
+
+// How many digits a number has.
+fn decimal_digits(n: usize) -> usize
+    ensures { result ≡ length (decimal n) }
+{
+    let mut digits: usize = 1;
+    let mut rest = n;
+    while rest >= 10 {
+        rest /= 10;
+        digits += 1;
+    }
+    digits
+}
+
+// A step that prints as a line: behind its position, which has so many digits or more, and so far indented.
+#[derive(Clone, Copy)]
+struct Line<'a> {
+    digits: usize,
+    position: usize,
+    indentation: usize,
+    step: &'a Interaction,
+    alternate: bool,
+}
+
+impl fmt::Display for Line<'_> {
+    ghost output = { λ line. Some (
+        padded line.digits line.position ++ (codes " " ++ (replicate (2 * line.indentation) 32 ++
+        ((if line.alternate then alternate_text (step_of line.step.now) else plain_text (step_of line.step.now)) ++ codes "\n")))
+        ) };
+
+    fn fmt<W: fmt::Write>(&self, f: &mut fmt::Formatter<W>) -> fmt::Result {
+        let zeros = Repeated(
+            "0",
+            self.digits.saturating_sub(decimal_digits(self.position)),
+        );
+        let spaces = Repeated("  ", self.indentation);
+        write!(f, "{zeros}{} {spaces}", self.position)?;
+        if self.alternate {
+            writeln!(f, "{}", Alternate(self.step))
+        } else {
+            writeln!(f, "{}", self.step)
+        }
+    }
+}
+
+// A text that prints so many times.
+#[derive(Clone, Copy)]
+struct Repeated(&'static str, usize);
+
+impl fmt::Display for Repeated {
+    ghost output = { λ repeated. Some (repeat repeated.1 repeated.0.now) };
+
+    fn fmt<W: fmt::Write>(&self, f: &mut fmt::Formatter<W>) -> fmt::Result {
+        f.write_repeated(self.0, self.1)
+    }
+}

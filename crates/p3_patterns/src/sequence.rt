@@ -1,0 +1,205 @@
+// The steps of a whole protocol.
+ghost use Rattle.std.specs.Prelude.{◌≡◌, ◌↔◌, true, [], ◌∷◌, ◌++◌, List, Some, None, map, length, IfOk, IfErr, IfSome, IfNone, OnOk, IsOk, IsTrue};
+ghost use Rattle.p3_fs_core.specs.Steps.{Step, step_of};
+ghost use Rattle.p3_patterns.specs.PatternGrammar.{Allows, IsPattern, IsViable, IsInnermost, IsNoneOpen, Fault, IsFirstFault};
+ghost use Rattle.p3_patterns.specs.PatternFaults.{steps_of, NamesFirstFault};
+ghost use Rattle.p3_patterns.specs.Recording.{NamesMissingEnd};
+
+use p3_fs_core::{
+    Hierarchy, Interaction, InvalidKindInfo, Kind, MismatchedBeginEndInfo, MissingBeginInfo,
+    MissingEndInfo, TranscriptError,
+};
+use std::alloc::{AllocError, Global};
+
+/// The steps of a whole protocol. Each opener has its closer, and each step is of a kind that the container
+/// around it allows.
+#[derive(Debug, PartialEq, Eq, PartialOrd, Ord, Hash, Drop)]
+pub struct InteractionPattern {
+    interactions: Vec<Interaction>,
+}
+
+impl InteractionPattern {
+    /// The pattern of these steps.
+    ///
+    /// Steps that are no pattern are refused with their first fault: [`TranscriptError::MissingBegin`],
+    /// [`TranscriptError::InvalidKind`], [`TranscriptError::MismatchedBeginEnd`] or
+    /// [`TranscriptError::MissingEnd`]. The steps are gone then. It takes no memory.
+    pub fn new(interactions: Vec<Interaction>) -> Result<Self, TranscriptError>
+        ensures ok { IfOk result (λ pattern. (pattern.interactions.items ≡ interactions.items) × IsPattern Kind.Protocol (steps_of pattern)) }
+        ensures err { IfErr result (λ e. NamesFirstFault (map step_of interactions.items) e) }
+        ensures only { IsPattern Kind.Protocol (map step_of interactions.items) → IsOk result }
+        // A list of steps has one first fault at most.
+        ensures one_fault { (steps : List Step) (f g : Fault) → IsFirstFault steps f → IsFirstFault steps g → f ≡ g }
+    {
+        validate(&interactions)?;
+        Ok(InteractionPattern { interactions })
+    }
+
+    // The pattern of steps that were checked one by one, which is refused where a container is still open.
+    pub(crate) fn recorded(interactions: Vec<Interaction>) -> Result<Self, TranscriptError>
+        requires { IsViable (map step_of interactions.items) }
+        ensures ok { IfOk result (λ pattern. (pattern.interactions.items ≡ interactions.items) × IsPattern Kind.Protocol (steps_of pattern)) }
+        ensures err { IfErr result (λ e. NamesMissingEnd (map step_of interactions.items) e) }
+        ensures only { IsPattern Kind.Protocol (map step_of interactions.items) → IsOk result }
+    {
+        check_end(&interactions)?;
+        Ok(InteractionPattern { interactions })
+    }
+
+    /// The pattern of no steps.
+    pub fn empty(alloc: Global) -> Self
+        ensures { steps_of result ≡ [] }
+    {
+        InteractionPattern {
+            interactions: Vec::new(alloc),
+        }
+    }
+
+    /// The steps, the first one first.
+    pub fn interactions(&self) -> &[Interaction]
+        ensures { result.now ≡ self.now.interactions.items }
+    {
+        &self.interactions
+    }
+
+    /// How many steps there are.
+    pub fn len(&self) -> usize
+        ensures { result ≡ length (steps_of self.now) }
+    {
+        self.interactions.len()
+    }
+
+    /// There are no steps.
+    pub fn is_empty(&self) -> bool
+        ensures { IsTrue result ↔ steps_of self.now ≡ [] }
+    {
+        self.interactions.is_empty()
+    }
+
+    // What the steps were allocated with.
+    pub(crate) fn allocator(&self) -> Global {
+        *self.interactions.allocator()
+    }
+
+    /// Two patterns compare equal exactly where they have the same steps. Order and hash agree with that, as
+    /// they do of every type.
+    ///
+    /// A law: the body is empty, and a caller cites the clause.
+    #[tactic(auto, using(crate::proofs::PatternEquality::equal_patterns))]
+    pub fn compared_by_steps()
+        ensures { (a b : InteractionPattern) → (⟦<InteractionPattern as PartialEq>⟧.eq a b ≡ true ↔ steps_of a ≡ steps_of b) }
+    {
+        Interaction::compared_by_parts();
+    }
+
+    /// An equal pattern. The one error is that memory was refused.
+    pub fn clone(&self) -> Result<Self, AllocError>
+        ensures { IfOk result (λ pattern. pattern.interactions.items ≡ self.now.interactions.items) }
+    {
+        Ok(InteractionPattern {
+            interactions: self.interactions.clone()?,
+        })
+    }
+}
+
+// The steps are a pattern, or the error names their first fault.
+fn validate(steps: &[Interaction]) -> Result<(), TranscriptError>
+    ensures ok { OnOk result (IsPattern Kind.Protocol (map step_of steps.now)) }
+    ensures err { IfErr result (λ e. NamesFirstFault (map step_of steps.now) e) }
+{
+    for position in 0..steps.len() {
+        check_next(&steps[..position], steps[position])?;
+    }
+    check_end(steps)
+}
+
+// The steps leave no container open.
+fn check_end(steps: &[Interaction]) -> Result<(), TranscriptError>
+    requires { IsViable (map step_of steps.now) }
+    ensures ok { OnOk result (IsPattern Kind.Protocol (map step_of steps.now)) }
+    ensures err { IfErr result (λ e. NamesMissingEnd (map step_of steps.now) e) }
+{
+    match innermost(steps) {
+        None => Ok(()),
+        Some((position, begin)) => Err(TranscriptError::MissingEnd(MissingEndInfo {
+            position,
+            begin,
+        })),
+    }
+}
+
+// The step may stand behind those before it. The fault is named alike whatever follows.
+pub(crate) fn check_next(before: &[Interaction], next: Interaction) -> Result<(), TranscriptError>
+    requires { IsViable (map step_of before.now) }
+    ensures ok { OnOk result (IsViable (map step_of before.now ++ (step_of next ∷ []))) }
+    ensures err { IfErr result (λ e. (IsViable (map step_of before.now ++ (step_of next ∷ [])) → ⊥)
+        × ((rest : List Step) → NamesFirstFault (map step_of before.now ++ (step_of next ∷ rest)) e)) }
+{
+    let position = before.len();
+    let Some((begin_position, begin)) = innermost(before) else {
+        return if is_closer(&next) {
+            Err(TranscriptError::MissingBegin(MissingBeginInfo {
+                position,
+                end: next,
+            }))
+        } else {
+            Ok(())
+        };
+    };
+    if is_closer(&next) {
+        if next.closes(&begin) {
+            return Ok(());
+        }
+        Err(TranscriptError::MismatchedBeginEnd(MismatchedBeginEndInfo {
+            begin_position,
+            begin,
+            end_position: position,
+            end: next,
+        }))
+    } else if allows(begin.kind(), &next) {
+        Ok(())
+    } else {
+        Err(TranscriptError::InvalidKind(InvalidKindInfo {
+            begin_position,
+            begin,
+            interaction_position: position,
+            interaction: next,
+        }))
+    }
+}
+
+// The step closes a container.
+fn is_closer(step: &Interaction) -> bool
+    ensures { IsTrue result ↔ (step_of step.now).hierarchy ≡ Hierarchy.End }
+{
+    step.hierarchy() == Hierarchy::End
+}
+
+// A container of the kind may hold the step.
+fn allows(kind: Kind, step: &Interaction) -> bool
+    ensures { IsTrue result ↔ Allows kind (step_of step.now) }
+{
+    kind == Kind::Protocol || step.kind() == kind
+}
+
+// The innermost opener that the steps leave open, and where it stands. The last opener is looked for that no
+// closer behind it wants.
+fn innermost(steps: &[Interaction]) -> Option<(usize, Interaction)>
+    requires { IsViable (map step_of steps.now) }
+    ensures some { IfSome result (λ found. IsInnermost (map step_of steps.now) found.0 (step_of found.1)) }
+    ensures none { IfNone result (IsPattern Kind.Protocol (map step_of steps.now)) }
+{
+    let mut closers: usize = 0;
+    let mut position = steps.len();
+    while position > 0 {
+        position -= 1;
+        let step = steps[position];
+        match step.hierarchy() {
+            Hierarchy::Atomic => {}
+            Hierarchy::End => closers += 1,
+            Hierarchy::Begin if closers == 0 => return Some((position, step)),
+            Hierarchy::Begin => closers -= 1,
+        }
+    }
+    None
+}

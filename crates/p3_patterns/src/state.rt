@@ -1,0 +1,128 @@
+// Recording a pattern step by step.
+ghost use Rattle.std.specs.Prelude.{◌≡◌, [], ◌∷◌, ◌++◌, false, map, IfOk, IfErr, OnOk, IsOk};
+ghost use Rattle.p3_fs_core.specs.Steps.{step_of};
+ghost use Rattle.p3_patterns.specs.PatternGrammar.{IsPattern, IsViable};
+ghost use Rattle.p3_patterns.specs.PatternFaults.{steps_of};
+ghost use Rattle.p3_patterns.specs.Recording.{Recording, Records, RefusesToRecord, FaultOfNext, FaultOfEnd};
+
+use crate::sequence::check_next;
+use crate::{InteractionPattern, Pattern};
+use p3_field_core::Named;
+use p3_fs_core::{Hierarchy, Interaction, Kind, Label, PatternError, TranscriptError};
+use std::alloc::Global;
+use std::marker::{Model, PhantomData};
+
+/// Records a pattern step by step, for a sponge of the alphabet `U`. Each step is checked as it comes.
+///
+/// A recorder must be spent, by [`finalize`](PatternState::finalize) or [`abort`](Pattern::abort). Once it
+/// refused a step it refuses all.
+#[derive_where(Debug)]
+pub struct PatternState<U> {
+    interactions: Vec<Interaction>,
+    finished: bool,
+    unit: PhantomData<U>,
+}
+
+impl<U> Model for PatternState<U> {
+    ghost use Rattle.std.specs.Prelude.{map};
+    ghost use Rattle.p3_fs_core.specs.Steps.{step_of};
+    ghost use Rattle.p3_patterns.specs.PatternGrammar.{IsViable};
+    ghost use Rattle.p3_patterns.specs.Recording.{Recording};
+
+    ghost Value = { Recording };
+
+    ghost view = { λ r. record { steps = map step_of r.interactions.items; finished = r.finished } };
+
+    ghost invariant = { λ r. IsViable (map step_of r.interactions.items) };
+}
+
+impl<U> PatternState<U> {
+    /// A recorder that took no step yet.
+    pub fn new(alloc: Global) -> Self
+        ensures { result ≡ record { steps = []; finished = false } }
+    {
+        PatternState {
+            interactions: Vec::new(alloc),
+            finished: false,
+            unit: PhantomData,
+        }
+    }
+
+    /// Spends the recorder, for the pattern of its steps. They are one exactly where no step was refused and
+    /// no container is open.
+    ///
+    /// Else the error is [`PatternError::Finished`] where a step was refused, and
+    /// [`TranscriptError::MissingEnd`] with the innermost opener that is still open. It takes no memory.
+    pub fn finalize(self) -> Result<InteractionPattern, TranscriptError>
+        ensures ok { IfOk result (λ pattern. (self.finished ≡ false) × (steps_of pattern ≡ self.steps) × IsPattern Kind.Protocol (steps_of pattern)) }
+        ensures err { IfErr result (λ e. FaultOfEnd self e) }
+        ensures only { self.finished ≡ false → IsPattern Kind.Protocol self.steps → IsOk result }
+    {
+        let PatternState {
+            interactions,
+            finished,
+            unit: _,
+        } = self;
+        if finished {
+            return Err(TranscriptError::Pattern(PatternError::Finished));
+        }
+        InteractionPattern::recorded(interactions)
+    }
+}
+
+impl<U> Pattern for PatternState<U> {
+    ghost takes = { Records };
+
+    ghost refuses = { RefusesToRecord };
+
+    fn abort(self) {
+        let PatternState {
+            interactions: _,
+            finished: _,
+            unit: _,
+        } = self;
+    }
+
+    fn interact(&mut self, interaction: Interaction) -> Result<(), TranscriptError>
+        ensures ok { OnOk result (Records self.old (step_of interaction) self.new) }
+        ensures err { IfErr result (λ e. RefusesToRecord self.old (step_of interaction) e self.new) }
+    {
+        if self.finished {
+            return Err(TranscriptError::Pattern(PatternError::Finished));
+        }
+        let taken = take(&mut self.interactions, interaction);
+        self.finished = taken.is_err();
+        taken
+    }
+
+    // These four are the bodies of the trait, which the borrow checker does not take over for a `U` that may
+    // hold lifetimes.
+    fn begin<T: Named>(&mut self, label: Label, kind: Kind) -> Result<(), TranscriptError> {
+        self.interact(Interaction::marker::<T>(Hierarchy::Begin, kind, label))
+    }
+
+    fn end<T: Named>(&mut self, label: Label, kind: Kind) -> Result<(), TranscriptError> {
+        self.interact(Interaction::marker::<T>(Hierarchy::End, kind, label))
+    }
+
+    fn begin_protocol<T: Named>(&mut self, label: Label) -> Result<(), TranscriptError> {
+        self.begin::<T>(label, Kind::Protocol)
+    }
+
+    fn end_protocol<T: Named>(&mut self, label: Label) -> Result<(), TranscriptError> {
+        self.end::<T>(label, Kind::Protocol)
+    }
+}
+
+// Takes the step where it may come next. A refused one leaves the steps as they were.
+fn take(steps: &mut Vec<Interaction>, next: Interaction) -> Result<(), TranscriptError>
+    requires { IsViable (map step_of steps.old.items) }
+    ensures ok { OnOk result (IsViable (map step_of steps.old.items ++ (step_of next ∷ []))
+        × (map step_of steps.new.items ≡ map step_of steps.old.items ++ (step_of next ∷ []))) }
+    ensures err { IfErr result (λ e. FaultOfNext (map step_of steps.old.items) (step_of next) e
+        × (steps.new.items ≡ steps.old.items)) }
+{
+    check_next(steps, next)?;
+    steps.push(next)?;
+    Ok(())
+}

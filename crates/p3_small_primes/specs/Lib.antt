@@ -1,0 +1,2 @@
+pub mod BabyBearResidues
+pub mod F257Residues

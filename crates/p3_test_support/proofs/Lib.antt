@@ -1,0 +1,5 @@
+pub mod Digests
+pub mod DuplexRows
+pub mod FieldRows
+pub mod HashRows
+pub mod Observed

@@ -1,0 +1,3 @@
+pub mod LengthHasher
+pub mod Supply
+pub mod TestHashers

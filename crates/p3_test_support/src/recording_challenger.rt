@@ -1,0 +1,78 @@
+ghost use Rattle.std.specs.Prelude.{◌≡◌, []};
+
+use p3_challenger_core::{CanObserve, ChallengerError, Sponge};
+use std::alloc::Global;
+use std::marker::Model;
+
+/// A challenger that keeps what it is fed.
+#[derive(Drop)]
+pub struct RecordingChallenger<T> {
+    symbols: Vec<T>,
+}
+
+impl<T> Model for RecordingChallenger<T> {
+    ghost use Rattle.std.specs.Prelude.{List};
+
+    ghost Value = { List T };
+
+    ghost view = { λ r. r.symbols.items };
+}
+
+impl<T> RecordingChallenger<T> {
+    /// A challenger that was fed nothing yet.
+    pub fn new(alloc: Global) -> Self
+        ensures { result ≡ [] }
+    {
+        RecordingChallenger {
+            symbols: Vec::new(alloc),
+        }
+    }
+
+    /// What it was fed, in order.
+    pub fn symbols(&self) -> &[T]
+        ensures { result.now ≡ self.now }
+    {
+        self.symbols.as_slice()
+    }
+}
+
+impl<T: Copy> Sponge for RecordingChallenger<T> {
+    ghost use Rattle.std.specs.Prelude.{◌++◌};
+    ghost use Rattle.std.proofs.Common.{append_assoc};
+    ghost use Rattle.std.proofs.lemmas.List.{append-nil};
+
+    type State = Self;
+
+    type Symbol = T;
+
+    ghost state = { λ r. r };
+
+    ghost fed = { λ s xs. s ++ xs };
+
+    ghost fed_nothing = { append-nil };
+
+    ghost fed_more = { append_assoc };
+}
+
+impl<T: Copy> CanObserve<T> for RecordingChallenger<T> {
+    ghost use Rattle.std.specs.Prelude.{◌≡◌, [], ◌∷◌, ◌++◌, refl};
+
+    ghost symbols = { λ x. x ∷ [] };
+
+    ghost observed = { λ s x. s ++ (x ∷ []) };
+
+    // A refused call changes nothing.
+    ghost may_leave = { λ s _ t. t ≡ s };
+
+    ghost feeds = { λ s x _. refl };
+
+    fn observe(&mut self, value: T) -> Result<(), ChallengerError> {
+        self.symbols.push(value)?;
+        Ok(())
+    }
+
+    fn observe_slice(&mut self, values: &[T]) -> Result<(), ChallengerError> {
+        self.symbols.extend_from_slice(values)?;
+        Ok(())
+    }
+}

@@ -1,0 +1,93 @@
+ghost use Rattle.std.specs.Prelude.{◌≡◌};
+
+use p3_challenger_core::{CanObserve, CanSample, ChallengerError, Sponge};
+use std::marker::Model;
+
+/// A challenger that draws the bytes it was given, whatever it is fed. Its draw limit is their number.
+#[derive(Drop)]
+pub struct Supply<'a> {
+    left: &'a [u8],
+}
+
+impl<'a> Model for Supply<'a> {
+    ghost use Rattle.std.specs.Prelude.{ℕ, List};
+
+    ghost Value = { List ℕ };
+
+    ghost view = { λ s. s.left.now };
+}
+
+impl<'a> Supply<'a> {
+    /// A challenger that draws these bytes, in order.
+    pub fn new(bytes: &'a [u8]) -> Self
+        ensures { result ≡ bytes.now }
+    {
+        Supply { left: bytes }
+    }
+
+    /// What is not drawn yet.
+    pub fn left(&self) -> &[u8]
+        ensures { result.now ≡ self.now }
+    {
+        self.left
+    }
+}
+
+impl<'a> Sponge for Supply<'a> {
+    ghost use Rattle.std.specs.Prelude.{refl};
+
+    type State = Self;
+
+    type Symbol = u8;
+
+    ghost state = { λ s. s };
+
+    ghost fed = { λ s _. s };
+
+    ghost fed_nothing = { λ _. refl };
+
+    ghost fed_more = { λ _ _ _. refl };
+}
+
+impl<'a> CanObserve<u8> for Supply<'a> {
+    ghost use Rattle.std.specs.Prelude.{[], ◌∷◌, refl};
+
+    ghost symbols = { λ x. x ∷ [] };
+
+    ghost observed = { λ s _. s };
+
+    ghost may_leave = { λ _ _ _. ⊥ };
+
+    ghost feeds = { λ _ _ _. refl };
+
+    fn observe(&mut self, _value: u8) -> Result<(), ChallengerError> {
+        Ok(())
+    }
+
+    #[tactic(auto, using(crate::proofs::Observed::passed_over))]
+    fn observe_slice(&mut self, _values: &[u8]) -> Result<(), ChallengerError> {
+        Ok(())
+    }
+}
+
+impl<'a> CanSample<u8> for Supply<'a> {
+    ghost use Rattle.p3_test_support.specs.Supply.{first_of, rest_of, IsUsedUp, used_up-none};
+
+    ghost sampled = { λ s. first_of s };
+
+    ghost after_sampled = { λ s. rest_of s };
+
+    ghost meets_limit = { λ s. IsUsedUp s };
+
+    ghost draw_may_leave = { λ _ _. ⊥ };
+
+    ghost limit_gives_none = { used_up-none };
+
+    fn sample(&mut self) -> Result<u8, ChallengerError> {
+        let Some((first, rest)) = self.left.split_first() else {
+            return Err(ChallengerError::DrawLimit);
+        };
+        self.left = rest;
+        Ok(*first)
+    }
+}

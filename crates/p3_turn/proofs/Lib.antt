@@ -1,0 +1,3 @@
+pub mod Identifiers
+pub mod SeparatorEquality
+pub mod WorkedRows

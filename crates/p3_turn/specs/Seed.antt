@@ -1,0 +1,83 @@
+-- What binds a transcript to a protocol, its pattern and the instance.
+use Rattle.std.specs.Prelude.{◌≡◌, ℕ, ◌-◌, ◌<◌, ◌≤◌, ◌^◌, ◌⊎◌, List, [], ◌∷◌, ◌++◌, length, replicate, flat_map}
+use Rattle.p3_challenger_core.specs.declared.error.ChallengerError.TheVariants as challenger
+use Rattle.p3_fs_core.specs.declared.error.TranscriptError.{TranscriptError}
+use Rattle.p3_fs_core.specs.declared.error.TranscriptError.TheVariants.{MissingBegin, InvalidKind, MismatchedBeginEnd, MissingEnd, BadProofShape, Pattern, Challenger, LabelTooLong, OutOfMemory}
+use Rattle.p3_patterns.specs.declared.sequence.InteractionPattern.{InteractionPattern}
+use Rattle.p3_fs_core.specs.BigEndian.{in_bytes}
+use Rattle.p3_fs_core.specs.Steps.{alternate_text}
+use Rattle.p3_patterns.specs.PatternFaults.{steps_of}
+use Rattle.p3_patterns.specs.Rendering.{rendering}
+
+-- a protocol's identifier: version, name, zeros, and in the last of 64 places the length of the name
+abbrev pub identifier : ℕ → List ℕ → List ℕ
+identifier version name = version ∷ (name ++ (replicate (62 - length name) 0 ++ (length name ∷ [])))
+
+-- a byte string behind its length in four bytes, the highest first
+abbrev pub counted : List ℕ → List ℕ
+counted bytes = in_bytes 4 (length bytes) ++ bytes
+
+-- the label of an instance: each of its chunks behind its length
+abbrev pub label_of : List (List ℕ) → List ℕ
+label_of chunks = flat_map counted chunks
+
+-- the length of a byte string fits in four bytes
+abbrev pub FitsCount : List ℕ → Type 0
+FitsCount bytes = length bytes < 2 ^ 32
+
+-- a chunk that would make a label so long is refused: the label's length no longer fits in four bytes, or
+-- it does, and memory was refused
+abbrev pub RefusesChunk : ℕ → TranscriptError → Type 0
+RefusesChunk len LabelTooLong = 2 ^ 32 ≤ len
+RefusesChunk len OutOfMemory = len < 2 ^ 32
+RefusesChunk len (MissingBegin info) = ⊥
+RefusesChunk len (InvalidKind info) = ⊥
+RefusesChunk len (MismatchedBeginEnd info) = ⊥
+RefusesChunk len (MissingEnd info) = ⊥
+RefusesChunk len (BadProofShape reason) = ⊥
+RefusesChunk len (Pattern e) = ⊥
+RefusesChunk len (Challenger e) = ⊥
+
+-- the seed: identifier, digest of the pattern, label behind its length, and a last byte
+abbrev pub seed_bytes : List ℕ → List ℕ → List ℕ → List ℕ
+seed_bytes protocol_id digest label = protocol_id ++ (digest ++ (counted label ++ (0x80 ∷ [])))
+
+-- ---- the seed of a separator
+
+-- what a seed is made of
+pub record SeedParts : Type 0 where
+  pub protocol_id : List ℕ
+  pub digest : List ℕ
+  pub label : List ℕ
+
+-- an identifier has 64 bytes, a digest 32, and a label no more than its length can say in four
+abbrev pub AreSeedParts : SeedParts → Type 0
+AreSeedParts parts = (length parts.protocol_id ≡ 64) × (length parts.digest ≡ 32) × FitsCount parts.label
+
+abbrev pub seed_of_parts : SeedParts → List ℕ
+seed_of_parts parts = seed_bytes parts.protocol_id parts.digest parts.label
+
+-- what the seed of a protocol's identifier and pattern, and an instance's label, is made of
+abbrev pub parts_of : (List ℕ → List ℕ) → List ℕ → InteractionPattern → List ℕ → SeedParts
+parts_of digest_of protocol_id pattern label =
+    record { protocol_id = protocol_id; digest = digest_of (rendering alternate_text (steps_of pattern)); label = label }
+
+abbrev pub seed_of : (List ℕ → List ℕ) → List ℕ → InteractionPattern → List ℕ → List ℕ
+seed_of digest_of protocol_id pattern label = seed_of_parts (parts_of digest_of protocol_id pattern label)
+
+-- What a seed that is refused leaves: memory for its bytes was refused, and nothing of it was observed; or
+-- it was too long for the alphabet, and nothing of it was observed; or memory was refused while it was
+-- observed.
+abbrev pub RefusesSeed : {S : Type 0} → Type 0 → (S → Type 0) → S → TranscriptError → S → Type 0
+RefusesSeed IsTooLong MayLeave before OutOfMemory after = (after ≡ before) ⊎ ((IsTooLong → ⊥) × MayLeave after)
+RefusesSeed IsTooLong MayLeave before (Challenger challenger.TooLong) after = IsTooLong × (after ≡ before)
+RefusesSeed IsTooLong MayLeave before (Challenger challenger.OutOfMemory) after = ⊥
+RefusesSeed IsTooLong MayLeave before (Challenger challenger.DrawLimit) after = ⊥
+RefusesSeed IsTooLong MayLeave before (Challenger challenger.NoWitness) after = ⊥
+RefusesSeed IsTooLong MayLeave before (MissingBegin info) after = ⊥
+RefusesSeed IsTooLong MayLeave before (InvalidKind info) after = ⊥
+RefusesSeed IsTooLong MayLeave before (MismatchedBeginEnd info) after = ⊥
+RefusesSeed IsTooLong MayLeave before (MissingEnd info) after = ⊥
+RefusesSeed IsTooLong MayLeave before (BadProofShape reason) after = ⊥
+RefusesSeed IsTooLong MayLeave before (Pattern e) after = ⊥
+RefusesSeed IsTooLong MayLeave before LabelTooLong after = ⊥

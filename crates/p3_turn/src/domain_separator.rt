@@ -1,0 +1,219 @@
+// What binds a transcript to a protocol, its pattern and the instance.
+ghost use Rattle.std.specs.Prelude.{◌≡◌, ◌↔◌, ℕ, true, ◌+◌, ◌<◌, ◌≤◌, ◌^◌, List, [], ◌∷◌, ◌++◌, length, OnOk, IfOk, IfErr};
+ghost use Rattle.std.specs.List.{All, flat_map};
+ghost use Rattle.p3_challenger_core.specs.Sponge.{observed_all};
+ghost use Rattle.p3_fs_core.specs.Alphabet.{LeavesItems};
+ghost use Rattle.p3_patterns.specs.PatternFaults.{steps_of};
+ghost use Rattle.p3_challenger_core.specs.Reading.{ReadsOneWayOn};
+ghost use Rattle.p3_turn.specs.Seed.{identifier, counted, label_of, FitsCount, RefusesChunk, seed_of, RefusesSeed, AreSeedParts, parts_of, seed_of_parts};
+
+use p3_challenger_core::CanObserve;
+use p3_codecs::Unit;
+use p3_fs_core::TranscriptError;
+use p3_patterns::InteractionPattern;
+use p3_symmetric::DigestHasher;
+use std::alloc::{AllocError, Global};
+use std::marker::PhantomData;
+use std::rc::Rc;
+
+/// How many bytes the identifier of a protocol has.
+pub const PROTOCOL_ID_LEN: usize = 64;
+
+// The last byte of a seed.
+const CLOSING_BYTE: u8 = 0x80;
+
+// How many bytes a length is written in.
+const COUNT_LEN: usize = 4;
+
+// The greatest length of a label: the greatest that fits in so many bytes.
+const MAX_LABEL_LEN: usize = u32::MAX as usize;
+
+/// What binds a transcript to a protocol, its pattern and the instance.
+///
+/// `U` is the alphabet of the sponge, and `D` the hash function that the pattern's digest is made with.
+///
+/// The label of the instance stays shorter than 2^32 bytes, so that its length can be written in four.
+#[derive(Drop)]
+#[derive_where(Debug, PartialEq, Eq)]
+pub struct DomainSeparator<U, D> {
+    protocol_id: [u8; PROTOCOL_ID_LEN],
+    instance_label: Vec<u8>,
+    pattern: Rc<InteractionPattern>,
+    alphabet: PhantomData<U>,
+    hasher: PhantomData<D>,
+    ghost label_fits: { length instance_label.items < 2 ^ 32 },
+}
+
+impl<U, D> DomainSeparator<U, D> {
+    /// A separator of the protocol with this version, name and pattern, for an instance with no label yet.
+    ///
+    /// The identifier is the version, the name, zeros, and in the last place the length of the name.
+    ///
+    /// Conditions: the name has 1 to 62 bytes. The one error is that memory was refused: the pattern is gone
+    /// then.
+    pub fn new(
+        alloc: Global,
+        version: u8,
+        name: &[u8],
+        pattern: InteractionPattern,
+    ) -> Result<Self, AllocError>
+        requires named { 1 ≤ length name.now }
+        requires short { length name.now ≤ 62 }
+        ensures protocol_id { IfOk result (λ separator. separator.protocol_id ≡ identifier version name.now) }
+        ensures label { IfOk result (λ separator. separator.instance_label.items ≡ []) }
+        ensures pattern { IfOk result (λ separator. separator.pattern.value ≡ pattern) }
+        // An identifier comes from one version and one name.
+        ensures one_way { (v w : ℕ) (a b : List ℕ) → length a ≤ 62 → length b ≤ 62 →
+            identifier v a ≡ identifier w b → (v ≡ w) × (a ≡ b) }
+    {
+        Ok(DomainSeparator {
+            protocol_id: protocol_identifier(version, name),
+            instance_label: Vec::new(alloc),
+            pattern: Rc::new(alloc, pattern)?,
+            alphabet: PhantomData,
+            hasher: PhantomData,
+        })
+    }
+
+    /// The identifier of the protocol: its version, its name, zeros, and in the last place the length of the
+    /// name.
+    pub fn protocol_id(&self) -> &[u8; PROTOCOL_ID_LEN]
+        ensures { result.now ≡ self.now.protocol_id }
+    {
+        &self.protocol_id
+    }
+
+    /// The label of the instance: each of its chunks behind its length in four bytes, the highest first.
+    pub fn instance_label(&self) -> &[u8]
+        ensures { result.now ≡ self.now.instance_label.items }
+    {
+        self.instance_label.as_slice()
+    }
+
+    /// The pattern of the protocol.
+    pub fn pattern(&self) -> &Rc<InteractionPattern>
+        ensures { result.now ≡ self.now.pattern }
+    {
+        &self.pattern
+    }
+
+    /// Adds a chunk at the end of the instance's label, behind its length in four bytes, the highest first.
+    /// So no two lists of chunks make one label.
+    ///
+    /// The errors are [`TranscriptError::LabelTooLong`], where the label would have 2^32 bytes or more, and
+    /// [`TranscriptError::OutOfMemory`]. Both leave the separator as it is.
+    pub fn instance(&mut self, chunk: &[u8]) -> Result<(), TranscriptError>
+        ensures ok { OnOk result (self.new.instance_label.items ≡ self.old.instance_label.items ++ counted chunk.now) }
+        ensures err { IfErr result (λ e. RefusesChunk (length self.old.instance_label.items + 4 + length chunk.now) e
+            × (self.new.instance_label.items ≡ self.old.instance_label.items)) }
+        ensures rest { (self.new.protocol_id ≡ self.old.protocol_id) × (self.new.pattern ≡ self.old.pattern) }
+        // The label is that of the chunks so far.
+        ensures chunks { OnOk result ((chunks : List (List ℕ)) → self.old.instance_label.items ≡ label_of chunks →
+            self.new.instance_label.items ≡ label_of (chunks ++ (chunk.now ∷ []))) }
+        // A label comes from one list of chunks.
+        ensures one_way { (x y : List (List ℕ)) → All FitsCount x → All FitsCount y → label_of x ≡ label_of y → x ≡ y }
+    {
+        let added = COUNT_LEN.saturating_add(chunk.len());
+        if added > MAX_LABEL_LEN - self.instance_label.len() {
+            return Err(TranscriptError::LabelTooLong);
+        }
+        // Room for both parts is asked for first: where it is refused, neither is added.
+        self.instance_label.reserve(added)?;
+        let count = chunk.len() as u32;
+        self.instance_label.extend_from_slice(&count.to_be_bytes())?;
+        self.instance_label.extend_from_slice(chunk)?;
+        Ok(())
+    }
+
+    /// Two separators compare equal exactly where they have one identifier, one label and the same steps.
+    ///
+    /// A law: the body is empty, and a caller cites the clause.
+    pub fn compared_by_parts(&self, other: &Self)
+        ensures { ⟦<DomainSeparator<U, D> as PartialEq>⟧.eq self.now other.now ≡ true ↔ (
+            (self.now.protocol_id ≡ other.now.protocol_id)
+            × (self.now.instance_label.items ≡ other.now.instance_label.items)
+            × (steps_of self.now.pattern.value ≡ steps_of other.now.pattern.value)) }
+    {
+        InteractionPattern::compared_by_steps();
+    }
+
+    /// An equal separator, which shares the pattern. The one error is that memory was refused.
+    pub fn clone(&self) -> Result<Self, AllocError>
+        ensures protocol_id { IfOk result (λ copy. copy.protocol_id ≡ self.now.protocol_id) }
+        ensures label { IfOk result (λ copy. copy.instance_label.items ≡ self.now.instance_label.items) }
+        ensures pattern { IfOk result (λ copy. copy.pattern.value ≡ self.now.pattern.value) }
+    {
+        Ok(DomainSeparator {
+            protocol_id: self.protocol_id,
+            instance_label: self.instance_label.clone()?,
+            pattern: self.pattern.clone()?,
+            alphabet: PhantomData,
+            hasher: PhantomData,
+        })
+    }
+}
+
+impl<U: Unit, D: DigestHasher> DomainSeparator<U, D> {
+    /// Observes the seed in one byte string: the identifier, the digest of the pattern, the label behind its
+    /// length in four bytes, and a byte 0x80.
+    ///
+    /// Conditions: `U` is an alphabet, as [`Unit::observe_bytes`] has it.
+    ///
+    /// The errors are [`ChallengerError::TooLong`](p3_challenger_core::ChallengerError::TooLong) in
+    /// [`TranscriptError::Challenger`], with nothing absorbed, and [`TranscriptError::OutOfMemory`], which
+    /// leaves the challenger as it is, or as [`Unit::observe_bytes`] leaves it.
+    pub fn seed<C: CanObserve<U::Item>>(&self, challenger: &mut C) -> Result<(), TranscriptError>
+        requires { U.is_alphabet }
+        ensures ok { let seed = seed_of D.digest_of self.now.protocol_id self.now.pattern.value self.now.instance_label.items in
+            OnOk result ((U.is_too_long (length seed) → ⊥)
+            × (C.state challenger.new ≡ observed_all C.observed (C.state challenger.old) (U.items seed))) }
+        ensures err { let seed = seed_of D.digest_of self.now.protocol_id self.now.pattern.value self.now.instance_label.items in
+            IfErr result (λ e. RefusesSeed (U.is_too_long (length seed))
+            (LeavesItems C.observed C.may_leave (C.state challenger.old) (U.items seed))
+            (C.state challenger.old) e (C.state challenger.new)) }
+        // What is observed is what the items feed, where the challenger feeds each in one way.
+        ensures fed { let seed = seed_of D.digest_of self.now.protocol_id self.now.pattern.value self.now.instance_label.items in
+            ReadsOneWayOn U.is_item C.symbols → OnOk result (C.state challenger.new
+            ≡ C.fed (C.state challenger.old) (flat_map C.symbols (U.items seed))) }
+        // The seed is that of an identifier, a digest and a label. Whatever follows, equal seeds come from
+        // equal ones.
+        ensures parts { OnOk result (AreSeedParts
+            (parts_of D.digest_of self.now.protocol_id self.now.pattern.value self.now.instance_label.items)) }
+        ensures one_way { ReadsOneWayOn AreSeedParts seed_of_parts }
+    {
+        let seed = self.seed_bytes()?;
+        U::observe_bytes(challenger, &seed)?;
+        Ok(())
+    }
+
+    // The bytes of the seed.
+    fn seed_bytes(&self) -> Result<Vec<u8>, AllocError>
+        ensures bytes { IfOk result (λ seed. seed.items
+            ≡ seed_of D.digest_of self.now.protocol_id self.now.pattern.value self.now.instance_label.items) }
+        ensures parts { OnOk result (AreSeedParts
+            (parts_of D.digest_of self.now.protocol_id self.now.pattern.value self.now.instance_label.items)) }
+    {
+        let digest = self.pattern.pattern_hash::<D>()?;
+        let label_len = self.instance_label.len();
+        let len = PROTOCOL_ID_LEN + digest.len() + COUNT_LEN + label_len + 1;
+        let mut seed = Vec::with_capacity(*self.instance_label.allocator(), len)?;
+        seed.extend_from_slice(self.protocol_id())?;
+        seed.extend_from_slice(&digest)?;
+        seed.extend_from_slice(&(label_len as u32).to_be_bytes())?;
+        seed.extend_from_slice(self.instance_label())?;
+        seed.push(CLOSING_BYTE)?;
+        Ok(seed)
+    }
+}
+
+// The identifier of a protocol.
+fn protocol_identifier(version: u8, name: &[u8]) -> [u8; PROTOCOL_ID_LEN]
+    requires { length name.now ≤ 62 }
+    ensures { result ≡ identifier version name.now }
+{
+    let mut protocol_id = [0; PROTOCOL_ID_LEN];
+    protocol_id[0] = version;
+    protocol_id[1..=name.len()].copy_from_slice(name);
+    protocol_id[PROTOCOL_ID_LEN - 1] = name.len() as u8;
+    protocol_id
+}

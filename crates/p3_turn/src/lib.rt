@@ -1,0 +1,6 @@
+//! What binds a transcript to a protocol, its pattern and the instance.
+#![tactic(auto)]
+
+mod domain_separator;
+
+pub use domain_separator::{DomainSeparator, PROTOCOL_ID_LEN};

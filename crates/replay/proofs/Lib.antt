@@ -1,3 +1,0 @@
-mod Digests
-mod Layouts
-pub mod Observed

@@ -1,2 +1,0 @@
-pub mod TestHashers
-pub mod Supply

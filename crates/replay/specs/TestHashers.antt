@@ -1,9 +1,0 @@
--- A hash function for tests, of no strength at all. It is laid out as the one of lengths that the
--- worked rows use: its digest counts on from a first byte.
-use Rattle.std.specs.Prelude.{ℕ, ◌%◌, List}
-use Rattle.std.specs.List.{sum}
-use Rattle.p3_challenger_core.specs.LengthHasher.{digest_of_length}
-
--- the first byte is the sum of the bytes of the message
-abbrev pub sum_digest : List ℕ → List ℕ
-sum_digest message = digest_of_length (sum message % 256)

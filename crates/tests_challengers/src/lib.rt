@@ -1,0 +1,9 @@
+//! Tests of hashers, permutations and challengers.
+#![tactic(auto)]
+
+#[cfg(test)]
+mod duplex;
+#[cfg(test)]
+mod hash;
+#[cfg(test)]
+mod symmetric;

@@ -1,0 +1,119 @@
+ghost use Rattle.std.specs.Prelude.{◌≡◌};
+
+use p3_field::{BabyBear, F257, PrimeCharacteristicRing};
+use p3_symmetric::{
+    CryptographicHasher, CryptographicPermutation, Hash, MerkleCap, Sha256Hasher, Turn,
+};
+use std::alloc::Global;
+use std::fmt::Write;
+use std::test::Fail;
+
+// ---- what generic code knows: each of these is proved from its bound alone
+
+fn digest_of<T, Out, H: CryptographicHasher<T, Out>>(hasher: H, values: &[T]) -> Out
+    ensures { result ≡ H.hash hasher values.now }
+{
+    hasher.hash_slice(values)
+}
+
+fn permuted<T: Copy, P: CryptographicPermutation<T>>(permutation: P, state: T) -> T
+    ensures { result ≡ P.permutation permutation state }
+{
+    let mut state = state;
+    permutation.permute_mut(&mut state);
+    state
+}
+
+fn digest_from<F, T, const N: usize>(values: [T; N]) -> Hash<F, T, N>
+    ensures { result ≡ values }
+{
+    Hash::from(values)
+}
+
+// ---- the same at concrete types, with values from elsewhere
+
+// The field of digests and caps: a marker alone.
+struct Marker;
+
+fn element(n: u64) -> F257 {
+    F257::from_u64(n)
+}
+
+fn three(x: u64, y: u64, z: u64) -> [F257; 3] {
+    [element(x), element(y), element(z)]
+}
+
+#[test]
+fn cells_turn_and_get_their_place_and_one(rt: HostRuntime) {
+    let state = three(10, 20, 256);
+    assert_eq!(rt; permuted(Turn::<0>, state), three(11, 22, 2));
+    assert_eq!(rt; permuted(Turn::<1>, state), three(21, 1, 13));
+    assert_eq!(rt; permuted(Turn::<2>, state), three(0, 12, 23));
+    assert_eq!(rt;
+        permuted(Turn::<5>, state),
+        three(0, 12, 23),
+        "a whole turn and two places"
+    );
+    assert_eq!(rt; permuted(Turn::<2>, [element(7)]), [element(8)]);
+    let nothing: [F257; 0] = [];
+    assert_eq!(rt; permuted(Turn::<1>, nothing), nothing);
+    let state = [BabyBear::from_u64(2013265920), BabyBear::from_u64(5)];
+    assert_eq!(rt;
+        permuted(Turn::<1>, state),
+        [BabyBear::from_u64(6), BabyBear::from_u64(1)]
+    );
+}
+
+// The digest as the command `sha256sum` prints it.
+fn sha256_text(alloc: Global, message: &[u8]) -> Result<String, Fail> {
+    let digest: [u8; 32] = digest_of(Sha256Hasher, message);
+    let mut text = String::new(alloc);
+    for byte in digest {
+        write!(text, "{byte:02x}")?;
+    }
+    Ok(text)
+}
+
+#[test]
+fn sha256_gives_the_published_digests(rt: HostRuntime) -> Result<(), Fail> {
+    let table = [
+        (
+            "",
+            "e3b0c44298fc1c149afbf4c8996fb92427ae41e4649b934ca495991b7852b855",
+        ),
+        (
+            "abc",
+            "ba7816bf8f01cfea414140de5dae2223b00361a396177a9cb410ff61f20015ad",
+        ),
+        (
+            "abcdefghbcdefghicdefghijdefghijkefghijklfghijklmghijklmnhijklmnoijklmnopjklmnopqklmnopqrlmnopqrsmnopqrstnopqrstu",
+            "cf5b16a778af8380036ce59e7b0492370b249b11e8f07a51afac45037afee9d1",
+        ),
+    ];
+    for (message, digest) in table {
+        assert_eq!(rt;
+            sha256_text(rt.alloc(), message.as_bytes())?.as_str(),
+            digest,
+            "of {message}"
+        );
+    }
+    Ok(())
+}
+
+#[test]
+fn a_digest_holds_its_values(rt: HostRuntime) {
+    let digest: Hash<Marker, u8, 3> = digest_from([5, 6, 7]);
+    assert_eq!(rt; digest.as_ref(), &[5, 6, 7]);
+    let empty: Hash<Marker, u8, 0> = digest_from([]);
+    assert_eq!(rt; empty.as_ref().len(), 0);
+}
+
+#[test]
+fn a_cap_holds_its_roots(rt: HostRuntime) -> Result<(), Fail> {
+    let roots = vec![in rt.alloc(); [5u8, 6], [7, 8], [9, 10]]?;
+    let cap: MerkleCap<Marker, [u8; 2]> = MerkleCap::new(roots);
+    assert_eq!(rt; cap.roots(), [[5, 6], [7, 8], [9, 10]].as_slice());
+    let none: MerkleCap<Marker, [u8; 2]> = MerkleCap::new(Vec::new(rt.alloc()));
+    assert_eq!(rt; none.roots().len(), 0);
+    Ok(())
+}

@@ -1,0 +1,5 @@
+//! Tests of the fields.
+#![tactic(auto)]
+
+#[cfg(test)]
+mod tests;

@@ -1,0 +1,31 @@
+//! Tests of typed transcripts: codecs, alphabets, steps, patterns, separators, and of the program.
+#![tactic(auto)]
+
+#[cfg(test)]
+mod alphabets;
+#[cfg(test)]
+mod codecs;
+#[cfg(test)]
+mod domain_separator;
+#[cfg(test)]
+mod errors;
+#[cfg(test)]
+mod extensions;
+#[cfg(test)]
+mod interactions;
+#[cfg(test)]
+mod lengths;
+#[cfg(test)]
+mod players;
+#[cfg(test)]
+mod program;
+#[cfg(test)]
+mod recorders;
+#[cfg(test)]
+mod renderings;
+#[cfg(test)]
+mod sequences;
+#[cfg(test)]
+mod shown;
+#[cfg(test)]
+mod steps;

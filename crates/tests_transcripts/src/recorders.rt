@@ -1,0 +1,215 @@
+use p3_fs_core::{
+    Hierarchy, Interaction, InvalidKindInfo, Kind, Label, Length, MismatchedBeginEndInfo,
+    MissingBeginInfo, MissingEndInfo, PatternError, TranscriptError,
+};
+use p3_patterns::{InteractionPattern, Pattern, PatternState};
+use std::alloc::{AllocError, Global};
+use std::test::Fail;
+
+fn step(hierarchy: Hierarchy, kind: Kind, label: Label) -> Interaction {
+    Interaction::opaque(hierarchy, kind, label, Length::None)
+}
+
+// Records the steps up to the first one that is refused.
+fn record(alloc: Global, steps: &[Interaction]) -> Result<InteractionPattern, TranscriptError> {
+    let mut recorder = PatternState::<u8>::new(alloc);
+    for &step in steps {
+        if let Err(fault) = recorder.interact(step) {
+            recorder.abort();
+            return Err(fault);
+        }
+    }
+    recorder.finalize()
+}
+
+// The grammar: no steps are a pattern; and so is a leaf with a pattern behind it, or an opener, a pattern, a
+// closer that closes it and a pattern. In a container of another kind than Protocol all are of its kind.
+fn is_pattern(kind: Kind, steps: &[Interaction]) -> bool {
+    if steps.len() == 0 {
+        return true;
+    }
+    let first = steps[0];
+    let rest = &steps[1..];
+    if kind != Kind::Protocol && first.kind() != kind {
+        return false;
+    }
+    match first.hierarchy() {
+        Hierarchy::Atomic => is_pattern(kind, rest),
+        Hierarchy::End => false,
+        Hierarchy::Begin => {
+            for at in 0..rest.len() {
+                if ends(&first, &rest[at])
+                    && is_pattern(first.kind(), &rest[..at])
+                    && is_pattern(kind, &rest[at + 1..])
+                {
+                    return true;
+                }
+            }
+            false
+        }
+    }
+}
+
+fn ends(opener: &Interaction, step: &Interaction) -> bool {
+    step.hierarchy() == Hierarchy::End
+        && step.kind() == opener.kind()
+        && step.label() == opener.label()
+}
+
+// One of the twelve steps of two kinds and two labels.
+fn letter(code: usize) -> Interaction {
+    let hierarchy = match code % 3 {
+        0 => Hierarchy::Atomic,
+        1 => Hierarchy::Begin,
+        _ => Hierarchy::End,
+    };
+    let kind = if code / 3 % 2 == 0 {
+        Kind::Protocol
+    } else {
+        Kind::Message
+    };
+    let label = if code / 6 % 2 == 0 { "a" } else { "b" };
+    step(hierarchy, kind, label)
+}
+
+// The word of so many letters with this number.
+fn word(alloc: Global, len: usize, code: usize) -> Result<Vec<Interaction>, AllocError> {
+    let mut steps = Vec::new(alloc);
+    let mut rest = code;
+    for _ in 0..len {
+        steps.push(letter(rest))?;
+        rest /= 12;
+    }
+    Ok(steps)
+}
+
+// The counts of patterns are from the grammar by hand: where `m` counts those in a container of messages, there
+// are `m(n) = 2 m(n-1) + 2 sum m(i) m(j)` of length n there, and `p(n) = 4 p(n-1) + 2 sum (p(i) + m(i)) p(j)`
+// where all may stand, with `i + j = n - 2`.
+#[test]
+fn short_words_are_patterns_by_the_grammar_alone(rt: HostRuntime) -> Result<(), Fail> {
+    for (len, words, patterns) in [
+        (0, 1, 1),
+        (1, 12, 4),
+        (2, 144, 20),
+        (3, 1728, 108),
+        (4, 20736, 612),
+        (5, 248832, 3584),
+    ] {
+        let mut found: u64 = 0;
+        for code in 0..words {
+            let steps = word(rt.alloc(), len, code)?;
+            let is = is_pattern(Kind::Protocol, &steps);
+            let recorded = record(rt.alloc(), &steps);
+            let made = InteractionPattern::new(steps);
+            assert_eq!(rt; made.is_ok(), is, "{len} {code}");
+            assert_eq!(rt; recorded, made, "{len} {code}");
+            found = found.saturating_add(u64::from(is));
+        }
+        assert_eq!(rt; found, patterns, "{len}");
+    }
+    Ok(())
+}
+
+#[test]
+fn a_recorder_refuses_a_lone_closer(rt: HostRuntime) -> Result<(), Fail> {
+    let end = step(Hierarchy::End, Kind::Protocol, "outer");
+    let mut recorder = PatternState::<u8>::new(rt.alloc());
+    let fault = TranscriptError::MissingBegin(MissingBeginInfo { position: 0, end });
+    assert_eq!(rt; recorder.interact(end), Err(fault));
+    recorder.abort();
+    Ok(())
+}
+
+#[test]
+fn a_recorder_lets_no_challenge_into_messages(rt: HostRuntime) -> Result<(), Fail> {
+    let begin = step(Hierarchy::Begin, Kind::Message, "round");
+    let interaction = step(Hierarchy::Begin, Kind::Challenge, "inner");
+    let mut recorder = PatternState::<u8>::new(rt.alloc());
+    assert_eq!(rt; recorder.interact(begin), Ok(()));
+    let fault = TranscriptError::InvalidKind(InvalidKindInfo {
+        begin_position: 0,
+        begin,
+        interaction_position: 1,
+        interaction,
+    });
+    assert_eq!(rt; recorder.interact(interaction), Err(fault));
+    recorder.abort();
+    Ok(())
+}
+
+#[test]
+fn a_recorder_names_the_innermost_open_container(rt: HostRuntime) -> Result<(), Fail> {
+    let begin = step(Hierarchy::Begin, Kind::Message, "inner");
+    let mut recorder = PatternState::<u8>::new(rt.alloc());
+    assert_eq!(rt;
+        recorder.interact(step(Hierarchy::Begin, Kind::Protocol, "outer")),
+        Ok(())
+    );
+    assert_eq!(rt; recorder.interact(begin), Ok(()));
+    let fault = TranscriptError::MissingEnd(MissingEndInfo { position: 1, begin });
+    assert_eq!(rt; recorder.finalize(), Err(fault));
+    Ok(())
+}
+
+#[test]
+fn nothing_follows_a_step_that_a_recorder_refused(rt: HostRuntime) -> Result<(), Fail> {
+    let finished = TranscriptError::Pattern(PatternError::Finished);
+    let mut recorder = PatternState::<u8>::new(rt.alloc());
+    let refused = recorder.interact(step(Hierarchy::End, Kind::Protocol, "outer"));
+    assert!(rt; refused.is_err());
+    let after = recorder.interact(step(Hierarchy::Atomic, Kind::Message, "message"));
+    assert_eq!(rt; after, Err(finished));
+    let finished = TranscriptError::Pattern(PatternError::Finished);
+    assert_eq!(rt; recorder.finalize(), Err(finished));
+    Ok(())
+}
+
+#[test]
+fn a_recorder_names_the_inner_one_of_two_openers(rt: HostRuntime) -> Result<(), Fail> {
+    let outer = step(Hierarchy::Begin, Kind::Protocol, "outer");
+    let begin = step(Hierarchy::Begin, Kind::Message, "inner");
+    let end = step(Hierarchy::End, Kind::Protocol, "outer");
+    let fault = TranscriptError::MismatchedBeginEnd(MismatchedBeginEndInfo {
+        begin_position: 1,
+        begin,
+        end_position: 2,
+        end,
+    });
+    assert_eq!(rt; record(rt.alloc(), &[outer, begin, end]), Err(fault));
+    let interaction = step(Hierarchy::Atomic, Kind::Challenge, "challenge");
+    let fault = TranscriptError::InvalidKind(InvalidKindInfo {
+        begin_position: 1,
+        begin,
+        interaction_position: 2,
+        interaction,
+    });
+    assert_eq!(rt;
+        record(rt.alloc(), &[outer, begin, interaction]),
+        Err(fault)
+    );
+    Ok(())
+}
+
+#[test]
+fn the_markers_of_a_recorder_carry_the_name_of_their_type(rt: HostRuntime) -> Result<(), Fail> {
+    let mut recorder = PatternState::<u8>::new(rt.alloc());
+    assert_eq!(rt; recorder.begin_protocol::<()>("outer"), Ok(()));
+    assert_eq!(rt; recorder.begin::<u8>("inner", Kind::Hint), Ok(()));
+    assert_eq!(rt; recorder.end::<u8>("inner", Kind::Hint), Ok(()));
+    assert_eq!(rt; recorder.end_protocol::<()>("outer"), Ok(()));
+    let pattern = recorder.finalize();
+    let texts = [
+        "Begin Protocol outer None ()",
+        "Begin Hint inner None u8",
+        "End Hint inner None u8",
+        "End Protocol outer None ()",
+    ];
+    let pattern = pattern?;
+    assert_eq!(rt; pattern.len(), 4);
+    for (step, text) in pattern.interactions().iter().zip(texts) {
+        let shown = step.to_string(rt.alloc())?;
+        assert_eq!(rt; shown.as_str(), text);
+    }
+    Ok(())
+}

@@ -1,3 +1,0 @@
-pub mod FirstLemmas
-pub mod ProgramLemmas
-mod DemoPattern

@@ -1,4 +1,0 @@
-pub mod Scalar
-pub mod First
-pub mod Demo
-pub mod Program

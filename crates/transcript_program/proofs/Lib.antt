@@ -1,0 +1,3 @@
+pub mod DemoPattern
+pub mod FirstLemmas
+pub mod ProgramLemmas

@@ -1,0 +1,51 @@
+-- The protocol that the program shows.
+use Rattle.std.specs.Prelude.{ℕ, List, [], ◌∷◌, ◌++◌, codes}
+use Rattle.hex.specs.Hex.{encode_lower}
+use Rattle.sha2.specs.Sha256.{sha256}
+use Rattle.p3_challenger.specs.Hierarchy.{Hierarchy}
+use Rattle.p3_challenger.specs.Hierarchy.TheVariants.{Atomic, Begin, End}
+use Rattle.p3_challenger.specs.Kind.{Kind}
+use Rattle.p3_challenger.specs.Kind.TheVariants.{Protocol, Public, Message, Hint, Challenge, Pow, Salt}
+use Rattle.p3_challenger.specs.Length.{Length}
+use Rattle.p3_challenger.specs.Length.TheVariants.{None, Scalar, Fixed, Bounded}
+use Rattle.p3_challenger.specs.TypeTag.TheVariants.{Marker, Bytes, Algebra, UniformBits}
+use Rattle.p3_challenger.specs.Steps.{Step, alternate_text}
+use Rattle.p3_challenger.specs.Rendering.{rendering}
+
+-- the opener or the closer of the whole protocol
+abbrev pub container : Hierarchy → Step
+container hierarchy =
+    record { hierarchy = hierarchy; kind = Protocol; label = codes "demo"; type_tag = Marker; type_name = codes "()"; length = None }
+
+-- elements of the field of order 15 * 2 ^ 27 + 1
+abbrev pub scalars : Kind → List ℕ → Length → Step
+scalars kind label length =
+    record { hierarchy = Atomic; kind = kind; label = label; type_tag = Algebra 2013265921 1 (sha256 (codes "prime:2013265921")); type_name = codes "BabyBear"; length = length }
+
+abbrev pub bytes : Kind → List ℕ → Length → Step
+bytes kind label length =
+    record { hierarchy = Atomic; kind = kind; label = label; type_tag = Bytes; type_name = codes "u8"; length = length }
+
+-- numbers of four bits
+abbrev pub indices : Step
+indices =
+    record { hierarchy = Atomic; kind = Challenge; label = codes "indices"; type_tag = UniformBits 4; type_name = codes "usize"; length = Fixed 2 }
+
+-- its steps
+abbrev pub demo_steps : List Step
+demo_steps =
+    container Begin
+    ∷ scalars Public (codes "input") Scalar
+    ∷ bytes Salt (codes "salt") (Fixed 8)
+    ∷ scalars Message (codes "values") (Bounded 4)
+    ∷ scalars Pow (codes "work") (Fixed 8)
+    ∷ scalars Challenge (codes "alpha") Scalar
+    ∷ bytes Hint (codes "note") (Bounded 16)
+    ∷ indices
+    ∷ container End
+    ∷ []
+
+-- what the program prints of it: the text that is hashed, and a line with its digest
+abbrev pub demo_text : List ℕ
+demo_text =
+    rendering alternate_text demo_steps ++ (codes "digest " ++ (encode_lower (sha256 (rendering alternate_text demo_steps)) ++ 10 ∷ []))

@@ -1,0 +1,4 @@
+pub mod Demo
+pub mod First
+pub mod Program
+pub mod Scalar

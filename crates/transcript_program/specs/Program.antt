@@ -1,0 +1,79 @@
+-- What the program answers.
+use Rattle.std.specs.Prelude.{◌≡◌, ℕ, List, [], ◌∷◌, ◌++◌, codes, Option}
+use Rattle.std.specs.Str.Parse.{IsNumeral, digits_value}
+use Rattle.std.specs.Fmt.{decimal}
+use Rattle.std.specs.Io.KnownBytes.{Appends}
+use Rattle.hex.specs.Hex.{encode_lower}
+use Rattle.sha2.specs.Sha256.{sha256}
+use Rattle.p3_challenger.specs.HashState.{HashState}
+use Rattle.p3_challenger.specs.HashTranscript.{absorbing}
+use Rattle.transcript_program.specs.Scalar.{number, wire}
+use Rattle.p3_challenger.specs.BabyBear.{BabyBear}
+use Rattle.p3_challenger.specs.Sha256Hasher.{Sha256Hasher}
+use Rattle.p3_challenger.specs.ChallengerError.TheVariants as challenger
+use Rattle.p3_challenger.specs.TranscriptError.{TranscriptError}
+use Rattle.p3_challenger.specs.TranscriptError.TheVariants.{MissingBegin, InvalidKind, MismatchedBeginEnd, MissingEnd, BadProofShape, Pattern, Challenger, LabelTooLong, OutOfMemory}
+use Rattle.transcript_program.specs.declared.program.Request.{Request}
+use Rattle.transcript_program.specs.declared.program.Request.TheVariants.{First, DemoPattern}
+use Rattle.transcript_program.specs.First.{IsRun}
+use Rattle.transcript_program.specs.Demo.{demo_text}
+
+-- a text writes a scalar: decimal digits, with any number of zeros in front
+pub record IsScalarText (text : List ℕ) (x : BabyBear) : Type 0 where
+  pub digits : IsNumeral 10 text
+  pub value : digits_value 10 text ≡ number x
+
+-- the words `first` and a scalar
+pub record AsksFirst (words : List (List ℕ)) (x : BabyBear) : Type 0 where
+  pub scalar : List ℕ
+  pub words_are : words ≡ codes "first" ∷ scalar ∷ []
+  pub scalar_is : IsScalarText scalar x
+
+abbrev pub usage_line : List ℕ
+usage_line = codes "usage: transcript first|pattern|prove|verify" ++ 10 ∷ []
+
+abbrev pub out_of_memory_line : List ℕ
+out_of_memory_line = codes "refused: out of memory" ++ 10 ∷ []
+
+-- two lines: the bytes of a proof in hexadecimal, and a challenge in decimal
+abbrev pub lines : List ℕ → BabyBear → List ℕ
+lines proof challenge =
+    codes "wire " ++ (encode_lower proof ++ 10 ∷ (codes "challenge " ++ (decimal (number challenge) ++ 10 ∷ [])))
+
+-- the lines of a scalar: its spelling, and the challenge that SHA-256 draws with nothing before it
+pub record IsFirstText (x : BabyBear) (text : List ℕ) : Type 0 where
+  pub challenge : BabyBear
+  pub after : HashState ℕ Sha256Hasher
+  pub run : IsRun (λ _ message. sha256 message) 32 (record { transcript = absorbing []; hasher = record {} }) x challenge after
+  pub text_is : text ≡ lines (wire x) challenge
+
+-- the words of a command line ask for this
+abbrev pub Asks : List (List ℕ) → Request → Type 0
+Asks words (First x) = AsksFirst words x
+Asks words DemoPattern = words ≡ codes "pattern" ∷ []
+
+-- what is printed for it
+abbrev pub Answers : Request → List ℕ → Type 0
+Answers (First x) text = IsFirstText x text
+Answers DemoPattern text = text ≡ demo_text
+
+-- a writer that held the old bytes holds the answer behind them
+pub record Writes (request : Request) (old new : Option (List ℕ)) : Type 0 where
+  pub text : List ℕ
+  pub answers : Answers request text
+  pub appends : Appends old new text
+
+-- why an error refused a run, as the program says it
+abbrev pub reason_of : TranscriptError → List ℕ
+reason_of (BadProofShape reason) = reason.now
+reason_of (MissingBegin info) = codes "pattern"
+reason_of (InvalidKind info) = codes "pattern"
+reason_of (MismatchedBeginEnd info) = codes "pattern"
+reason_of (MissingEnd info) = codes "pattern"
+reason_of (Pattern e) = codes "pattern"
+reason_of LabelTooLong = codes "pattern"
+reason_of (Challenger challenger.DrawLimit) = codes "draw limit"
+reason_of (Challenger challenger.NoWitness) = codes "no witness"
+reason_of (Challenger challenger.TooLong) = codes "too long"
+reason_of (Challenger challenger.OutOfMemory) = codes "out of memory"
+reason_of OutOfMemory = codes "out of memory"

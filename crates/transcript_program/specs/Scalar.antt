@@ -1,0 +1,42 @@
+-- The scalar of the first path: an element of the field of order 15 * 2 ^ 27 + 1, in four bytes.
+use Rattle.std.specs.Prelude.{ℕ, List, Option, Result}
+use Rattle.p3_challenger.specs.BabyBearResidues.{residues}
+use Rattle.p3_challenger.specs.BabyBear.{BabyBear}
+use Rattle.p3_challenger.specs.Sponge.{observed_all}
+use Rattle.p3_challenger.specs.Scalar as scalar
+use Rattle.p3_challenger.specs.BytesToField as codec
+
+-- the order of the field
+abbrev pub order : ℕ
+order = 2013265921
+
+-- the canonical number of a scalar
+abbrev pub number : BabyBear → ℕ
+number x = residues.number x
+
+-- how many bytes a scalar takes in the proof
+abbrev pub width : ℕ
+width = 4
+
+-- its one spelling
+abbrev pub wire : BabyBear → List ℕ
+wire x = scalar.wire residues width x
+
+-- what is read at the head of bytes
+abbrev pub read : List ℕ → Result (BabyBear × List ℕ) (List ℕ)
+read bytes = scalar.read residues width bytes
+
+-- the state after a scalar, where a byte is observed so
+abbrev pub observed : {S : Type 0} → (S → ℕ → S) → S → BabyBear → S
+observed byte_observed s x = observed_all byte_observed s (wire x)
+
+-- the scalar that is drawn, where a byte is drawn so, and the state after it
+abbrev pub sampled : {S : Type 0} → (S → Option ℕ) → (S → S) → S → Option BabyBear
+sampled byte after_byte s = codec.sampled residues width byte after_byte s
+
+abbrev pub after_sampled : {S : Type 0} → (S → Option ℕ) → (S → S) → S → S
+after_sampled byte after_byte s = codec.after_sampled width byte after_byte s
+
+-- how many bytes it is drawn from
+abbrev pub draw_bytes : ℕ
+draw_bytes = codec.draw_bytes width
