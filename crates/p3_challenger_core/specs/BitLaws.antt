@@ -1,9 +1,9 @@
 -- The greatest number of bits whose power of two is below an order.
-use Rattle.std.proofs.Common.{◌≡◌, ℕ, zero, suc, ◌<◌, ◌≤◌, ◌+◌, ◌-◌, ◌*◌, ◌%◌, ◌^◌, Bool, true, false, nat_lt, if◌then◌else◌, refl, sym, ap, ◌∙◌, arith, add-one}
+use Rattle.std.proofs.Common.{◌≡◌, ℕ, zero, suc, ◌<◌, ◌≤◌, ◌+◌, ◌-◌, ◌*◌, ◌%◌, ◌^◌, Bool, true, false, nat_lt, Some, if◌then◌else◌, refl, sym, ap, ◌∙◌, arith, add-one}
 use Rattle.std.proofs.lemmas.Bool.Decides.{nat_tests}
 use Rattle.std.proofs.lemmas.Nat.{pow_below}
-use Rattle.std.proofs.Math.Nat.{mod-eq_of_lt}
-use Rattle.p3_challenger_core.specs.Bits.{greatest_below}
+use Rattle.std.proofs.Math.Nat.{mod-eq_of_lt, mod-lt}
+use Rattle.p3_challenger_core.specs.Bits.{greatest_below, most_bits_of}
 
 choose : (b : Bool) (x y z : ℕ) → (b ≡ true → x ≡ z) → (b ≡ false → y ≡ z) → (if b then x else y) ≡ z
 choose true x y z holds fails = holds refl
@@ -83,3 +83,14 @@ shifted bits short =
 
 pub shifted-positive : (bits : ℕ) → bits < 64 → 0 < (1 * 2 ^ bits) % 18446744073709551616
 shifted-positive bits short = omega (arith, shifted bits short, pow_le 0 bits (omega arith))
+
+-- the bound is below 64
+pub most_bits-short : (order : ℕ) → most_bits_of order < 64
+most_bits-short order = omega (arith, greatest-le order 63)
+
+-- the low bits of a number are below that power of two
+pub low_bits-below : (n bits x : ℕ) → Some (n % 2 ^ bits) ≡ Some x → x < 2 ^ bits
+low_bits-below n bits x drawn =
+    let same : n % 2 ^ bits ≡ x = cc in
+    let positive : 0 < 2 ^ bits = omega (arith, pow_le 0 bits (omega arith)) in
+    omega (arith, same, mod-lt n positive)

@@ -2,7 +2,10 @@ pub mod BitLaws
 pub mod Bits
 pub mod CallLaws
 pub mod DrawLaws
+pub mod Observation
 pub mod Reading
+pub mod Sampling
 pub mod Sponge
-pub mod SpongeLaws
+pub mod SamplingLaws
 pub mod SymbolLaws
+pub mod ObservationLaws

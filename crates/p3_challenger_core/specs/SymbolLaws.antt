@@ -3,7 +3,7 @@ use Rattle.std.proofs.Common.{◌≡◌, ℕ, zero, suc, ◌<◌, ◌⊎◌, inl
 use Rattle.std.specs.List.{flat_map}
 use Rattle.p3_field_core.specs.Residues.{Residues, IsResidues}
 use Rattle.p3_field_core.specs.ResidueLaws.{of-injective}
-use Rattle.p3_challenger_core.specs.Sponge.{IsNonEmpty, observed_all}
+use Rattle.p3_challenger_core.specs.Sponge.{IsNonEmpty}
 use Rattle.p3_challenger_core.specs.Reading.{ReadsOneWay, ReadsOneWayOn, IsByte, AreBytes}
 
 -- ---- one value
@@ -25,22 +25,22 @@ module _ {T S : Type 0} (IsValue : T → Type 0) (spelling : T → List S) (one_
     | inr some ↦ some
   ]
 
--- an element of a field is what it feeds, where elements are fed in one way
-module _ {F S Symbol : Type 0} (r : Residues F) (laws : IsResidues r) (symbols : F → List Symbol) (one_way : ReadsOneWay symbols) (observed : S → F → S) (fed : S → List Symbol → S) (feeds : (s : S) (x : F) → IsNonEmpty (symbols x) → observed s x ≡ fed s (symbols x)) where
+-- so an element of a field feeds something
+module _ {F Symbol : Type 0} (r : Residues F) (laws : IsResidues r) (symbols : F → List Symbol) (one_way : ReadsOneWay symbols) where
   zero_is_not_one : r.of 0 ≡ r.of 1 → ⊥
   zero_is_not_one same =
       let positive : 0 < r.order = omega (arith, laws.above_one) in
       let equal : 0 ≡ 1 = of-injective r laws 0 1 positive laws.above_one same in
       absurd (omega (arith, equal))
 
-  pub element-fed : (s : S) (x : F) → observed s x ≡ fed s (symbols x)
-  element-fed s x =
-      feeds s x (one_way-non_empty (λ _. Unit {0}) symbols (λ y z a b _ _ e. one_way y z a b e) x (r.of 0) (r.of 1) tt tt tt zero_is_not_one)
+  pub element-feeds : (x : F) → IsNonEmpty (symbols x)
+  element-feeds x =
+      one_way-non_empty (λ _. Unit {0}) symbols (λ y z a b _ _ e. one_way y z a b e) x (r.of 0) (r.of 1) tt tt tt zero_is_not_one
 
--- so is a byte
-module _ {S Symbol : Type 0} (symbols : ℕ → List Symbol) (one_way : ReadsOneWayOn IsByte symbols) (observed : S → ℕ → S) (fed : S → List Symbol → S) (feeds : (s : S) (x : ℕ) → IsNonEmpty (symbols x) → observed s x ≡ fed s (symbols x)) where
-  pub byte-fed : (s : S) (byte : ℕ) → IsByte byte → observed s byte ≡ fed s (symbols byte)
-  byte-fed s byte is = feeds s byte (one_way-non_empty IsByte symbols one_way byte 0 1 is (lit< tt) (lit< tt) (λ e. cc))
+-- and so does a byte
+module _ {Symbol : Type 0} (symbols : ℕ → List Symbol) (one_way : ReadsOneWayOn IsByte symbols) where
+  pub byte-feeds : (byte : ℕ) → IsByte byte → IsNonEmpty (symbols byte)
+  byte-feeds byte is = one_way-non_empty IsByte symbols one_way byte 0 1 is (lit< tt) (lit< tt) (λ e. cc)
 
 -- values that are symbols read one way
 pub one_symbol_each : {T : Type 0} → ReadsOneWay {T = T} (λ x. x ∷ [])
@@ -50,30 +50,18 @@ one_symbol_each {T} x y a b e =
 
 -- ---- values in a row
 
-module _ {S T Symbol : Type 0} (observed : S → T → S) (fed : S → List Symbol → S) (symbols : T → List Symbol) (fed_nothing : (s : S) → fed s [] ≡ s) (fed_more : (s : S) (a b : List Symbol) → fed (fed s a) b ≡ fed s (a ++ b)) where
-  -- each of them is what it feeds
-  abbrev pub AreFed : List T → Type 0
-  AreFed [] = Unit {0}
-  AreFed (x ∷ xs) = ((s : S) → observed s x ≡ fed s (symbols x)) × AreFed xs
+append-non_empty : {S : Type 0} (a b : List S) → IsNonEmpty a → IsNonEmpty (a ++ b)
+append-non_empty [] b some = absurd some
+append-non_empty (x ∷ a) b some = tt
 
-  -- values in a row are what they feed in a row
-  pub all-fed : (s : S) (xs : List T) → AreFed xs → observed_all observed s xs ≡ fed s (flat_map symbols xs)
-  all-fed s [] each = sym (fed_nothing s)
-  all-fed s (x ∷ xs) each =
-      ap (λ t. observed_all observed t xs) (each.0 s)
-      ∙ all-fed (fed s (symbols x)) xs each.1
-      ∙ fed_more s (symbols x) (flat_map symbols xs)
+-- values of which each feeds something feed something, where there is one
+pub row-feeds : {T S : Type 0} (symbols : T → List S) → ((x : T) → IsNonEmpty (symbols x)) → (xs : List T) → IsNonEmpty xs → IsNonEmpty (flat_map symbols xs)
+row-feeds symbols each [] some = absurd some
+row-feeds symbols each (x ∷ xs) some = append-non_empty (symbols x) (flat_map symbols xs) (each x)
 
-  pub every-fed : ((s : S) (x : T) → observed s x ≡ fed s (symbols x)) → (xs : List T) → AreFed xs
-  every-fed each [] = tt
-  every-fed each (x ∷ xs) = (λ s. each s x, every-fed each xs)
-
-pub bytes-fed : {S Symbol : Type 0} (observed : S → ℕ → S) (fed : S → List Symbol → S) (symbols : ℕ → List Symbol) (fed_nothing : (s : S) → fed s [] ≡ s) (fed_more : (s : S) (a b : List Symbol) → fed (fed s a) b ≡ fed s (a ++ b)) → ((s : S) (byte : ℕ) → IsByte byte → observed s byte ≡ fed s (symbols byte)) → (bytes : List ℕ) → AreBytes bytes → AreFed observed fed symbols fed_nothing fed_more bytes
-bytes-fed observed fed symbols fed_nothing fed_more each [] h = tt
-bytes-fed observed fed symbols fed_nothing fed_more each (byte ∷ bytes) h = (
-  λ s. each s byte (h zero),
-  bytes-fed observed fed symbols fed_nothing fed_more each bytes (λ i. h (suc i)),
-)
+pub bytes-feed : {S : Type 0} (symbols : ℕ → List S) → ((byte : ℕ) → IsByte byte → IsNonEmpty (symbols byte)) → (bytes : List ℕ) → AreBytes bytes → IsNonEmpty bytes → IsNonEmpty (flat_map symbols bytes)
+bytes-feed symbols each [] are some = absurd some
+bytes-feed symbols each (byte ∷ bytes) are some = append-non_empty (symbols byte) (flat_map symbols bytes) (each byte (are zero))
 
 -- as many values in a row read one way, where each does
 module _ {T S : Type 0} (spelling : T → List S) where

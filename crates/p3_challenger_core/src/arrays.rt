@@ -1,5 +1,5 @@
 ghost use Rattle.std.specs.Prelude.{◌≡◌, [], Some, OnOk, IfOk, IfErr};
-ghost use Rattle.p3_challenger_core.specs.Sponge.{draws, after_draws, RefusesDraws};
+ghost use Rattle.p3_challenger_core.specs.Sampling.{draws, after_draws, RefusesDraws};
 
 use crate::{CanSample, ChallengerError};
 
@@ -10,11 +10,11 @@ pub fn sample_array<T: Copy, C: CanSample<T>, const N: usize>(
     challenger: &mut C,
 ) -> Result<[T; N], ChallengerError>
     ensures drawn { IfOk result (λ values.
-        draws C.sampled C.after_sampled N (C.state challenger.old) ≡ Some values) }
+        draws C.sampling N (C.state challenger.old) ≡ Some values) }
     ensures after { OnOk result (
-        C.state challenger.new ≡ after_draws C.sampled C.after_sampled N (C.state challenger.old)) }
+        C.state challenger.new ≡ after_draws C.sampling N (C.state challenger.old)) }
     ensures err { IfErr result (λ e.
-        RefusesDraws C.sampled C.after_sampled C.meets_limit C.draw_may_leave N e
+        RefusesDraws C.sampling N e
         (C.state challenger.old) (C.state challenger.new)) }
 {
     if N == 0 {

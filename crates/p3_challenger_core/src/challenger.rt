@@ -1,5 +1,6 @@
-ghost use Rattle.std.specs.Prelude.{◌≡◌, List, [], ◌∷◌, ◌++◌, Option, Some, None, OnOk, IfOk, IfErr, ◌≤◌, ℕ, length};
-ghost use Rattle.p3_challenger_core.specs.Sponge.{IsNonEmpty, observed_all, draws, after_draws, RefusesObserve, RefusesDraw, RefusesDraws, RefusesDrawVec};
+ghost use Rattle.std.specs.Prelude.{◌≡◌, List, [], ◌∷◌, ◌++◌, Option, Some, OnOk, IfOk, IfErr, ◌<◌, ◌≤◌, ◌^◌, ℕ, length};
+ghost use Rattle.p3_challenger_core.specs.Observation.{Observation, IsObservation, observed_all, LeavesFront, RefusesObserve};
+ghost use Rattle.p3_challenger_core.specs.Sampling.{Sampling, IsSampling, draws, after_draws, RefusesDraw, RefusesDraws, RefusesDrawVec};
 
 use crate::ChallengerError;
 use std::alloc::Global;
@@ -18,6 +19,9 @@ pub trait Sponge {
     // The state after symbols.
     ghost fed: { Self.State → List Self.Symbol → Self.State };
 
+    // The state after one of the smallest draws, which every draw is made of.
+    ghost next: { Self.State → Self.State };
+
     // Feeding nothing changes nothing, and feeding two lists in turn is feeding both as one.
     ghost fed_nothing: { (s : Self.State) → fed s [] ≡ s };
 
@@ -26,70 +30,60 @@ pub trait Sponge {
 
 /// A challenger that observes values of a type.
 pub trait CanObserve<T>: Sponge {
-    // What a value feeds.
-    ghost symbols: { T → List Self.Symbol };
+    // What a value feeds, the state after it, and what is left of a state where it is refused.
+    ghost observation: { Observation Self.State Self.Symbol T };
 
-    // The state after a value.
-    ghost observed: { Self.State → T → Self.State };
-
-    // What is left of a state where these values are refused.
-    ghost may_leave: { Self.State → List T → Self.State → Type 0 };
+    // What is left of a state where a slice of these values is refused.
+    ghost slice_may_leave: { Self.State → List T → Self.State → Type 0 };
 
     /// Observes a value: every draw from here on depends on it.
     ///
     /// The one error is [`ChallengerError::OutOfMemory`].
     fn observe(&mut self, value: T) -> Result<(), ChallengerError>
-        ensures ok { OnOk result (Self.state self.new ≡ observed (Self.state self.old) value) }
+        ensures ok { OnOk result (Self.state self.new ≡ observation.observed (Self.state self.old) value) }
         ensures err { IfErr result (λ e.
-            RefusesObserve (may_leave (Self.state self.old) (value ∷ [])) e (Self.state self.new)) };
+            RefusesObserve (observation.may_leave (Self.state self.old) value) e (Self.state self.new)) };
 
     /// Observes values in order, as [`observe`](CanObserve::observe) of each would.
     ///
     /// The one error is [`ChallengerError::OutOfMemory`].
     fn observe_slice(&mut self, values: &[T]) -> Result<(), ChallengerError>
-        ensures ok { OnOk result (Self.state self.new ≡ observed_all observed (Self.state self.old) values.now) }
+        ensures ok { OnOk result (Self.state self.new ≡ observed_all observation.observed (Self.state self.old) values.now) }
         ensures err { IfErr result (λ e.
-            RefusesObserve (may_leave (Self.state self.old) values.now) e (Self.state self.new)) };
+            RefusesObserve (slice_may_leave (Self.state self.old) values.now) e (Self.state self.new)) };
 
-    // What is observed is what is fed. (A value that feeds nothing may still drop outputs.)
-    ghost feeds: { (s : Self.State) (x : T) → IsNonEmpty (symbols x) → observed s x ≡ Self.fed s (symbols x) };
+    // What is observed is what is fed, and a refused value has fed a front of it.
+    ghost observes: { IsObservation Self.fed observation };
+
+    // A refused slice has observed a front of the values, and then fed a front of the next one.
+    ghost slice_leaves: { (s : Self.State) (xs : List T) (t : Self.State) →
+        slice_may_leave s xs t → LeavesFront Self.fed observation s xs t };
 }
 
 /// A challenger that values of a type are drawn from.
 pub trait CanSample<T: Drop>: Sponge {
-    // What a draw gives: none where it meets the draw limit.
-    ghost sampled: { Self.State → Option T };
-
-    // The state after a draw.
-    ghost after_sampled: { Self.State → Self.State };
-
-    // The state's draw meets the draw limit.
-    ghost meets_limit: { Self.State → Type 0 };
-
-    // What is left of a state where its draw is refused for memory.
-    ghost draw_may_leave: { Self.State → Self.State → Type 0 };
+    // What a draw gives, the state after it, and when it is refused and what it leaves then.
+    ghost sampling: { Sampling Self.State T };
 
     /// Draws a value, which depends on everything observed so far.
     ///
     /// The errors are [`ChallengerError::OutOfMemory`], and [`ChallengerError::DrawLimit`] where as
     /// many candidates as the challenger's limit allows were drawn and each was refused.
     fn sample(&mut self) -> Result<T, ChallengerError>
-        ensures drawn { IfOk result (λ x. sampled (Self.state self.old) ≡ Some x) }
-        ensures after { OnOk result (Self.state self.new ≡ after_sampled (Self.state self.old)) }
-        ensures err { IfErr result (λ e.
-            RefusesDraw (meets_limit (Self.state self.old)) (after_sampled (Self.state self.old))
-            (draw_may_leave (Self.state self.old)) e (Self.state self.new)) };
+        ensures drawn { IfOk result (λ x. sampling.sampled (Self.state self.old) ≡ Some x) }
+        ensures after { OnOk result (Self.state self.new ≡ sampling.after (Self.state self.old)) }
+        ensures err { IfErr result (λ e. RefusesDraw sampling e (Self.state self.old) (Self.state self.new)) };
 
     /// Draws a value for each place, in order, as [`sample`](CanSample::sample) for each would.
     ///
     /// The errors are those of `sample`. After one, the draws before the refused one are done.
     fn sample_into_slice(&mut self, values: &mut [T]) -> Result<(), ChallengerError>
         ensures drawn { OnOk result (
-            draws sampled after_sampled (length values.old) (Self.state self.old) ≡ Some values.new) }
+            draws sampling (length values.old) (Self.state self.old) ≡ Some values.new) }
         ensures after { OnOk result (
-            Self.state self.new ≡ after_draws sampled after_sampled (length values.old) (Self.state self.old)) }
+            Self.state self.new ≡ after_draws sampling (length values.old) (Self.state self.old)) }
         ensures err { IfErr result (λ e.
-            RefusesDraws sampled after_sampled meets_limit draw_may_leave (length values.old) e
+            RefusesDraws sampling (length values.old) e
             (Self.state self.old) (Self.state self.new)) }
     {
         for i in 0..values.len() {
@@ -104,11 +98,11 @@ pub trait CanSample<T: Drop>: Sponge {
     /// The errors are those of `sample`, and [`ChallengerError::OutOfMemory`] with nothing drawn.
     fn sample_vec(&mut self, alloc: Global, n: usize) -> Result<Vec<T>, ChallengerError>
         ensures drawn { IfOk result (λ values.
-            draws sampled after_sampled n (Self.state self.old) ≡ Some values.items) }
+            draws sampling n (Self.state self.old) ≡ Some values.items) }
         ensures after { OnOk result (
-            Self.state self.new ≡ after_draws sampled after_sampled n (Self.state self.old)) }
+            Self.state self.new ≡ after_draws sampling n (Self.state self.old)) }
         ensures err { IfErr result (λ e.
-            RefusesDrawVec sampled after_sampled meets_limit draw_may_leave n e
+            RefusesDrawVec sampling n e
             (Self.state self.old) (Self.state self.new)) }
     {
         let mut values = Vec::with_capacity(alloc, n)?;
@@ -118,8 +112,8 @@ pub trait CanSample<T: Drop>: Sponge {
         Ok(values)
     }
 
-    // A draw that meets the limit gives nothing.
-    ghost limit_gives_none: { (s : Self.State) → meets_limit s → sampled s ≡ None };
+    // A draw that meets the limit gives nothing, and each draw takes some number of the smallest ones.
+    ghost samples: { IsSampling Self.next sampling };
 }
 
 /// A challenger that ends in a digest of all that was observed.
@@ -140,19 +134,13 @@ pub trait CanSampleBits<T>: Sponge {
     // The most bits that one draw may ask for.
     ghost most_bits: { ℕ };
 
-    // What a draw of so many bits gives: none where it meets the draw limit.
-    ghost sampled_bits: { ℕ → Self.State → Option T };
+    // A draw of so many bits.
+    ghost bits_sampling: { ℕ → Sampling Self.State T };
 
-    // The state after a draw of so many bits.
-    ghost after_bits: { ℕ → Self.State → Self.State };
+    // The number that a drawn value is.
+    ghost number: { T → ℕ };
 
-    // The state's draw of so many bits meets the draw limit.
-    ghost bits_meet_limit: { ℕ → Self.State → Type 0 };
-
-    // What is left of a state where its draw of so many bits is refused for memory.
-    ghost bits_may_leave: { ℕ → Self.State → Self.State → Type 0 };
-
-    /// The most bits that one draw may ask for.
+    /// The most bits that one draw may ask for: below 64.
     fn max_bits() -> usize
         ensures { result ≡ most_bits };
 
@@ -161,12 +149,17 @@ pub trait CanSampleBits<T>: Sponge {
     /// The errors are those of [`CanSample::sample`].
     fn sample_bits(&mut self, bits: usize) -> Result<T, ChallengerError>
         requires { bits ≤ most_bits }
-        ensures drawn { IfOk result (λ x. sampled_bits bits (Self.state self.old) ≡ Some x) }
-        ensures after { OnOk result (Self.state self.new ≡ after_bits bits (Self.state self.old)) }
+        ensures drawn { IfOk result (λ x. (bits_sampling bits).sampled (Self.state self.old) ≡ Some x) }
+        ensures after { OnOk result (Self.state self.new ≡ (bits_sampling bits).after (Self.state self.old)) }
         ensures err { IfErr result (λ e.
-            RefusesDraw (bits_meet_limit bits (Self.state self.old)) (after_bits bits (Self.state self.old))
-            (bits_may_leave bits (Self.state self.old)) e (Self.state self.new)) };
+            RefusesDraw (bits_sampling bits) e (Self.state self.old) (Self.state self.new)) };
 
-    // A draw that meets the limit gives nothing.
-    ghost bits_limit_gives_none: { (bits : ℕ) (s : Self.State) → bits_meet_limit bits s → sampled_bits bits s ≡ None };
+    // Each of these draws is made of the smallest ones.
+    ghost samples_bits: { (bits : ℕ) → IsSampling Self.next (bits_sampling bits) };
+
+    // A draw of so many bits is below that power of two.
+    ghost bits_below: { (bits : ℕ) (s : Self.State) (x : T) → bits ≤ most_bits →
+        (bits_sampling bits).sampled s ≡ Some x → number x < 2 ^ bits };
+
+    ghost most_bits_short: { most_bits < 64 };
 }

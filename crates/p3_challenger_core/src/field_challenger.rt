@@ -1,5 +1,6 @@
 ghost use Rattle.std.specs.Prelude.{◌≡◌, ◌-◌, ◌∷◌, Some, OnOk, IfOk, IfErr, replicate};
-ghost use Rattle.p3_challenger_core.specs.Sponge.{observed_all, draws, after_draws, LeavesInCalls, RefusesObserve, RefusesDraws};
+ghost use Rattle.p3_challenger_core.specs.Observation.{observed_all, in_row, LeavesInCalls, RefusesObserve};
+ghost use Rattle.p3_challenger_core.specs.Sampling.{draws, after_draws, RefusesDraws};
 
 use crate::{CanObserve, CanSample, CanSampleBits, ChallengerError};
 use p3_field_core::{Algebra, BasedVectorSpace, Field};
@@ -14,9 +15,9 @@ pub trait FieldChallenger<F: Field>: CanObserve<F> + CanSample<F> + CanSampleBit
         element: A,
     ) -> Result<(), ChallengerError>
         ensures ok { OnOk result (Self.state self.new
-            ≡ observed_all Self.CanObserve.observed (Self.state self.old) (A.coefficients element)) }
+            ≡ observed_all Self.CanObserve.observation.observed (Self.state self.old) (A.coefficients element)) }
         ensures err { IfErr result (λ e.
-            RefusesObserve (Self.CanObserve.may_leave (Self.state self.old) (A.coefficients element)) e (Self.state self.new)) }
+            RefusesObserve (Self.CanObserve.slice_may_leave (Self.state self.old) (A.coefficients element)) e (Self.state self.new)) }
     {
         self.observe_slice(element.as_basis_coefficients_slice())
     }
@@ -31,10 +32,10 @@ pub trait FieldChallenger<F: Field>: CanObserve<F> + CanSample<F> + CanSampleBit
         elements: &[A],
     ) -> Result<(), ChallengerError>
         ensures ok { OnOk result (Self.state self.new ≡ observed_all
-            (λ s element. observed_all Self.CanObserve.observed s (A.coefficients element)) (Self.state self.old) elements.now) }
+            (λ s element. observed_all Self.CanObserve.observation.observed s (A.coefficients element)) (Self.state self.old) elements.now) }
         ensures err { IfErr result (λ e. RefusesObserve (LeavesInCalls
-            (λ s element. observed_all Self.CanObserve.observed s (A.coefficients element))
-            (λ s element. Self.CanObserve.may_leave s (A.coefficients element))
+            (λ s element. observed_all Self.CanObserve.observation.observed s (A.coefficients element))
+            (λ s element. Self.CanObserve.slice_may_leave s (A.coefficients element))
             (Self.state self.old) elements.now) e (Self.state self.new)) }
     {
         for i in 0..elements.len() {
@@ -49,13 +50,12 @@ pub trait FieldChallenger<F: Field>: CanObserve<F> + CanSample<F> + CanSampleBit
     /// refused are done.
     fn sample_algebra_element<A: BasedVectorSpace<F>>(&mut self) -> Result<A, ChallengerError>
         ensures drawn { IfOk result (λ element.
-            draws Self.CanSample.sampled Self.CanSample.after_sampled A.DIMENSION (Self.state self.old)
+            draws Self.CanSample.sampling A.DIMENSION (Self.state self.old)
             ≡ Some (A.coefficients element)) }
         ensures after { OnOk result (Self.state self.new
-            ≡ after_draws Self.CanSample.sampled Self.CanSample.after_sampled A.DIMENSION (Self.state self.old)) }
+            ≡ after_draws Self.CanSample.sampling A.DIMENSION (Self.state self.old)) }
         ensures err { IfErr result (λ e.
-            RefusesDraws Self.CanSample.sampled Self.CanSample.after_sampled Self.CanSample.meets_limit
-            Self.CanSample.draw_may_leave A.DIMENSION e (Self.state self.old) (Self.state self.new)) }
+            RefusesDraws Self.CanSample.sampling A.DIMENSION e (Self.state self.old) (Self.state self.new)) }
     {
         let mut element = A::zero();
         for i in 0..A::DIMENSION {
@@ -72,9 +72,9 @@ pub trait FieldChallenger<F: Field>: CanObserve<F> + CanSample<F> + CanSampleBit
         &mut self,
         value: F,
     ) -> Result<(), ChallengerError>
-        ensures ok { OnOk result (Self.state self.new ≡ observed_all Self.CanObserve.observed (Self.state self.old)
+        ensures ok { OnOk result (Self.state self.new ≡ observed_all Self.CanObserve.observation.observed (Self.state self.old)
             (value ∷ replicate (A.DIMENSION - 1) (F.residues.of 0))) }
-        ensures err { IfErr result (λ e. RefusesObserve (Self.CanObserve.may_leave (Self.state self.old)
+        ensures err { IfErr result (λ e. RefusesObserve (Self.CanObserve.slice_may_leave (Self.state self.old)
             (value ∷ replicate (A.DIMENSION - 1) (F.residues.of 0))) e (Self.state self.new)) }
     {
         self.observe_algebra_element(A::from(value))

@@ -14,19 +14,21 @@ impl<C: Sponge> Sponge for &mut C {
 
     ghost fed = { C.fed };
 
+    ghost next = { C.next };
+
     ghost fed_nothing = { C.fed_nothing };
 
     ghost fed_more = { C.fed_more };
 }
 
 impl<T, C: CanObserve<T>> CanObserve<T> for &mut C {
-    ghost symbols = { C.symbols };
+    ghost observation = { C.observation };
 
-    ghost observed = { C.observed };
+    ghost slice_may_leave = { C.slice_may_leave };
 
-    ghost may_leave = { C.may_leave };
+    ghost observes = { C.observes };
 
-    ghost feeds = { C.feeds };
+    ghost slice_leaves = { C.slice_leaves };
 
     fn observe(&mut self, value: T) -> Result<(), ChallengerError> {
         (**self).observe(value)
@@ -38,15 +40,9 @@ impl<T, C: CanObserve<T>> CanObserve<T> for &mut C {
 }
 
 impl<T: Drop, C: CanSample<T>> CanSample<T> for &mut C {
-    ghost sampled = { C.sampled };
+    ghost sampling = { C.sampling };
 
-    ghost after_sampled = { C.after_sampled };
-
-    ghost meets_limit = { C.meets_limit };
-
-    ghost draw_may_leave = { C.draw_may_leave };
-
-    ghost limit_gives_none = { C.limit_gives_none };
+    ghost samples = { C.samples };
 
     fn sample(&mut self) -> Result<T, ChallengerError> {
         (**self).sample()
@@ -64,15 +60,15 @@ impl<T: Drop, C: CanSample<T>> CanSample<T> for &mut C {
 impl<T, C: CanSampleBits<T>> CanSampleBits<T> for &mut C {
     ghost most_bits = { C.most_bits };
 
-    ghost sampled_bits = { C.sampled_bits };
+    ghost bits_sampling = { C.bits_sampling };
 
-    ghost after_bits = { C.after_bits };
+    ghost number = { C.number };
 
-    ghost bits_meet_limit = { C.bits_meet_limit };
+    ghost samples_bits = { C.samples_bits };
 
-    ghost bits_may_leave = { C.bits_may_leave };
+    ghost bits_below = { C.bits_below };
 
-    ghost bits_limit_gives_none = { C.bits_limit_gives_none };
+    ghost most_bits_short = { C.most_bits_short };
 
     fn max_bits() -> usize {
         C::max_bits()

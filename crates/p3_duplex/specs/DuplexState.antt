@@ -3,7 +3,7 @@ use Rattle.std.specs.Prelude.{◌≡◌, ℕ, zero, suc, ◌<◌, ◌≤◌, Lis
 use Rattle.p3_field_core.specs.Residues.{Residues}
 use Rattle.p3_duplex.specs.DuplexTranscript as transcript
 use Rattle.p3_duplex.specs.DuplexTranscript.{DuplexSponge}
-use Rattle.p3_challenger_core.specs.Sponge.{observed_all}
+use Rattle.p3_challenger_core.specs.Observation.{observed_all}
 
 -- what a challenger keeps of its numbers: the rate is some cells but not all of them, and their number
 -- is below 256; fewer values are pending than it has cells, no more outputs are left than that, and

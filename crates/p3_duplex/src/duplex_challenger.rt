@@ -2,7 +2,8 @@ ghost use Rattle.std.specs.Prelude.{◌≡◌, ◌<◌, ◌≤◌, ℕ, List, So
 ghost use Rattle.p3_field_core.specs.Residues.{plus};
 ghost use Rattle.p3_duplex.specs.DuplexChain.{Call, run_calls, run_segments, segments};
 ghost use Rattle.p3_duplex.specs.DuplexTranscript.{absorbing, overwritten, fresh, outputs};
-ghost use Rattle.p3_challenger_core.specs.Sponge.{RefusesDraws};
+ghost use Rattle.p3_challenger_core.specs.Observation.{LeavesInCalls, RefusesObserve};
+ghost use Rattle.p3_challenger_core.specs.Sampling.{RefusesDraws, unrefused_draw};
 ghost use Rattle.p3_challenger_core.specs.declared.error.ChallengerError.{ChallengerError};
 
 mod bits;
@@ -104,10 +105,22 @@ impl<
     /// A law: the body is empty, and a caller cites the clause.
     pub fn draws_are_not_refused<A: BasedVectorSpace<F>>(&self)
         ensures { (n : ℕ) (e : ChallengerError) (s t : duplex_state.Duplex F P) →
-            ¬ (RefusesDraws
+            ¬ (RefusesDraws (unrefused_draw
             (λ u. Some (A.element (duplex_state.drawn F.residues P.permutation RATE A.DIMENSION u)))
-            (λ u. duplex_state.after_drawn F.residues P.permutation RATE A.DIMENSION u)
-            (λ _. ⊥) (λ _ _. ⊥) n e s t) }
+            (λ u. duplex_state.after_drawn F.residues P.permutation RATE A.DIMENSION u)) n e s t) }
+    {
+        let _ = &self.outputs_left;
+    }
+
+    /// Observations are never refused, whatever is observed: no list of them leaves any challenger with
+    /// an error.
+    ///
+    /// A law: the body is empty, and a caller cites the clause.
+    pub fn observes_are_not_refused(&self)
+        ensures { (values : List F) (e : ChallengerError) (s t : duplex_state.Duplex F P) →
+            ¬ (RefusesObserve (LeavesInCalls
+            ⟦<DuplexChallenger<F, P, WIDTH, RATE> as CanObserve<F>>⟧.observation.observed
+            ⟦<DuplexChallenger<F, P, WIDTH, RATE> as CanObserve<F>>⟧.observation.may_leave s values) e t) }
     {
         let _ = &self.outputs_left;
     }
@@ -243,6 +256,8 @@ impl<
 
     ghost fed = { λ s xs. duplex_state.fed F.residues P.permutation RATE s xs };
 
+    ghost next = { λ s. duplex_state.after_sampled F.residues P.permutation RATE s };
+
     ghost fed_nothing = { λ _. refl };
 
     ghost fed_more = { fed-append F.residues P.permutation RATE };
@@ -254,17 +269,19 @@ impl<
     const WIDTH: usize,
     const RATE: usize,
 > CanObserve<F> for DuplexChallenger<F, P, WIDTH, RATE> {
+    ghost use Rattle.p3_challenger_core.specs.Observation.{unrefused_observe};
+    ghost use Rattle.p3_duplex.specs.DuplexStateLaws.{is_observation};
     ghost use Rattle.std.specs.Prelude.{[], ◌∷◌, refl};
     ghost use Rattle.p3_duplex.specs.DuplexState as duplex_state;
 
-    ghost symbols = { λ x. x ∷ [] };
-
-    ghost observed = { λ s x. duplex_state.observed F.residues P.permutation RATE s x };
-
     // An observation takes no memory: it is never refused.
-    ghost may_leave = { λ _ _ _. ⊥ };
+    ghost observation = { unrefused_observe (λ x. x ∷ []) (λ s x. duplex_state.observed F.residues P.permutation RATE s x) };
 
-    ghost feeds = { λ s x _. refl };
+    ghost slice_may_leave = { λ _ _ _. ⊥ };
+
+    ghost observes = { is_observation F.residues P.permutation RATE (λ x. x ∷ []) (λ s x. duplex_state.observed F.residues P.permutation RATE s x) (λ _ _. refl) };
+
+    ghost slice_leaves = { λ _ _ _ h. absurd h };
 
     fn observe(&mut self, value: F) -> Result<(), ChallengerError> {
         self.push(value);
@@ -284,17 +301,19 @@ impl<
     const RATE: usize,
     const N: usize,
 > CanObserve<[F; N]> for DuplexChallenger<F, P, WIDTH, RATE> {
+    ghost use Rattle.p3_challenger_core.specs.Observation.{unrefused_observe};
+    ghost use Rattle.p3_duplex.specs.DuplexStateLaws.{is_observation};
     ghost use Rattle.std.specs.Prelude.{refl};
     ghost use Rattle.p3_duplex.specs.DuplexState as duplex_state;
 
-    ghost symbols = { λ xs. xs };
-
-    ghost observed = { λ s xs. duplex_state.fed F.residues P.permutation RATE s xs };
-
     // An observation takes no memory: it is never refused.
-    ghost may_leave = { λ _ _ _. ⊥ };
+    ghost observation = { unrefused_observe (λ xs. xs) (λ s xs. duplex_state.fed F.residues P.permutation RATE s xs) };
 
-    ghost feeds = { λ s xs _. refl };
+    ghost slice_may_leave = { λ _ _ _. ⊥ };
+
+    ghost observes = { is_observation F.residues P.permutation RATE (λ xs. xs) (λ s xs. duplex_state.fed F.residues P.permutation RATE s xs) (λ _ _. refl) };
+
+    ghost slice_leaves = { λ _ _ _ h. absurd h };
 
     fn observe(&mut self, values: [F; N]) -> Result<(), ChallengerError> {
         self.push_array(&values);
@@ -317,19 +336,17 @@ impl<
     const RATE: usize,
 > CanSample<A> for DuplexChallenger<F, P, WIDTH, RATE> {
     ghost use Rattle.std.specs.Prelude.{Some};
+    ghost use Rattle.p3_challenger_core.specs.Sampling.{unrefused_draw};
     ghost use Rattle.p3_duplex.specs.DuplexState as duplex_state;
+    ghost use Rattle.p3_duplex.specs.DuplexStateLaws.{elements-sampled};
 
-    // The element whose coefficients are the next values, coefficient 0 first.
-    ghost sampled = { λ s. Some (A.element (duplex_state.drawn F.residues P.permutation RATE A.DIMENSION s)) };
+    // The element whose coefficients are the next values, coefficient 0 first. A draw takes no memory and has no
+    // limit: it is never refused.
+    ghost sampling = { unrefused_draw
+        (λ s. Some (A.element (duplex_state.drawn F.residues P.permutation RATE A.DIMENSION s)))
+        (λ s. duplex_state.after_drawn F.residues P.permutation RATE A.DIMENSION s) };
 
-    ghost after_sampled = { λ s. duplex_state.after_drawn F.residues P.permutation RATE A.DIMENSION s };
-
-    // A draw takes no memory and has no limit: it is never refused.
-    ghost draw_may_leave = { λ _ _. ⊥ };
-
-    ghost meets_limit = { λ _. ⊥ };
-
-    ghost limit_gives_none = { λ _ h. absurd h };
+    ghost samples = { elements-sampled F.residues P.permutation RATE A.DIMENSION A.element };
 
     fn sample(&mut self) -> Result<A, ChallengerError> {
         let mut element = A::zero();

@@ -16,5 +16,5 @@ pub fn duplex_elements_read_one_way<
     const WIDTH: usize,
     const RATE: usize,
 >()
-    ensures { ReadsOneWay ⟦<DuplexChallenger<F, P, WIDTH, RATE> as CanObserve<F>>⟧.symbols }
+    ensures { ReadsOneWay ⟦<DuplexChallenger<F, P, WIDTH, RATE> as CanObserve<F>>⟧.observation.symbols }
 {}

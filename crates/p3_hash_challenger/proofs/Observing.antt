@@ -3,7 +3,7 @@ use Rattle.std.proofs.Common.{◌≡◌, ℕ, ◌+◌, ◌<◌, ◌≤◌, List,
 use Rattle.std.proofs.Math.ListN.{drop_of_length-le}
 use Rattle.std.specs.List.{flat_map}
 use Rattle.std.proofs.Math.Seq.{drop-cons}
-use Rattle.p3_challenger_core.specs.Sponge.{observed_all, LeavesBeginning}
+use Rattle.p3_challenger_core.specs.Observation.{observed_all, LeavesBeginning}
 
 -- from here on, the rest of the values leads where all of them lead from the start
 pub record LeadsOn {S T : Type 0} (observed : S → T → S) (start : S) (values : List T) (here : S) (rest : List T) : Type 0 where

@@ -1,7 +1,9 @@
 -- Laws of a hash challenger call by call.
-use Rattle.std.proofs.Common.{◌≡◌, List, [], ◌∷◌, ◌++◌, length, ◌==◌, false, refl, sym, ap, ◌∙◌, append_assoc, append-nil}
+use Rattle.std.proofs.Common.{◌≡◌, ℕ, List, [], ◌∷◌, ◌++◌, ◌⊎◌, inl, inr, length, take, ◌==◌, false, refl, sym, ap, subst, ◌∙◌, append_assoc, append-nil}
 use Rattle.std.specs.List.{flat_map}
-use Rattle.p3_challenger_core.specs.Sponge.{IsNonEmpty, observed_all}
+use Rattle.p3_challenger_core.specs.Sponge.{IsNonEmpty}
+use Rattle.p3_challenger_core.specs.Observation.{Observation, IsObservation, LeavesFed, LeavesBehind, LeavesBeginning, LeavesFront, observed_all}
+use Rattle.p3_challenger_core.specs.ObservationLaws.{exactly-fed, nothing-fed, exact-observation, unchanged-front, behind_append, leaves-map}
 use Rattle.p3_hash_challenger.specs.HashTranscript.{absorbing}
 use Rattle.p3_hash_challenger.specs.HashState.{HashState, observed, fed, array_observed}
 
@@ -32,3 +34,109 @@ array_observed-is_fed s (x ∷ xs) h = refl
 pub all_fed : {T H X : Type 0} (parts : X → List T) (s : HashState T H) (xs : List X) → observed_all (λ t x. fed t (parts x)) s xs ≡ fed s (flat_map parts xs)
 all_fed parts s [] = refl
 all_fed parts s (x ∷ xs) = all_fed parts (fed s (parts x)) xs ∙ fed-append s (parts x) (flat_map parts xs)
+
+-- ---- what is observed is what is fed, and what a refusal leaves
+
+-- a refusal that changes nothing has fed nothing
+module _ {T H : Type 0} where
+  unchanged : (s t : HashState T H) (symbols : List T) → t ≡ s → LeavesFed fed s symbols t
+  unchanged s t symbols is = (0, nothing-fed fed (λ _. refl) fed-append s t is)
+
+  unchanged-behind : (s : HashState T H) (before : List T) (t : HashState T H) (symbols : List T) → t ≡ fed s before → LeavesBehind fed s before symbols t
+  unchanged-behind s before t symbols is = (0, is ∙ ap (fed s) (sym (append-nil before)))
+
+-- one value, or a slice of them
+abbrev pub of_value : {T H : Type 0} → Observation (HashState T H) T T
+of_value = record { symbols = λ x. x ∷ []; observed = λ s x. observed s x; may_leave = λ s _ t. t ≡ s }
+
+pub values-observed : {T H : Type 0} → IsObservation fed (of_value {T = T} {H = H})
+values-observed =
+    exact-observation fed (λ _. refl) fed-append of_value (λ _ _. refl)
+    (λ s x t is. unchanged-front fed (λ _. refl) fed-append s t (x ∷ []) is)
+
+pub values-front : {T H : Type 0} (s : HashState T H) (xs : List T) (t : HashState T H) → IsNonEmpty xs × (t ≡ s) → LeavesFront fed of_value s xs t
+values-front s [] t left = absurd left.0
+values-front s (x ∷ xs) t left = inl (unchanged s t (x ∷ []) left.1)
+
+-- an array
+abbrev pub of_array : {T H : Type 0} → Observation (HashState T H) T (List T)
+of_array = record { symbols = λ xs. xs; observed = λ s xs. array_observed s xs; may_leave = λ s _ t. t ≡ s }
+
+array-traceless : {T H : Type 0} (s : HashState T H) (xs : List T) (y : T) (ys : List T) → fed (array_observed s xs) (y ∷ ys) ≡ fed s (xs ++ y ∷ ys)
+array-traceless s [] y ys =
+    ap (λ p. record { transcript = absorbing (p ++ y ∷ ys); hasher = s.hasher }) (append-nil s.transcript.pending)
+array-traceless s (x ∷ xs) y ys = fed-append s (x ∷ xs) (y ∷ ys)
+
+array-behind : {T H : Type 0} (s : HashState T H) (y : T) (ys xs : List T) → array_observed (fed s (y ∷ ys)) xs ≡ fed s ((y ∷ ys) ++ xs)
+array-behind s y ys xs =
+    ap (λ p. record { transcript = absorbing p; hasher = s.hasher }) (append_assoc s.transcript.pending (y ∷ ys) xs)
+
+pub arrays-observed : {T H : Type 0} → IsObservation fed (of_array {T = T} {H = H})
+arrays-observed =
+    record {
+      observes = λ s xs. record { exactly = array_observed-fed s xs; traceless = array-traceless s xs };
+      observes_behind = array-behind;
+      leaves = λ s xs t is. unchanged s t xs is;
+      leaves_behind = λ s y ys xs t is. unchanged-behind s (y ∷ ys) t xs is;
+    }
+
+pub arrays-front : {T H : Type 0} (s : HashState T H) (xss : List (List T)) (t : HashState T H) → LeavesBeginning array_observed s xss t → LeavesFront fed of_array s xss t
+arrays-front s xss t left = leaves-map array_observed (λ u xs v is. unchanged u v xs is) s xss t left
+
+-- a digest
+abbrev pub of_digest : {T H : Type 0} → Observation (HashState T H) T (List T)
+of_digest = record { symbols = λ xs. xs; observed = λ s xs. fed s xs; may_leave = λ s _ t. t ≡ s }
+
+pub digests-observed : {T H : Type 0} → IsObservation fed (of_digest {T = T} {H = H})
+digests-observed =
+    exact-observation fed (λ _. refl) fed-append of_digest (λ _ _. refl)
+    (λ s xs t is. unchanged-front fed (λ _. refl) fed-append s t xs is)
+
+pub digests-front : {T H : Type 0} (s : HashState T H) (xss : List (List T)) (t : HashState T H) → LeavesBeginning fed s xss t → LeavesFront fed of_digest s xss t
+digests-front s xss t left = leaves-map fed (λ u xs v is. unchanged u v xs is) s xss t left
+
+-- a value of parts that are fed one after another
+module _ {T H X U : Type 0} (parts : X → List U) (items : U → List T) where
+  abbrev pub part_fed : HashState T H → U → HashState T H
+  part_fed s part = fed s (items part)
+
+  abbrev pub of_parts : Observation (HashState T H) T X
+  of_parts =
+      record {
+        symbols = λ x. flat_map items (parts x);
+        observed = λ s x. fed s (flat_map items (parts x));
+        may_leave = λ s x t. LeavesBeginning part_fed s (parts x) t;
+      }
+
+  -- where a part is refused, a front of what they feed was fed
+  beginning-fed : (s : HashState T H) (ps : List U) (t : HashState T H) → LeavesBeginning part_fed s ps t → (n : ℕ) × (t ≡ fed s (take n (flat_map items ps)))
+  beginning-fed s [] t h = absurd h
+  beginning-fed s (p ∷ ps) t (inl is) = (0, is)
+  beginning-fed s (p ∷ ps) t (inr later) =
+      let left = beginning-fed (fed s (items p)) ps t later in
+      let front = behind_append left.0 (items p) (flat_map items ps) in
+      (front.0, left.1 ∙ fed-append s (items p) (take left.0 (flat_map items ps)) ∙ ap (fed s) (sym front.1))
+
+  pub parts-observed : IsObservation fed of_parts
+  parts-observed =
+      exact-observation fed (λ _. refl) fed-append of_parts (λ _ _. refl) (λ s x t h. beginning-fed s (parts x) t h)
+
+  -- the parts of the first value, or of those behind it
+  beginning-split : (s : HashState T H) (ps qs : List U) (t : HashState T H) → LeavesBeginning part_fed s (ps ++ qs) t → LeavesBeginning part_fed s ps t ⊎ LeavesBeginning part_fed (observed_all part_fed s ps) qs t
+  beginning-split s [] qs t h = inr h
+  beginning-split s (p ∷ ps) qs t (inl is) = inl (inl is)
+  beginning-split s (p ∷ ps) qs t (inr later) = elim (beginning-split (fed s (items p)) ps qs t later) [
+    | inl here ↦ inl (inr here)
+    | inr behind ↦ inr behind
+  ]
+
+  pub parts-front : (s : HashState T H) (xs : List X) (t : HashState T H) → LeavesBeginning part_fed s (flat_map parts xs) t → LeavesFront fed of_parts s xs t
+  parts-front s [] t h = absurd h
+  parts-front s (x ∷ xs) t h = elim (beginning-split s (parts x) (flat_map parts xs) t h) [
+    | inl here ↦
+        let left = beginning-fed s (parts x) t here in
+        inl (left.0, exactly-fed fed (λ _. refl) fed-append s (take left.0 (flat_map items (parts x))) t left.1)
+    | inr behind ↦
+        let moved = subst (λ u. LeavesBeginning part_fed u (flat_map parts xs) t) (all_fed items s (parts x)) behind in
+        inr (parts-front (fed s (flat_map items (parts x))) xs t moved)
+  ]

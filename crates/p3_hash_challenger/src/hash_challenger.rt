@@ -2,7 +2,9 @@ ghost use Rattle.std.specs.Prelude.{◌≡◌, ◌<◌, ℕ, List, OnOk, OnErr, 
 ghost use Rattle.p3_hash_challenger.specs.HashChain.{Call, run_calls, run_segments, segments};
 ghost use Rattle.p3_hash_challenger.specs.HashState.{pending_of};
 ghost use Rattle.p3_hash_challenger.specs.HashTranscript.{absorbing, outputs};
-ghost use Rattle.p3_challenger_core.specs.Sponge.{RefusesObserve, RefusesDraws};
+ghost use Rattle.p3_challenger_core.specs.Observation.{RefusesObserve};
+ghost use Rattle.p3_challenger_core.specs.Sponge.{IsNonEmpty};
+ghost use Rattle.p3_challenger_core.specs.Sampling.{RefusesDraws, unrefused_draw};
 ghost use Rattle.p3_challenger_core.specs.declared.error.ChallengerError.{ChallengerError};
 
 mod digests;
@@ -101,8 +103,8 @@ impl<T: Copy, H: CryptographicHasher<T, [T; OUT_LEN]>, const OUT_LEN: usize> Has
     /// A law: the body is empty, and a caller cites the clause.
     pub fn draws_are_not_refused(&self)
         ensures { (n : ℕ) (e : ChallengerError) (s t : hash_state.HashState T H) →
-            ¬ (RefusesDraws (hash_state.sampled H.hash OUT_LEN) (hash_state.after_sampled H.hash OUT_LEN)
-            (λ _. ⊥) (λ _ _. ⊥) n e s t) }
+            ¬ (RefusesDraws (unrefused_draw (hash_state.sampled H.hash OUT_LEN)
+            (hash_state.after_sampled H.hash OUT_LEN)) n e s t) }
     {
         let _ = &self.outputs_left;
     }
@@ -146,10 +148,10 @@ impl<T: Copy, H: CryptographicHasher<T, [T; OUT_LEN]>, const OUT_LEN: usize> Has
         Ok(())
     }
 
-    // Feeds the values: as `absorb`, but nothing changes where there are none.
+    // Feeds the values: as `absorb`, but nothing changes where there are none, and that is not refused.
     fn feed(&mut self, values: &[T]) -> Result<(), ChallengerError>
         ensures ok { OnOk result (self.new ≡ hash_state.fed self.old values.now) }
-        ensures err { IfErr result (λ e. RefusesObserve (λ t. t ≡ self.old) e self.new) }
+        ensures err { IfErr result (λ e. RefusesObserve (λ t. IsNonEmpty values.now × (t ≡ self.old)) e self.new) }
     {
         if values.is_empty() {
             return Ok(());
@@ -195,6 +197,8 @@ impl<T: Copy, H: CryptographicHasher<T, [T; OUT_LEN]>, const OUT_LEN: usize> Spo
 
     ghost fed = { λ s xs. hash_state.fed s xs };
 
+    ghost next = { λ s. hash_state.after_sampled H.hash OUT_LEN s };
+
     ghost fed_nothing = { λ _. refl };
 
     ghost fed_more = { fed-append };
@@ -202,17 +206,24 @@ impl<T: Copy, H: CryptographicHasher<T, [T; OUT_LEN]>, const OUT_LEN: usize> Spo
 
 impl<T: Copy, H: CryptographicHasher<T, [T; OUT_LEN]>, const OUT_LEN: usize> CanObserve<T>
     for HashChallenger<T, H, OUT_LEN> {
-    ghost use Rattle.std.specs.Prelude.{◌≡◌, [], ◌∷◌, refl};
+    ghost use Rattle.std.specs.Prelude.{◌≡◌, [], ◌∷◌};
+    ghost use Rattle.p3_challenger_core.specs.Sponge.{IsNonEmpty};
     ghost use Rattle.p3_hash_challenger.specs.HashState as hash_state;
-
-    ghost symbols = { λ x. x ∷ [] };
-
-    ghost observed = { λ s x. hash_state.observed s x };
+    ghost use Rattle.p3_hash_challenger.specs.HashStateLaws.{values-observed, values-front};
 
     // A refused call changes nothing.
-    ghost may_leave = { λ s _ t. t ≡ s };
+    ghost observation = { record {
+      symbols = λ x. x ∷ [];
+      observed = λ s x. hash_state.observed s x;
+      may_leave = λ s _ t. t ≡ s;
+    } };
 
-    ghost feeds = { λ s x _. refl };
+    // A slice of no values is not refused.
+    ghost slice_may_leave = { λ s xs t. IsNonEmpty xs × (t ≡ s) };
+
+    ghost observes = { values-observed };
+
+    ghost slice_leaves = { values-front };
 
     fn observe(&mut self, value: T) -> Result<(), ChallengerError> {
         copy_digest(&self.digest, &mut self.input_buffer)?;
@@ -229,18 +240,18 @@ impl<T: Copy, H: CryptographicHasher<T, [T; OUT_LEN]>, const OUT_LEN: usize> Can
 
 impl<T: Copy, H: CryptographicHasher<T, [T; OUT_LEN]>, const OUT_LEN: usize> CanSample<T>
     for HashChallenger<T, H, OUT_LEN> {
+    ghost use Rattle.p3_challenger_core.specs.Sampling.{unrefused_draw};
+    ghost use Rattle.p3_challenger_core.specs.SamplingLaws.{unrefused_draw-is_sampling, one_step};
     ghost use Rattle.p3_hash_challenger.specs.HashState as hash_state;
 
-    ghost sampled = { λ s. hash_state.sampled H.hash OUT_LEN s };
-
-    ghost after_sampled = { λ s. hash_state.after_sampled H.hash OUT_LEN s };
-
     // A draw takes no memory and has no limit: it is never refused.
-    ghost draw_may_leave = { λ _ _. ⊥ };
+    ghost sampling = { unrefused_draw
+        (λ s. hash_state.sampled H.hash OUT_LEN s) (λ s. hash_state.after_sampled H.hash OUT_LEN s) };
 
-    ghost meets_limit = { λ _. ⊥ };
-
-    ghost limit_gives_none = { λ _ h. absurd h };
+    ghost samples = { unrefused_draw-is_sampling
+        (λ s. hash_state.after_sampled H.hash OUT_LEN s)
+        (λ s. hash_state.sampled H.hash OUT_LEN s) (λ s. hash_state.after_sampled H.hash OUT_LEN s)
+        (one_step (λ s. hash_state.after_sampled H.hash OUT_LEN s)) };
 
     fn sample(&mut self) -> Result<T, ChallengerError> {
         if self.outputs_left == 0 {
@@ -272,18 +283,24 @@ impl<
     const N: usize,
     const OUT_LEN: usize,
 > CanObserve<[T; N]> for HashChallenger<T, H, OUT_LEN> {
-    ghost use Rattle.p3_challenger_core.specs.Sponge.{LeavesBeginning};
+    ghost use Rattle.std.specs.Prelude.{◌≡◌};
+    ghost use Rattle.p3_challenger_core.specs.Observation.{LeavesBeginning};
     ghost use Rattle.p3_hash_challenger.specs.HashState as hash_state;
-    ghost use Rattle.p3_hash_challenger.specs.HashStateLaws.{array_observed-fed};
+    ghost use Rattle.p3_hash_challenger.specs.HashStateLaws.{arrays-observed, arrays-front};
 
-    ghost symbols = { λ xs. xs };
+    // A refused call changes nothing.
+    ghost observation = { record {
+      symbols = λ xs. xs;
+      observed = λ s xs. hash_state.array_observed s xs;
+      may_leave = λ s _ t. t ≡ s;
+    } };
 
-    ghost observed = { λ s xs. hash_state.array_observed s xs };
+    // A refused slice has observed the arrays before the refused one.
+    ghost slice_may_leave = { λ s xss t. LeavesBeginning hash_state.array_observed s xss t };
 
-    // A refused call has observed the arrays before the refused one.
-    ghost may_leave = { λ s xss t. LeavesBeginning hash_state.array_observed s xss t };
+    ghost observes = { arrays-observed };
 
-    ghost feeds = { array_observed-fed };
+    ghost slice_leaves = { arrays-front };
 
     fn observe(&mut self, value: [T; N]) -> Result<(), ChallengerError> {
         self.absorb(&value[..])

@@ -14,5 +14,5 @@ pub fn hash_values_read_one_way<
     H: CryptographicHasher<T, [T; OUT_LEN]>,
     const OUT_LEN: usize,
 >()
-    ensures { ReadsOneWay ⟦<HashChallenger<T, H, OUT_LEN> as CanObserve<T>>⟧.symbols }
+    ensures { ReadsOneWay ⟦<HashChallenger<T, H, OUT_LEN> as CanObserve<T>>⟧.observation.symbols }
 {}

@@ -15,20 +15,25 @@ impl<
     ghost use Rattle.std.specs.Prelude.{Some, ◌^◌, ◌%◌};
     ghost use Rattle.p3_duplex.specs.DuplexState as duplex_state;
     ghost use Rattle.p3_challenger_core.specs.Bits.{most_bits_of};
+    ghost use Rattle.p3_challenger_core.specs.BitLaws.{low_bits-below, most_bits-short};
+    ghost use Rattle.p3_challenger_core.specs.Sampling.{unrefused_draw};
+    ghost use Rattle.p3_duplex.specs.DuplexStateLaws.{bits-sampled};
 
     // The greatest number of bits, below 64, whose power of two is below the order.
     ghost most_bits = { most_bits_of F.residues.order };
 
-    ghost sampled_bits = { λ bits s. Some (F.residues.number (duplex_state.sampled F.residues P.permutation RATE s) % 2 ^ bits) };
-
-    ghost after_bits = { λ _ s. duplex_state.after_sampled F.residues P.permutation RATE s };
-
     // A draw takes no memory and has no limit: it is never refused.
-    ghost bits_meet_limit = { λ _ _. ⊥ };
+    ghost bits_sampling = { λ bits. unrefused_draw
+        (λ s. Some (F.residues.number (duplex_state.sampled F.residues P.permutation RATE s) % 2 ^ bits))
+        (λ s. duplex_state.after_sampled F.residues P.permutation RATE s) };
 
-    ghost bits_may_leave = { λ _ _ _. ⊥ };
+    ghost number = { λ n. n };
 
-    ghost bits_limit_gives_none = { λ _ _ h. absurd h };
+    ghost samples_bits = { λ bits. bits-sampled F.residues P.permutation RATE bits };
+
+    ghost bits_below = { λ bits s x _ drawn. low_bits-below (F.residues.number (duplex_state.sampled F.residues P.permutation RATE s)) bits x drawn };
+
+    ghost most_bits_short = { most_bits-short F.residues.order };
 
     fn max_bits() -> usize {
         (log2_ceil_u64(F::ORDER_U64) - 1) as usize

@@ -1,7 +1,7 @@
 // What a duplex challenger observes beside single values and arrays: digests, caps and lists of
 // lists, each value by value. None of it is ever refused.
 ghost use Rattle.std.specs.Prelude.{◌≡◌};
-ghost use Rattle.p3_challenger_core.specs.Sponge.{observed_all};
+ghost use Rattle.p3_challenger_core.specs.Observation.{observed_all};
 
 use crate::DuplexChallenger;
 use p3_challenger_core::{CanObserve, ChallengerError};
@@ -45,18 +45,18 @@ impl<
 > CanObserve<Hash<M, F, N>> for DuplexChallenger<F, P, WIDTH, RATE> {
     ghost use Rattle.std.specs.Prelude.{refl};
     ghost use Rattle.std.specs.List.{flat_map};
-    ghost use Rattle.p3_challenger_core.specs.Sponge.{observed_all};
+    ghost use Rattle.p3_challenger_core.specs.Observation.{unrefused_observe, observed_all};
     ghost use Rattle.p3_duplex.specs.DuplexState as duplex_state;
-    ghost use Rattle.p3_duplex.specs.DuplexStateLaws.{fed-flat_map};
-
-    ghost symbols = { λ digest. digest };
-
-    ghost observed = { λ s digest. duplex_state.fed F.residues P.permutation RATE s digest };
+    ghost use Rattle.p3_duplex.specs.DuplexStateLaws.{is_observation, fed-flat_map};
 
     // An observation takes no memory: it is never refused.
-    ghost may_leave = { λ _ _ _. ⊥ };
+    ghost observation = { unrefused_observe (λ digest. digest) (λ s digest. duplex_state.fed F.residues P.permutation RATE s digest) };
 
-    ghost feeds = { λ _ _ _. refl };
+    ghost slice_may_leave = { λ _ _ _. ⊥ };
+
+    ghost observes = { is_observation F.residues P.permutation RATE (λ digest. digest) (λ s digest. duplex_state.fed F.residues P.permutation RATE s digest) (λ _ _. refl) };
+
+    ghost slice_leaves = { λ _ _ _ h. absurd h };
 
     fn observe(&mut self, value: Hash<M, F, N>) -> Result<(), ChallengerError> {
         self.push_all(&value.as_ref()[..]);
@@ -81,18 +81,18 @@ impl<
 > CanObserve<MerkleCap<M, [F; N]>> for DuplexChallenger<F, P, WIDTH, RATE> {
     ghost use Rattle.std.specs.Prelude.{refl};
     ghost use Rattle.std.specs.List.{flat_map};
-    ghost use Rattle.p3_challenger_core.specs.Sponge.{observed_all};
+    ghost use Rattle.p3_challenger_core.specs.Observation.{unrefused_observe, observed_all};
     ghost use Rattle.p3_duplex.specs.DuplexState as duplex_state;
-    ghost use Rattle.p3_duplex.specs.DuplexStateLaws.{fed-flat_map};
-
-    ghost symbols = { λ cap. flat_map (λ root. root) cap };
-
-    ghost observed = { λ s cap. observed_all (λ u root. duplex_state.fed F.residues P.permutation RATE u root) s cap };
+    ghost use Rattle.p3_duplex.specs.DuplexStateLaws.{is_observation, fed-flat_map};
 
     // An observation takes no memory: it is never refused.
-    ghost may_leave = { λ _ _ _. ⊥ };
+    ghost observation = { unrefused_observe (λ cap. flat_map (λ root. root) cap) (λ s cap. observed_all (λ u root. duplex_state.fed F.residues P.permutation RATE u root) s cap) };
 
-    ghost feeds = { λ s cap _. fed-flat_map F.residues P.permutation RATE (λ root. root) s cap };
+    ghost slice_may_leave = { λ _ _ _. ⊥ };
+
+    ghost observes = { is_observation F.residues P.permutation RATE (λ cap. flat_map (λ root. root) cap) (λ s cap. observed_all (λ u root. duplex_state.fed F.residues P.permutation RATE u root) s cap) (λ s cap. fed-flat_map F.residues P.permutation RATE (λ root. root) s cap) };
+
+    ghost slice_leaves = { λ _ _ _ h. absurd h };
 
     fn observe(&mut self, value: MerkleCap<M, [F; N]>) -> Result<(), ChallengerError> {
         self.push_roots(value.roots());
@@ -117,18 +117,18 @@ impl<
 > CanObserve<&MerkleCap<M, [F; N]>> for DuplexChallenger<F, P, WIDTH, RATE> {
     ghost use Rattle.std.specs.Prelude.{refl};
     ghost use Rattle.std.specs.List.{flat_map};
-    ghost use Rattle.p3_challenger_core.specs.Sponge.{observed_all};
+    ghost use Rattle.p3_challenger_core.specs.Observation.{unrefused_observe, observed_all};
     ghost use Rattle.p3_duplex.specs.DuplexState as duplex_state;
-    ghost use Rattle.p3_duplex.specs.DuplexStateLaws.{fed-flat_map};
-
-    ghost symbols = { λ cap. flat_map (λ root. root) cap.now };
-
-    ghost observed = { λ s cap. observed_all (λ u root. duplex_state.fed F.residues P.permutation RATE u root) s cap.now };
+    ghost use Rattle.p3_duplex.specs.DuplexStateLaws.{is_observation, fed-flat_map};
 
     // An observation takes no memory: it is never refused.
-    ghost may_leave = { λ _ _ _. ⊥ };
+    ghost observation = { unrefused_observe (λ cap. flat_map (λ root. root) cap.now) (λ s cap. observed_all (λ u root. duplex_state.fed F.residues P.permutation RATE u root) s cap.now) };
 
-    ghost feeds = { λ s cap _. fed-flat_map F.residues P.permutation RATE (λ root. root) s cap.now };
+    ghost slice_may_leave = { λ _ _ _. ⊥ };
+
+    ghost observes = { is_observation F.residues P.permutation RATE (λ cap. flat_map (λ root. root) cap.now) (λ s cap. observed_all (λ u root. duplex_state.fed F.residues P.permutation RATE u root) s cap.now) (λ s cap. fed-flat_map F.residues P.permutation RATE (λ root. root) s cap.now) };
+
+    ghost slice_leaves = { λ _ _ _ h. absurd h };
 
     fn observe(&mut self, value: &MerkleCap<M, [F; N]>) -> Result<(), ChallengerError> {
         self.push_roots(value.roots());
@@ -151,18 +151,18 @@ impl<
 > CanObserve<Vec<Vec<F>>> for DuplexChallenger<F, P, WIDTH, RATE> {
     ghost use Rattle.std.specs.Prelude.{refl};
     ghost use Rattle.std.specs.List.{flat_map};
-    ghost use Rattle.p3_challenger_core.specs.Sponge.{observed_all};
+    ghost use Rattle.p3_challenger_core.specs.Observation.{unrefused_observe, observed_all};
     ghost use Rattle.p3_duplex.specs.DuplexState as duplex_state;
-    ghost use Rattle.p3_duplex.specs.DuplexStateLaws.{fed-flat_map};
-
-    ghost symbols = { λ lists. flat_map (λ list. list.items) lists.items };
-
-    ghost observed = { λ s lists. observed_all (λ u list. duplex_state.fed F.residues P.permutation RATE u list.items) s lists.items };
+    ghost use Rattle.p3_duplex.specs.DuplexStateLaws.{is_observation, fed-flat_map};
 
     // An observation takes no memory: it is never refused.
-    ghost may_leave = { λ _ _ _. ⊥ };
+    ghost observation = { unrefused_observe (λ lists. flat_map (λ list. list.items) lists.items) (λ s lists. observed_all (λ u list. duplex_state.fed F.residues P.permutation RATE u list.items) s lists.items) };
 
-    ghost feeds = { λ s lists _. fed-flat_map F.residues P.permutation RATE (λ list. list.items) s lists.items };
+    ghost slice_may_leave = { λ _ _ _. ⊥ };
+
+    ghost observes = { is_observation F.residues P.permutation RATE (λ lists. flat_map (λ list. list.items) lists.items) (λ s lists. observed_all (λ u list. duplex_state.fed F.residues P.permutation RATE u list.items) s lists.items) (λ s lists. fed-flat_map F.residues P.permutation RATE (λ list. list.items) s lists.items) };
+
+    ghost slice_leaves = { λ _ _ _ h. absurd h };
 
     fn observe(&mut self, value: Vec<Vec<F>>) -> Result<(), ChallengerError> {
         self.push_lists(value.as_slice());

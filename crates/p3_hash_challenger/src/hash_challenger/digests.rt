@@ -2,7 +2,7 @@
 // Each feeds its values in order, by one call a digest or a list.
 ghost use Rattle.std.specs.Prelude.{◌≡◌, List, OnOk, IfErr, map};
 ghost use Rattle.std.specs.List.{flat_map};
-ghost use Rattle.p3_challenger_core.specs.Sponge.{RefusesObserve, LeavesBeginning};
+ghost use Rattle.p3_challenger_core.specs.Observation.{RefusesObserve, LeavesBeginning};
 
 use crate::HashChallenger;
 use p3_challenger_core::{CanObserve, ChallengerError};
@@ -47,18 +47,24 @@ impl<
     const N: usize,
     const OUT_LEN: usize,
 > CanObserve<Hash<F, T, N>> for HashChallenger<T, H, OUT_LEN> {
-    ghost use Rattle.std.specs.Prelude.{refl};
-    ghost use Rattle.p3_challenger_core.specs.Sponge.{LeavesBeginning};
+    ghost use Rattle.std.specs.Prelude.{◌≡◌};
+    ghost use Rattle.p3_challenger_core.specs.Observation.{LeavesBeginning};
     ghost use Rattle.p3_hash_challenger.specs.HashState as hash_state;
+    ghost use Rattle.p3_hash_challenger.specs.HashStateLaws.{digests-observed, digests-front};
 
-    ghost symbols = { λ digest. digest };
+    // A refused call changes nothing.
+    ghost observation = { record {
+      symbols = λ digest. digest;
+      observed = λ s digest. hash_state.fed s digest;
+      may_leave = λ s _ t. t ≡ s;
+    } };
 
-    ghost observed = { λ s digest. hash_state.fed s digest };
+    // A refused slice has fed the digests before the refused one.
+    ghost slice_may_leave = { λ s digests t. LeavesBeginning hash_state.fed s digests t };
 
-    // A refused call has fed the digests before the refused one.
-    ghost may_leave = { λ s digests t. LeavesBeginning hash_state.fed s digests t };
+    ghost observes = { digests-observed };
 
-    ghost feeds = { λ _ _ _. refl };
+    ghost slice_leaves = { digests-front };
 
     fn observe(&mut self, value: Hash<F, T, N>) -> Result<(), ChallengerError> {
         self.feed(&value.as_ref()[..])
@@ -79,19 +85,23 @@ impl<
     const N: usize,
     const OUT_LEN: usize,
 > CanObserve<MerkleCap<F, [T; N]>> for HashChallenger<T, H, OUT_LEN> {
-    ghost use Rattle.std.specs.Prelude.{refl};
     ghost use Rattle.std.specs.List.{flat_map};
-    ghost use Rattle.p3_challenger_core.specs.Sponge.{LeavesBeginning};
+    ghost use Rattle.p3_challenger_core.specs.Observation.{LeavesBeginning};
     ghost use Rattle.p3_hash_challenger.specs.HashState as hash_state;
-
-    ghost symbols = { λ cap. flat_map (λ root. root) cap };
-
-    ghost observed = { λ s cap. hash_state.fed s (flat_map (λ root. root) cap) };
+    ghost use Rattle.p3_hash_challenger.specs.HashStateLaws.{parts-observed, parts-front};
 
     // A refused call has fed the roots before the refused one.
-    ghost may_leave = { λ s caps t. LeavesBeginning hash_state.fed s (flat_map (λ cap. cap) caps) t };
+    ghost observation = { record {
+      symbols = λ cap. flat_map (λ root. root) cap;
+      observed = λ s cap. hash_state.fed s (flat_map (λ root. root) cap);
+      may_leave = λ s cap t. LeavesBeginning hash_state.fed s cap t;
+    } };
 
-    ghost feeds = { λ _ _ _. refl };
+    ghost slice_may_leave = { λ s caps t. LeavesBeginning hash_state.fed s (flat_map (λ cap. cap) caps) t };
+
+    ghost observes = { parts-observed (λ cap. cap) (λ root. root) };
+
+    ghost slice_leaves = { parts-front (λ cap. cap) (λ root. root) };
 
     fn observe(&mut self, value: MerkleCap<F, [T; N]>) -> Result<(), ChallengerError> {
         self.feed_roots(value.roots())
@@ -112,19 +122,23 @@ impl<
     const N: usize,
     const OUT_LEN: usize,
 > CanObserve<&MerkleCap<F, [T; N]>> for HashChallenger<T, H, OUT_LEN> {
-    ghost use Rattle.std.specs.Prelude.{refl};
     ghost use Rattle.std.specs.List.{flat_map};
-    ghost use Rattle.p3_challenger_core.specs.Sponge.{LeavesBeginning};
+    ghost use Rattle.p3_challenger_core.specs.Observation.{LeavesBeginning};
     ghost use Rattle.p3_hash_challenger.specs.HashState as hash_state;
-
-    ghost symbols = { λ cap. flat_map (λ root. root) cap.now };
-
-    ghost observed = { λ s cap. hash_state.fed s (flat_map (λ root. root) cap.now) };
+    ghost use Rattle.p3_hash_challenger.specs.HashStateLaws.{parts-observed, parts-front};
 
     // A refused call has fed the roots before the refused one.
-    ghost may_leave = { λ s caps t. LeavesBeginning hash_state.fed s (flat_map (λ cap. cap.now) caps) t };
+    ghost observation = { record {
+      symbols = λ cap. flat_map (λ root. root) cap.now;
+      observed = λ s cap. hash_state.fed s (flat_map (λ root. root) cap.now);
+      may_leave = λ s cap t. LeavesBeginning hash_state.fed s cap.now t;
+    } };
 
-    ghost feeds = { λ _ _ _. refl };
+    ghost slice_may_leave = { λ s caps t. LeavesBeginning hash_state.fed s (flat_map (λ cap. cap.now) caps) t };
+
+    ghost observes = { parts-observed (λ cap. cap.now) (λ root. root) };
+
+    ghost slice_leaves = { parts-front (λ cap. cap.now) (λ root. root) };
 
     fn observe(&mut self, value: &MerkleCap<F, [T; N]>) -> Result<(), ChallengerError> {
         self.feed_roots(value.roots())
@@ -140,20 +154,24 @@ impl<
 
 impl<T: Copy, H: CryptographicHasher<T, [T; OUT_LEN]>, const OUT_LEN: usize> CanObserve<Vec<Vec<T>>>
     for HashChallenger<T, H, OUT_LEN> {
-    ghost use Rattle.std.specs.Prelude.{refl};
     ghost use Rattle.std.specs.List.{flat_map};
-    ghost use Rattle.p3_challenger_core.specs.Sponge.{LeavesBeginning};
+    ghost use Rattle.p3_challenger_core.specs.Observation.{LeavesBeginning};
     ghost use Rattle.p3_hash_challenger.specs.HashState as hash_state;
-
-    ghost symbols = { λ lists. flat_map (λ list. list.items) lists.items };
-
-    ghost observed = { λ s lists. hash_state.fed s (flat_map (λ list. list.items) lists.items) };
+    ghost use Rattle.p3_hash_challenger.specs.HashStateLaws.{parts-observed, parts-front};
 
     // A refused call has fed the lists before the refused one.
-    ghost may_leave = { λ s groups t.
+    ghost observation = { record {
+      symbols = λ lists. flat_map (λ list. list.items) lists.items;
+      observed = λ s lists. hash_state.fed s (flat_map (λ list. list.items) lists.items);
+      may_leave = λ s lists t. LeavesBeginning (λ u list. hash_state.fed u list.items) s lists.items t;
+    } };
+
+    ghost slice_may_leave = { λ s groups t.
         LeavesBeginning (λ u list. hash_state.fed u list.items) s (flat_map (λ lists. lists.items) groups) t };
 
-    ghost feeds = { λ _ _ _. refl };
+    ghost observes = { parts-observed (λ lists. lists.items) (λ list. list.items) };
+
+    ghost slice_leaves = { parts-front (λ lists. lists.items) (λ list. list.items) };
 
     fn observe(&mut self, value: Vec<Vec<T>>) -> Result<(), ChallengerError> {
         self.feed_lists(value.as_slice())

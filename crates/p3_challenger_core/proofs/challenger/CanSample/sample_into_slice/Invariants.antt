@@ -6,4 +6,4 @@ abbrev pub invariant-loop-i : goal.invariant-loop-i
 invariant-loop-i g l =
     let m = g.Self.CanSample in
     let n = length l.initial.values in
-    Drew m.sampled m.after_sampled m.meets_limit m.draw_may_leave n (g.Self.Sponge.state l.initial.self) (take l.i l.values) (n - l.i) (g.Self.Sponge.state l.self)
+    Drew m.sampling n (g.Self.Sponge.state l.initial.self) (take l.i l.values) (n - l.i) (g.Self.Sponge.state l.self)

@@ -1,6 +1,6 @@
 use Rattle.std.specs.Prelude.{Some}
 use Rattle.p3_duplex.specs.DuplexState.{drawn, after_drawn}
-use Rattle.p3_challenger_core.specs.SpongeLaws.{draws-not_refused}
+use Rattle.p3_challenger_core.specs.SamplingLaws.{draws-not_refused}
 use Rattle.p3_duplex.proofs.duplex_challenger.DuplexChallenger.draws_are_not_refused.Goals as goal
 
 pub returns : goal.returns

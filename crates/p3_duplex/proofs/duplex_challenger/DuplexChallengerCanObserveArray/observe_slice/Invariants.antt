@@ -1,5 +1,5 @@
 use Rattle.std.proofs.Common.{◌≡◌, drop}
-use Rattle.p3_challenger_core.specs.Sponge.{observed_all}
+use Rattle.p3_challenger_core.specs.Observation.{observed_all}
 use Rattle.p3_duplex.specs.DuplexState.{fed}
 use Rattle.p3_duplex.proofs.duplex_challenger.DuplexChallengerCanObserveArray.observe_slice.Given as goal
 

@@ -1,6 +1,6 @@
 use Rattle.std.proofs.Common.{◌+◌, drop, sym, ap, ◌∙◌, subst, rules}
 use Rattle.std.specs.List.{flat_map}
-use Rattle.p3_challenger_core.specs.Sponge.{LeavesBeginning}
+use Rattle.p3_challenger_core.specs.Observation.{LeavesBeginning}
 use Rattle.p3_hash_challenger.specs.HashState.{fed}
 use Rattle.p3_hash_challenger.specs.HashStateLaws.{all_fed}
 use Rattle.p3_hash_challenger.proofs.Observing.{LeadsThrough, leads_through-next, leads_through-refused}

@@ -1,0 +1,69 @@
+-- What observing a value does to a challenger.
+use Rattle.std.specs.Prelude.{◌≡◌, ℕ, List, [], ◌∷◌, ◌++◌, ◌⊎◌, take}
+use Rattle.std.specs.List.{flat_map}
+use Rattle.p3_challenger_core.specs.Sponge.{IsFed}
+use Rattle.p3_challenger_core.specs.declared.error.ChallengerError.{ChallengerError}
+use Rattle.p3_challenger_core.specs.declared.error.ChallengerError.TheVariants.{OutOfMemory, DrawLimit, NoWitness, TooLong}
+
+-- what a value feeds, the state after it, and what may be left of a state where it is refused
+pub record Observation (S Symbol T : Type 0) : Type 1 where
+  pub symbols : T → List Symbol
+  pub observed : S → T → S
+  pub may_leave : S → T → S → Type 0
+
+-- what may be left of a state where a value is refused: a front of what it feeds was fed
+abbrev pub LeavesFed : {S Symbol : Type 0} → (S → List Symbol → S) → S → List Symbol → S → Type 0
+LeavesFed fed s symbols t = (n : ℕ) × IsFed fed s (take n symbols) t
+
+-- the same exactly, where other symbols were fed before
+abbrev pub LeavesBehind : {S Symbol : Type 0} → (S → List Symbol → S) → S → List Symbol → List Symbol → S → Type 0
+LeavesBehind fed s before symbols t = (n : ℕ) × (t ≡ fed s (before ++ take n symbols))
+
+-- What is observed is what is fed, and a refused value has fed a front of it. Behind a symbol no outputs are
+-- left that could be dropped, so there both hold exactly.
+pub record IsObservation {S Symbol T : Type 0} (fed : S → List Symbol → S) (o : Observation S Symbol T) : Type 0 where
+  pub observes : (s : S) (x : T) → IsFed fed s (o.symbols x) (o.observed s x)
+  pub observes_behind : (s : S) (y : Symbol) (ys : List Symbol) (x : T) → o.observed (fed s (y ∷ ys)) x ≡ fed s ((y ∷ ys) ++ o.symbols x)
+  pub leaves : (s : S) (x : T) (t : S) → o.may_leave s x t → LeavesFed fed s (o.symbols x) t
+  pub leaves_behind : (s : S) (y : Symbol) (ys : List Symbol) (x : T) (t : S) → o.may_leave (fed s (y ∷ ys)) x t → LeavesBehind fed s (y ∷ ys) (o.symbols x) t
+
+-- an observation that is never refused
+abbrev pub unrefused_observe : {S Symbol T : Type 0} → (T → List Symbol) → (S → T → S) → Observation S Symbol T
+unrefused_observe symbols observed = record { symbols = symbols; observed = observed; may_leave = λ _ _ _. ⊥ }
+
+-- ---- values in a row
+
+-- the state after values that are observed in order
+abbrev pub observed_all : {S T : Type 0} → (S → T → S) → S → List T → S
+observed_all observed s [] = s
+observed_all observed s (x ∷ xs) = observed_all observed (observed s x) xs
+
+-- what is left of a state where one of several calls in a row is refused: those before it are done, and
+-- the refused one leaves what it may
+abbrev pub LeavesInCalls : {S T : Type 0} → (S → T → S) → (S → T → S → Type 0) → S → List T → S → Type 0
+LeavesInCalls step MayLeave s [] t = ⊥
+LeavesInCalls step MayLeave s (x ∷ xs) t = MayLeave s x t ⊎ LeavesInCalls step MayLeave (step s x) xs t
+
+-- what is left of a state where one of the values is refused whole: those before it were observed
+abbrev pub LeavesBeginning : {S T : Type 0} → (S → T → S) → S → List T → S → Type 0
+LeavesBeginning observed s xs t = LeavesInCalls observed (λ u _ v. v ≡ u) s xs t
+
+-- what is left of a state where one of the values is refused: a front of the values was observed, and
+-- then a front of what the next one feeds was fed
+abbrev pub LeavesFront : {S Symbol T : Type 0} → (S → List Symbol → S) → Observation S Symbol T → S → List T → S → Type 0
+LeavesFront fed o s xs t = LeavesInCalls o.observed (λ u x v. LeavesFed fed u (o.symbols x) v) s xs t
+
+-- what an observe that answers this error leaves: it is refused for memory alone
+abbrev pub RefusesObserve : {S : Type 0} → (S → Type 0) → ChallengerError → S → Type 0
+RefusesObserve MayLeave OutOfMemory t = MayLeave t
+RefusesObserve MayLeave _ t = ⊥
+
+-- the values of a list, observed one after another, as one observation
+abbrev pub in_row : {S Symbol T : Type 0} → Observation S Symbol T → Observation S Symbol (List T)
+in_row o =
+    record { symbols = flat_map o.symbols; observed = observed_all o.observed; may_leave = LeavesInCalls o.observed o.may_leave }
+
+-- what is observed as another value
+abbrev pub observed_as : {S Symbol T U : Type 0} → (U → T) → Observation S Symbol T → Observation S Symbol U
+observed_as f o =
+    record { symbols = λ x. o.symbols (f x); observed = λ s x. o.observed s (f x); may_leave = λ s x t. o.may_leave s (f x) t }

@@ -1,0 +1,73 @@
+-- Drawing values from a challenger.
+use Rattle.std.specs.Prelude.{◌≡◌, ℕ, zero, suc, List, ◌∷◌, [], ◌⊎◌, Option, Some, None, option_and_then, IsSome, is_some, if◌then◌else◌}
+use Rattle.std.specs.Option.{option_map}
+use Rattle.p3_challenger_core.specs.Sponge.{IsStepsOn}
+use Rattle.p3_challenger_core.specs.Observation.{RefusesObserve}
+use Rattle.p3_challenger_core.specs.declared.error.ChallengerError.{ChallengerError}
+use Rattle.p3_challenger_core.specs.declared.error.ChallengerError.TheVariants.{OutOfMemory, DrawLimit, NoWitness, TooLong}
+
+-- what a draw gives, which is none where it meets the draw limit; the state after it; the states whose draw
+-- meets the limit; and what may be left of a state where memory is refused
+pub record Sampling (S T : Type 0) : Type 1 where
+  pub sampled : S → Option T
+  pub after : S → S
+  pub meets_limit : S → Type 0
+  pub may_leave : S → S → Type 0
+
+-- a draw that meets the limit gives nothing, and every draw, also a refused one, takes some number of the
+-- smallest draws
+pub record IsSampling {S T : Type 0} (next : S → S) (d : Sampling S T) : Type 0 where
+  pub limit_gives_none : (s : S) → d.meets_limit s → d.sampled s ≡ None
+  pub steps : (s : S) → IsStepsOn next s (d.after s)
+  pub leaves : (s t : S) → d.may_leave s t → IsStepsOn next s t
+
+-- a draw that is never refused
+abbrev pub unrefused_draw : {S T : Type 0} → (S → Option T) → (S → S) → Sampling S T
+unrefused_draw sampled after = record { sampled = sampled; after = after; meets_limit = λ _. ⊥; may_leave = λ _ _. ⊥ }
+
+-- what a draw that answers this error leaves: it is refused for memory, or it met its limit, and
+-- then the candidates that it drew are consumed
+abbrev pub RefusesDraw : {S T : Type 0} → Sampling S T → ChallengerError → S → S → Type 0
+RefusesDraw d OutOfMemory s t = d.may_leave s t
+RefusesDraw d DrawLimit s t = d.meets_limit s × (t ≡ d.after s)
+RefusesDraw d _ s t = ⊥
+
+-- ---- draws in a row
+
+-- the values of n draws in a row, in order, or none where one of them meets its limit
+unfoldable pub draws : {S T : Type 0} → Sampling S T → ℕ → S → Option (List T)
+draws d zero s = Some []
+draws d (suc n) s = option_and_then (λ x. option_map (λ xs. x ∷ xs) (draws d n (d.after s))) (d.sampled s)
+
+-- the state after n draws in a row, or after the first of them that meets its limit
+unfoldable pub after_draws : {S T : Type 0} → Sampling S T → ℕ → S → S
+after_draws d zero s = s
+after_draws d (suc n) s = if is_some (d.sampled s) then after_draws d n (d.after s) else d.after s
+
+-- P holds of the state before one of n draws in a row, where those before it gave their values
+unfoldable pub SomeDraw : {S T : Type 0} → Sampling S T → (S → Type 0) → ℕ → S → Type 0
+SomeDraw d P zero s = ⊥
+SomeDraw d P (suc n) s = P s ⊎ (IsSome (d.sampled s) × SomeDraw d P n (d.after s))
+
+-- what n draws in a row that answer this error leave: those before the refused one gave their values
+unfoldable pub RefusesDraws : {S T : Type 0} → Sampling S T → ℕ → ChallengerError → S → S → Type 0
+RefusesDraws d zero e s t = ⊥
+RefusesDraws d (suc n) e s t = RefusesDraw d e s t ⊎ (IsSome (d.sampled s) × RefusesDraws d n e (d.after s) t)
+
+-- the same where the memory for their values is asked for first: refused there, nothing changes
+abbrev pub RefusesDrawVec : {S T : Type 0} → Sampling S T → ℕ → ChallengerError → S → S → Type 0
+RefusesDrawVec d n e s t = RefusesObserve (λ u. u ≡ s) e t ⊎ RefusesDraws d n e s t
+
+-- n draws in a row as one draw of their values
+abbrev pub in_row : {S T : Type 0} → Sampling S T → ℕ → Sampling S (List T)
+in_row d n =
+    record {
+      sampled = draws d n;
+      after = after_draws d n;
+      meets_limit = SomeDraw d d.meets_limit n;
+      may_leave = λ s t. SomeDraw d (λ u. d.may_leave u t) n s;
+    }
+
+-- a draw of what is made of a drawn value
+abbrev pub made_of : {S T U : Type 0} → (T → U) → Sampling S T → Sampling S U
+made_of f d = record { sampled = λ s. option_map f (d.sampled s); after = d.after; meets_limit = d.meets_limit; may_leave = d.may_leave }
