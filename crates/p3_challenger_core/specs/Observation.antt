@@ -67,3 +67,8 @@ in_row o =
 abbrev pub observed_as : {S Symbol T U : Type 0} → (U → T) → Observation S Symbol T → Observation S Symbol U
 observed_as f o =
     record { symbols = λ x. o.symbols (f x); observed = λ s x. o.observed s (f x); may_leave = λ s x t. o.may_leave s (f x) t }
+
+-- the values of a list, observed as one slice
+abbrev pub in_slice : {S Symbol T : Type 0} → Observation S Symbol T → (S → List T → S → Type 0) → Observation S Symbol (List T)
+in_slice o slice_may_leave =
+    record { symbols = flat_map o.symbols; observed = observed_all o.observed; may_leave = slice_may_leave }

@@ -1,14 +1,20 @@
 -- Laws of what is observed: what is fed, one value and several in a row.
-use Rattle.std.proofs.Common.{◌≡◌, ℕ, zero, suc, ◌⊎◌, inl, inr, List, [], ◌∷◌, ◌++◌, length, take, refl, sym, ap, ◌∙◌, append_assoc, append-nil, subst}
+use Rattle.std.proofs.Common.{◌≡◌, ℕ, zero, suc, ◌⊎◌, inl, inr, List, [], ◌∷◌, ◌++◌, length, take, Result, Ok, Err, refl, sym, ap, ◌∙◌, append_assoc, append-nil, subst}
 use Rattle.std.specs.List.{flat_map}
+use Rattle.std.specs.Result.{OnOk}
 use Rattle.p3_challenger_core.specs.Sponge.{IsNonEmpty, IsFed}
-use Rattle.p3_challenger_core.specs.Observation.{Observation, IsObservation, LeavesFed, LeavesBehind, LeavesInCalls, RefusesObserve, observed_all, unrefused_observe, in_row, observed_as}
+use Rattle.p3_challenger_core.specs.Observation.{Observation, IsObservation, LeavesFed, LeavesBehind, LeavesInCalls, LeavesFront, RefusesObserve, observed_all, unrefused_observe, in_row, in_slice, observed_as}
 use Rattle.p3_challenger_core.specs.declared.error.ChallengerError.{ChallengerError}
 use Rattle.p3_challenger_core.specs.declared.error.ChallengerError.TheVariants.{OutOfMemory, DrawLimit, NoWitness, TooLong}
 
 pub empty_or_not : {S : Type 0} (xs : List S) → (xs ≡ []) ⊎ IsNonEmpty xs
 empty_or_not [] = inl refl
 empty_or_not (x ∷ xs) = inr tt
+
+-- what follows of an observation that was not refused
+pub on_ok : {T E : Type 0} (result : Result T E) {A B : Type 0} → (A → B) → OnOk result A → OnOk result B
+on_ok (Ok x) f h = f h
+on_ok (Err e) f h = tt
 
 -- a front of a list is one of the list with another behind it, and so is the list with a front of the other
 pub front_append : {X : Type 0} (n : ℕ) (a b : List X) → (m : ℕ) × (take m (a ++ b) ≡ take n a)
@@ -158,3 +164,16 @@ module _ {S Symbol : Type 0} (fed : S → List Symbol → S) (fed_nothing : (s :
           leaves = λ s x t h. laws.leaves s (f x) t h;
           leaves_behind = λ s y ys x t h. laws.leaves_behind s y ys (f x) t h;
         }
+
+    pub in_slice-is_observation : (slice_may_leave : S → List T → S → Type 0) → ((s : S) (xs : List T) (t : S) → slice_may_leave s xs t → LeavesInCalls o.observed o.may_leave s xs t) → IsObservation fed (in_slice o slice_may_leave)
+    in_slice-is_observation slice_may_leave slice_leaves =
+        record {
+          observes = all-fed;
+          observes_behind = all-behind;
+          leaves = λ s xs t h. calls-leave s xs t (slice_leaves s xs t h);
+          leaves_behind = λ s y ys xs t h. calls-behind s y ys xs t (slice_leaves (fed s (y ∷ ys)) xs t h);
+        }
+
+    -- a front of the values was observed, and then a front of what the next one feeds was fed
+    pub calls-front : (s : S) (xs : List T) (t : S) → LeavesInCalls o.observed o.may_leave s xs t → LeavesFront fed o s xs t
+    calls-front s xs t h = leaves-map o.observed laws.leaves s xs t h

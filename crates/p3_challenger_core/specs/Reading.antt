@@ -1,5 +1,6 @@
 -- What every spelling owes: that it reads one way.
 use Rattle.std.specs.Prelude.{◌≡◌, ℕ, ◌<◌, ◌⊎◌, List, ◌++◌, slice_index}
+use Rattle.p3_challenger_core.specs.Sponge.{IsNonEmpty}
 
 -- of these values, no spelling begins another, and no two have one: whatever follows, a spelling reads one
 -- way
@@ -22,3 +23,8 @@ AreBytes bytes = (i : ℕ) → slice_index bytes i < 256
 -- one list is the other with something behind it
 abbrev pub OneBegins : {S : Type 0} → List S → List S → Type 0
 OneBegins {S} a b = ((rest : List S) × (a ++ rest ≡ b)) ⊎ ((rest : List S) × (b ++ rest ≡ a))
+
+-- a spelling reads one way, and no value has an empty one
+pub record TellsApart {T S : Type 0} (spelling : T → List S) : Type 0 where
+  pub one_way : ReadsOneWay spelling
+  pub some : (x : T) → IsNonEmpty (spelling x)

@@ -1,5 +1,5 @@
 ghost use Rattle.std.specs.Prelude.{◌≡◌, List, [], ◌∷◌, ◌++◌, Option, Some, OnOk, IfOk, IfErr, ◌<◌, ◌≤◌, ◌^◌, ℕ, length};
-ghost use Rattle.p3_challenger_core.specs.Observation.{Observation, IsObservation, observed_all, LeavesFront, RefusesObserve};
+ghost use Rattle.p3_challenger_core.specs.Observation.{Observation, IsObservation, observed_all, LeavesInCalls, RefusesObserve};
 ghost use Rattle.p3_challenger_core.specs.Sampling.{Sampling, IsSampling, draws, after_draws, RefusesDraw, RefusesDraws, RefusesDrawVec};
 
 use crate::ChallengerError;
@@ -55,9 +55,10 @@ pub trait CanObserve<T>: Sponge {
     // What is observed is what is fed, and a refused value has fed a front of it.
     ghost observes: { IsObservation Self.fed observation };
 
-    // A refused slice has observed a front of the values, and then fed a front of the next one.
+    // A refused slice leaves what its values, observed one by one, may leave: a front of them is observed, and
+    // a front of what the next one feeds is fed.
     ghost slice_leaves: { (s : Self.State) (xs : List T) (t : Self.State) →
-        slice_may_leave s xs t → LeavesFront Self.fed observation s xs t };
+        slice_may_leave s xs t → LeavesInCalls observation.observed observation.may_leave s xs t };
 }
 
 /// A challenger that values of a type are drawn from.

@@ -1,26 +1,10 @@
 -- An element of a vector space, coefficient by coefficient in the order of the basis.
-use Rattle.std.specs.Prelude.{ℕ, zero, suc, ◌*◌, List, [], ◌∷◌, length, codes, nat_lt, flat_map, Option, Result, Ok, Err, if◌then◌else◌}
-use Rattle.std.specs.Option.{option_map}
-use Rattle.p3_challenger_core.specs.Sponge.{observed_all, draws, after_draws}
-
--- the one spelling of an element: those of its coefficients, one behind another
-abbrev pub wire : {F A : Type 0} → (F → List ℕ) → (A → List F) → A → List ℕ
-wire base_wire coefficients x = flat_map base_wire (coefficients x)
-
--- what an element feeds: what its coefficients feed
-abbrev pub symbols : {F A Symbol : Type 0} → (F → List Symbol) → (A → List F) → A → List Symbol
-symbols base_symbols coefficients x = flat_map base_symbols (coefficients x)
-
--- the state after an element
-abbrev pub observed : {S F A : Type 0} → (S → F → S) → (A → List F) → S → A → S
-observed base_observed coefficients s x = observed_all base_observed s (coefficients x)
-
--- the element that is drawn, coefficient 0 first, and the state after it
-abbrev pub sampled : {S F A : Type 0} → (S → Option F) → (S → S) → ℕ → (List F → A) → S → Option A
-sampled base after_base n element s = option_map element (draws base after_base n s)
-
-abbrev pub after_sampled : {S F : Type 0} → (S → Option F) → (S → S) → ℕ → S → S
-after_sampled base after_base n s = after_draws base after_base n s
+use Rattle.std.specs.Prelude.{ℕ, zero, suc, ◌*◌, List, [], ◌∷◌, length, codes, nat_lt, flat_map, Result, Ok, Err, if◌then◌else◌}
+use Rattle.p3_challenger_core.specs.Observation as observation
+use Rattle.p3_challenger_core.specs.Observation.{Observation, observed_as}
+use Rattle.p3_challenger_core.specs.Sampling as sampling
+use Rattle.p3_challenger_core.specs.Sampling.{Sampling, made_of}
+use Rattle.p3_fs_core.specs.Encoding.{Encoding}
 
 -- why bytes begin with no element
 abbrev pub not_enough_bytes : List ℕ
@@ -45,3 +29,20 @@ read_coefficients base n element bytes = and_then (λ xs. Ok (element xs.0, xs.1
 abbrev pub read : {F A : Type 0} → (List ℕ → Result (F × List ℕ) (List ℕ)) → ℕ → ℕ → (List F → A) → List ℕ → Result (A × List ℕ) (List ℕ)
 read base width n element bytes =
     if nat_lt (length bytes) (n * width) then Err not_enough_bytes else read_coefficients base n element bytes
+
+-- an element is encoded as its n coefficients, one behind another
+abbrev pub encoding : {F A : Type 0} → Encoding F → ℕ → (A → List F) → (List F → A) → Encoding A
+encoding base n coefficients element =
+    record {
+      width = n * base.width;
+      wire = λ x. flat_map base.wire (coefficients x);
+      read = read base.read base.width n element;
+    }
+
+-- it is observed as its coefficients
+abbrev pub observed_coefficients : {S Symbol F A : Type 0} → Observation S Symbol F → (A → List F) → Observation S Symbol A
+observed_coefficients base coefficients = observed_as coefficients (observation.in_row base)
+
+-- it is drawn as n coefficients, coefficient 0 first
+abbrev pub drawn_coefficients : {S F A : Type 0} → Sampling S F → ℕ → (List F → A) → Sampling S A
+drawn_coefficients base n element = made_of element (sampling.in_row base n)

@@ -1,14 +1,15 @@
 -- Laws of an element coefficient by coefficient.
-use Rattle.std.proofs.Common.{◌≡◌, ℕ, zero, suc, ◌≤◌, ◌+◌, ◌*◌, List, [], ◌∷◌, ◌++◌, length, nat_lt, if◌then◌else◌, Result, Ok, Err, refl, sym, ap, ◌∙◌, append_assoc, subst, drop, arith}
+use Rattle.std.proofs.Common.{◌≡◌, ℕ, zero, suc, ◌<◌, ◌≤◌, ◌+◌, ◌*◌, List, [], ◌∷◌, ◌++◌, length, nat_lt, if◌then◌else◌, Result, Ok, Err, refl, sym, ap, ◌∙◌, append_assoc, subst, drop, arith}
 use Rattle.std.specs.List.{flat_map}
 use Rattle.std.proofs.Math.Nat.{zero-mul}
 use Rattle.std.proofs.lemmas.List.{length-append}
-use Rattle.p3_challenger_core.specs.Sponge.{observed_all}
-use Rattle.p3_challenger_core.specs.Reading.{ReadsOneWay, AreBytes}
+use Rattle.p3_challenger_core.specs.Sponge.{IsNonEmpty}
+use Rattle.p3_fs_core.specs.Encoding.{Encoding, IsEncoding}
+use Rattle.p3_challenger_core.specs.Reading.{ReadsOneWay, TellsApart, AreBytes}
 use Rattle.p3_fs_core.specs.BigEndianLaws.{AreBytes-drop, drop-front}
 use Rattle.p3_fs_core.specs.ScalarLaws.{chosen, not_below, read-one_way}
-use Rattle.p3_challenger_core.specs.SymbolLaws.{all-fed, every-fed, row-one_way}
-use Rattle.p3_codecs.specs.Extension.{and_then, read_all, read, not_enough_bytes}
+use Rattle.p3_challenger_core.specs.SymbolLaws.{row-feeds, row-one_way}
+use Rattle.p3_codecs.specs.Extension.{and_then, read_all, read, encoding, not_enough_bytes}
 
 -- what is read behind a value that is read
 bound : {A B E : Type 0} (f : A → Result B E) (o : Result A E) (y : B) → and_then f o ≡ Ok y → (x : A) × (o ≡ Ok x) × (f x ≡ Ok y)
@@ -106,13 +107,33 @@ module _ {F : Type 0} (base_wire : F → List ℕ) (base_read : List ℕ → Res
         ∙ ap (λ ys. flat_map base_wire ys ++ found.0.1) values
         ∙ ap (λ bs. flat_map base_wire (coefficients x) ++ bs) end
 
+-- an element is encoded as its coefficients
+pub is_encoding : {F A : Type 0} (base : Encoding F) → IsEncoding base → (n : ℕ) (coefficients : A → List F) (element : List F → A) → ((x : A) → length (coefficients x) ≡ n) → ((x y : A) → coefficients x ≡ coefficients y → x ≡ y) → ((xs : List F) → length xs ≡ n → coefficients (element xs) ≡ xs) → IsEncoding (encoding base n coefficients element)
+is_encoding base laws n coefficients element as_many same of_element =
+    record {
+      fixed_width = length-wire base.wire base.width laws.fixed_width n coefficients as_many;
+      one_way = wire-one_way base.wire base.read base.width laws.fixed_width laws.reads_back n coefficients element as_many same of_element;
+      reads_back = read-wire base.wire base.read base.width laws.fixed_width laws.reads_back n coefficients element as_many same of_element;
+      only_reads = read-only base.wire base.read base.width laws.fixed_width laws.only_reads n coefficients element of_element;
+    }
+
 -- ---- the symbols
 
-pub coefficients-fed : {S F Symbol : Type 0} (observed : S → F → S) (fed : S → List Symbol → S) (symbols : F → List Symbol) → (fed_nothing : (s : S) → fed s [] ≡ s) (fed_more : (s : S) (a b : List Symbol) → fed (fed s a) b ≡ fed s (a ++ b)) → ((s : S) (x : F) → observed s x ≡ fed s (symbols x)) → (s : S) (xs : List F) → observed_all observed s xs ≡ fed s (flat_map symbols xs)
-coefficients-fed observed fed symbols fed_nothing fed_more each s xs =
-    all-fed observed fed symbols fed_nothing fed_more s xs (every-fed observed fed symbols fed_nothing fed_more each xs)
-
-pub symbols-one_way : {F A Symbol : Type 0} (symbols : F → List Symbol) → ReadsOneWay symbols → (n : ℕ) (coefficients : A → List F) → ((x : A) → length (coefficients x) ≡ n) → ((x y : A) → coefficients x ≡ coefficients y → x ≡ y) → ReadsOneWay (λ x. flat_map symbols (coefficients x))
+symbols-one_way : {F A Symbol : Type 0} (symbols : F → List Symbol) → ReadsOneWay symbols → (n : ℕ) (coefficients : A → List F) → ((x : A) → length (coefficients x) ≡ n) → ((x y : A) → coefficients x ≡ coefficients y → x ≡ y) → ReadsOneWay (λ x. flat_map symbols (coefficients x))
 symbols-one_way symbols one_way n coefficients as_many same x y a b e =
     let row = row-one_way symbols one_way (coefficients x) (coefficients y) a b (as_many x ∙ sym (as_many y)) e in
     (same x y row.0, row.1)
+
+some_of : {T : Type 0} (xs : List T) → 0 < length xs → IsNonEmpty xs
+some_of [] h = absurd (omega (arith, h))
+some_of (x ∷ xs) h = tt
+
+-- the symbols of an element, where those of a coefficient are fed in one way
+pub coefficients-tell_apart : {F A Symbol : Type 0} (symbols : F → List Symbol) → TellsApart symbols → (n : ℕ) → 0 < n → (coefficients : A → List F) → ((x : A) → length (coefficients x) ≡ n) → ((x y : A) → coefficients x ≡ coefficients y → x ≡ y) → TellsApart (λ x. flat_map symbols (coefficients x))
+coefficients-tell_apart symbols base n positive coefficients as_many same =
+    record {
+      one_way = symbols-one_way symbols base.one_way n coefficients as_many same;
+      some = λ x.
+          let long : 0 < length (coefficients x) = omega (arith, as_many x) in
+          row-feeds symbols base.some (coefficients x) (some_of (coefficients x) long);
+    }

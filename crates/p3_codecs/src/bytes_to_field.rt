@@ -21,55 +21,41 @@ pub const EXTRA_BYTES: usize = 16;
 const MOST_BYTES: usize = 24;
 
 impl<F: PrimeField64, C: CanObserve<u8> + CanSample<u8>> Codec<C, F> for BytesToFieldCodec<F> {
-    ghost use Rattle.std.specs.Option.{option_map};
-    ghost use Rattle.std.proofs.Common.{ap};
-    ghost use Rattle.p3_challenger_core.specs.SpongeLaws.{draws-none};
+    ghost use Rattle.p3_challenger_core.specs.Observation.{in_slice};
+    ghost use Rattle.p3_challenger_core.specs.ObservationLaws.{in_slice-is_observation, observed_as-is_observation};
+    ghost use Rattle.p3_challenger_core.specs.Sampling.{in_row};
+    ghost use Rattle.p3_challenger_core.specs.SamplingLaws.{in_row-is_sampling, made_of-is_sampling};
     ghost use Rattle.p3_challenger_core.specs.Reading.{ReadsOneWayOn, IsByte};
     ghost use Rattle.p3_fs_core.specs.BigEndian.{bytes_for};
-    ghost use Rattle.p3_fs_core.specs.Scalar as scalar;
-    ghost use Rattle.p3_codecs.specs.BytesToField as codec;
-    ghost use Rattle.p3_fs_core.specs.ScalarLaws.{order-fits, length-wire, wire-one_way, read-wire, read-only};
-    ghost use Rattle.p3_codecs.specs.BytesToFieldLaws.{wire-fed, wire_symbols-one_way};
+    ghost use Rattle.p3_fs_core.specs.Scalar.{wire, encoding};
+    ghost use Rattle.p3_fs_core.specs.ScalarLaws.{is_encoding};
+    ghost use Rattle.p3_codecs.specs.BytesToField.{observed_bytes, drawn_bytes, draw_bytes, challenge_of};
+    ghost use Rattle.p3_codecs.specs.BytesToFieldLaws.{bytes-tell_apart};
 
     const SECURITY_BITS: u32 = 128;
 
     ghost SECURITY_BITS = { 128 };
 
-    ghost width = { bytes_for F.bit_length };
+    ghost encoding = { encoding F.residues F.bit_length };
 
-    ghost wire = { scalar.wire F.residues (bytes_for F.bit_length) };
+    ghost observation = { observed_bytes F.residues F.bit_length C.observation C.slice_may_leave };
 
-    ghost read = { scalar.read F.residues (bytes_for F.bit_length) };
+    ghost sampling = { drawn_bytes F.residues F.bit_length C.sampling };
 
-    ghost symbols = { codec.symbols F.residues (bytes_for F.bit_length) C.symbols };
+    ghost is_fed_one_way = { ReadsOneWayOn IsByte C.observation.symbols };
 
-    ghost is_fed_one_way = { ReadsOneWayOn IsByte C.symbols };
+    ghost is_codec = { record {
+      encodes = is_encoding F.residues F.are_residues F.bit_length F.bits_below;
+      observes = observed_as-is_observation C.fed C.fed_nothing C.fed_more
+        (in_slice C.observation C.slice_may_leave)
+        (in_slice-is_observation C.fed C.fed_nothing C.fed_more C.observation C.observes C.slice_may_leave C.slice_leaves)
+        (wire F.residues (bytes_for F.bit_length));
+      samples = made_of-is_sampling C.next (challenge_of F.residues)
+        (in_row C.sampling (draw_bytes (bytes_for F.bit_length)))
+        (in_row-is_sampling C.next C.sampling C.samples (draw_bytes (bytes_for F.bit_length)));
+    } };
 
-    ghost observed = { codec.observed F.residues (bytes_for F.bit_length) C.observed };
-
-    ghost may_leave = { λ s x t. C.may_leave s (scalar.wire F.residues (bytes_for F.bit_length) x) t };
-
-    ghost sampled = { λ s. codec.sampled F.residues (bytes_for F.bit_length) C.sampled C.after_sampled s };
-
-    ghost after_sampled = { λ s. codec.after_sampled (bytes_for F.bit_length) C.sampled C.after_sampled s };
-
-    ghost meets_limit = { λ s. codec.SomeByte (bytes_for F.bit_length) C.sampled C.after_sampled C.meets_limit s };
-
-    ghost draw_may_leave = { λ s t. codec.SomeByte (bytes_for F.bit_length) C.sampled C.after_sampled (λ u. C.draw_may_leave u t) s };
-
-    ghost fixed_width = { length-wire F.residues F.are_residues (bytes_for F.bit_length) (order-fits F.bit_length F.residues.order F.bits_below) };
-
-    ghost reads_one_way = { wire-one_way F.residues F.are_residues (bytes_for F.bit_length) (order-fits F.bit_length F.residues.order F.bits_below) };
-
-    ghost reads_back = { read-wire F.residues F.are_residues (bytes_for F.bit_length) (order-fits F.bit_length F.residues.order F.bits_below) };
-
-    ghost only_reads = { read-only F.residues F.are_residues (bytes_for F.bit_length) (order-fits F.bit_length F.residues.order F.bits_below) };
-
-    ghost feeds = { λ one_way s x. wire-fed F.residues (bytes_for F.bit_length) C.symbols one_way C.observed C.fed C.feeds C.fed_nothing C.fed_more s x };
-
-    ghost symbols_read_one_way = { λ one_way. wire_symbols-one_way F.residues F.are_residues (bytes_for F.bit_length) (order-fits F.bit_length F.residues.order F.bits_below) C.symbols one_way };
-
-    ghost limit_gives_none = { λ s h. ap (option_map (codec.challenge_of F.residues)) (draws-none C.sampled C.after_sampled C.meets_limit C.limit_gives_none (codec.draw_bytes (bytes_for F.bit_length)) s h) };
+    ghost symbols_read_one_way = { bytes-tell_apart F.residues F.are_residues F.bit_length F.bits_below C.observation.symbols };
 
     fn wire_len() -> usize {
         F::wire_len()
@@ -98,9 +84,14 @@ impl<F: PrimeField64, C: CanObserve<u8> + CanSample<u8>> Codec<C, F> for BytesTo
 
 impl<F: PrimeField64, C: CanObserve<u8> + CanSample<u8>> ScalarCodec<C, F>
     for BytesToFieldCodec<F> {
-    ghost use Rattle.p3_fs_core.specs.ScalarLaws.{width-short};
+    ghost use Rattle.p3_fs_core.specs.ScalarLaws.{width-positive, width-short, one_reason};
+    ghost use Rattle.p3_fs_core.specs.BigEndian.{bytes_for};
+
+    ghost some = { width-positive F.residues F.are_residues F.bit_length F.bits_below };
 
     ghost short = { width-short F.bit_length F.residues.order F.bits_least F.fits_u64 };
+
+    ghost one_reason = { one_reason F.residues (bytes_for F.bit_length) };
 }
 
 // The element that the big-endian number of bytes is modulo the order.

@@ -1,6 +1,10 @@
-ghost use Rattle.std.specs.Prelude.{◌≡◌, ℕ, ◌≤◌, List, ◌++◌, take, drop, length, Option, Some, None, Result, Ok, Err, OnOk, OnErr, IfOk, IfErr};
-ghost use Rattle.p3_challenger_core.specs.Sponge.{RefusesObserve, RefusesDraw};
-ghost use Rattle.p3_challenger_core.specs.Reading.{ReadsOneWay, AreBytes};
+ghost use Rattle.std.specs.Prelude.{◌≡◌, ℕ, ◌<◌, ◌≤◌, List, ◌++◌, take, drop, length, Some, Ok, Err, OnOk, OnErr, IfOk, IfErr};
+ghost use Rattle.p3_challenger_core.specs.Observation.{Observation, RefusesObserve};
+ghost use Rattle.p3_challenger_core.specs.Sampling.{Sampling, RefusesDraw};
+ghost use Rattle.p3_challenger_core.specs.Reading.{TellsApart};
+ghost use Rattle.p3_fs_core.specs.Encoding.{Encoding};
+ghost use Rattle.p3_codecs.specs.Codecs.{IsCodec};
+ghost use Rattle.p3_fs_core.specs.Scalar.{outside_range};
 ghost use Rattle.p3_fs_core.specs.Errors.{Decodes};
 
 use p3_challenger_core::{ChallengerError, Sponge};
@@ -21,38 +25,22 @@ pub trait Codec<C: Sponge, T> {
 
     ghost SECURITY_BITS: { ℕ };
 
-    // How many bytes a spelling takes.
-    ghost width: { ℕ };
+    // The one spelling of each value, and what is read.
+    ghost encoding: { Encoding T };
 
-    // The one spelling of a value.
-    ghost wire: { T → List ℕ };
+    // What a value feeds the challenger, the state after it, and what is left where it is refused.
+    ghost observation: { Observation C.State C.Symbol T };
 
-    // What is read at the head of bytes: a value and the bytes after it, or why there is none.
-    ghost read: { List ℕ → Result (T × List ℕ) (List ℕ) };
-
-    // What a value feeds the challenger, and what the codec needs of the challenger for that: it feeds
-    // each value that the codec hands it in one way.
-    ghost symbols: { T → List C.Symbol };
-
+    // What the codec needs of the challenger for the symbols of a value to read one way: that it feeds each
+    // value that the codec hands it in one way.
     ghost is_fed_one_way: { Type 0 };
 
-    // The state of a challenger after a value, and what is left of it where the value is refused.
-    ghost observed: { C.State → T → C.State };
-
-    ghost may_leave: { C.State → T → C.State → Type 0 };
-
-    // What a draw gives, the state after it, and when it is refused.
-    ghost sampled: { C.State → Option T };
-
-    ghost after_sampled: { C.State → C.State };
-
-    ghost meets_limit: { C.State → Type 0 };
-
-    ghost draw_may_leave: { C.State → C.State → Type 0 };
+    // What a draw gives, the state after it, and when it is refused and what it leaves then.
+    ghost sampling: { Sampling C.State T };
 
     /// How many bytes a value takes in the proof.
     fn wire_len() -> usize
-        ensures { result ≡ width };
+        ensures { result ≡ encoding.width };
 
     /// Observes a value.
     ///
@@ -60,9 +48,9 @@ pub trait Codec<C: Sponge, T> {
     /// of a scalar what one refused observe of the challenger leaves, and of an element of a vector space
     /// the coefficients before the refused one.
     fn observe(challenger: &mut C, value: &T) -> Result<(), ChallengerError>
-        ensures ok { OnOk result (C.state challenger.new ≡ observed (C.state challenger.old) value.now) }
+        ensures ok { OnOk result (C.state challenger.new ≡ observation.observed (C.state challenger.old) value.now) }
         ensures err { IfErr result (λ e.
-            RefusesObserve (may_leave (C.state challenger.old) value.now) e (C.state challenger.new)) };
+            RefusesObserve (observation.may_leave (C.state challenger.old) value.now) e (C.state challenger.new)) };
 
     /// Draws a value. The codec has at least [`MIN_CHALLENGE_SECURITY_BITS`] of security.
     ///
@@ -70,52 +58,42 @@ pub trait Codec<C: Sponge, T> {
     /// are consumed, and [`ChallengerError::OutOfMemory`]. The draws before the refused one are done.
     fn sample(challenger: &mut C) -> Result<T, ChallengerError>
         requires { 128 ≤ SECURITY_BITS }
-        ensures drawn { IfOk result (λ x. sampled (C.state challenger.old) ≡ Some x) }
-        ensures after { OnOk result (C.state challenger.new ≡ after_sampled (C.state challenger.old)) }
+        ensures drawn { IfOk result (λ x. sampling.sampled (C.state challenger.old) ≡ Some x) }
+        ensures after { OnOk result (C.state challenger.new ≡ sampling.after (C.state challenger.old)) }
         ensures err { IfErr result (λ e.
-            RefusesDraw (meets_limit (C.state challenger.old)) (after_sampled (C.state challenger.old))
-            (draw_may_leave (C.state challenger.old)) e (C.state challenger.new)) };
+            RefusesDraw sampling e (C.state challenger.old) (C.state challenger.new)) };
 
     /// Adds the spelling of a value at the end of `out`.
     ///
     /// The one error is [`TranscriptError::OutOfMemory`], which leaves a beginning of it added.
     fn encode(value: &T, out: &mut Vec<u8>) -> Result<(), TranscriptError>
-        ensures ok { OnOk result (out.new.items ≡ out.old.items ++ wire value.now) }
+        ensures ok { OnOk result (out.new.items ≡ out.old.items ++ encoding.wire value.now) }
         ensures err { IfErr result (λ e. e ≡ TranscriptError.OutOfMemory) }
-        ensures left { OnErr result ((n : ℕ) × (out.new.items ≡ out.old.items ++ take n (wire value.now))) };
+        ensures left { OnErr result ((n : ℕ) × (out.new.items ≡ out.old.items ++ take n (encoding.wire value.now))) };
 
     /// The value whose spelling `bytes` begin with: their first [`wire_len`](Codec::wire_len) bytes.
     ///
     /// The one error is [`TranscriptError::BadProofShape`], where they begin with no spelling; its reason is
     /// the codec's own.
     fn decode(bytes: &[u8]) -> Result<T, TranscriptError>
-        ensures exact { Decodes (read bytes.now) result }
-        ensures found { IfOk result (λ x. bytes.now ≡ wire x ++ drop width bytes.now) }
-        ensures only { (x : T) (rest : List ℕ) → bytes.now ≡ wire x ++ rest → result ≡ Ok x };
+        ensures exact { Decodes (encoding.read bytes.now) result }
+        ensures found { IfOk result (λ x. bytes.now ≡ encoding.wire x ++ drop encoding.width bytes.now) }
+        ensures only { (x : T) (rest : List ℕ) → bytes.now ≡ encoding.wire x ++ rest → result ≡ Ok x };
 
-    // Each spelling has the width.
-    ghost fixed_width: { (x : T) → length (wire x) ≡ width };
+    // Values are encoded, observed and drawn as every codec owes it.
+    ghost is_codec: { IsCodec C.fed C.next encoding observation sampling };
 
-    // A spelling reads one way.
-    ghost reads_one_way: { ReadsOneWay wire };
-
-    // What is spelled is read, whatever follows, and what is read is spelled so.
-    ghost reads_back: { (x : T) (rest : List ℕ) → read (wire x ++ rest) ≡ Ok (x, rest) };
-
-    ghost only_reads: { (bytes : List ℕ) (x : T) (rest : List ℕ) →
-        AreBytes bytes → read bytes ≡ Ok (x, rest) → bytes ≡ wire x ++ rest };
-
-    // What is observed is what is fed, and a value's symbols read one way.
-    ghost feeds: { is_fed_one_way → (s : C.State) (x : T) → observed s x ≡ C.fed s (symbols x) };
-
-    ghost symbols_read_one_way: { is_fed_one_way → ReadsOneWay symbols };
-
-    // A draw that meets the limit gives nothing.
-    ghost limit_gives_none: { (s : C.State) → meets_limit s → sampled s ≡ None };
+    ghost symbols_read_one_way: { is_fed_one_way → TellsApart observation.symbols };
 }
 
-/// A codec of the elements of a field: a spelling has at most 65535 bytes, so that an element of a vector
-/// space, of at most 65535 coefficients, has a width that is a `usize`.
+/// A codec of the elements of a field. A spelling has at least one byte, and at most 65535, so that an element of
+/// a vector space, of at most 65535 coefficients, has a width that is a `usize`. Where there are so many bytes,
+/// the one reason for none of them is `field encoding outside canonical range`.
 pub trait ScalarCodec<C: Sponge, F>: Codec<C, F> {
-    ghost short: { Self.width ≤ 65535 };
+    ghost some: { 0 < Self.encoding.width };
+
+    ghost short: { Self.encoding.width ≤ 65535 };
+
+    ghost one_reason: { (bytes reason : List ℕ) → Self.encoding.width ≤ length bytes →
+        Self.encoding.read bytes ≡ Err reason → reason ≡ outside_range };
 }

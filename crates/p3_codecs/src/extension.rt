@@ -17,53 +17,39 @@ pub struct ExtensionFieldCodec<F, EF, BaseCodec>(PhantomData<(F, EF, BaseCodec)>
 
 impl<C: Sponge, F: Field, EF: BasedVectorSpace<F>, BaseCodec: ScalarCodec<C, F>> Codec<C, EF>
     for ExtensionFieldCodec<F, EF, BaseCodec> {
-    ghost use Rattle.std.specs.Prelude.{◌*◌};
-    ghost use Rattle.std.specs.Option.{option_map};
-    ghost use Rattle.std.proofs.Common.{ap};
-    ghost use Rattle.p3_challenger_core.specs.Sponge.{SomeDraw, LeavesInCalls};
-    ghost use Rattle.p3_challenger_core.specs.SpongeLaws.{draws-none};
+    ghost use Rattle.p3_challenger_core.specs.Observation as observation;
+    ghost use Rattle.p3_challenger_core.specs.ObservationLaws.{in_row-is_observation, observed_as-is_observation};
+    ghost use Rattle.p3_challenger_core.specs.Sampling as sampling;
+    ghost use Rattle.p3_challenger_core.specs.SamplingLaws.{in_row-is_sampling, made_of-is_sampling};
     ghost use Rattle.p3_codecs.specs.Extension as extension;
-    ghost use Rattle.p3_codecs.specs.ExtensionLaws.{length-wire, wire-one_way, read-wire, read-only, coefficients-fed, symbols-one_way};
+    ghost use Rattle.p3_codecs.specs.ExtensionLaws.{is_encoding, coefficients-tell_apart};
 
     const SECURITY_BITS: u32 = BaseCodec::SECURITY_BITS;
 
     ghost SECURITY_BITS = { BaseCodec.SECURITY_BITS };
 
-    ghost width = { EF.DIMENSION * BaseCodec.width };
+    ghost encoding = { extension.encoding BaseCodec.encoding EF.DIMENSION EF.coefficients EF.element };
 
-    ghost wire = { extension.wire BaseCodec.wire EF.coefficients };
+    ghost observation = { extension.observed_coefficients BaseCodec.observation EF.coefficients };
 
-    ghost read = { extension.read BaseCodec.read BaseCodec.width EF.DIMENSION EF.element };
-
-    ghost symbols = { extension.symbols BaseCodec.symbols EF.coefficients };
+    ghost sampling = { extension.drawn_coefficients BaseCodec.sampling EF.DIMENSION EF.element };
 
     ghost is_fed_one_way = { BaseCodec.is_fed_one_way };
 
-    ghost observed = { extension.observed BaseCodec.observed EF.coefficients };
+    ghost is_codec = { record {
+      encodes = is_encoding BaseCodec.encoding BaseCodec.is_codec.encodes EF.DIMENSION EF.coefficients EF.element
+        EF.length_coefficients EF.same_coefficients EF.coefficients_element;
+      observes = observed_as-is_observation C.fed C.fed_nothing C.fed_more
+        (observation.in_row BaseCodec.observation)
+        (in_row-is_observation C.fed C.fed_nothing C.fed_more BaseCodec.observation BaseCodec.is_codec.observes)
+        EF.coefficients;
+      samples = made_of-is_sampling C.next EF.element (sampling.in_row BaseCodec.sampling EF.DIMENSION)
+        (in_row-is_sampling C.next BaseCodec.sampling BaseCodec.is_codec.samples EF.DIMENSION);
+    } };
 
-    ghost may_leave = { λ s x t. LeavesInCalls BaseCodec.observed BaseCodec.may_leave s (EF.coefficients x) t };
-
-    ghost sampled = { extension.sampled BaseCodec.sampled BaseCodec.after_sampled EF.DIMENSION EF.element };
-
-    ghost after_sampled = { extension.after_sampled BaseCodec.sampled BaseCodec.after_sampled EF.DIMENSION };
-
-    ghost meets_limit = { λ s. SomeDraw BaseCodec.sampled BaseCodec.after_sampled BaseCodec.meets_limit EF.DIMENSION s };
-
-    ghost draw_may_leave = { λ s t. SomeDraw BaseCodec.sampled BaseCodec.after_sampled (λ u. BaseCodec.draw_may_leave u t) EF.DIMENSION s };
-
-    ghost fixed_width = { length-wire BaseCodec.wire BaseCodec.width BaseCodec.fixed_width EF.DIMENSION EF.coefficients EF.length_coefficients };
-
-    ghost reads_one_way = { wire-one_way BaseCodec.wire BaseCodec.read BaseCodec.width BaseCodec.fixed_width BaseCodec.reads_back EF.DIMENSION EF.coefficients EF.element EF.length_coefficients EF.same_coefficients EF.coefficients_element };
-
-    ghost reads_back = { read-wire BaseCodec.wire BaseCodec.read BaseCodec.width BaseCodec.fixed_width BaseCodec.reads_back EF.DIMENSION EF.coefficients EF.element EF.length_coefficients EF.same_coefficients EF.coefficients_element };
-
-    ghost only_reads = { read-only BaseCodec.wire BaseCodec.read BaseCodec.width BaseCodec.fixed_width BaseCodec.only_reads EF.DIMENSION EF.coefficients EF.element EF.coefficients_element };
-
-    ghost feeds = { λ one_way s x. coefficients-fed BaseCodec.observed C.fed BaseCodec.symbols C.fed_nothing C.fed_more (BaseCodec.feeds one_way) s (EF.coefficients x) };
-
-    ghost symbols_read_one_way = { λ one_way. symbols-one_way BaseCodec.symbols (BaseCodec.symbols_read_one_way one_way) EF.DIMENSION EF.coefficients EF.length_coefficients EF.same_coefficients };
-
-    ghost limit_gives_none = { λ s h. ap (option_map EF.element) (draws-none BaseCodec.sampled BaseCodec.after_sampled BaseCodec.meets_limit BaseCodec.limit_gives_none EF.DIMENSION s h) };
+    ghost symbols_read_one_way = { λ given. coefficients-tell_apart BaseCodec.observation.symbols
+        (BaseCodec.symbols_read_one_way given) EF.DIMENSION EF.at_least_one EF.coefficients
+        EF.length_coefficients EF.same_coefficients };
 
     fn wire_len() -> usize {
         EF::DIMENSION * BaseCodec::wire_len()
@@ -102,7 +88,7 @@ impl<C: Sponge, F: Field, EF: BasedVectorSpace<F>, BaseCodec: ScalarCodec<C, F>>
 fn decode_element<C: Sponge, F: Field, EF: BasedVectorSpace<F>, BaseCodec: ScalarCodec<C, F>>(
     bytes: &[u8],
 ) -> Result<EF, TranscriptError>
-    ensures { Decodes (extension.read BaseCodec.read BaseCodec.width EF.DIMENSION EF.element bytes.now) result }
+    ensures { Decodes (extension.read BaseCodec.encoding.read BaseCodec.encoding.width EF.DIMENSION EF.element bytes.now) result }
 {
     if bytes.len() < EF::DIMENSION * BaseCodec::wire_len() {
         return Err(TranscriptError::BadProofShape {
@@ -116,8 +102,8 @@ fn decode_element<C: Sponge, F: Field, EF: BasedVectorSpace<F>, BaseCodec: Scala
 fn decode_coefficients<C: Sponge, F: Field, EF: BasedVectorSpace<F>, BaseCodec: ScalarCodec<C, F>>(
     bytes: &[u8],
 ) -> Result<EF, TranscriptError>
-    requires { EF.DIMENSION * BaseCodec.width ≤ length bytes.now }
-    ensures { Decodes (extension.read_coefficients BaseCodec.read EF.DIMENSION EF.element bytes.now) result }
+    requires { EF.DIMENSION * BaseCodec.encoding.width ≤ length bytes.now }
+    ensures { Decodes (extension.read_coefficients BaseCodec.encoding.read EF.DIMENSION EF.element bytes.now) result }
 {
     let width = BaseCodec::wire_len();
     let mut element = EF::zero();

@@ -10,52 +10,33 @@ use std::marker::PhantomData;
 pub struct FieldToFieldCodec<F>(PhantomData<F>);
 
 impl<F: PrimeField64, C: CanObserve<F> + CanSample<F>> Codec<C, F> for FieldToFieldCodec<F> {
-    ghost use Rattle.std.specs.Prelude.{[], ◌∷◌};
     ghost use Rattle.p3_challenger_core.specs.Reading.{ReadsOneWay};
-    ghost use Rattle.p3_fs_core.specs.BigEndian.{bytes_for};
-    ghost use Rattle.p3_fs_core.specs.Scalar as scalar;
-    ghost use Rattle.p3_fs_core.specs.ScalarLaws.{order-fits, length-wire, wire-one_way, read-wire, read-only};
-    ghost use Rattle.p3_challenger_core.specs.SymbolLaws.{element-fed};
+    ghost use Rattle.p3_challenger_core.specs.SymbolLaws.{element-feeds};
+    ghost use Rattle.p3_fs_core.specs.Scalar.{encoding};
+    ghost use Rattle.p3_fs_core.specs.ScalarLaws.{is_encoding};
 
     const SECURITY_BITS: u32 = 128;
 
     ghost SECURITY_BITS = { 128 };
 
-    ghost width = { bytes_for F.bit_length };
+    ghost encoding = { encoding F.residues F.bit_length };
 
-    ghost wire = { scalar.wire F.residues (bytes_for F.bit_length) };
+    ghost observation = { C.observation };
 
-    ghost read = { scalar.read F.residues (bytes_for F.bit_length) };
+    ghost sampling = { C.sampling };
 
-    ghost symbols = { C.symbols };
+    ghost is_fed_one_way = { ReadsOneWay C.observation.symbols };
 
-    ghost is_fed_one_way = { ReadsOneWay C.symbols };
+    ghost is_codec = { record {
+      encodes = is_encoding F.residues F.are_residues F.bit_length F.bits_below;
+      observes = C.observes;
+      samples = C.samples;
+    } };
 
-    ghost observed = { C.observed };
-
-    ghost may_leave = { λ s x t. C.may_leave s (x ∷ []) t };
-
-    ghost sampled = { C.sampled };
-
-    ghost after_sampled = { C.after_sampled };
-
-    ghost meets_limit = { C.meets_limit };
-
-    ghost draw_may_leave = { C.draw_may_leave };
-
-    ghost fixed_width = { length-wire F.residues F.are_residues (bytes_for F.bit_length) (order-fits F.bit_length F.residues.order F.bits_below) };
-
-    ghost reads_one_way = { wire-one_way F.residues F.are_residues (bytes_for F.bit_length) (order-fits F.bit_length F.residues.order F.bits_below) };
-
-    ghost reads_back = { read-wire F.residues F.are_residues (bytes_for F.bit_length) (order-fits F.bit_length F.residues.order F.bits_below) };
-
-    ghost only_reads = { read-only F.residues F.are_residues (bytes_for F.bit_length) (order-fits F.bit_length F.residues.order F.bits_below) };
-
-    ghost feeds = { λ one_way. element-fed F.residues F.are_residues C.symbols one_way C.observed C.fed C.feeds };
-
-    ghost symbols_read_one_way = { λ one_way. one_way };
-
-    ghost limit_gives_none = { C.limit_gives_none };
+    ghost symbols_read_one_way = { λ one_way. record {
+      one_way = one_way;
+      some = element-feeds F.residues F.are_residues C.observation.symbols one_way;
+    } };
 
     fn wire_len() -> usize {
         F::wire_len()
@@ -79,7 +60,12 @@ impl<F: PrimeField64, C: CanObserve<F> + CanSample<F>> Codec<C, F> for FieldToFi
 }
 
 impl<F: PrimeField64, C: CanObserve<F> + CanSample<F>> ScalarCodec<C, F> for FieldToFieldCodec<F> {
-    ghost use Rattle.p3_fs_core.specs.ScalarLaws.{width-short};
+    ghost use Rattle.p3_fs_core.specs.ScalarLaws.{width-positive, width-short, one_reason};
+    ghost use Rattle.p3_fs_core.specs.BigEndian.{bytes_for};
+
+    ghost some = { width-positive F.residues F.are_residues F.bit_length F.bits_below };
 
     ghost short = { width-short F.bit_length F.residues.order F.bits_least F.fits_u64 };
+
+    ghost one_reason = { one_reason F.residues (bytes_for F.bit_length) };
 }

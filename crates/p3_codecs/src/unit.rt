@@ -1,8 +1,9 @@
 ghost use Rattle.std.specs.Prelude.{◌≡◌, ℕ, ◌<◌, ◌≤◌, List, [], ◌∷◌, ◌++◌, length, flat_map, OnOk, IfErr};
-ghost use Rattle.p3_challenger_core.specs.Sponge.{observed_all, LeavesInCalls, RefusesObserve};
+ghost use Rattle.p3_challenger_core.specs.Observation.{observed_all, LeavesInCalls, RefusesObserve};
+ghost use Rattle.p3_challenger_core.specs.Sponge.{IsFed};
 ghost use Rattle.p3_challenger_core.specs.Reading.{AreBytes, IsByte, OneBegins, ReadsOneWayOn};
 ghost use Rattle.p3_fs_core.specs.Packing.{packed, chunk_bytes, IsPackable};
-ghost use Rattle.p3_fs_core.specs.Alphabet.{RefusesBytes, LeavesItems};
+ghost use Rattle.p3_fs_core.specs.Alphabet.{RefusesBytes, LeavesItems, AreItems};
 
 use p3_challenger_core::{CanObserve, ChallengerError};
 use p3_field_core::PrimeField64;
@@ -39,13 +40,20 @@ pub trait Unit {
     ) -> Result<(), ChallengerError>
         requires { is_alphabet }
         ensures ok { OnOk result ((is_too_long (length bytes.now) → ⊥)
-            × (C.state challenger.new ≡ observed_all C.observed (C.state challenger.old) (items bytes.now))) }
+            × (C.state challenger.new ≡ observed_all C.observation.observed (C.state challenger.old) (items bytes.now))) }
         ensures err { IfErr result (λ e. RefusesBytes (is_too_long (length bytes.now))
-            (LeavesItems C.observed C.may_leave (C.state challenger.old) (items bytes.now))
+            (LeavesItems C.observation C.slice_may_leave (C.state challenger.old) (items bytes.now))
             (C.state challenger.old) e (C.state challenger.new)) }
-        // What is observed is what the items feed, where the challenger feeds each in one way.
-        ensures fed { ReadsOneWayOn is_item C.symbols → OnOk result (C.state challenger.new
-            ≡ C.fed (C.state challenger.old) (flat_map C.symbols (items bytes.now))) };
+        // What is observed is what the items feed; exactly so, where the challenger feeds each in one way.
+        ensures fed { OnOk result (IsFed C.fed (C.state challenger.old)
+            (flat_map C.observation.symbols (items bytes.now)) (C.state challenger.new)) }
+        ensures fed_exactly { ReadsOneWayOn is_item C.observation.symbols → OnOk result (C.state challenger.new
+            ≡ C.fed (C.state challenger.old) (flat_map C.observation.symbols (items bytes.now))) };
+
+    // The items of a byte string are items, and one of at most 255 bytes is not too long, so no count is.
+    ghost items_are: { (bytes : List ℕ) → AreBytes bytes → AreItems is_item (items bytes) };
+
+    ghost short_fits: { is_alphabet → (len : ℕ) → len ≤ 255 → is_too_long len → ⊥ };
 
     // Byte strings that begin one list of items begin one another. So byte strings of one length, and all
     // those of which none begins another, read one way.
@@ -55,7 +63,7 @@ pub trait Unit {
 }
 
 impl Unit for u8 {
-    ghost use Rattle.p3_fs_core.specs.AlphabetLaws.{one_begins};
+    ghost use Rattle.p3_fs_core.specs.AlphabetLaws.{one_begins, bytes-are_items};
 
     type Item = u8;
 
@@ -68,18 +76,24 @@ impl Unit for u8 {
 
     ghost is_item = { IsByte };
 
+    ghost items_are = { bytes-are_items };
+
+    ghost short_fits = { λ _ _ _ long. long };
+
     ghost begins = { λ _ a b x y _ _ _ _ e. one_begins a b x y e };
 
     fn observe_bytes<C: CanObserve<u8>>(
         challenger: &mut C,
         bytes: &[u8],
     ) -> Result<(), ChallengerError>
-        ensures ok { OnOk result (C.state challenger.new ≡ observed_all C.observed (C.state challenger.old) bytes.now) }
+        ensures ok { OnOk result (C.state challenger.new ≡ observed_all C.observation.observed (C.state challenger.old) bytes.now) }
         // What is left is what one slice may leave.
         ensures err { IfErr result (λ e.
-            RefusesObserve (C.may_leave (C.state challenger.old) bytes.now) e (C.state challenger.new)) }
-        ensures fed { ReadsOneWayOn IsByte C.symbols → OnOk result (C.state challenger.new
-            ≡ C.fed (C.state challenger.old) (flat_map C.symbols bytes.now)) }
+            RefusesObserve (C.slice_may_leave (C.state challenger.old) bytes.now) e (C.state challenger.new)) }
+        ensures fed { OnOk result (IsFed C.fed (C.state challenger.old)
+            (flat_map C.observation.symbols bytes.now) (C.state challenger.new)) }
+        ensures fed_exactly { ReadsOneWayOn IsByte C.observation.symbols → OnOk result (C.state challenger.new
+            ≡ C.fed (C.state challenger.old) (flat_map C.observation.symbols bytes.now)) }
     {
         challenger.observe_slice(bytes)
     }
@@ -94,7 +108,8 @@ impl Unit for u8 {
 pub struct FieldUnit<F>(PhantomData<F>);
 
 impl<F: PrimeField64> Unit for FieldUnit<F> {
-    ghost use Rattle.p3_fs_core.specs.PackingLaws.{packed-begins};
+    ghost use Rattle.p3_fs_core.specs.AlphabetLaws.{all-are_items};
+    ghost use Rattle.p3_fs_core.specs.PackingLaws.{packed-begins, short-packable};
 
     type Item = F;
 
@@ -107,6 +122,10 @@ impl<F: PrimeField64> Unit for FieldUnit<F> {
 
     ghost is_item = { λ _. Unit {0} };
 
+    ghost items_are = { λ bytes _. all-are_items (packed F.residues (chunk_bytes F.bit_length) bytes) };
+
+    ghost short_fits = { short-packable F.residues.order };
+
     ghost begins = { packed-begins F.residues F.are_residues F.bit_length F.bits_below F.bits_least };
 
     fn observe_bytes<C: CanObserve<F>>(
@@ -115,17 +134,35 @@ impl<F: PrimeField64> Unit for FieldUnit<F> {
     ) -> Result<(), ChallengerError>
         requires { 256 < F.residues.order }
         ensures ok { OnOk result ((F.residues.order ≤ length bytes.now → ⊥)
-            × (C.state challenger.new ≡ observed_all C.observed (C.state challenger.old)
+            × (C.state challenger.new ≡ observed_all C.observation.observed (C.state challenger.old)
             (packed F.residues (chunk_bytes F.bit_length) bytes.now))) }
         ensures err { IfErr result (λ e. RefusesBytes (F.residues.order ≤ length bytes.now)
-            (LeavesInCalls C.observed (λ s x t. C.may_leave s (x ∷ []) t) (C.state challenger.old)
+            (LeavesInCalls C.observation.observed C.observation.may_leave (C.state challenger.old)
             (packed F.residues (chunk_bytes F.bit_length) bytes.now))
             (C.state challenger.old) e (C.state challenger.new)) }
-        ensures fed { ReadsOneWayOn (λ _. Unit {0}) C.symbols → OnOk result (C.state challenger.new
-            ≡ C.fed (C.state challenger.old) (flat_map C.symbols (packed F.residues (chunk_bytes F.bit_length) bytes.now))) }
+        ensures fed { OnOk result (IsFed C.fed (C.state challenger.old)
+            (flat_map C.observation.symbols (packed F.residues (chunk_bytes F.bit_length) bytes.now))
+            (C.state challenger.new)) }
+        ensures fed_exactly { ReadsOneWayOn (λ _. Unit {0}) C.observation.symbols → OnOk result (C.state challenger.new
+            ≡ C.fed (C.state challenger.old)
+            (flat_map C.observation.symbols (packed F.residues (chunk_bytes F.bit_length) bytes.now))) }
         // Whatever follows, the elements of a byte string that is short enough read one way.
         ensures one_way { ReadsOneWayOn (IsPackable F.residues) (packed F.residues (chunk_bytes F.bit_length)) }
     {
         F::observe_seed(challenger, bytes)
     }
 }
+
+/// Byte strings are told apart by their symbols, in every alphabet and for every challenger that feeds its items
+/// in one way: where the symbols of two, with anything behind them, are equal, one string begins the other; and
+/// if the strings are equal, so is what stands behind them.
+///
+/// A law: the body is empty, and a caller cites the clause.
+pub fn symbols_begin<U: Unit, C: CanObserve<U::Item>>()
+    requires { U.is_alphabet }
+    ensures { ReadsOneWayOn U.is_item C.observation.symbols → (a b : List ℕ) (x y : List C.Symbol)
+        → AreBytes a → AreBytes b
+        → (U.is_too_long (length a) → ⊥) → (U.is_too_long (length b) → ⊥)
+        → flat_map C.observation.symbols (U.items a) ++ x ≡ flat_map C.observation.symbols (U.items b) ++ y
+        → OneBegins a b × (a ≡ b → x ≡ y) }
+{}

@@ -3,7 +3,7 @@ use Rattle.std.specs.Prelude.{◌≡◌, ℕ, List, Result, Ok, Err}
 use Rattle.p3_challenger_core.specs.declared.error.ChallengerError.{ChallengerError}
 use Rattle.p3_challenger_core.specs.declared.error.ChallengerError.TheVariants as challenger
 use Rattle.p3_fs_core.specs.declared.error.TranscriptError.{TranscriptError}
-use Rattle.p3_fs_core.specs.declared.error.TranscriptError.TheVariants.{MissingBegin, InvalidKind, MismatchedBeginEnd, MissingEnd, BadProofShape, Pattern, Challenger, LabelTooLong, OutOfMemory}
+use Rattle.p3_fs_core.specs.declared.error.TranscriptError.TheVariants.{BadProofShape, Challenger, OutOfMemory}
 
 -- a challenger's refusal inside a transcript: want of memory is the transcript's own
 abbrev pub transcript_error : ChallengerError → TranscriptError
@@ -15,14 +15,7 @@ transcript_error challenger.TooLong = Challenger challenger.TooLong
 -- the error is a proof of a bad shape, for this reason
 abbrev pub IsBadShape : List ℕ → TranscriptError → Type 0
 IsBadShape reason (BadProofShape text) = text.now ≡ reason
-IsBadShape reason (MissingBegin info) = ⊥
-IsBadShape reason (InvalidKind info) = ⊥
-IsBadShape reason (MismatchedBeginEnd info) = ⊥
-IsBadShape reason (MissingEnd info) = ⊥
-IsBadShape reason (Pattern e) = ⊥
-IsBadShape reason (Challenger e) = ⊥
-IsBadShape reason LabelTooLong = ⊥
-IsBadShape reason OutOfMemory = ⊥
+IsBadShape reason _ = ⊥
 
 -- what a decoder answers is what reading gives: the value, or the reason why there is none
 abbrev pub Decodes : {T : Type 0} → Result (T × List ℕ) (List ℕ) → Result T TranscriptError → Type 0

@@ -11,3 +11,4 @@ pub mod StepTextLaws
 pub mod StepTexts
 pub mod Steps
 pub mod Errors
+pub mod Encoding

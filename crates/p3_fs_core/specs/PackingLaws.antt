@@ -257,3 +257,7 @@ module _ {F : Type 0} (r : Residues F) (laws : IsResidues r) (bits : ℕ) (below
 pub packed-begins : {F : Type 0} (r : Residues F) (laws : IsResidues r) (bits : ℕ) (below : r.order < 2 ^ bits) (least : 2 ^ bits ≤ 2 * r.order) → 256 < r.order → (a b : List ℕ) (x y : List F) → AreBytes a → AreBytes b → (r.order ≤ length a → ⊥) → (r.order ≤ length b → ⊥) → packed r (chunk_bytes bits) a ++ x ≡ packed r (chunk_bytes bits) b ++ y → OneBegins a b
 packed-begins r laws bits below least large a b x y a_are b_are a_short b_short e =
     begins_itself a b ((field_packed-one_way r laws bits below least large a b x y (a_are, is_below (length a) r.order a_short) (b_are, is_below (length b) r.order b_short) e).0)
+
+-- a byte string of at most 255 bytes is not too long for a field of more elements
+pub short-packable : (order : ℕ) → 256 < order → (len : ℕ) → len ≤ 255 → order ≤ len → ⊥
+short-packable order many len short long = absurd (omega (arith, many, short, long))

@@ -2,7 +2,8 @@
 -- as the order needs.
 use Rattle.std.specs.Prelude.{ℕ, List, length, take, drop, codes, nat_lt, Result, Ok, Err, if◌then◌else◌}
 use Rattle.p3_field_core.specs.Residues.{Residues}
-use Rattle.p3_fs_core.specs.BigEndian.{big_endian, in_bytes}
+use Rattle.p3_fs_core.specs.BigEndian.{big_endian, in_bytes, bytes_for}
+use Rattle.p3_fs_core.specs.Encoding.{Encoding}
 
 -- the one spelling of an element
 abbrev pub wire : {F : Type 0} → Residues F → ℕ → F → List ℕ
@@ -25,3 +26,7 @@ read r width bytes =
     if nat_lt (length bytes) width
     then Err not_enough_bytes
     else element_of r (big_endian (take width bytes)) (drop width bytes)
+
+-- the elements of a field whose order has so many bits
+abbrev pub encoding : {F : Type 0} → Residues F → ℕ → Encoding F
+encoding r bits = record { width = bytes_for bits; wire = wire r (bytes_for bits); read = read r (bytes_for bits) }

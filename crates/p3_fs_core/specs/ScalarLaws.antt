@@ -1,5 +1,5 @@
 -- Laws of an element's spelling.
-use Rattle.std.proofs.Common.{◌≡◌, ℕ, ◌<◌, ◌≤◌, ◌*◌, ◌^◌, List, ◌++◌, length, take, drop, Bool, true, false, nat_lt, if◌then◌else◌, Result, Ok, Err, refl, sym, ap, ◌∙◌, inl, inr, pow_mono, arith}
+use Rattle.std.proofs.Common.{◌≡◌, ℕ, zero, suc, ◌<◌, ◌≤◌, ◌*◌, ◌^◌, List, ◌++◌, length, take, drop, Bool, true, false, nat_lt, if◌then◌else◌, Result, Ok, Err, refl, sym, ap, ◌∙◌, inl, inr, pow_mono, arith}
 use Rattle.std.proofs.lemmas.Bool.Decides.{nat_tests}
 use Rattle.std.proofs.lemmas.List.{take-append-drop, length-take-le, length-append}
 use Rattle.p3_field_core.specs.Residues.{Residues, IsResidues}
@@ -8,7 +8,8 @@ use Rattle.p3_challenger_core.specs.Reading.{ReadsOneWay, AreBytes}
 use Rattle.std.proofs.lemmas.Bool.{cases_lt}
 use Rattle.p3_fs_core.specs.BigEndian.{big_endian, in_bytes, bytes_for}
 use Rattle.p3_fs_core.specs.BigEndianLaws.{big_endian-in_bytes, in_bytes-big_endian, length-in_bytes, AreBytes-take, take-front, drop-front, fits-bytes_for}
-use Rattle.p3_fs_core.specs.Scalar.{wire, read, element_of, not_enough_bytes, outside_range}
+use Rattle.p3_fs_core.specs.Scalar.{wire, read, element_of, encoding, not_enough_bytes, outside_range}
+use Rattle.p3_fs_core.specs.Encoding.{IsEncoding}
 
 -- a choice of two results: which one it is, and how the test went
 pub chosen : {A E : Type 0} (b : Bool) (e : E) (r : Result A E) (x : A) → (if b then Err e else r) ≡ Ok x → (b ≡ false) × (r ≡ Ok x)
@@ -99,3 +100,31 @@ width-most bits order least fits = elim (cases_lt 64 bits) [
 
 pub width-short : (bits order : ℕ) → 2 ^ bits ≤ 2 * order → order < 2 ^ 64 → bytes_for bits ≤ 65535
 width-short bits order least fits = omega (arith, width-most bits order least fits)
+
+-- an element of a field is encoded
+pub is_encoding : {F : Type 0} (r : Residues F) → IsResidues r → (bits : ℕ) → r.order < 2 ^ bits → IsEncoding (encoding r bits)
+is_encoding r laws bits below =
+    let width = bytes_for bits in
+    let fits = order-fits bits r.order below in
+    record {
+      fixed_width = length-wire r laws width fits;
+      one_way = wire-one_way r laws width fits;
+      reads_back = read-wire r laws width fits;
+      only_reads = read-only r laws width fits;
+    }
+
+-- in some bytes, since the order is above 1
+pub width-positive : {F : Type 0} (r : Residues F) → IsResidues r → (bits : ℕ) → r.order < 2 ^ bits → 0 < bytes_for bits
+width-positive r laws zero below = absurd (omega (arith, laws.above_one, below))
+width-positive r laws (suc bits) below = omega arith
+
+-- where the bytes are enough, the one reason for none is that the number is not below the order
+one_reason-of : {A : Type 0} (canonical : Bool) (found : A) (reason : List ℕ) → (if canonical then Ok found else Err outside_range) ≡ Err reason → reason ≡ outside_range
+one_reason-of true found reason e = cc
+one_reason-of false found reason e = cc
+
+pub one_reason : {F : Type 0} (r : Residues F) (width : ℕ) (bytes reason : List ℕ) → width ≤ length bytes → read r width bytes ≡ Err reason → reason ≡ outside_range
+one_reason r width bytes reason enough e =
+    let n = big_endian (take width bytes) in
+    let here = ap (λ b. if b then Err not_enough_bytes else element_of r n (drop width bytes)) (not_below (length bytes) width enough) in
+    one_reason-of (nat_lt n r.order) (r.of n, drop width bytes) reason (sym here ∙ e)

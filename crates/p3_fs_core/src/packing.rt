@@ -1,6 +1,6 @@
 // Byte strings as elements of a field.
 ghost use Rattle.std.specs.Prelude.{◌≡◌, ◌<◌, ◌≤◌, [], ◌∷◌, OnOk, IfErr};
-ghost use Rattle.p3_challenger_core.specs.Sponge.{observed_all, LeavesInCalls, RefusesObserve};
+ghost use Rattle.p3_challenger_core.specs.Observation.{observed_all, LeavesInCalls, RefusesObserve};
 ghost use Rattle.p3_fs_core.specs.Packing.{packed, chunk_bytes};
 
 use crate::little_endian::number_of_chunk;
@@ -25,8 +25,8 @@ pub(crate) fn observe_packed<F: PrimeField64, C: CanObserve<F>>(
 ) -> Result<(), ChallengerError>
     requires { 256 < F.residues.order }
     ensures ok { OnOk result (C.state challenger.new
-        ≡ observed_all C.observed (C.state challenger.old) (packed F.residues (chunk_bytes F.bit_length) bytes.now)) }
-    ensures err { IfErr result (λ e. RefusesObserve (LeavesInCalls C.observed (λ s x t. C.may_leave s (x ∷ []) t)
+        ≡ observed_all C.observation.observed (C.state challenger.old) (packed F.residues (chunk_bytes F.bit_length) bytes.now)) }
+    ensures err { IfErr result (λ e. RefusesObserve (LeavesInCalls C.observation.observed C.observation.may_leave
         (C.state challenger.old) (packed F.residues (chunk_bytes F.bit_length) bytes.now)) e (C.state challenger.new)) }
 {
     challenger.observe(F::from_u64(bytes.len() as u64))?;

@@ -1,10 +1,11 @@
 ghost use Rattle.std.specs.Prelude.{◌≡◌, ℕ, ◌<◌, ◌≤◌, List, [], ◌∷◌, ◌++◌, length, take, drop, flat_map, Ok, OnOk, OnErr, IfOk, IfErr};
-ghost use Rattle.p3_challenger_core.specs.Sponge.{observed_all, LeavesInCalls};
+ghost use Rattle.p3_challenger_core.specs.Observation.{observed_all, LeavesInCalls};
+ghost use Rattle.p3_challenger_core.specs.Sponge.{IsFed};
 ghost use Rattle.p3_fs_core.specs.Alphabet.{RefusesBytes};
-ghost use Rattle.p3_fs_core.specs.BigEndian.{bytes_for};
 ghost use Rattle.p3_fs_core.specs.Packing.{packed, chunk_bytes};
 ghost use Rattle.p3_challenger_core.specs.Reading.{ReadsOneWay, AreBytes};
-ghost use Rattle.p3_fs_core.specs.Scalar.{wire, read};
+ghost use Rattle.p3_fs_core.specs.Encoding.{IsEncoding};
+ghost use Rattle.p3_fs_core.specs.Scalar.{encoding};
 ghost use Rattle.p3_fs_core.specs.Errors.{Decodes};
 
 use crate::decode_field::{decode_field_be_canonical, encode_field_be, field_byte_size};
@@ -40,15 +41,19 @@ pub trait TranscriptField: PrimeField64 {
     ) -> Result<(), ChallengerError>
         requires { 256 < Self.residues.order }
         ensures ok { OnOk result ((Self.residues.order ≤ length bytes.now → ⊥)
-            × (C.state challenger.new ≡ observed_all C.observed (C.state challenger.old)
+            × (C.state challenger.new ≡ observed_all C.observation.observed (C.state challenger.old)
             (packed Self.residues (chunk_bytes Self.bit_length) bytes.now))) }
         ensures err { IfErr result (λ e. RefusesBytes (Self.residues.order ≤ length bytes.now)
-            (LeavesInCalls C.observed (λ s x t. C.may_leave s (x ∷ []) t) (C.state challenger.old)
+            (LeavesInCalls C.observation.observed C.observation.may_leave (C.state challenger.old)
             (packed Self.residues (chunk_bytes Self.bit_length) bytes.now))
             (C.state challenger.old) e (C.state challenger.new)) }
-        // What is observed is what the elements feed, where the challenger feeds each in one way.
-        ensures fed { ReadsOneWay C.symbols → OnOk result (C.state challenger.new
-            ≡ C.fed (C.state challenger.old) (flat_map C.symbols (packed Self.residues (chunk_bytes Self.bit_length) bytes.now))) }
+        // What is observed is what the elements feed; exactly so, where the challenger feeds each in one way.
+        ensures fed { OnOk result (IsFed C.fed (C.state challenger.old)
+            (flat_map C.observation.symbols (packed Self.residues (chunk_bytes Self.bit_length) bytes.now))
+            (C.state challenger.new)) }
+        ensures fed_exactly { ReadsOneWay C.observation.symbols → OnOk result (C.state challenger.new
+            ≡ C.fed (C.state challenger.old)
+            (flat_map C.observation.symbols (packed Self.residues (chunk_bytes Self.bit_length) bytes.now))) }
     {
         if bytes.len() as u64 >= Self::ORDER_U64 {
             return Err(ChallengerError::TooLong);
@@ -58,7 +63,7 @@ pub trait TranscriptField: PrimeField64 {
 
     /// How many bytes an element takes in the proof: at most 8.
     final fn wire_len() -> usize
-        ensures width { result ≡ bytes_for Self.bit_length }
+        ensures width { result ≡ (encoding Self.residues Self.bit_length).width }
         ensures most { result ≤ 8 }
     {
         field_byte_size::<Self>()
@@ -69,10 +74,10 @@ pub trait TranscriptField: PrimeField64 {
     /// The one error is [`TranscriptError::OutOfMemory`], which leaves a beginning of it added.
     final fn encode(value: &Self, out: &mut Vec<u8>) -> Result<(), TranscriptError>
         ensures ok { OnOk result (out.new.items
-            ≡ out.old.items ++ wire Self.residues (bytes_for Self.bit_length) value.now) }
+            ≡ out.old.items ++ (encoding Self.residues Self.bit_length).wire value.now) }
         ensures err { IfErr result (λ e. e ≡ TranscriptError.OutOfMemory) }
         ensures left { OnErr result ((n : ℕ) × (out.new.items
-            ≡ out.old.items ++ take n (wire Self.residues (bytes_for Self.bit_length) value.now))) }
+            ≡ out.old.items ++ take n ((encoding Self.residues Self.bit_length).wire value.now))) }
     {
         encode_field_be(value, out)
     }
@@ -84,38 +89,22 @@ pub trait TranscriptField: PrimeField64 {
     /// encoding` where there are fewer bytes, and else with `field encoding outside canonical range`
     /// where their number is not below the order. It takes no memory.
     final fn decode(bytes: &[u8]) -> Result<Self, TranscriptError>
-        ensures exact { Decodes (read Self.residues (bytes_for Self.bit_length) bytes.now) result }
+        ensures exact { Decodes ((encoding Self.residues Self.bit_length).read bytes.now) result }
         ensures found { IfOk result (λ x. bytes.now
-            ≡ wire Self.residues (bytes_for Self.bit_length) x ++ drop (bytes_for Self.bit_length) bytes.now) }
+            ≡ (encoding Self.residues Self.bit_length).wire x
+            ++ drop (encoding Self.residues Self.bit_length).width bytes.now) }
         ensures only { (x : Self) (rest : List ℕ) →
-            bytes.now ≡ wire Self.residues (bytes_for Self.bit_length) x ++ rest → result ≡ Ok x }
+            bytes.now ≡ (encoding Self.residues Self.bit_length).wire x ++ rest → result ≡ Ok x }
     {
         decode_field_be_canonical(bytes)
     }
 
-    // Each spelling has the width, and reads one way; what is spelled is read, whatever follows, and what is
-    // read is spelled so.
-    ghost fixed_width: { (x : Self) → length (wire Self.residues (bytes_for Self.bit_length) x) ≡ bytes_for Self.bit_length };
-
-    ghost reads_one_way: { ReadsOneWay (wire Self.residues (bytes_for Self.bit_length)) };
-
-    ghost reads_back: { (x : Self) (rest : List ℕ) →
-        read Self.residues (bytes_for Self.bit_length) (wire Self.residues (bytes_for Self.bit_length) x ++ rest) ≡ Ok (x, rest) };
-
-    ghost only_reads: { (bytes : List ℕ) (x : Self) (rest : List ℕ) → AreBytes bytes →
-        read Self.residues (bytes_for Self.bit_length) bytes ≡ Ok (x, rest) →
-        bytes ≡ wire Self.residues (bytes_for Self.bit_length) x ++ rest };
+    // Elements are encoded, each in one way.
+    ghost encodes: { IsEncoding (encoding Self.residues Self.bit_length) };
 }
 
 impl<F: PrimeField64> TranscriptField for F {
-    ghost use Rattle.p3_fs_core.specs.BigEndian.{bytes_for};
-    ghost use Rattle.p3_fs_core.specs.ScalarLaws.{order-fits, length-wire, wire-one_way, read-wire, read-only};
+    ghost use Rattle.p3_fs_core.specs.ScalarLaws.{is_encoding};
 
-    ghost fixed_width = { length-wire F.residues F.are_residues (bytes_for F.bit_length) (order-fits F.bit_length F.residues.order F.bits_below) };
-
-    ghost reads_one_way = { wire-one_way F.residues F.are_residues (bytes_for F.bit_length) (order-fits F.bit_length F.residues.order F.bits_below) };
-
-    ghost reads_back = { read-wire F.residues F.are_residues (bytes_for F.bit_length) (order-fits F.bit_length F.residues.order F.bits_below) };
-
-    ghost only_reads = { read-only F.residues F.are_residues (bytes_for F.bit_length) (order-fits F.bit_length F.residues.order F.bits_below) };
+    ghost encodes = { is_encoding F.residues F.are_residues F.bit_length F.bits_below };
 }

@@ -2,8 +2,8 @@
 use Rattle.std.proofs.Common.{◌≡◌, ℕ, List, [], ◌∷◌, ◌++◌, ◌⊎◌, inl, inr, length, take, ◌==◌, false, refl, sym, ap, subst, ◌∙◌, append_assoc, append-nil}
 use Rattle.std.specs.List.{flat_map}
 use Rattle.p3_challenger_core.specs.Sponge.{IsNonEmpty}
-use Rattle.p3_challenger_core.specs.Observation.{Observation, IsObservation, LeavesFed, LeavesBehind, LeavesBeginning, LeavesFront, observed_all}
-use Rattle.p3_challenger_core.specs.ObservationLaws.{exactly-fed, nothing-fed, exact-observation, unchanged-front, behind_append, leaves-map}
+use Rattle.p3_challenger_core.specs.Observation.{Observation, IsObservation, LeavesFed, LeavesBehind, LeavesBeginning, LeavesInCalls, observed_all}
+use Rattle.p3_challenger_core.specs.ObservationLaws.{nothing-fed, exact-observation, unchanged-front, behind_append}
 use Rattle.p3_hash_challenger.specs.HashTranscript.{absorbing}
 use Rattle.p3_hash_challenger.specs.HashState.{HashState, observed, fed, array_observed}
 
@@ -54,9 +54,9 @@ values-observed =
     exact-observation fed (λ _. refl) fed-append of_value (λ _ _. refl)
     (λ s x t is. unchanged-front fed (λ _. refl) fed-append s t (x ∷ []) is)
 
-pub values-front : {T H : Type 0} (s : HashState T H) (xs : List T) (t : HashState T H) → IsNonEmpty xs × (t ≡ s) → LeavesFront fed of_value s xs t
+pub values-front : {T H : Type 0} (s : HashState T H) (xs : List T) (t : HashState T H) → IsNonEmpty xs × (t ≡ s) → LeavesBeginning observed s xs t
 values-front s [] t left = absurd left.0
-values-front s (x ∷ xs) t left = inl (unchanged s t (x ∷ []) left.1)
+values-front s (x ∷ xs) t left = inl left.1
 
 -- an array
 abbrev pub of_array : {T H : Type 0} → Observation (HashState T H) T (List T)
@@ -80,9 +80,6 @@ arrays-observed =
       leaves_behind = λ s y ys xs t is. unchanged-behind s (y ∷ ys) t xs is;
     }
 
-pub arrays-front : {T H : Type 0} (s : HashState T H) (xss : List (List T)) (t : HashState T H) → LeavesBeginning array_observed s xss t → LeavesFront fed of_array s xss t
-arrays-front s xss t left = leaves-map array_observed (λ u xs v is. unchanged u v xs is) s xss t left
-
 -- a digest
 abbrev pub of_digest : {T H : Type 0} → Observation (HashState T H) T (List T)
 of_digest = record { symbols = λ xs. xs; observed = λ s xs. fed s xs; may_leave = λ s _ t. t ≡ s }
@@ -91,9 +88,6 @@ pub digests-observed : {T H : Type 0} → IsObservation fed (of_digest {T = T} {
 digests-observed =
     exact-observation fed (λ _. refl) fed-append of_digest (λ _ _. refl)
     (λ s xs t is. unchanged-front fed (λ _. refl) fed-append s t xs is)
-
-pub digests-front : {T H : Type 0} (s : HashState T H) (xss : List (List T)) (t : HashState T H) → LeavesBeginning fed s xss t → LeavesFront fed of_digest s xss t
-digests-front s xss t left = leaves-map fed (λ u xs v is. unchanged u v xs is) s xss t left
 
 -- a value of parts that are fed one after another
 module _ {T H X U : Type 0} (parts : X → List U) (items : U → List T) where
@@ -130,12 +124,10 @@ module _ {T H X U : Type 0} (parts : X → List U) (items : U → List T) where
     | inr behind ↦ inr behind
   ]
 
-  pub parts-front : (s : HashState T H) (xs : List X) (t : HashState T H) → LeavesBeginning part_fed s (flat_map parts xs) t → LeavesFront fed of_parts s xs t
+  pub parts-front : (s : HashState T H) (xs : List X) (t : HashState T H) → LeavesBeginning part_fed s (flat_map parts xs) t → LeavesInCalls of_parts.observed of_parts.may_leave s xs t
   parts-front s [] t h = absurd h
   parts-front s (x ∷ xs) t h = elim (beginning-split s (parts x) (flat_map parts xs) t h) [
-    | inl here ↦
-        let left = beginning-fed s (parts x) t here in
-        inl (left.0, exactly-fed fed (λ _. refl) fed-append s (take left.0 (flat_map items (parts x))) t left.1)
+    | inl here ↦ inl here
     | inr behind ↦
         let moved = subst (λ u. LeavesBeginning part_fed u (flat_map parts xs) t) (all_fed items s (parts x)) behind in
         inr (parts-front (fed s (flat_map items (parts x))) xs t moved)

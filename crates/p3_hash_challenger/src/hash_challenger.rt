@@ -286,7 +286,7 @@ impl<
     ghost use Rattle.std.specs.Prelude.{◌≡◌};
     ghost use Rattle.p3_challenger_core.specs.Observation.{LeavesBeginning};
     ghost use Rattle.p3_hash_challenger.specs.HashState as hash_state;
-    ghost use Rattle.p3_hash_challenger.specs.HashStateLaws.{arrays-observed, arrays-front};
+    ghost use Rattle.p3_hash_challenger.specs.HashStateLaws.{arrays-observed};
 
     // A refused call changes nothing.
     ghost observation = { record {
@@ -300,7 +300,7 @@ impl<
 
     ghost observes = { arrays-observed };
 
-    ghost slice_leaves = { arrays-front };
+    ghost slice_leaves = { λ _ _ _ h. h };
 
     fn observe(&mut self, value: [T; N]) -> Result<(), ChallengerError> {
         self.absorb(&value[..])

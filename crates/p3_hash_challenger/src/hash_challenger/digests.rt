@@ -50,7 +50,7 @@ impl<
     ghost use Rattle.std.specs.Prelude.{◌≡◌};
     ghost use Rattle.p3_challenger_core.specs.Observation.{LeavesBeginning};
     ghost use Rattle.p3_hash_challenger.specs.HashState as hash_state;
-    ghost use Rattle.p3_hash_challenger.specs.HashStateLaws.{digests-observed, digests-front};
+    ghost use Rattle.p3_hash_challenger.specs.HashStateLaws.{digests-observed};
 
     // A refused call changes nothing.
     ghost observation = { record {
@@ -64,7 +64,7 @@ impl<
 
     ghost observes = { digests-observed };
 
-    ghost slice_leaves = { digests-front };
+    ghost slice_leaves = { λ _ _ _ h. h };
 
     fn observe(&mut self, value: Hash<F, T, N>) -> Result<(), ChallengerError> {
         self.feed(&value.as_ref()[..])

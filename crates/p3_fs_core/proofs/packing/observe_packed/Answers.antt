@@ -1,7 +1,7 @@
 use Rattle.std.proofs.Common.{ℕ, ◌<◌, List, [], ◌∷◌, length, map, min, sym, ap, ◌∙◌, subst}
 use Rattle.std.specs.Slice.Iter.{chunks_rest}
 use Rattle.std.proofs.lemmas.Result.{err_from_is_err_and}
-use Rattle.p3_challenger_core.specs.Sponge.{RefusesObserve}
+use Rattle.p3_challenger_core.specs.Observation.{RefusesObserve}
 use Rattle.p3_challenger_core.specs.CallLaws.{GoesOn, calls-done, call-made, call-refused}
 use Rattle.p3_fs_core.specs.Packing.{packed, chunks, chunk_bytes, little_endian}
 use Rattle.p3_fs_core.specs.PackingLaws.{chunks-step, chunks-end}
@@ -25,13 +25,13 @@ loop-chunk-preserved g c =
     let start = state c.args.challenger.now in
     let values = packed r size c.args.bytes.now in
     let here = state c.loop-chunk.challenger in
-    let on = subst (λ (l : List (List ℕ)). GoesOn m.observed (λ s x t. m.may_leave s (x ∷ []) t) start values here (map element l)) split kept.3 in
+    let on = subst (λ (l : List (List ℕ)). GoesOn m.observation.observed m.observation.may_leave start values here (map element l)) split kept.3 in
     let value = c.from_u64-in-loop-chunk.ensures ∙ ap r.of c.number_of_chunk.ensures in
-    let moved = c.in_ok-observe-2.ensures.ok ∙ ap (m.observed here) value in (
+    let moved = c.in_ok-observe-2.ensures.ok ∙ ap (m.observation.observed here) value in (
       subst (λ (k : ℕ). 0 < k) (sym steps.0) kept.0,
       tt,
       steps.0 ∙ kept.2,
-      call-made m.observed (λ s x t. m.may_leave s (x ∷ []) t) start values here (state c.observe-in-loop-chunk.new.self) (element chunk) (map element (chunks size rest)) moved on,
+      call-made m.observation.observed m.observation.may_leave start values here (state c.observe-in-loop-chunk.new.self) (element chunk) (map element (chunks size rest)) moved on,
     )
 
 -- a chunk is refused: those before it are observed
@@ -55,10 +55,10 @@ returns-in_err-observe-2-clause-err g c =
     let here = state c.loop-chunk.challenger in
     let end = state c.observe-in-loop-chunk.new.self in
     let e = c.in_err-observe-2.field-0.0 in
-    let on = subst (λ (l : List (List ℕ)). GoesOn m.observed (λ s x t. m.may_leave s (x ∷ []) t) start values here (map element l)) split kept.3 in
+    let on = subst (λ (l : List (List ℕ)). GoesOn m.observation.observed m.observation.may_leave start values here (map element l)) split kept.3 in
     let value = c.from_u64-in-loop-chunk.ensures ∙ ap r.of c.number_of_chunk.ensures in
-    let refused = subst (λ x. RefusesObserve (λ t. m.may_leave here (x ∷ []) t) e end) value c.in_err-observe-2.ensures.err in
-    rw (p.1, p.2) (call-refused m.observed (λ s x t. m.may_leave s (x ∷ []) t) start values here end (element chunk) (map element (chunks size rest)) e refused on)
+    let refused = subst (λ x. RefusesObserve (m.observation.may_leave here x) e end) value c.in_err-observe-2.ensures.err in
+    rw (p.1, p.2) (call-refused m.observation.observed m.observation.may_leave start values here end (element chunk) (map element (chunks size rest)) e refused on)
 
 pub returns-clause-ok : goal.returns-clause-ok
 returns-clause-ok g c =
@@ -74,5 +74,5 @@ returns-clause-ok g c =
     let start = state c.args.challenger.now in
     let values = packed r size c.args.bytes.now in
     let here = state c.loop-chunk.challenger in
-    calls-done m.observed (λ s x t. m.may_leave s (x ∷ []) t) start values here
-    (subst (λ (l : List (List ℕ)). GoesOn m.observed (λ s x t. m.may_leave s (x ∷ []) t) start values here (map element l)) none kept.3)
+    calls-done m.observation.observed m.observation.may_leave start values here
+    (subst (λ (l : List (List ℕ)). GoesOn m.observation.observed m.observation.may_leave start values here (map element l)) none kept.3)

@@ -1,9 +1,9 @@
 use Rattle.std.proofs.Common.{◌≡◌, ℕ, ◌+◌, List, length, take, replicate, subst, arith}
 use Rattle.std.proofs.lemmas.List.{length-take-le}
 use Rattle.std.proofs.lemmas.Result.{err_from_is_err_and}
-use Rattle.p3_challenger_core.specs.Sponge.{RefusesDraws}
+use Rattle.p3_challenger_core.specs.Sampling.{RefusesDraws}
 use Rattle.p3_fs_core.specs.BigEndian.{bytes_for}
-use Rattle.p3_challenger_core.specs.DrawLaws.{refused-in_row}
+use Rattle.p3_challenger_core.specs.SamplingLaws.{refused-in_row}
 use Rattle.p3_codecs.proofs.bytes_to_field.BytesToFieldCodecCodec.sample.Goals as goal
 
 -- one of the bytes is refused
@@ -19,5 +19,5 @@ returns-in_err-sample_into_slice-clause-err g c =
     let room : List ℕ = replicate 24 0 in
     let as_many : length (take (c.wire_len.result + 16) room) ≡ n =
     omega (arith, length-take-le (c.wire_len.result + 16) room (omega (arith, c.wire_len.ensures.most)), c.wire_len.ensures.width) in
-    rw (p.1, p.2) (refused-in_row m.sampled m.after_sampled m.meets_limit m.draw_may_leave g.met.C.CanSample.limit_gives_none
-    n e start end (subst (λ (k : ℕ). RefusesDraws m.sampled m.after_sampled m.meets_limit m.draw_may_leave k e start end) as_many c.in_err-sample_into_slice.ensures.err))
+    rw (p.1, p.2) (refused-in_row g.C.Sponge.next m.sampling g.met.C.CanSample.samples
+    n e start end (subst (λ (k : ℕ). RefusesDraws m.sampling k e start end) as_many c.in_err-sample_into_slice.ensures.err))

@@ -8,7 +8,7 @@ use Rattle.p3_codecs.proofs.extension.ExtensionFieldCodecCodec.encode.Goals as g
 pub returns-in_err-encode-clause-left : goal.returns-in_err-encode-clause-left
 returns-in_err-encode-clause-left g c =
     let p = err_from_is_err_and c.from_residual.result c.from_residual.ensures.1 in
-    let wire = g.BaseCodec.Codec.wire in
+    let wire = g.BaseCodec.Codec.encoding.wire in
     let xs = g.EF.BasedVectorSpace.coefficients c.args.value.now in
     let lent = c.as_basis_coefficients_slice-coefficients.ensures in
     let i = c.loop-coefficient.coefficient-index in
