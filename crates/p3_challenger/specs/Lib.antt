@@ -3,9 +3,12 @@ pub use Rattle.p3_challenger_core.specs.BitLaws
 pub use Rattle.p3_challenger_core.specs.Bits
 pub use Rattle.p3_challenger_core.specs.CallLaws
 pub use Rattle.p3_challenger_core.specs.DrawLaws
+pub use Rattle.p3_challenger_core.specs.Observation
+pub use Rattle.p3_challenger_core.specs.ObservationLaws
 pub use Rattle.p3_challenger_core.specs.Reading
+pub use Rattle.p3_challenger_core.specs.Sampling
+pub use Rattle.p3_challenger_core.specs.SamplingLaws
 pub use Rattle.p3_challenger_core.specs.Sponge
-pub use Rattle.p3_challenger_core.specs.SpongeLaws
 pub use Rattle.p3_challenger_core.specs.SymbolLaws
 pub use Rattle.p3_duplex.specs.DuplexChain
 pub use Rattle.p3_duplex.specs.DuplexState
@@ -20,6 +23,8 @@ pub use Rattle.p3_fs_core.specs.AlphabetLaws
 pub use Rattle.p3_fs_core.specs.BigEndian
 pub use Rattle.p3_fs_core.specs.BigEndianLaws
 pub use Rattle.p3_fs_core.specs.DecodingLaws
+pub use Rattle.p3_fs_core.specs.Encoding
+pub use Rattle.p3_fs_core.specs.Errors
 pub use Rattle.p3_fs_core.specs.Packing
 pub use Rattle.p3_fs_core.specs.PackingLaws
 pub use Rattle.p3_fs_core.specs.Scalar
@@ -27,9 +32,9 @@ pub use Rattle.p3_fs_core.specs.ScalarLaws
 pub use Rattle.p3_fs_core.specs.StepTextLaws
 pub use Rattle.p3_fs_core.specs.StepTexts
 pub use Rattle.p3_fs_core.specs.Steps
-pub use Rattle.p3_fs_core.specs.Errors
 pub use Rattle.p3_codecs.specs.BytesToField
 pub use Rattle.p3_codecs.specs.BytesToFieldLaws
+pub use Rattle.p3_codecs.specs.Codecs
 pub use Rattle.p3_codecs.specs.Extension
 pub use Rattle.p3_codecs.specs.ExtensionLaws
 pub use Rattle.p3_patterns.specs.PatternFaults

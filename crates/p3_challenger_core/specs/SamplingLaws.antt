@@ -36,6 +36,13 @@ pub made_of-is_sampling : {S T U : Type 0} (next : S → S) (f : T → U) (d : S
 made_of-is_sampling next f d laws =
     record { limit_gives_none = λ s h. ap (option_map f) (laws.limit_gives_none s h); steps = laws.steps; leaves = laws.leaves }
 
+-- what is made of a drawn value is refused as that value is
+pub made_of-refuses : {S T U : Type 0} (f : T → U) (d : Sampling S T) (e : ChallengerError) (s t : S) → RefusesDraw (made_of f d) e s t → RefusesDraw d e s t
+made_of-refuses f d OutOfMemory s t h = h
+made_of-refuses f d DrawLimit s t h = h
+made_of-refuses f d NoWitness s t h = h
+made_of-refuses f d TooLong s t h = h
+
 -- a draw that is never refused is not refused
 not_refused : {S T : Type 0} (sampled : S → Option T) (after : S → S) (e : ChallengerError) (s t : S) → RefusesDraw (unrefused_draw sampled after) e s t → ⊥
 not_refused sampled after OutOfMemory s t h = h

@@ -1,6 +1,6 @@
 -- Values observed one after another by the challengers of tests.
 use Rattle.std.proofs.Common.{◌≡◌, List, [], ◌∷◌, ◌++◌, refl, sym, append_assoc, append-nil, ◌∙◌}
-use Rattle.p3_challenger_core.specs.Sponge.{observed_all}
+use Rattle.p3_challenger_core.specs.Observation.{observed_all}
 
 -- a challenger that keeps what it is fed has them behind what it had
 pub recorded_all : {T : Type 0} (s xs : List T) → observed_all (λ t x. t ++ (x ∷ [])) s xs ≡ s ++ xs

@@ -1,3 +1,4 @@
 pub mod LengthHasher
 pub mod Supply
 pub mod TestHashers
+pub mod Recorded

@@ -1,5 +1,7 @@
 -- Draws from a list of what is still to be drawn.
 use Rattle.std.specs.Prelude.{◌≡◌, List, [], ◌∷◌, Option, Some, None, refl}
+use Rattle.p3_challenger_core.specs.Sampling.{IsSampling}
+use Rattle.p3_challenger_core.specs.SamplingLaws.{one_step}
 
 -- the next draw, if one is left
 abbrev pub first_of : {T : Type 0} → List T → Option T
@@ -19,3 +21,7 @@ IsUsedUp (x ∷ xs) = ⊥
 pub used_up-none : {T : Type 0} (left : List T) → IsUsedUp left → first_of left ≡ None
 used_up-none [] h = refl
 used_up-none (x ∷ xs) h = absurd h
+
+pub supply-sampled : {T : Type 0} → IsSampling {S = List T} {T = T} rest_of (record { sampled = first_of; after = rest_of; meets_limit = IsUsedUp; may_leave = λ _ _. ⊥ })
+supply-sampled =
+    record { limit_gives_none = used_up-none; steps = one_step rest_of; leaves = λ s t h. absurd h }

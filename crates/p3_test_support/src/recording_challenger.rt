@@ -49,22 +49,30 @@ impl<T: Copy> Sponge for RecordingChallenger<T> {
 
     ghost fed = { λ s xs. s ++ xs };
 
+    ghost next = { λ s. s };
+
     ghost fed_nothing = { append-nil };
 
     ghost fed_more = { append_assoc };
 }
 
 impl<T: Copy> CanObserve<T> for RecordingChallenger<T> {
-    ghost use Rattle.std.specs.Prelude.{◌≡◌, [], ◌∷◌, ◌++◌, refl};
-
-    ghost symbols = { λ x. x ∷ [] };
-
-    ghost observed = { λ s x. s ++ (x ∷ []) };
+    ghost use Rattle.std.specs.Prelude.{◌≡◌, [], ◌∷◌, ◌++◌};
+    ghost use Rattle.p3_challenger_core.specs.Sponge.{IsNonEmpty};
+    ghost use Rattle.p3_test_support.specs.Recorded.{values-recorded, slice-recorded};
 
     // A refused call changes nothing.
-    ghost may_leave = { λ s _ t. t ≡ s };
+    ghost observation = { record {
+      symbols = λ x. x ∷ [];
+      observed = λ s x. s ++ (x ∷ []);
+      may_leave = λ s _ t. t ≡ s;
+    } };
 
-    ghost feeds = { λ s x _. refl };
+    ghost slice_may_leave = { λ s xs t. IsNonEmpty xs × (t ≡ s) };
+
+    ghost observes = { values-recorded };
+
+    ghost slice_leaves = { slice-recorded };
 
     fn observe(&mut self, value: T) -> Result<(), ChallengerError> {
         self.symbols.push(value)?;
@@ -72,6 +80,9 @@ impl<T: Copy> CanObserve<T> for RecordingChallenger<T> {
     }
 
     fn observe_slice(&mut self, values: &[T]) -> Result<(), ChallengerError> {
+        if values.is_empty() {
+            return Ok(());
+        }
         self.symbols.extend_from_slice(values)?;
         Ok(())
     }

@@ -35,6 +35,7 @@ impl<'a> Supply<'a> {
 
 impl<'a> Sponge for Supply<'a> {
     ghost use Rattle.std.specs.Prelude.{refl};
+    ghost use Rattle.p3_test_support.specs.Supply.{rest_of};
 
     type State = Self;
 
@@ -44,6 +45,8 @@ impl<'a> Sponge for Supply<'a> {
 
     ghost fed = { λ s _. s };
 
+    ghost next = { λ s. rest_of s };
+
     ghost fed_nothing = { λ _. refl };
 
     ghost fed_more = { λ _ _ _. refl };
@@ -51,14 +54,16 @@ impl<'a> Sponge for Supply<'a> {
 
 impl<'a> CanObserve<u8> for Supply<'a> {
     ghost use Rattle.std.specs.Prelude.{[], ◌∷◌, refl};
+    ghost use Rattle.p3_challenger_core.specs.Observation.{unrefused_observe};
+    ghost use Rattle.p3_challenger_core.specs.ObservationLaws.{unrefused_observe-is_observation};
 
-    ghost symbols = { λ x. x ∷ [] };
+    ghost observation = { unrefused_observe (λ x. x ∷ []) (λ s _. s) };
 
-    ghost observed = { λ s _. s };
+    ghost slice_may_leave = { λ _ _ _. ⊥ };
 
-    ghost may_leave = { λ _ _ _. ⊥ };
+    ghost observes = { unrefused_observe-is_observation (λ s _. s) (λ _. refl) (λ _ _ _. refl) (λ x. x ∷ []) (λ s _. s) (λ _ _. refl) };
 
-    ghost feeds = { λ _ _ _. refl };
+    ghost slice_leaves = { λ _ _ _ h. absurd h };
 
     fn observe(&mut self, _value: u8) -> Result<(), ChallengerError> {
         Ok(())
@@ -71,17 +76,16 @@ impl<'a> CanObserve<u8> for Supply<'a> {
 }
 
 impl<'a> CanSample<u8> for Supply<'a> {
-    ghost use Rattle.p3_test_support.specs.Supply.{first_of, rest_of, IsUsedUp, used_up-none};
+    ghost use Rattle.p3_test_support.specs.Supply.{first_of, rest_of, IsUsedUp, supply-sampled};
 
-    ghost sampled = { λ s. first_of s };
+    ghost sampling = { record {
+      sampled = λ s. first_of s;
+      after = λ s. rest_of s;
+      meets_limit = λ s. IsUsedUp s;
+      may_leave = λ _ _. ⊥;
+    } };
 
-    ghost after_sampled = { λ s. rest_of s };
-
-    ghost meets_limit = { λ s. IsUsedUp s };
-
-    ghost draw_may_leave = { λ _ _. ⊥ };
-
-    ghost limit_gives_none = { used_up-none };
+    ghost samples = { supply-sampled };
 
     fn sample(&mut self) -> Result<u8, ChallengerError> {
         let Some((first, rest)) = self.left.split_first() else {

@@ -30,13 +30,7 @@ FitsCount bytes = length bytes < 2 ^ 32
 abbrev pub RefusesChunk : ℕ → TranscriptError → Type 0
 RefusesChunk len LabelTooLong = 2 ^ 32 ≤ len
 RefusesChunk len OutOfMemory = len < 2 ^ 32
-RefusesChunk len (MissingBegin info) = ⊥
-RefusesChunk len (InvalidKind info) = ⊥
-RefusesChunk len (MismatchedBeginEnd info) = ⊥
-RefusesChunk len (MissingEnd info) = ⊥
-RefusesChunk len (BadProofShape reason) = ⊥
-RefusesChunk len (Pattern e) = ⊥
-RefusesChunk len (Challenger e) = ⊥
+RefusesChunk len _ = ⊥
 
 -- the seed: identifier, digest of the pattern, label behind its length, and a last byte
 abbrev pub seed_bytes : List ℕ → List ℕ → List ℕ → List ℕ
@@ -71,13 +65,4 @@ seed_of digest_of protocol_id pattern label = seed_of_parts (parts_of digest_of 
 abbrev pub RefusesSeed : {S : Type 0} → Type 0 → (S → Type 0) → S → TranscriptError → S → Type 0
 RefusesSeed IsTooLong MayLeave before OutOfMemory after = (after ≡ before) ⊎ ((IsTooLong → ⊥) × MayLeave after)
 RefusesSeed IsTooLong MayLeave before (Challenger challenger.TooLong) after = IsTooLong × (after ≡ before)
-RefusesSeed IsTooLong MayLeave before (Challenger challenger.OutOfMemory) after = ⊥
-RefusesSeed IsTooLong MayLeave before (Challenger challenger.DrawLimit) after = ⊥
-RefusesSeed IsTooLong MayLeave before (Challenger challenger.NoWitness) after = ⊥
-RefusesSeed IsTooLong MayLeave before (MissingBegin info) after = ⊥
-RefusesSeed IsTooLong MayLeave before (InvalidKind info) after = ⊥
-RefusesSeed IsTooLong MayLeave before (MismatchedBeginEnd info) after = ⊥
-RefusesSeed IsTooLong MayLeave before (MissingEnd info) after = ⊥
-RefusesSeed IsTooLong MayLeave before (BadProofShape reason) after = ⊥
-RefusesSeed IsTooLong MayLeave before (Pattern e) after = ⊥
-RefusesSeed IsTooLong MayLeave before LabelTooLong after = ⊥
+RefusesSeed IsTooLong MayLeave before _ after = ⊥

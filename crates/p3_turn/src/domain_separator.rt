@@ -1,7 +1,8 @@
 // What binds a transcript to a protocol, its pattern and the instance.
 ghost use Rattle.std.specs.Prelude.{◌≡◌, ◌↔◌, ℕ, true, ◌+◌, ◌<◌, ◌≤◌, ◌^◌, List, [], ◌∷◌, ◌++◌, length, OnOk, IfOk, IfErr};
 ghost use Rattle.std.specs.List.{All, flat_map};
-ghost use Rattle.p3_challenger_core.specs.Sponge.{observed_all};
+ghost use Rattle.p3_challenger_core.specs.Observation.{observed_all};
+ghost use Rattle.p3_challenger_core.specs.Sponge.{IsFed};
 ghost use Rattle.p3_fs_core.specs.Alphabet.{LeavesItems};
 ghost use Rattle.p3_patterns.specs.PatternFaults.{steps_of};
 ghost use Rattle.p3_challenger_core.specs.Reading.{ReadsOneWayOn};
@@ -166,15 +167,18 @@ impl<U: Unit, D: DigestHasher> DomainSeparator<U, D> {
         requires { U.is_alphabet }
         ensures ok { let seed = seed_of D.digest_of self.now.protocol_id self.now.pattern.value self.now.instance_label.items in
             OnOk result ((U.is_too_long (length seed) → ⊥)
-            × (C.state challenger.new ≡ observed_all C.observed (C.state challenger.old) (U.items seed))) }
+            × (C.state challenger.new ≡ observed_all C.observation.observed (C.state challenger.old) (U.items seed))) }
         ensures err { let seed = seed_of D.digest_of self.now.protocol_id self.now.pattern.value self.now.instance_label.items in
             IfErr result (λ e. RefusesSeed (U.is_too_long (length seed))
-            (LeavesItems C.observed C.may_leave (C.state challenger.old) (U.items seed))
+            (LeavesItems C.observation C.slice_may_leave (C.state challenger.old) (U.items seed))
             (C.state challenger.old) e (C.state challenger.new)) }
-        // What is observed is what the items feed, where the challenger feeds each in one way.
+        // What is observed is what the items feed; exactly so, where the challenger feeds each in one way.
         ensures fed { let seed = seed_of D.digest_of self.now.protocol_id self.now.pattern.value self.now.instance_label.items in
-            ReadsOneWayOn U.is_item C.symbols → OnOk result (C.state challenger.new
-            ≡ C.fed (C.state challenger.old) (flat_map C.symbols (U.items seed))) }
+            OnOk result (IsFed C.fed (C.state challenger.old)
+            (flat_map C.observation.symbols (U.items seed)) (C.state challenger.new)) }
+        ensures fed_exactly { let seed = seed_of D.digest_of self.now.protocol_id self.now.pattern.value self.now.instance_label.items in
+            ReadsOneWayOn U.is_item C.observation.symbols → OnOk result (C.state challenger.new
+            ≡ C.fed (C.state challenger.old) (flat_map C.observation.symbols (U.items seed))) }
         // The seed is that of an identifier, a digest and a label. Whatever follows, equal seeds come from
         // equal ones.
         ensures parts { OnOk result (AreSeedParts

@@ -2,9 +2,10 @@
 use Rattle.std.specs.Prelude.{ℕ, List, Option, Result}
 use Rattle.p3_challenger.specs.BabyBearResidues.{residues}
 use Rattle.p3_challenger.specs.BabyBear.{BabyBear}
-use Rattle.p3_challenger.specs.Sponge.{observed_all}
+use Rattle.p3_challenger.specs.Observation.{observed_all}
+use Rattle.p3_challenger.specs.Sampling.{unrefused_draw}
 use Rattle.p3_challenger.specs.Scalar as scalar
-use Rattle.p3_challenger.specs.BytesToField as codec
+use Rattle.p3_challenger.specs.BytesToField.{drawn_bytes}
 
 -- the order of the field
 abbrev pub order : ℕ
@@ -13,6 +14,10 @@ order = 2013265921
 -- the canonical number of a scalar
 abbrev pub number : BabyBear → ℕ
 number x = residues.number x
+
+-- how many bits the order takes
+abbrev pub bits : ℕ
+bits = 31
 
 -- how many bytes a scalar takes in the proof
 abbrev pub width : ℕ
@@ -32,11 +37,7 @@ observed byte_observed s x = observed_all byte_observed s (wire x)
 
 -- the scalar that is drawn, where a byte is drawn so, and the state after it
 abbrev pub sampled : {S : Type 0} → (S → Option ℕ) → (S → S) → S → Option BabyBear
-sampled byte after_byte s = codec.sampled residues width byte after_byte s
+sampled byte after_byte s = (drawn_bytes residues bits (unrefused_draw byte after_byte)).sampled s
 
 abbrev pub after_sampled : {S : Type 0} → (S → Option ℕ) → (S → S) → S → S
-after_sampled byte after_byte s = codec.after_sampled width byte after_byte s
-
--- how many bytes it is drawn from
-abbrev pub draw_bytes : ℕ
-draw_bytes = codec.draw_bytes width
+after_sampled byte after_byte s = (drawn_bytes residues bits (unrefused_draw byte after_byte)).after s
