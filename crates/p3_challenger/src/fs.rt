@@ -2,7 +2,7 @@
 
 pub use p3_codecs::{
     BytesToFieldCodec, Codec, EXTRA_BYTES, ExtensionFieldCodec, FieldToFieldCodec, FieldUnit,
-    MIN_CHALLENGE_SECURITY_BITS, ScalarCodec, Unit,
+    MIN_CHALLENGE_SECURITY_BITS, ScalarCodec, Unit, symbols_begin,
 };
 pub use p3_duplex::duplex_elements_read_one_way;
 pub use p3_fs_core::{
@@ -11,5 +11,10 @@ pub use p3_fs_core::{
     TranscriptField, TypeTag, bound_byte_width, counts_read_one_way, decode_len_be, encode_len_be,
 };
 pub use p3_hash_challenger::hash_values_read_one_way;
-pub use p3_patterns::{InteractionPattern, Pattern, PatternPlayer, PatternState};
-pub use p3_turn::{DomainSeparator, PROTOCOL_ID_LEN};
+pub use p3_patterns::{
+    InteractionPattern, Pattern, PatternPlayer, PatternState, renderings_read_one_way,
+};
+pub use p3_turn::{
+    DomainSeparator, PROTOCOL_ID_LEN, identifiers_read_one_way, labels_read_one_way,
+    seeds_read_one_way,
+};

@@ -134,8 +134,8 @@ rendering-without steps =
 
 -- the alternate texts of two lists of steps are one where the steps are the same but for the names of their
 -- types, and only there
-pub rendering-one_way : (xs ys : List Step) → AllFitTypes xs → AllFitTypes ys → length xs < 2 ^ 64 → length ys < 2 ^ 64 → (rendering alternate_text xs ≡ rendering alternate_text ys ↔ SameButTypeNames xs ys)
-rendering-one_way xs ys x_fit y_fit x_few y_few = (
+pub rendering_one_way : (xs ys : List Step) → AllFitTypes xs → AllFitTypes ys → length xs < 2 ^ 64 → length ys < 2 ^ 64 → (rendering alternate_text xs ≡ rendering alternate_text ys ↔ SameButTypeNames xs ys)
+rendering_one_way xs ys x_fit y_fit x_few y_few = (
   told_apart xs ys x_fit y_fit x_few y_few,
   λ same. sym (rendering-without xs) ∙ ap (rendering alternate_text) same ∙ rendering-without ys,
 )

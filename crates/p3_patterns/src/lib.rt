@@ -10,5 +10,6 @@ mod state;
 
 pub use pattern::Pattern;
 pub use player::PatternPlayer;
+pub use rendering::renderings_read_one_way;
 pub use sequence::InteractionPattern;
 pub use state::PatternState;

@@ -1,4 +1,5 @@
 ghost use Rattle.std.specs.Prelude.{◌≡◌, ℕ, List};
+ghost use Rattle.p3_symmetric.specs.Digests.{IsDigest};
 
 /// A hash function of bytes that is given by its type alone: it takes a byte string to 32 bytes, and equal
 /// byte strings to equal digests. Nothing more is known of it.
@@ -9,4 +10,7 @@ pub trait DigestHasher {
     /// The digest of a byte string. It takes no memory.
     fn digest(message: &[u8]) -> [u8; 32]
         ensures { result ≡ digest_of message.now };
+
+    // A digest has 32 places, and each is a byte.
+    ghost digests: { (message : List ℕ) → IsDigest (digest_of message) };
 }

@@ -19,7 +19,11 @@ impl CryptographicHasher<u8, [u8; 32]> for Sha256Hasher {
 }
 
 impl DigestHasher for Sha256Hasher {
+    ghost use Rattle.p3_symmetric.specs.DigestLaws.{sha256-is_digest};
+
     ghost digest_of = { sha256 };
+
+    ghost digests = { sha256-is_digest };
 
     fn digest(message: &[u8]) -> [u8; 32] {
         Sha256::digest(message)

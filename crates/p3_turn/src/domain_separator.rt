@@ -63,9 +63,6 @@ impl<U, D> DomainSeparator<U, D> {
         ensures protocol_id { IfOk result (λ separator. separator.protocol_id ≡ identifier version name.now) }
         ensures label { IfOk result (λ separator. separator.instance_label.items ≡ []) }
         ensures pattern { IfOk result (λ separator. separator.pattern.value ≡ pattern) }
-        // An identifier comes from one version and one name.
-        ensures one_way { (v w : ℕ) (a b : List ℕ) → length a ≤ 62 → length b ≤ 62 →
-            identifier v a ≡ identifier w b → (v ≡ w) × (a ≡ b) }
     {
         Ok(DomainSeparator {
             protocol_id: protocol_identifier(version, name),
@@ -111,8 +108,6 @@ impl<U, D> DomainSeparator<U, D> {
         // The label is that of the chunks so far.
         ensures chunks { OnOk result ((chunks : List (List ℕ)) → self.old.instance_label.items ≡ label_of chunks →
             self.new.instance_label.items ≡ label_of (chunks ++ (chunk.now ∷ []))) }
-        // A label comes from one list of chunks.
-        ensures one_way { (x y : List (List ℕ)) → All FitsCount x → All FitsCount y → label_of x ≡ label_of y → x ≡ y }
     {
         let added = COUNT_LEN.saturating_add(chunk.len());
         if added > MAX_LABEL_LEN - self.instance_label.len() {
@@ -179,11 +174,9 @@ impl<U: Unit, D: DigestHasher> DomainSeparator<U, D> {
         ensures fed_exactly { let seed = seed_of D.digest_of self.now.protocol_id self.now.pattern.value self.now.instance_label.items in
             ReadsOneWayOn U.is_item C.observation.symbols → OnOk result (C.state challenger.new
             ≡ C.fed (C.state challenger.old) (flat_map C.observation.symbols (U.items seed))) }
-        // The seed is that of an identifier, a digest and a label. Whatever follows, equal seeds come from
-        // equal ones.
+        // The seed is that of an identifier, a digest and a label.
         ensures parts { OnOk result (AreSeedParts
             (parts_of D.digest_of self.now.protocol_id self.now.pattern.value self.now.instance_label.items)) }
-        ensures one_way { ReadsOneWayOn AreSeedParts seed_of_parts }
     {
         let seed = self.seed_bytes()?;
         U::observe_bytes(challenger, &seed)?;
@@ -221,3 +214,28 @@ fn protocol_identifier(version: u8, name: &[u8]) -> [u8; PROTOCOL_ID_LEN]
     protocol_id[PROTOCOL_ID_LEN - 1] = name.len() as u8;
     protocol_id
 }
+
+/// An identifier of a protocol comes from one version and one name.
+///
+/// A law: the body is empty, and a caller cites the clause.
+#[tactic(auto, using(crate::specs::SeedLaws::identifier_one_way))]
+pub fn identifiers_read_one_way()
+    ensures { (v w : ℕ) (a b : List ℕ) → length a ≤ 62 → length b ≤ 62 →
+        identifier v a ≡ identifier w b → (v ≡ w) × (a ≡ b) }
+{}
+
+/// A label of an instance comes from one list of chunks.
+///
+/// A law: the body is empty, and a caller cites the clause.
+#[tactic(auto, using(crate::specs::SeedLaws::label_one_way))]
+pub fn labels_read_one_way()
+    ensures { (x y : List (List ℕ)) → All FitsCount x → All FitsCount y → label_of x ≡ label_of y → x ≡ y }
+{}
+
+/// Whatever follows, a seed comes from one identifier, one digest and one label.
+///
+/// A law: the body is empty, and a caller cites the clause.
+#[tactic(auto, using(crate::specs::SeedLaws::seed_one_way))]
+pub fn seeds_read_one_way()
+    ensures { ReadsOneWayOn AreSeedParts seed_of_parts }
+{}

@@ -3,4 +3,7 @@
 
 mod domain_separator;
 
-pub use domain_separator::{DomainSeparator, PROTOCOL_ID_LEN};
+pub use domain_separator::{
+    DomainSeparator, PROTOCOL_ID_LEN, identifiers_read_one_way, labels_read_one_way,
+    seeds_read_one_way,
+};
