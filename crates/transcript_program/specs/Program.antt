@@ -1,5 +1,5 @@
 -- What the program answers.
-use Rattle.std.specs.Prelude.{◌≡◌, ℕ, List, [], ◌∷◌, ◌++◌, codes, Option}
+use Rattle.std.specs.Prelude.{◌≡◌, ℕ, List, [], ◌∷◌, ◌++◌, ◌⊎◌, codes, Option, string_bytes}
 use Rattle.std.specs.Str.Parse.{IsNumeral, digits_value}
 use Rattle.std.specs.Fmt.{decimal}
 use Rattle.std.specs.Io.KnownBytes.{Appends}
@@ -12,9 +12,11 @@ use Rattle.p3_challenger.specs.BabyBear.{BabyBear}
 use Rattle.p3_challenger.specs.Sha256Hasher.{Sha256Hasher}
 use Rattle.p3_challenger.specs.ChallengerError.TheVariants as challenger
 use Rattle.p3_challenger.specs.TranscriptError.{TranscriptError}
-use Rattle.p3_challenger.specs.TranscriptError.TheVariants.{MissingBegin, InvalidKind, MismatchedBeginEnd, MissingEnd, BadProofShape, Pattern, Challenger, LabelTooLong, OutOfMemory}
+use Rattle.p3_challenger.specs.TranscriptError.TheVariants.{BadProofShape, Challenger, OutOfMemory}
 use Rattle.transcript_program.specs.declared.program.Request.{Request}
 use Rattle.transcript_program.specs.declared.program.Request.TheVariants.{First, DemoPattern}
+use Rattle.transcript_program.specs.declared.program.Answer.{Answer}
+use Rattle.transcript_program.specs.declared.program.Answer.TheVariants.{Done, Refused, Usage}
 use Rattle.transcript_program.specs.First.{IsRun}
 use Rattle.transcript_program.specs.Demo.{demo_text}
 
@@ -31,9 +33,6 @@ pub record AsksFirst (words : List (List ℕ)) (x : BabyBear) : Type 0 where
 
 abbrev pub usage_line : List ℕ
 usage_line = codes "usage: transcript first|pattern|prove|verify" ++ 10 ∷ []
-
-abbrev pub out_of_memory_line : List ℕ
-out_of_memory_line = codes "refused: out of memory" ++ 10 ∷ []
 
 -- two lines: the bytes of a proof in hexadecimal, and a challenge in decimal
 abbrev pub lines : List ℕ → BabyBear → List ℕ
@@ -57,23 +56,40 @@ abbrev pub Answers : Request → List ℕ → Type 0
 Answers (First x) text = IsFirstText x text
 Answers DemoPattern text = text ≡ demo_text
 
--- a writer that held the old bytes holds the answer behind them
-pub record Writes (request : Request) (old new : Option (List ℕ)) : Type 0 where
-  pub text : List ℕ
-  pub answers : Answers request text
-  pub appends : Appends old new text
+-- why it may be refused: for memory alone
+abbrev pub Refuses : Request → TranscriptError → Type 0
+Refuses request e = e ≡ OutOfMemory
 
 -- why an error refused a run, as the program says it
 abbrev pub reason_of : TranscriptError → List ℕ
 reason_of (BadProofShape reason) = reason.now
-reason_of (MissingBegin info) = codes "pattern"
-reason_of (InvalidKind info) = codes "pattern"
-reason_of (MismatchedBeginEnd info) = codes "pattern"
-reason_of (MissingEnd info) = codes "pattern"
-reason_of (Pattern e) = codes "pattern"
-reason_of LabelTooLong = codes "pattern"
 reason_of (Challenger challenger.DrawLimit) = codes "draw limit"
 reason_of (Challenger challenger.NoWitness) = codes "no witness"
 reason_of (Challenger challenger.TooLong) = codes "too long"
 reason_of (Challenger challenger.OutOfMemory) = codes "out of memory"
 reason_of OutOfMemory = codes "out of memory"
+reason_of _ = codes "pattern"
+
+-- ---- the whole answer
+
+-- what is answered to the words of a command line: what they ask for, or why it is refused, or that they ask
+-- for nothing
+abbrev pub IsAnswer : List (List ℕ) → Answer → Type 0
+IsAnswer words (Done text) = (request : Request) × Asks words request × Answers request (string_bytes text)
+IsAnswer words (Refused e) = (request : Request) × Asks words request × Refuses request e
+IsAnswer words Usage = (request : Request) → Asks words request → ⊥
+
+abbrev pub status_of : Answer → ℕ
+status_of (Done text) = 0
+status_of (Refused e) = 1
+status_of Usage = 2
+
+abbrev pub text_of : Answer → List ℕ
+text_of (Done text) = string_bytes text
+text_of (Refused e) = codes "refused: " ++ (reason_of e ++ 10 ∷ [])
+text_of Usage = usage_line
+
+-- a writer holds the text behind the bytes that it held, and the status is the answer's; or a write failed, and
+-- the status is 1
+abbrev pub Tells : Answer → ℕ → Option (List ℕ) → Option (List ℕ) → Type 0
+Tells answer status old new = ((status ≡ status_of answer) × Appends old new (text_of answer)) ⊎ (status ≡ 1)

@@ -1,9 +1,6 @@
-ghost use Rattle.std.specs.Prelude.{◌≡◌, ◌≢◌, ◌⊎◌, ℕ, ◌≤◌, List, map, IfSome, IfNone, IfOk, IfErr, string_bytes};
-ghost use Rattle.std.specs.Io.KnownBytes.{Appends};
-ghost use Rattle.std.specs.Str.Parse.{IsNumeral, digits_value};
-ghost use Rattle.transcript_program.specs.Scalar.{order};
+ghost use Rattle.std.specs.Prelude.{◌≡◌, Some, map, IfSome, IfNone, IfOk, IfErr, string_bytes};
 ghost use Rattle.p3_challenger.specs.BabyBear.{BabyBear};
-ghost use Rattle.transcript_program.specs.Program.{IsScalarText, Asks, AsksFirst, Answers, IsFirstText, lines, Writes, usage_line, out_of_memory_line, reason_of};
+ghost use Rattle.transcript_program.specs.Program.{IsScalarText, Asks, Answers, Refuses, IsAnswer, Tells, IsFirstText, lines, status_of, text_of, reason_of};
 ghost use Rattle.transcript_program.specs.Demo.{demo_text};
 
 use crate::{demo, first};
@@ -12,7 +9,7 @@ use p3_challenger::{ChallengerError, HashChallenger};
 use p3_field::{BabyBear, PrimeField32, PrimeField64};
 use p3_symmetric::Sha256Hasher;
 use std::alloc::{AllocError, Global};
-use std::io;
+use std::fmt;
 use std::io::{Read, Write};
 
 // The exit statuses.
@@ -31,21 +28,66 @@ pub enum Request {
     DemoPattern,
 }
 
-/// The whole program: answers the words of its command line, without the program's name, and gives
-/// the exit status: 0 where it is done, 1 where something was refused or a write failed, and 2, with
-/// the usage line, for words that ask for nothing.
+/// What the program answers to its words.
+#[derive(Debug, Drop)]
+pub enum Answer {
+    /// What was asked for. It is written as it is, and the status is 0.
+    Done(String),
+    /// What was asked for is refused. A line with [`reason`] is written, and the status is 1.
+    Refused(TranscriptError),
+    /// The words ask for nothing. The usage line is written, and the status is 2.
+    Usage,
+}
+
+impl Answer {
+    /// The exit status.
+    pub fn status(&self) -> u8
+        ensures { result ≡ status_of self.now }
+    {
+        match self {
+            Answer::Done(_) => DONE,
+            Answer::Refused(_) => REFUSED,
+            Answer::Usage => USAGE,
+        }
+    }
+}
+
+impl fmt::Display for Answer {
+    ghost output = { λ answer. Some (text_of answer) };
+
+    fn fmt<W: fmt::Write>(&self, f: &mut fmt::Formatter<W>) -> fmt::Result {
+        match self {
+            Answer::Done(text) => write!(f, "{text}"),
+            Answer::Refused(error) => writeln!(f, "refused: {}", reason(error)),
+            Answer::Usage => writeln!(f, "usage: transcript first|pattern|prove|verify"),
+        }
+    }
+}
+
+/// The whole program: writes its answer to the words of its command line, without the program's name, and gives
+/// the answer's status; but 1 where the write failed.
 pub fn run<R: Read, W: Write>(alloc: Global, words: &[&str], _reader: &mut R, writer: &mut W) -> u8
-    ensures statuses { result ≤ 2 }
-    ensures done { result ≡ 0 → (request : Request) × (Asks (map (λ word. word.now) words.now) request
-        × Writes request (W.contents writer.old) (W.contents writer.new)) }
-    ensures usage { result ≡ 2 → ((request : Request) → Asks (map (λ word. word.now) words.now) request → ⊥)
-        × Appends (W.contents writer.old) (W.contents writer.new) usage_line }
+    ensures { (answer : Answer) × IsAnswer (map (λ word. word.now) words.now) answer
+        × Tells answer result (W.contents writer.old) (W.contents writer.new) }
 {
-    let status = match parse(words) {
-        Some(request) => write_answer(alloc, request, writer),
-        None => write_usage(writer),
-    };
-    status.unwrap_or(REFUSED)
+    let answer = answer_to(alloc, words);
+    match write!(writer, "{answer}") {
+        Ok(()) => answer.status(),
+        Err(_) => REFUSED,
+    }
+}
+
+/// The answer to the words of a command line.
+pub fn answer_to(alloc: Global, words: &[&str]) -> Answer
+    ensures { IsAnswer (map (λ word. word.now) words.now) result }
+{
+    match parse(words) {
+        Some(request) => match requested(alloc, request) {
+            Ok(text) => Answer::Done(text),
+            Err(error) => Answer::Refused(error),
+        },
+        None => Answer::Usage,
+    }
 }
 
 /// Why an error refused a run, in the words of the program.
@@ -68,35 +110,10 @@ pub fn reason(error: &TranscriptError) -> &'static str
     }
 }
 
-fn write_usage<W: Write>(writer: &mut W) -> io::Result<u8>
-    ensures { IfOk result (λ status. (status ≡ 2)
-        × Appends (W.contents writer.old) (W.contents writer.new) usage_line) }
-{
-    writer.write_all(b"usage: transcript first|pattern|prove|verify\n")?;
-    Ok(USAGE)
-}
-
-// Writes what is asked for.
-fn write_answer<W: Write>(alloc: Global, request: Request, writer: &mut W) -> io::Result<u8>
-    ensures { IfOk result (λ status.
-        ((status ≡ 0) × Writes request (W.contents writer.old) (W.contents writer.new))
-        ⊎ ((status ≡ 1) × Appends (W.contents writer.old) (W.contents writer.new) out_of_memory_line)) }
-{
-    match answer(alloc, request) {
-        Ok(text) => {
-            writer.write_all(text.as_bytes())?;
-            Ok(DONE)
-        }
-        Err(error) => {
-            writeln!(writer, "refused: {}", reason(&error))?;
-            Ok(REFUSED)
-        }
-    }
-}
-
-fn answer(alloc: Global, request: Request) -> Result<String, TranscriptError>
+// The text of what is asked for.
+fn requested(alloc: Global, request: Request) -> Result<String, TranscriptError>
     ensures ok { IfOk result (λ text. Answers request (string_bytes text)) }
-    ensures err { IfErr result (λ e. e ≡ TranscriptError.OutOfMemory) }
+    ensures err { IfErr result (λ e. Refuses request e) }
 {
     match request {
         Request::First(value) => first_text(alloc, value),
