@@ -3,6 +3,8 @@ pub mod Bits
 pub mod CallLaws
 pub mod DrawLaws
 pub mod Reading
+pub mod SegmentLaws
+pub mod Segments
 pub mod Sponge
 pub mod SpongeLaws
 pub mod SymbolLaws
