@@ -1,7 +1,8 @@
 ghost use Rattle.std.specs.Prelude.{◌≡◌, ◌<◌, ◌≤◌, ℕ, List, Some, length, replicate, take};
 ghost use Rattle.p3_field_core.specs.Residues.{plus};
-ghost use Rattle.p3_duplex.specs.DuplexChain.{Call, run_calls, run_segments, segments};
-ghost use Rattle.p3_duplex.specs.DuplexTranscript.{absorbing, overwritten, fresh, outputs};
+ghost use Rattle.p3_challenger_core.specs.Segments.{Call, segments, run_calls, run_calls_to_digest, run_segments, run_segments_to_digest};
+ghost use Rattle.p3_duplex.specs.DuplexChain.{duplex_by_segments};
+ghost use Rattle.p3_duplex.specs.DuplexTranscript.{absorbing, overwritten, fresh, outputs, duplex_by_calls};
 ghost use Rattle.p3_challenger_core.specs.Sponge.{RefusesDraws};
 ghost use Rattle.p3_challenger_core.specs.declared.error.ChallengerError.{ChallengerError};
 
@@ -87,13 +88,17 @@ impl<
     }
 
     /// The duplex transcript, whole: from this challenger on, every list of calls gives the answers,
-    /// and leaves the sponge, that its segments name.
+    /// hands over the states to the permutation, and leaves the sponge, that its segments name; and so
+    /// do calls that end in a digest.
     ///
-    /// A law: the body is empty, and a caller cites the clause.
+    /// A law: the body is empty, and a caller cites the clauses.
     pub fn follows_duplex_transcript(&self)
-        ensures { (calls : List (Call F)) →
-            run_calls F.residues (P.permutation self.now.permutation) RATE self.now.sponge calls
-            ≡ run_segments F.residues (P.permutation self.now.permutation) RATE self.now.sponge (segments calls) }
+        ensures calls { (calls : List (Call F)) →
+            run_calls (duplex_by_calls F.residues (P.permutation self.now.permutation) RATE) self.now.sponge calls
+            ≡ run_segments (duplex_by_segments F.residues (P.permutation self.now.permutation) RATE) self.now.sponge (segments calls) }
+        ensures digest { (calls : List (Call F)) →
+            run_calls_to_digest (duplex_by_calls F.residues (P.permutation self.now.permutation) RATE) self.now.sponge calls
+            ≡ run_segments_to_digest (duplex_by_segments F.residues (P.permutation self.now.permutation) RATE) self.now.sponge (segments calls) }
     {
         let _ = &self.outputs_left;
     }
