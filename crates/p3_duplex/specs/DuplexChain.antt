@@ -74,7 +74,7 @@ outputs_from r permute rate cells place zero = []
 outputs_from r permute rate cells place (suc n) =
     output_at r permute rate cells place ∷ outputs_from r permute rate cells (suc place) n
 
--- n draws more than one, from a place on: the cells are permuted as often as the last of them asks
+-- a draw and n more, from a place on: the cells are permuted as often as the last of them asks
 abbrev pub draws_from : {F : Type 0} → Residues F → (List F → List F) → ℕ → List F → ℕ → ℕ → Run F (List F) (DuplexSponge F)
 draws_from r permute rate cells place n =
     record {
