@@ -4,6 +4,8 @@ pub use Rattle.p3_challenger_core.specs.Bits
 pub use Rattle.p3_challenger_core.specs.CallLaws
 pub use Rattle.p3_challenger_core.specs.DrawLaws
 pub use Rattle.p3_challenger_core.specs.Reading
+pub use Rattle.p3_challenger_core.specs.SegmentLaws
+pub use Rattle.p3_challenger_core.specs.Segments
 pub use Rattle.p3_challenger_core.specs.Sponge
 pub use Rattle.p3_challenger_core.specs.SpongeLaws
 pub use Rattle.p3_challenger_core.specs.SymbolLaws
