@@ -2,12 +2,12 @@
 -- wherever each step of a segment does what one call does.
 use Rattle.std.proofs.Common.{◌≡◌, ℕ, zero, suc, ◌<◌, List, [], ◌∷◌, ◌++◌, inl, inr, map, replicate, refl, sym, ap, ◌∙◌, append_assoc, append-nil, arith}
 use Rattle.p3_challenger_core.specs.Sponge.{IsNonEmpty}
-use Rattle.p3_challenger_core.specs.Segments.{Call, observe, observe_empty_array, draw, Segment, nothing, value_before, draw_before, segments, calls_of, AreCut, IsCutOf, Run, stays, run_before, ByCalls, run_calls, run_calls_to_digest, BySegments, run_segment, run_others, run_segments, run_segments_to_digest}
+use Rattle.p3_challenger_core.specs.Segments.{Call, observe, observe_empty_array, draw, Segment, nothing, value_before, draw_before, segments, calls_of, AreCutInto, IsCutOf, Run, stays, run_before, ByCalls, run_calls, run_calls_to_digest, BySegments, run_segment, run_others, run_segments, run_segments_to_digest}
 
 -- ---- the cut of a list of calls is one
 
 -- a value in front of a cut
-cut-value : {T : Type 0} (x : T) (calls : List (Call T)) (first : Segment T) (others : List (Segment T)) → AreCut calls first others → AreCut (observe x ∷ calls) (record { values = x ∷ first.values; draws = first.draws }) others
+cut-value : {T : Type 0} (x : T) (calls : List (Call T)) (first : Segment T) (others : List (Segment T)) → AreCutInto first others calls → AreCutInto (record { values = x ∷ first.values; draws = first.draws }) others (observe x ∷ calls)
 cut-value x calls first [] h = ap (λ c. observe x ∷ c) h
 cut-value x calls first (next ∷ others) h = (
   h.0,
@@ -19,7 +19,7 @@ cut-value x calls first (next ∷ others) h = (
 )
 
 -- a draw in front of one whose first segment observes nothing
-cut-draw_only : {T : Type 0} (calls : List (Call T)) (draws : ℕ) (others : List (Segment T)) → AreCut calls (record { values = []; draws = draws }) others → AreCut (draw ∷ calls) (record { values = []; draws = suc draws }) others
+cut-draw_only : {T : Type 0} (calls : List (Call T)) (draws : ℕ) (others : List (Segment T)) → AreCutInto (record { values = []; draws = draws }) others calls → AreCutInto (record { values = []; draws = suc draws }) others (draw ∷ calls)
 cut-draw_only calls draws [] h = ap (λ c. draw ∷ c) h
 cut-draw_only calls draws (next ∷ others) h = (
   h.0,
@@ -30,7 +30,7 @@ cut-draw_only calls draws (next ∷ others) h = (
   h.2,
 )
 
-cut-draw : {T : Type 0} (calls : List (Call T)) (values : List T) (draws : ℕ) (others : List (Segment T)) → AreCut calls (record { values = values; draws = draws }) others → IsCutOf (draw ∷ calls) (draw_before (record { values = values; draws = draws }) others values)
+cut-draw : {T : Type 0} (calls : List (Call T)) (values : List T) (draws : ℕ) (others : List (Segment T)) → AreCutInto (record { values = values; draws = draws }) others calls → IsCutOf (draw ∷ calls) (draw_before (record { values = values; draws = draws }) others values)
 cut-draw calls [] draws others h = cut-draw_only calls draws others h
 cut-draw calls (x ∷ xs) draws others h = (calls, inr (refl, omega arith, tt), h)
 
@@ -71,7 +71,7 @@ ended-by_draw values (suc n) next others rest draws some h =
     calls_of-more (record { values = values; draws = suc n }) (next ∷ others) rest (draws-segments_ended n next.values next.draws others rest some h)
 
 -- every cut of calls is theirs
-pub cut-only : {T : Type 0} (calls : List (Call T)) (first : Segment T) (others : List (Segment T)) → AreCut calls first others → record { first = first; others = others } ≡ segments calls
+pub cut-only : {T : Type 0} (calls : List (Call T)) (first : Segment T) (others : List (Segment T)) → AreCutInto first others calls → record { first = first; others = others } ≡ segments calls
 cut-only calls first [] h =
     sym (ap segments (h ∙ sym (append-nil (calls_of first)))
     ∙ calls_of-more first [] [] (draws-segments first.draws [] [] refl))

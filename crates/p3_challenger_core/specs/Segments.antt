@@ -50,20 +50,21 @@ segments (draw ∷ calls) = draw_before (segments calls).first (segments calls).
 abbrev pub calls_of : {T : Type 0} → Segment T → List (Call T)
 calls_of segment = map observe segment.values ++ replicate segment.draws draw
 
--- calls that begin with a segment, and the next segment begins behind it: an array of no places stands
--- between them; or nothing does, and then the first one draws and the next one observes a value
+-- calls are those of a segment and then the rest, where the next segment begins: an array of no places
+-- stands between them; or nothing does, and then the segment draws and the next one observes a value
 abbrev pub EndsBefore : {T : Type 0} → Segment T → Segment T → List (Call T) → List (Call T) → Type 0
-EndsBefore segment next calls rest =
+EndsBefore segment next rest calls =
     (calls ≡ calls_of segment ++ observe_empty_array ∷ rest)
     ⊎ ((calls ≡ calls_of segment ++ rest) × (0 < segment.draws) × IsNonEmpty next.values)
 
--- calls are those of a segment and of others, in order
-abbrev pub AreCut : {T : Type 0} → List (Call T) → Segment T → List (Segment T) → Type 0
-AreCut calls segment [] = calls ≡ calls_of segment
-AreCut {T} calls segment (next ∷ others) = (rest : List (Call T)) × EndsBefore segment next calls rest × AreCut rest next others
+-- calls are those of a segment and of the others behind it, and each ends before the next one
+abbrev pub AreCutInto : {T : Type 0} → Segment T → List (Segment T) → List (Call T) → Type 0
+AreCutInto segment [] calls = calls ≡ calls_of segment
+AreCutInto {T} segment (next ∷ others) calls =
+    (rest : List (Call T)) × EndsBefore segment next rest calls × AreCutInto next others rest
 
 abbrev pub IsCutOf : {T : Type 0} → List (Call T) → Segments T → Type 0
-IsCutOf calls cut = AreCut calls cut.first cut.others
+IsCutOf calls cut = AreCutInto cut.first cut.others calls
 
 -- ---- what calls do
 
@@ -80,7 +81,12 @@ stays s = record { answers = []; handed = []; after = s }
 
 -- one run and then another
 abbrev pub run_before : {A M S R : Type 0} → Run A M S → Run A M R → Run A M R
-run_before first next = record { answers = first.answers ++ next.answers; handed = first.handed ++ next.handed; after = next.after }
+run_before first next =
+    record {
+      answers = first.answers ++ next.answers;
+      handed = first.handed ++ next.handed;
+      after = next.after;
+    }
 
 -- ---- call by call
 

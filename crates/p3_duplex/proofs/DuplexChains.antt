@@ -4,9 +4,9 @@ use Rattle.std.proofs.lemmas.Bool.Decides.{nat_tests}
 use Rattle.std.proofs.lemmas.List.{length-append, take_at, drop_at, drop-drop}
 use Rattle.std.proofs.Math.Nat.{add-div_left, add-mod_left, div-eq_of_lt, mod-eq_of_lt}
 use Rattle.p3_field_core.specs.Residues.{Residues}
-use Rattle.p3_challenger_core.specs.Segments.{Call, observe, observe_empty_array, draw, Run, stays, run_before}
+use Rattle.p3_challenger_core.specs.Segments.{Call, observe, observe_empty_array, draw, stays, run_before}
 use Rattle.p3_challenger_core.specs.SegmentLaws.{StepsAgree}
-use Rattle.p3_duplex.specs.DuplexTranscript.{DuplexSponge, cell, overwritten, absorbing, duplexed, appended, observed, last_output, one_taken, after_sampled, run_call, run_digest, duplex_by_calls}
+use Rattle.p3_duplex.specs.DuplexTranscript.{DuplexSponge, DuplexRun, cell, overwritten, absorbing, duplexed, appended, observed, last_output, one_taken, after_sampled, run_call, run_digest, duplex_by_calls}
 use Rattle.p3_duplex.specs.DuplexChain.{absorbed_blocks, handed_blocks, outputs_behind, absorbed, run_values, permuted, handed_in_turn, output_at, left_behind, outputs_from, draws_from, run_draws, digest_behind, duplex_by_segments}
 
 -- what a challenger keeps: fewer values are pending than the rate has cells, no more outputs are left
@@ -24,7 +24,7 @@ not_zero : (m : ℕ) → (suc m == 0) ≡ false
 not_zero m = grind (arith, nat_tests)
 
 -- a state that is handed over first
-abbrev handed_first : {F : Type 0} → List F → Run F (List F) (DuplexSponge F) → Run F (List F) (DuplexSponge F)
+abbrev handed_first : {F : Type 0} → List F → DuplexRun F → DuplexRun F
 handed_first state run = record run { handed = state ∷ run.handed }
 
 module _ {F : Type 0} (r : Residues F) (permute : List F → List F) (n : ℕ) (positive : 0 < n) where
@@ -129,9 +129,9 @@ module _ {F : Type 0} (r : Residues F) (permute : List F → List F) (n : ℕ) (
 
   observed-fits-by : (b : Bool) (s : DuplexSponge F) (x : F) → Fits n s → (length (s.pending ++ x ∷ []) == n) ≡ b → Fits n (observed r permute n s x)
   observed-fits-by true s x fits full =
-      subst (λ (run : Run F (List F) (DuplexSponge F)). Fits n run.after) (sym (observed-full s x full)) (emptied-fits _ n (omega arith))
+      subst (λ (run : DuplexRun F). Fits n run.after) (sym (observed-full s x full)) (emptied-fits _ n (omega arith))
   observed-fits-by false s x fits short =
-      subst (λ (run : Run F (List F) (DuplexSponge F)). Fits n run.after) (sym (observed-short s x short)) (record { short = is_short s x fits.short short; left = omega arith; none_left = λ _. refl })
+      subst (λ (run : DuplexRun F). Fits n run.after) (sym (observed-short s x short)) (record { short = is_short s x fits.short short; left = omega arith; none_left = λ _. refl })
 
   observed-fits : (s : DuplexSponge F) (x : F) → Fits n s → Fits n (observed r permute n s x)
   observed-fits s x fits = observed-fits-by (length (s.pending ++ x ∷ []) == n) s x fits refl
@@ -242,7 +242,7 @@ module _ {F : Type 0} (r : Residues F) (permute : List F → List F) (n : ℕ) (
   after-fits-by : (cells pending : List F) (left : ℕ) → left ≤ n → (0 < length pending → left ≡ 0) → Fits n (after_sampled r permute n (record { cells = cells; pending = pending; outputs_left = left }))
   after-fits-by cells pending zero h none = emptied-fits _ (n - 1) (omega arith)
   after-fits-by cells [] (suc m) h none =
-      subst (λ (run : Run F (List F) (DuplexSponge F)). Fits n run.after) (sym (drawn-left cells m)) (emptied-fits cells (suc m - 1) (omega arith))
+      subst (λ (run : DuplexRun F). Fits n run.after) (sym (drawn-left cells m)) (emptied-fits cells (suc m - 1) (omega arith))
   after-fits-by cells (x ∷ xs) (suc m) h none =
       let some : 0 < length (x ∷ xs) = omega arith in
       let no : suc m ≡ 0 = none some in

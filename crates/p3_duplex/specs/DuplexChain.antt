@@ -3,7 +3,7 @@
 use Rattle.std.specs.Prelude.{ℕ, zero, suc, ◌+◌, ◌-◌, ◌*◌, ◌/◌, ◌%◌, List, [], ◌∷◌, ◌++◌, length, take, drop}
 use Rattle.p3_field_core.specs.Residues.{Residues}
 use Rattle.p3_challenger_core.specs.Segments.{Run, stays, run_before, BySegments}
-use Rattle.p3_duplex.specs.DuplexTranscript.{DuplexSponge, cell, overwritten}
+use Rattle.p3_duplex.specs.DuplexTranscript.{DuplexSponge, DuplexRun, cell, overwritten}
 
 -- ---- what is absorbed
 
@@ -26,7 +26,7 @@ outputs_behind rate [] = rate
 outputs_behind rate (x ∷ xs) = 0
 
 -- each whole block of values is absorbed, and what is left over is pending
-abbrev pub absorbed : {F : Type 0} → Residues F → (List F → List F) → ℕ → List F → List F → Run F (List F) (DuplexSponge F)
+abbrev pub absorbed : {F : Type 0} → Residues F → (List F → List F) → ℕ → List F → List F → DuplexRun F
 absorbed r permute rate cells values =
     let blocks = length values / rate in
     let pending = drop (rate * blocks) values in
@@ -41,7 +41,7 @@ absorbed r permute rate cells values =
     }
 
 -- a segment's values go on behind those that are pending; with none nothing changes
-abbrev pub run_values : {F : Type 0} → Residues F → (List F → List F) → ℕ → DuplexSponge F → List F → Run F (List F) (DuplexSponge F)
+abbrev pub run_values : {F : Type 0} → Residues F → (List F → List F) → ℕ → DuplexSponge F → List F → DuplexRun F
 run_values r permute rate start [] = stays start
 run_values r permute rate start (x ∷ xs) = absorbed r permute rate start.cells (start.pending ++ x ∷ xs)
 
@@ -75,7 +75,7 @@ outputs_from r permute rate cells place (suc n) =
     output_at r permute rate cells place ∷ outputs_from r permute rate cells (suc place) n
 
 -- a draw and n more, from a place on: the cells are permuted as often as the last of them asks
-abbrev pub draws_from : {F : Type 0} → Residues F → (List F → List F) → ℕ → List F → ℕ → ℕ → Run F (List F) (DuplexSponge F)
+abbrev pub draws_from : {F : Type 0} → Residues F → (List F → List F) → ℕ → List F → ℕ → ℕ → DuplexRun F
 draws_from r permute rate cells place n =
     record {
       answers = outputs_from r permute rate cells place (suc n);
@@ -84,7 +84,7 @@ draws_from r permute rate cells place n =
     }
 
 -- where draws begin: a block that is pending is absorbed first, and then all outputs are left
-abbrev pub opened : {F : Type 0} → Residues F → (List F → List F) → ℕ → List F → List F → ℕ → Run F (List F) (DuplexSponge F)
+abbrev pub opened : {F : Type 0} → Residues F → (List F → List F) → ℕ → List F → List F → ℕ → DuplexRun F
 opened r permute rate cells [] outputs_left =
     stays (record { cells = cells; pending = []; outputs_left = outputs_left })
 opened r permute rate cells (x ∷ xs) outputs_left =
@@ -97,7 +97,7 @@ opened r permute rate cells (x ∷ xs) outputs_left =
 
 -- with outputs left draws begin at the last of them, and with none at the last cell of the cells
 -- permuted once
-abbrev pub run_draws : {F : Type 0} → Residues F → (List F → List F) → ℕ → DuplexSponge F → ℕ → Run F (List F) (DuplexSponge F)
+abbrev pub run_draws : {F : Type 0} → Residues F → (List F → List F) → ℕ → DuplexSponge F → ℕ → DuplexRun F
 run_draws r permute rate s zero = stays s
 run_draws r permute rate s (suc n) =
     let opening = opened r permute rate s.cells s.pending s.outputs_left in
@@ -115,8 +115,11 @@ digest_behind r permute rate cells (x ∷ xs) =
 
 -- ---- segments
 
+abbrev pub DuplexSegments : Type 0 → Type 0
+DuplexSegments F = BySegments F F (List F) (List F) (DuplexSponge F)
+
 -- each segment goes on where the one before it stopped
-abbrev pub duplex_by_segments : {F : Type 0} → Residues F → (List F → List F) → ℕ → BySegments F F (List F) (List F) (DuplexSponge F)
+abbrev pub duplex_by_segments : {F : Type 0} → Residues F → (List F → List F) → ℕ → DuplexSegments F
 duplex_by_segments r permute rate =
     record {
       values = run_values r permute rate;

@@ -88,16 +88,28 @@ handed_by_digest r rate s = absorbing r rate s.cells s.pending ∷ []
 
 -- ---- what a call does
 
+abbrev pub DuplexRun : Type 0 → Type 0
+DuplexRun F = Run F (List F) (DuplexSponge F)
+
 -- an array of no places does nothing
-abbrev pub run_call : {F : Type 0} → Residues F → (List F → List F) → ℕ → DuplexSponge F → Call F → Run F (List F) (DuplexSponge F)
+abbrev pub run_call : {F : Type 0} → Residues F → (List F → List F) → ℕ → DuplexSponge F → Call F → DuplexRun F
 run_call r permute rate s (observe x) =
     record { answers = []; handed = handed_by_value r rate s x; after = observed r permute rate s x }
 run_call r permute rate s observe_empty_array = stays s
 run_call r permute rate s draw =
-    record { answers = sampled r permute rate s ∷ []; handed = handed_by_draw r rate s; after = after_sampled r permute rate s }
+    record {
+      answers = sampled r permute rate s ∷ [];
+      handed = handed_by_draw r rate s;
+      after = after_sampled r permute rate s;
+    }
 
 abbrev pub run_digest : {F : Type 0} → Residues F → (List F → List F) → ℕ → DuplexSponge F → Run F (List F) (List F)
-run_digest r permute rate s = record { answers = []; handed = handed_by_digest r rate s; after = digest r permute rate s }
+run_digest r permute rate s =
+    record { answers = []; handed = handed_by_digest r rate s; after = digest r permute rate s }
 
-abbrev pub duplex_by_calls : {F : Type 0} → Residues F → (List F → List F) → ℕ → ByCalls F F (List F) (List F) (DuplexSponge F)
+-- a duplex challenger call by call
+abbrev pub DuplexCalls : Type 0 → Type 0
+DuplexCalls F = ByCalls F F (List F) (List F) (DuplexSponge F)
+
+abbrev pub duplex_by_calls : {F : Type 0} → Residues F → (List F → List F) → ℕ → DuplexCalls F
 duplex_by_calls r permute rate = record { call = run_call r permute rate; digest = run_digest r permute rate }

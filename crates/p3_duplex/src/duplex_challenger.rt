@@ -94,11 +94,13 @@ impl<
     /// A law: the body is empty, and a caller cites the clauses.
     pub fn follows_duplex_transcript(&self)
         ensures calls { (calls : List (Call F)) →
-            run_calls (duplex_by_calls F.residues (P.permutation self.now.permutation) RATE) self.now.sponge calls
-            ≡ run_segments (duplex_by_segments F.residues (P.permutation self.now.permutation) RATE) self.now.sponge (segments calls) }
+            let permute = P.permutation self.now.permutation in
+            run_calls (duplex_by_calls F.residues permute RATE) self.now.sponge calls
+            ≡ run_segments (duplex_by_segments F.residues permute RATE) self.now.sponge (segments calls) }
         ensures digest { (calls : List (Call F)) →
-            run_calls_to_digest (duplex_by_calls F.residues (P.permutation self.now.permutation) RATE) self.now.sponge calls
-            ≡ run_segments_to_digest (duplex_by_segments F.residues (P.permutation self.now.permutation) RATE) self.now.sponge (segments calls) }
+            let permute = P.permutation self.now.permutation in
+            run_calls_to_digest (duplex_by_calls F.residues permute RATE) self.now.sponge calls
+            ≡ run_segments_to_digest (duplex_by_segments F.residues permute RATE) self.now.sponge (segments calls) }
     {
         let _ = &self.outputs_left;
     }

@@ -4,7 +4,7 @@ use Rattle.std.proofs.lemmas.Bool.Decides.{nat_tests}
 use Rattle.std.proofs.Math.Nat.{add-div_left, add-mod_left, div-eq_of_lt, mod-eq_of_lt}
 use Rattle.p3_challenger_core.specs.Segments.{Call, observe, observe_empty_array, draw, Run, stays, run_before}
 use Rattle.p3_challenger_core.specs.SegmentLaws.{StepsAgree}
-use Rattle.p3_hash_challenger.specs.HashTranscript.{HashTranscript, absorbing, observed, flushed, last_output, one_taken, after_sampled, run_call, hash_by_calls}
+use Rattle.p3_hash_challenger.specs.HashTranscript.{HashTranscript, HashRun, absorbing, observed, flushed, last_output, one_taken, after_sampled, run_call, hash_by_calls}
 use Rattle.p3_hash_challenger.specs.HashChain.{run_values, hashed, handed_in_turn, output_at, left_behind, outputs_from, draws_from, run_draws, hash_by_segments}
 
 -- a digest further on in the row is one hash more, at the same place
@@ -25,7 +25,7 @@ not_zero : (m : ℕ) → (suc m == 0) ≡ false
 not_zero m = grind (arith, nat_tests)
 
 -- a string that is handed over first
-abbrev handed_first : {T : Type 0} → List T → Run (Option T) (List T) (HashTranscript T) → Run (Option T) (List T) (HashTranscript T)
+abbrev handed_first : {T : Type 0} → List T → HashRun T → HashRun T
 handed_first message run = record run { handed = message ∷ run.handed }
 
 -- a value and then a list are fed as one list

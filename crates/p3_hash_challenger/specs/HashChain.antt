@@ -2,12 +2,12 @@
 -- whole segments of calls.
 use Rattle.std.specs.Prelude.{ℕ, zero, suc, ◌+◌, ◌-◌, ◌/◌, ◌%◌, List, [], ◌∷◌, ◌++◌, Option, slice_get}
 use Rattle.p3_challenger_core.specs.Segments.{Run, stays, BySegments}
-use Rattle.p3_hash_challenger.specs.HashTranscript.{HashTranscript, absorbing}
+use Rattle.p3_hash_challenger.specs.HashTranscript.{HashTranscript, HashRun, absorbing}
 
 -- ---- what is observed
 
 -- a segment's values follow the chain; with none nothing changes, and nothing is hashed
-abbrev pub run_values : {T : Type 0} → HashTranscript T → List T → Run (Option T) (List T) (HashTranscript T)
+abbrev pub run_values : {T : Type 0} → HashTranscript T → List T → HashRun T
 run_values start [] = stays start
 run_values start (x ∷ xs) = stays (absorbing (start.pending ++ x ∷ xs))
 
@@ -31,15 +31,17 @@ output_at hash out_len chain place = slice_get (hashed hash (place / out_len) ch
 
 -- once that output is drawn: the h that it was in is pending, and its places before it are left
 abbrev pub left_behind : {T : Type 0} → (List T → List T) → ℕ → List T → ℕ → HashTranscript T
-left_behind hash out_len chain place = record { pending = hashed hash (place / out_len) chain; outputs_left = out_len - 1 - place % out_len }
+left_behind hash out_len chain place =
+    record { pending = hashed hash (place / out_len) chain; outputs_left = out_len - 1 - place % out_len }
 
 -- the outputs of n draws from a place on
 unfoldable pub outputs_from : {T : Type 0} → (List T → List T) → ℕ → List T → ℕ → ℕ → List (Option T)
 outputs_from hash out_len chain place zero = []
-outputs_from hash out_len chain place (suc n) = output_at hash out_len chain place ∷ outputs_from hash out_len chain (suc place) n
+outputs_from hash out_len chain place (suc n) =
+    output_at hash out_len chain place ∷ outputs_from hash out_len chain (suc place) n
 
 -- a draw and n more, from a place on: the chain is hashed as often as the last of them asks
-abbrev pub draws_from : {T : Type 0} → (List T → List T) → ℕ → List T → ℕ → ℕ → Run (Option T) (List T) (HashTranscript T)
+abbrev pub draws_from : {T : Type 0} → (List T → List T) → ℕ → List T → ℕ → ℕ → HashRun T
 draws_from hash out_len chain place n =
     record {
       answers = outputs_from hash out_len chain place (suc n);
@@ -48,15 +50,18 @@ draws_from hash out_len chain place n =
     }
 
 -- with outputs left draws go on where those before them stopped, and else they begin anew
-abbrev pub run_draws : {T : Type 0} → (List T → List T) → ℕ → HashTranscript T → ℕ → Run (Option T) (List T) (HashTranscript T)
+abbrev pub run_draws : {T : Type 0} → (List T → List T) → ℕ → HashTranscript T → ℕ → HashRun T
 run_draws hash out_len start zero = stays start
 run_draws hash out_len start (suc n) = draws_from hash out_len start.pending (out_len - start.outputs_left) n
 
 -- ---- segments
 
+abbrev pub HashSegments : Type 0 → Type 0
+HashSegments T = BySegments T (Option T) (List T) (List T) (HashTranscript T)
+
 -- The chain of the next segment is what the one before left pending, and no output is left. The digest
 -- behind the last one is the hash of the chain that a next one would have.
-abbrev pub hash_by_segments : {T : Type 0} → (List T → List T) → ℕ → BySegments T (Option T) (List T) (List T) (HashTranscript T)
+abbrev pub hash_by_segments : {T : Type 0} → (List T → List T) → ℕ → HashSegments T
 hash_by_segments hash out_len =
     record {
       values = run_values;

@@ -69,14 +69,25 @@ handed_by_digest s = s.pending ∷ []
 
 -- ---- what a call does
 
-abbrev pub run_call : {T : Type 0} → (List T → List T) → ℕ → HashTranscript T → Call T → Run (Option T) (List T) (HashTranscript T)
+abbrev pub HashRun : Type 0 → Type 0
+HashRun T = Run (Option T) (List T) (HashTranscript T)
+
+abbrev pub run_call : {T : Type 0} → (List T → List T) → ℕ → HashTranscript T → Call T → HashRun T
 run_call hash out_len s (observe x) = stays (observed s x)
 run_call hash out_len s observe_empty_array = stays (array_observed s [])
 run_call hash out_len s draw =
-    record { answers = sampled hash out_len s ∷ []; handed = handed_by_draw s; after = after_sampled hash out_len s }
+    record {
+      answers = sampled hash out_len s ∷ [];
+      handed = handed_by_draw s;
+      after = after_sampled hash out_len s;
+    }
 
 abbrev pub run_digest : {T : Type 0} → (List T → List T) → HashTranscript T → Run (Option T) (List T) (List T)
 run_digest hash s = record { answers = []; handed = handed_by_digest s; after = digest hash s }
 
-abbrev pub hash_by_calls : {T : Type 0} → (List T → List T) → ℕ → ByCalls T (Option T) (List T) (List T) (HashTranscript T)
+-- a hash challenger call by call
+abbrev pub HashCalls : Type 0 → Type 0
+HashCalls T = ByCalls T (Option T) (List T) (List T) (HashTranscript T)
+
+abbrev pub hash_by_calls : {T : Type 0} → (List T → List T) → ℕ → HashCalls T
 hash_by_calls hash out_len = record { call = run_call hash out_len; digest = run_digest hash }

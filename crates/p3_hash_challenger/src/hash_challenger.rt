@@ -92,11 +92,13 @@ impl<T: Copy, H: CryptographicHasher<T, [T; OUT_LEN]>, const OUT_LEN: usize> Has
     /// A law: the body is empty, and a caller cites the clauses.
     pub fn follows_hash_chain(&self)
         ensures calls { (calls : List (Call T)) →
-            run_calls (hash_by_calls (H.hash self.now.hasher) OUT_LEN) self.now.transcript calls
-            ≡ run_segments (hash_by_segments (H.hash self.now.hasher) OUT_LEN) self.now.transcript (segments calls) }
+            let hash = H.hash self.now.hasher in
+            run_calls (hash_by_calls hash OUT_LEN) self.now.transcript calls
+            ≡ run_segments (hash_by_segments hash OUT_LEN) self.now.transcript (segments calls) }
         ensures digest { (calls : List (Call T)) →
-            run_calls_to_digest (hash_by_calls (H.hash self.now.hasher) OUT_LEN) self.now.transcript calls
-            ≡ run_segments_to_digest (hash_by_segments (H.hash self.now.hasher) OUT_LEN) self.now.transcript (segments calls) }
+            let hash = H.hash self.now.hasher in
+            run_calls_to_digest (hash_by_calls hash OUT_LEN) self.now.transcript calls
+            ≡ run_segments_to_digest (hash_by_segments hash OUT_LEN) self.now.transcript (segments calls) }
     {
         let _ = &self.outputs_left;
     }
