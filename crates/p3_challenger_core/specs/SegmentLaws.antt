@@ -1,6 +1,8 @@
 -- Laws of segments: a list of calls has one cut, and what the calls do one by one is what its segments do,
 -- wherever each step of a segment does what one call does.
 use Rattle.std.proofs.Common.{◌≡◌, ℕ, zero, suc, ◌<◌, List, [], ◌∷◌, ◌++◌, inl, inr, map, replicate, refl, sym, ap, ◌∙◌, append_assoc, append-nil, arith}
+use Rattle.std.specs.List.{All}
+use Rattle.std.proofs.lemmas.List.Elements.{All-nil, All-cons, All-head, All-tail}
 use Rattle.p3_challenger_core.specs.Sponge.{IsNonEmpty}
 use Rattle.p3_challenger_core.specs.Segments.{Call, observe, observe_empty_array, draw, Segment, nothing, value_before, draw_before, segments, calls_of, AreCutInto, IsCutOf, Run, stays, run_before, ByCalls, run_calls, run_calls_to_digest, BySegments, run_segment, run_others, run_segments, run_segments_to_digest}
 
@@ -176,3 +178,30 @@ module _ {T A M D S : Type 0} (Keeps : S → Type 0) (by : ByCalls T A M D S) (o
       let run = run_segments over s (segments calls) in
       ap (λ r. run_before r (by.digest r.after)) (run_calls-segments s keeps calls)
       ∙ ap (run_before run) (agree.digest run.after)
+
+-- ---- what is handed over is all that matters
+
+all-first : {X : Type 0} (P : X → Type 0) (xs ys : List X) → All P (xs ++ ys) → All P xs
+all-first P [] ys h = All-nil P
+all-first P (x ∷ xs) ys h = All-cons P x xs (All-head P x (xs ++ ys) h) (all-first P xs ys (All-tail P x (xs ++ ys) h))
+
+all-second : {X : Type 0} (P : X → Type 0) (xs ys : List X) → All P (xs ++ ys) → All P ys
+all-second P [] ys h = h
+all-second P (x ∷ xs) ys h = all-second P xs ys (All-tail P x (xs ++ ys) h)
+
+-- one challenger, and another that does the same wherever P holds of all that the one hands over
+module _ {T A M D S : Type 0} (P : M → Type 0) (by other : ByCalls T A M D S) (same_call : (s : S) (call : Call T) → All P (by.call s call).handed → other.call s call ≡ by.call s call) (same_digest : (s : S) → All P (by.digest s).handed → other.digest s ≡ by.digest s) where
+  pub run_calls-same : (s : S) (calls : List (Call T)) → All P (run_calls by s calls).handed → run_calls other s calls ≡ run_calls by s calls
+  run_calls-same s [] h = refl
+  run_calls-same s (call ∷ calls) h =
+      let run = by.call s call in
+      let rest = run_calls by run.after calls in
+      ap (λ r. run_before r (run_calls other r.after calls)) (same_call s call (all-first P run.handed rest.handed h))
+      ∙ ap (run_before run) (run_calls-same run.after calls (all-second P run.handed rest.handed h))
+
+  pub run_calls_to_digest-same : (s : S) (calls : List (Call T)) → All P (run_calls_to_digest by s calls).handed → run_calls_to_digest other s calls ≡ run_calls_to_digest by s calls
+  run_calls_to_digest-same s calls h =
+      let run = run_calls by s calls in
+      let last = (by.digest run.after).handed in
+      ap (λ r. run_before r (other.digest r.after)) (run_calls-same s calls (all-first P run.handed last h))
+      ∙ ap (run_before run) (same_digest run.after (all-second P run.handed last h))

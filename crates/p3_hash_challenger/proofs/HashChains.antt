@@ -1,8 +1,8 @@
 -- The hash chain over segments is what the calls do one by one.
-use Rattle.std.proofs.Common.{◌≡◌, ℕ, zero, suc, ◌<◌, ◌≤◌, ◌+◌, ◌-◌, ◌/◌, ◌%◌, List, [], ◌∷◌, Option, slice_get, ◌==◌, false, if◌then◌else◌, refl, sym, ap, ◌∙◌, append_assoc, append-nil, add-one, arith}
+use Rattle.std.proofs.Common.{◌≡◌, ℕ, zero, suc, ◌<◌, ◌≤◌, ◌+◌, ◌-◌, ◌/◌, ◌%◌, List, [], ◌∷◌, slice_get, ◌==◌, false, if◌then◌else◌, refl, sym, ap, ◌∙◌, append_assoc, append-nil, add-one, arith}
 use Rattle.std.proofs.lemmas.Bool.Decides.{nat_tests}
 use Rattle.std.proofs.Math.Nat.{add-div_left, add-mod_left, div-eq_of_lt, mod-eq_of_lt}
-use Rattle.p3_challenger_core.specs.Segments.{Call, observe, observe_empty_array, draw, Run, stays, run_before}
+use Rattle.p3_challenger_core.specs.Segments.{Call, observe, observe_empty_array, draw, stays, run_before}
 use Rattle.p3_challenger_core.specs.SegmentLaws.{StepsAgree}
 use Rattle.p3_hash_challenger.specs.HashTranscript.{HashTranscript, HashRun, absorbing, observed, flushed, last_output, one_taken, after_sampled, run_call, hash_by_calls}
 use Rattle.p3_hash_challenger.specs.HashChain.{run_values, hashed, handed_in_turn, output_at, left_behind, outputs_from, draws_from, run_draws, hash_by_segments}

@@ -1,7 +1,7 @@
 -- The hash chain: what a hash challenger draws, and what it hands to its hash function, as a function of
 -- whole segments of calls.
 use Rattle.std.specs.Prelude.{ℕ, zero, suc, ◌+◌, ◌-◌, ◌/◌, ◌%◌, List, [], ◌∷◌, ◌++◌, Option, slice_get}
-use Rattle.p3_challenger_core.specs.Segments.{Run, stays, BySegments}
+use Rattle.p3_challenger_core.specs.Segments.{stays, BySegments}
 use Rattle.p3_hash_challenger.specs.HashTranscript.{HashTranscript, HashRun, absorbing}
 
 -- ---- what is observed

@@ -1,5 +1,7 @@
 ghost use Rattle.std.specs.Prelude.{◌≡◌, ◌<◌, ℕ, List, OnOk, OnErr, IfOk, IfErr};
-ghost use Rattle.p3_challenger_core.specs.Segments.{Call, segments, run_calls, run_calls_to_digest, run_segments, run_segments_to_digest};
+ghost use Rattle.std.specs.List.{All};
+ghost use Rattle.p3_challenger_core.specs.Segments.{Call, segments, run_calls, run_calls_to_digest};
+ghost use Rattle.p3_challenger_core.specs.Segments.{run_segments, run_segments_to_digest};
 ghost use Rattle.p3_hash_challenger.specs.HashChain.{hash_by_segments};
 ghost use Rattle.p3_hash_challenger.specs.HashState.{pending_of};
 ghost use Rattle.p3_hash_challenger.specs.HashTranscript.{absorbing, outputs, hash_by_calls};
@@ -87,7 +89,8 @@ impl<T: Copy, H: CryptographicHasher<T, [T; OUT_LEN]>, const OUT_LEN: usize> Has
 
     /// The hash chain, whole: from this challenger on, every list of calls gives the answers, hands
     /// over the strings to the hash function, and leaves the challenger, that its segments name; and
-    /// so do calls that end in a digest.
+    /// so do calls that end in a digest. No string is left out: a hash function that gives the same on
+    /// those that are handed over makes the calls do the same.
     ///
     /// A law: the body is empty, and a caller cites the clauses.
     pub fn follows_hash_chain(&self)
@@ -99,6 +102,16 @@ impl<T: Copy, H: CryptographicHasher<T, [T; OUT_LEN]>, const OUT_LEN: usize> Has
             let hash = H.hash self.now.hasher in
             run_calls_to_digest (hash_by_calls hash OUT_LEN) self.now.transcript calls
             ≡ run_segments_to_digest (hash_by_segments hash OUT_LEN) self.now.transcript (segments calls) }
+        ensures handed { (calls : List (Call T)) (other : List T → List T) →
+            let hash = H.hash self.now.hasher in
+            let run = run_calls (hash_by_calls hash OUT_LEN) self.now.transcript calls in
+            All (λ message. other message ≡ hash message) run.handed
+            → run_calls (hash_by_calls other OUT_LEN) self.now.transcript calls ≡ run }
+        ensures handed_to_digest { (calls : List (Call T)) (other : List T → List T) →
+            let hash = H.hash self.now.hasher in
+            let run = run_calls_to_digest (hash_by_calls hash OUT_LEN) self.now.transcript calls in
+            All (λ message. other message ≡ hash message) run.handed
+            → run_calls_to_digest (hash_by_calls other OUT_LEN) self.now.transcript calls ≡ run }
     {
         let _ = &self.outputs_left;
     }

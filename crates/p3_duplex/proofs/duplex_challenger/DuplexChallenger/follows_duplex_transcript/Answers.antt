@@ -1,10 +1,11 @@
 use Rattle.std.proofs.Common.{◌≡◌, length, take, subst, arith}
 use Rattle.std.proofs.lemmas.List.{length-take-le}
-use Rattle.p3_challenger_core.specs.SegmentLaws.{run_calls-segments, run_calls-segments_to_digest}
+use Rattle.p3_challenger_core.specs.SegmentLaws.{run_calls-segments, run_calls-segments_to_digest, run_calls-same, run_calls_to_digest-same}
 use Rattle.p3_duplex.specs.DuplexTranscript.{DuplexSponge, duplex_by_calls}
 use Rattle.p3_duplex.specs.DuplexChain.{duplex_by_segments}
 use Rattle.p3_duplex.specs.DuplexState.{Duplex}
 use Rattle.p3_duplex.proofs.DuplexChains.{Fits, duplex_steps}
+use Rattle.p3_duplex.proofs.DuplexHanded.{Agree, same_call, same_digest}
 use Rattle.p3_duplex.proofs.duplex_challenger.DuplexChallenger.follows_duplex_transcript.Goals as goal
 
 -- a challenger keeps what the transcript asks of its sponge
@@ -25,4 +26,6 @@ returns g c =
     record {
       calls = run_calls-segments (Fits rate) by_calls by_segments steps c.args.self.now.sponge fits;
       digest = run_calls-segments_to_digest (Fits rate) by_calls by_segments steps c.args.self.now.sponge fits;
+      handed = λ calls other same. run_calls-same (Agree residues permute other rate) by_calls (duplex_by_calls residues other rate) (same_call residues permute other rate) (same_digest residues permute other rate) c.args.self.now.sponge calls same;
+      handed_to_digest = λ calls other same. run_calls_to_digest-same (Agree residues permute other rate) by_calls (duplex_by_calls residues other rate) (same_call residues permute other rate) (same_digest residues permute other rate) c.args.self.now.sponge calls same;
     }
