@@ -69,7 +69,8 @@ IsCutOf calls cut = AreCutInto cut.first cut.others calls
 -- ---- what calls do
 
 -- What calls answer, each draw in order; what they hand to the permutation or to the hash function, in
--- order; and what they leave: the challenger, or the digest that they end in.
+-- order; and what they leave: the challenger, or the digest that they end in. An answer is an A, a state
+-- or string that is handed over an M, and what is left an S.
 pub record Run (A M S : Type 0) : Type 0 where
   pub answers : List A
   pub handed : List M
@@ -90,7 +91,7 @@ run_before first next =
 
 -- ---- call by call
 
--- a challenger call by call: what a call does, and what a digest does
+-- a challenger of values T call by call: what a call does, and what a digest D does
 pub record ByCalls (T A M D S : Type 0) : Type 0 where
   pub call : S → Call T → Run A M S
   pub digest : S → Run A M D
@@ -106,7 +107,7 @@ run_calls_to_digest by s calls = let run = run_calls by s calls in run_before ru
 -- ---- segment by segment
 
 -- a challenger over segments: what values do that are observed one after another, what a number of draws
--- does, how a challenger stands at the end of a segment before the next one begins, and what a digest does
+-- does, how it stands at the end of a segment before the next one begins, and what a digest does
 pub record BySegments (T A M D S : Type 0) : Type 0 where
   pub values : S → List T → Run A M S
   pub draws : S → ℕ → Run A M S

@@ -23,6 +23,11 @@ further-div n q h = add-div_left q h ∙ add-one (q / n)
 not_zero : (m : ℕ) → (suc m == 0) ≡ false
 not_zero m = grind (arith, nat_tests)
 
+-- what is permuted where a value is pending
+pub absorbing-snoc : {F : Type 0} (r : Residues F) (rate : ℕ) (cells pending : List F) (x : F) → absorbing r rate cells (pending ++ x ∷ []) ≡ overwritten r rate cells (pending ++ x ∷ [])
+absorbing-snoc r rate cells [] x = refl
+absorbing-snoc r rate cells (y ∷ ys) x = refl
+
 -- a state that is handed over first
 abbrev handed_first : {F : Type 0} → List F → DuplexRun F → DuplexRun F
 handed_first state run = record run { handed = state ∷ run.handed }
@@ -65,10 +70,6 @@ module _ {F : Type 0} (r : Residues F) (permute : List F → List F) (n : ℕ) (
         after = record { cells = absorbed_blocks r permute n q (permute (overwritten r n cells (front i))) (rest i); pending = pending i; outputs_left = outputs_behind n (pending i) };
       })
 
-  absorbing-snoc : (cells pending : List F) (x : F) → absorbing r n cells (pending ++ x ∷ []) ≡ overwritten r n cells (pending ++ x ∷ [])
-  absorbing-snoc cells [] x = refl
-  absorbing-snoc cells (y ∷ ys) x = refl
-
   outputs_behind-snoc : (pending : List F) (x : F) → outputs_behind n (pending ++ x ∷ []) ≡ 0
   outputs_behind-snoc [] x = refl
   outputs_behind-snoc (y ∷ ys) x = refl
@@ -78,17 +79,17 @@ module _ {F : Type 0} (r : Residues F) (permute : List F → List F) (n : ℕ) (
   observed-full s x full =
       ap (λ b. record {
         answers = [];
-        handed = if b then absorbing r n s.cells (s.pending ++ x ∷ []) ∷ [] else [];
+        handed = if b then overwritten r n s.cells (s.pending ++ x ∷ []) ∷ [] else [];
         after = if b then duplexed r permute n (appended s x) else appended s x;
       }) full
-      ∙ ap (λ c. record { answers = []; handed = c ∷ []; after = record { cells = permute c; pending = []; outputs_left = n } }) (absorbing-snoc s.cells s.pending x)
+      ∙ ap (λ c. record { answers = []; handed = overwritten r n s.cells (s.pending ++ x ∷ []) ∷ []; after = record { cells = permute c; pending = []; outputs_left = n } }) (absorbing-snoc r n s.cells s.pending x)
 
   -- one that does not is pending
   observed-short : (s : DuplexSponge F) (x : F) → (length (s.pending ++ x ∷ []) == n) ≡ false → run_call r permute n s (observe x) ≡ stays (appended s x)
   observed-short s x short =
       ap (λ b. record {
         answers = [];
-        handed = if b then absorbing r n s.cells (s.pending ++ x ∷ []) ∷ [] else [];
+        handed = if b then overwritten r n s.cells (s.pending ++ x ∷ []) ∷ [] else [];
         after = if b then duplexed r permute n (appended s x) else appended s x;
       }) short
 

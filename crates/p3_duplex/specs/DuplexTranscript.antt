@@ -76,7 +76,7 @@ digest r permute rate s = take rate (duplexed r permute rate s).cells
 -- a value hands over the cells with the block that it fills
 abbrev pub handed_by_value : {F : Type 0} → Residues F → ℕ → DuplexSponge F → F → List (List F)
 handed_by_value r rate s x =
-    let pending = s.pending ++ x ∷ [] in if length pending == rate then absorbing r rate s.cells pending ∷ [] else []
+    let block = s.pending ++ x ∷ [] in if length block == rate then overwritten r rate s.cells block ∷ [] else []
 
 -- a draw that finds no output hands over the cells with what is pending, or as they are
 abbrev pub handed_by_draw : {F : Type 0} → Residues F → ℕ → DuplexSponge F → List (List F)

@@ -1,7 +1,8 @@
 -- Worked rows, computed on the definitions: the places of a digest are the length of the message plus 0, 1, ..
-use Rattle.std.proofs.Common.{◌≡◌, ℕ, List, [], ◌∷◌, replicate, Option, Some, refl}
+use Rattle.std.proofs.Common.{◌≡◌, ℕ, List, [], ◌∷◌, replicate, Option, Some, refl, ap}
 use Rattle.std.specs.List.{range_with_len}
-use Rattle.p3_challenger_core.specs.Segments.{Call, observe, observe_empty_array, draw, Run, Segment, segments, run_calls, run_calls_to_digest, run_segments, run_segments_to_digest}
+use Rattle.p3_challenger_core.specs.Segments.{Call, observe, observe_empty_array, draw, Run, Segment, IsCutOf, segments, run_calls, run_calls_to_digest, run_segments, run_segments_to_digest}
+use Rattle.p3_challenger_core.specs.SegmentLaws.{cut-only}
 use Rattle.p3_hash_challenger.specs.HashTranscript.{HashTranscript, absorbing, hash_by_calls}
 use Rattle.p3_hash_challenger.specs.HashChain.{hash_by_segments, hashed, handed_in_turn, outputs_from}
 use Rattle.p3_test_support.specs.LengthHasher.{length_digest}
@@ -113,3 +114,14 @@ cut_at_values = refl
 
 cut_at_arrays : segments (observe 1 ∷ draw ∷ observe_empty_array ∷ draw ∷ observe_empty_array ∷ observe_empty_array ∷ observe 2 ∷ []) ≡ record { first = segment (1 ∷ []) 1; others = segment [] 1 ∷ segment [] 0 ∷ segment (2 ∷ []) 0 ∷ [] }
 cut_at_arrays = refl
+
+-- values in a row are not cut apart, nor are draws from the values before them
+not_between_values : IsCutOf (observe 1 ∷ observe 2 ∷ []) (record { first = segment (1 ∷ []) 0; others = segment (2 ∷ []) 0 ∷ [] }) → ⊥
+not_between_values h =
+    let others : segment (2 ∷ []) 0 ∷ [] ≡ [] = ap (λ cut. cut.others) (cut-only (observe 1 ∷ observe 2 ∷ []) (segment (1 ∷ []) 0) (segment (2 ∷ []) 0 ∷ []) h) in
+    cc
+
+not_before_draws : IsCutOf (observe 1 ∷ draw ∷ []) (record { first = segment (1 ∷ []) 0; others = segment [] 1 ∷ [] }) → ⊥
+not_before_draws h =
+    let others : segment [] 1 ∷ [] ≡ [] = ap (λ cut. cut.others) (cut-only (observe 1 ∷ draw ∷ []) (segment (1 ∷ []) 0) (segment [] 1 ∷ []) h) in
+    cc
