@@ -13,7 +13,7 @@ absorbed_blocks r permute rate zero cells values = cells
 absorbed_blocks r permute rate (suc n) cells values =
     absorbed_blocks r permute rate n (permute (overwritten r rate cells (take rate values))) (drop rate values)
 
--- what those n blocks hand to the permutation: each the cells that it is written over
+-- what those n blocks hand to the permutation: each one, written over the cells
 unfoldable pub handed_blocks : {F : Type 0} → Residues F → (List F → List F) → ℕ → ℕ → List F → List F → List (List F)
 handed_blocks r permute rate zero cells values = []
 handed_blocks r permute rate (suc n) cells values =
