@@ -8,6 +8,8 @@ pub use Rattle.p3_challenger_core.specs.ObservationLaws
 pub use Rattle.p3_challenger_core.specs.Reading
 pub use Rattle.p3_challenger_core.specs.Sampling
 pub use Rattle.p3_challenger_core.specs.SamplingLaws
+pub use Rattle.p3_challenger_core.specs.SegmentLaws
+pub use Rattle.p3_challenger_core.specs.Segments
 pub use Rattle.p3_challenger_core.specs.Sponge
 pub use Rattle.p3_challenger_core.specs.SymbolLaws
 pub use Rattle.p3_duplex.specs.DuplexChain

@@ -9,7 +9,7 @@ pub mod fs;
 
 pub use p3_challenger_core::{
     CanFinalizeDigest, CanObserve, CanSample, CanSampleBits, ChallengerError, FieldChallenger,
-    Sponge, sample_array,
+    Sponge, calls_have_one_cut, sample_array,
 };
 pub use p3_duplex::DuplexChallenger;
 pub use p3_hash_challenger::HashChallenger;

@@ -5,6 +5,8 @@ pub mod DrawLaws
 pub mod Observation
 pub mod Reading
 pub mod Sampling
+pub mod SegmentLaws
+pub mod Segments
 pub mod Sponge
 pub mod SamplingLaws
 pub mod SymbolLaws

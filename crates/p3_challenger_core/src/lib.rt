@@ -10,8 +10,10 @@ mod challenger;
 mod error;
 mod field_challenger;
 mod forward;
+mod segments;
 
 pub use arrays::sample_array;
 pub use challenger::{CanFinalizeDigest, CanObserve, CanSample, CanSampleBits, Sponge};
 pub use error::ChallengerError;
 pub use field_challenger::FieldChallenger;
+pub use segments::calls_have_one_cut;

@@ -1,6 +1,7 @@
 -- A duplex challenger call by call.
 use Rattle.std.specs.Prelude.{ℕ, ◌==◌, ◌+◌, ◌-◌, List, [], ◌∷◌, ◌++◌, length, take, drop, replicate, slice_index_or, if◌then◌else◌}
 use Rattle.p3_field_core.specs.Residues.{Residues, plus}
+use Rattle.p3_challenger_core.specs.Segments.{Call, observe, observe_empty_array, draw, Run, stays, ByCalls}
 
 -- What a sponge has: its cells, whose front is the rate; the values that are pending, fewer than the
 -- rate has cells; and how many outputs are left, which are the first cells of the rate. No output is
@@ -69,3 +70,46 @@ after_sampled r permute rate s = one_taken (ready r permute rate s)
 -- the digest: the rate after one more step, whether values are pending or not
 abbrev pub digest : {F : Type 0} → Residues F → (List F → List F) → ℕ → DuplexSponge F → List F
 digest r permute rate s = take rate (duplexed r permute rate s).cells
+
+-- ---- what is handed to the permutation
+
+-- a value hands over the cells with the block that it fills
+abbrev pub handed_by_value : {F : Type 0} → Residues F → ℕ → DuplexSponge F → F → List (List F)
+handed_by_value r rate s x =
+    let block = s.pending ++ x ∷ [] in if length block == rate then overwritten r rate s.cells block ∷ [] else []
+
+-- a draw that finds no output hands over the cells with what is pending, or as they are
+abbrev pub handed_by_draw : {F : Type 0} → Residues F → ℕ → DuplexSponge F → List (List F)
+handed_by_draw r rate s = if s.outputs_left == 0 then absorbing r rate s.cells s.pending ∷ [] else []
+
+-- so does a digest, whatever outputs are left
+abbrev pub handed_by_digest : {F : Type 0} → Residues F → ℕ → DuplexSponge F → List (List F)
+handed_by_digest r rate s = absorbing r rate s.cells s.pending ∷ []
+
+-- ---- what a call does
+
+abbrev pub DuplexRun : Type 0 → Type 0
+DuplexRun F = Run F (List F) (DuplexSponge F)
+
+-- an array of no places does nothing
+abbrev pub run_call : {F : Type 0} → Residues F → (List F → List F) → ℕ → DuplexSponge F → Call F → DuplexRun F
+run_call r permute rate s (observe x) =
+    record { answers = []; handed = handed_by_value r rate s x; after = observed r permute rate s x }
+run_call r permute rate s observe_empty_array = stays s
+run_call r permute rate s draw =
+    record {
+      answers = sampled r permute rate s ∷ [];
+      handed = handed_by_draw r rate s;
+      after = after_sampled r permute rate s;
+    }
+
+abbrev pub run_digest : {F : Type 0} → Residues F → (List F → List F) → ℕ → DuplexSponge F → Run F (List F) (List F)
+run_digest r permute rate s =
+    record { answers = []; handed = handed_by_digest r rate s; after = digest r permute rate s }
+
+-- a duplex challenger call by call
+abbrev pub DuplexCalls : Type 0 → Type 0
+DuplexCalls F = ByCalls F F (List F) (List F) (DuplexSponge F)
+
+abbrev pub duplex_by_calls : {F : Type 0} → Residues F → (List F → List F) → ℕ → DuplexCalls F
+duplex_by_calls r permute rate = record { call = run_call r permute rate; digest = run_digest r permute rate }

@@ -1,9 +1,12 @@
 ghost use Rattle.std.specs.Prelude.{◌≡◌, ◌<◌, ◌≤◌, ℕ, List, Some, length, replicate, take};
+ghost use Rattle.std.specs.List.{All};
 ghost use Rattle.p3_field_core.specs.Residues.{plus};
-ghost use Rattle.p3_duplex.specs.DuplexChain.{Call, run_calls, run_segments, segments};
-ghost use Rattle.p3_duplex.specs.DuplexTranscript.{absorbing, overwritten, fresh, outputs};
+ghost use Rattle.p3_challenger_core.specs.Segments.{Call, segments, run_calls, run_calls_to_digest};
+ghost use Rattle.p3_challenger_core.specs.Segments.{run_segments, run_segments_to_digest};
 ghost use Rattle.p3_challenger_core.specs.Observation.{LeavesInCalls, RefusesObserve};
 ghost use Rattle.p3_challenger_core.specs.Sampling.{RefusesDraws, unrefused_draw};
+ghost use Rattle.p3_duplex.specs.DuplexChain.{duplex_by_segments};
+ghost use Rattle.p3_duplex.specs.DuplexTranscript.{absorbing, overwritten, fresh, outputs, duplex_by_calls};
 ghost use Rattle.p3_challenger_core.specs.declared.error.ChallengerError.{ChallengerError};
 
 mod bits;
@@ -88,13 +91,30 @@ impl<
     }
 
     /// The duplex transcript, whole: from this challenger on, every list of calls gives the answers,
-    /// and leaves the sponge, that its segments name.
+    /// hands over the states to the permutation, and leaves the sponge, that its segments name; and so
+    /// do calls that end in a digest. No state is left out: a permutation that gives the same on those
+    /// that are handed over makes the calls do the same.
     ///
-    /// A law: the body is empty, and a caller cites the clause.
+    /// A law: the body is empty, and a caller cites the clauses.
     pub fn follows_duplex_transcript(&self)
-        ensures { (calls : List (Call F)) →
-            run_calls F.residues (P.permutation self.now.permutation) RATE self.now.sponge calls
-            ≡ run_segments F.residues (P.permutation self.now.permutation) RATE self.now.sponge (segments calls) }
+        ensures calls { (calls : List (Call F)) →
+            let permute = P.permutation self.now.permutation in
+            run_calls (duplex_by_calls F.residues permute RATE) self.now.sponge calls
+            ≡ run_segments (duplex_by_segments F.residues permute RATE) self.now.sponge (segments calls) }
+        ensures digest { (calls : List (Call F)) →
+            let permute = P.permutation self.now.permutation in
+            run_calls_to_digest (duplex_by_calls F.residues permute RATE) self.now.sponge calls
+            ≡ run_segments_to_digest (duplex_by_segments F.residues permute RATE) self.now.sponge (segments calls) }
+        ensures handed { (calls : List (Call F)) (other : List F → List F) →
+            let permute = P.permutation self.now.permutation in
+            let run = run_calls (duplex_by_calls F.residues permute RATE) self.now.sponge calls in
+            All (λ state. other state ≡ permute state) run.handed
+            → run_calls (duplex_by_calls F.residues other RATE) self.now.sponge calls ≡ run }
+        ensures handed_to_digest { (calls : List (Call F)) (other : List F → List F) →
+            let permute = P.permutation self.now.permutation in
+            let run = run_calls_to_digest (duplex_by_calls F.residues permute RATE) self.now.sponge calls in
+            All (λ state. other state ≡ permute state) run.handed
+            → run_calls_to_digest (duplex_by_calls F.residues other RATE) self.now.sponge calls ≡ run }
     {
         let _ = &self.outputs_left;
     }

@@ -1,2 +1,3 @@
 pub mod HashChains
+pub mod HashHanded
 pub mod Observing

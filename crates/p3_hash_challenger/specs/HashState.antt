@@ -31,3 +31,6 @@ after_sampled hash out_len s = record s { transcript = transcript.after_sampled 
 
 abbrev pub flushed : {T H : Type 0} → (H → List T → List T) → ℕ → HashState T H → HashState T H
 flushed hash out_len s = record s { transcript = transcript.flushed (hash s.hasher) out_len s.transcript }
+
+abbrev pub digest : {T H : Type 0} → (H → List T → List T) → HashState T H → List T
+digest hash s = transcript.digest (hash s.hasher) s.transcript

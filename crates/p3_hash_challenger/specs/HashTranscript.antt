@@ -1,5 +1,6 @@
 -- A hash challenger call by call.
 use Rattle.std.specs.Prelude.{ℕ, ◌==◌, ◌-◌, List, [], ◌∷◌, ◌++◌, Option, take, slice_get, if◌then◌else◌}
+use Rattle.p3_challenger_core.specs.Segments.{Call, observe, observe_empty_array, draw, Run, stays, ByCalls}
 
 -- what a hash challenger has: what the next flush hashes, and how many outputs of the last flush are
 -- left, which are the first places of its digest
@@ -51,3 +52,42 @@ sampled hash out_len s = last_output (ready hash out_len s)
 
 abbrev pub after_sampled : {T : Type 0} → (List T → List T) → ℕ → HashTranscript T → HashTranscript T
 after_sampled hash out_len s = one_taken (ready hash out_len s)
+
+-- the digest: one more hash of all that is pending, whatever outputs are left
+abbrev pub digest : {T : Type 0} → (List T → List T) → HashTranscript T → List T
+digest hash s = hash s.pending
+
+-- ---- what is handed to the hash function
+
+-- a draw that finds no output hands over all that is pending
+abbrev pub handed_by_draw : {T : Type 0} → HashTranscript T → List (List T)
+handed_by_draw s = if s.outputs_left == 0 then s.pending ∷ [] else []
+
+-- so does a digest, whatever outputs are left
+abbrev pub handed_by_digest : {T : Type 0} → HashTranscript T → List (List T)
+handed_by_digest s = s.pending ∷ []
+
+-- ---- what a call does
+
+abbrev pub HashRun : Type 0 → Type 0
+HashRun T = Run (Option T) (List T) (HashTranscript T)
+
+abbrev pub run_call : {T : Type 0} → (List T → List T) → ℕ → HashTranscript T → Call T → HashRun T
+run_call hash out_len s (observe x) = stays (observed s x)
+run_call hash out_len s observe_empty_array = stays (array_observed s [])
+run_call hash out_len s draw =
+    record {
+      answers = sampled hash out_len s ∷ [];
+      handed = handed_by_draw s;
+      after = after_sampled hash out_len s;
+    }
+
+abbrev pub run_digest : {T : Type 0} → (List T → List T) → HashTranscript T → Run (Option T) (List T) (List T)
+run_digest hash s = record { answers = []; handed = handed_by_digest s; after = digest hash s }
+
+-- a hash challenger call by call
+abbrev pub HashCalls : Type 0 → Type 0
+HashCalls T = ByCalls T (Option T) (List T) (List T) (HashTranscript T)
+
+abbrev pub hash_by_calls : {T : Type 0} → (List T → List T) → ℕ → HashCalls T
+hash_by_calls hash out_len = record { call = run_call hash out_len; digest = run_digest hash }

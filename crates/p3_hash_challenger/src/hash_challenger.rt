@@ -1,7 +1,10 @@
 ghost use Rattle.std.specs.Prelude.{◌≡◌, ◌<◌, ℕ, List, OnOk, OnErr, IfOk, IfErr};
-ghost use Rattle.p3_hash_challenger.specs.HashChain.{Call, run_calls, run_segments, segments};
+ghost use Rattle.std.specs.List.{All};
+ghost use Rattle.p3_challenger_core.specs.Segments.{Call, segments, run_calls, run_calls_to_digest};
+ghost use Rattle.p3_challenger_core.specs.Segments.{run_segments, run_segments_to_digest};
+ghost use Rattle.p3_hash_challenger.specs.HashChain.{hash_by_segments};
 ghost use Rattle.p3_hash_challenger.specs.HashState.{pending_of};
-ghost use Rattle.p3_hash_challenger.specs.HashTranscript.{absorbing, outputs};
+ghost use Rattle.p3_hash_challenger.specs.HashTranscript.{absorbing, outputs, hash_by_calls};
 ghost use Rattle.p3_challenger_core.specs.Observation.{RefusesObserve};
 ghost use Rattle.p3_challenger_core.specs.Sponge.{IsNonEmpty};
 ghost use Rattle.p3_challenger_core.specs.Sampling.{RefusesDraws, unrefused_draw};
@@ -86,14 +89,31 @@ impl<T: Copy, H: CryptographicHasher<T, [T; OUT_LEN]>, const OUT_LEN: usize> Has
         })
     }
 
-    /// The hash chain, whole: from this challenger on, every list of calls gives the answers, and
-    /// leaves the challenger, that its segments name.
+    /// The hash chain, whole: from this challenger on, every list of calls gives the answers, hands
+    /// over the strings to the hash function, and leaves the challenger, that its segments name; and
+    /// so do calls that end in a digest. No string is left out: a hash function that gives the same on
+    /// those that are handed over makes the calls do the same.
     ///
-    /// A law: the body is empty, and a caller cites the clause.
+    /// A law: the body is empty, and a caller cites the clauses.
     pub fn follows_hash_chain(&self)
-        ensures { (calls : List (Call T)) →
-            run_calls (H.hash self.now.hasher) OUT_LEN self.now.transcript calls
-            ≡ run_segments (H.hash self.now.hasher) OUT_LEN self.now.transcript (segments calls) }
+        ensures calls { (calls : List (Call T)) →
+            let hash = H.hash self.now.hasher in
+            run_calls (hash_by_calls hash OUT_LEN) self.now.transcript calls
+            ≡ run_segments (hash_by_segments hash OUT_LEN) self.now.transcript (segments calls) }
+        ensures digest { (calls : List (Call T)) →
+            let hash = H.hash self.now.hasher in
+            run_calls_to_digest (hash_by_calls hash OUT_LEN) self.now.transcript calls
+            ≡ run_segments_to_digest (hash_by_segments hash OUT_LEN) self.now.transcript (segments calls) }
+        ensures handed { (calls : List (Call T)) (other : List T → List T) →
+            let hash = H.hash self.now.hasher in
+            let run = run_calls (hash_by_calls hash OUT_LEN) self.now.transcript calls in
+            All (λ message. other message ≡ hash message) run.handed
+            → run_calls (hash_by_calls other OUT_LEN) self.now.transcript calls ≡ run }
+        ensures handed_to_digest { (calls : List (Call T)) (other : List T → List T) →
+            let hash = H.hash self.now.hasher in
+            let run = run_calls_to_digest (hash_by_calls hash OUT_LEN) self.now.transcript calls in
+            All (λ message. other message ≡ hash message) run.handed
+            → run_calls_to_digest (hash_by_calls other OUT_LEN) self.now.transcript calls ≡ run }
     {
         let _ = &self.outputs_left;
     }
@@ -267,10 +287,12 @@ impl<T: Copy, H: CryptographicHasher<T, [T; OUT_LEN]>, const OUT_LEN: usize> Can
 
 impl<T: Copy, H: CryptographicHasher<T, [T; OUT_LEN]>, const OUT_LEN: usize> CanFinalizeDigest
     for HashChallenger<T, H, OUT_LEN> {
+    ghost use Rattle.p3_hash_challenger.specs.HashState as hash_state;
+
     type Digest = [T; OUT_LEN];
 
     // One more hash of all that is pending, whatever outputs are left.
-    ghost digest_of = { λ s. H.hash s.hasher s.transcript.pending };
+    ghost digest_of = { λ s. hash_state.digest H.hash s };
 
     fn finalize(self) -> [T; OUT_LEN] {
         self.hasher.hash_slice(self.input())

@@ -1,29 +1,54 @@
 -- Worked rows, computed on the definitions: three cells of the field of order 257, of which two are
--- the rate, under a turn by one place.
+-- the rate, under a turn by one place, which makes (b + 1, c + 2, a + 3) of the cells (a, b, c).
 use Rattle.std.proofs.Common.{◌≡◌, ℕ, List, [], ◌∷◌, map, refl}
 use Rattle.p3_small_primes.specs.F257Residues.{residues, element}
 use Rattle.p3_small_primes.specs.declared.f257.F257.{F257}
 use Rattle.p3_symmetric.specs.Turn.{turned}
-use Rattle.p3_duplex.specs.DuplexTranscript.{DuplexSponge, fresh, digest}
-use Rattle.p3_duplex.specs.DuplexChain.{Call, observe, draw, run_calls, run_segments, segments, absorbed_blocks, permuted, outputs_from}
+use Rattle.p3_challenger_core.specs.Segments.{Call, observe, observe_empty_array, draw, ByCalls, BySegments, segments, run_calls, run_calls_to_digest, run_segments, run_segments_to_digest}
+use Rattle.p3_duplex.specs.DuplexTranscript.{DuplexSponge, fresh, duplex_by_calls}
+use Rattle.p3_duplex.specs.DuplexChain.{duplex_by_segments, absorbed_blocks, handed_blocks, permuted, handed_in_turn, outputs_from}
 
 abbrev start : DuplexSponge F257
 start = fresh residues 3
 
--- the numbers drawn from the start on, call by call
+abbrev by_calls : ByCalls F257 F257 (List F257) (List F257) (DuplexSponge F257)
+by_calls = duplex_by_calls residues (turned residues 1 3) 2
+
+abbrev by_segments : BySegments F257 F257 (List F257) (List F257) (DuplexSponge F257)
+by_segments = duplex_by_segments residues (turned residues 1 3) 2
+
+abbrev numbers : List F257 → List ℕ
+numbers xs = map residues.number xs
+
+-- the numbers drawn from the start on, and the states handed to the permutation, call by call
 abbrev drawn : List (Call F257) → List ℕ
-drawn calls = map residues.number (run_calls residues (turned residues 1 3) 2 start calls).answers
+drawn calls = numbers (run_calls by_calls start calls).answers
+
+abbrev handed : List (Call F257) → List (List ℕ)
+handed calls = map numbers (run_calls by_calls start calls).handed
 
 -- the same by the definition over segments
 abbrev drawn_by_segments : List (Call F257) → List ℕ
-drawn_by_segments calls = map residues.number (run_segments residues (turned residues 1 3) 2 start (segments calls)).answers
+drawn_by_segments calls = numbers (run_segments by_segments start (segments calls)).answers
 
--- the numbers of the digest after calls
+abbrev handed_by_segments : List (Call F257) → List (List ℕ)
+handed_by_segments calls = map numbers (run_segments by_segments start (segments calls)).handed
+
+-- the numbers of the digest behind calls, and the states handed over up to it
 abbrev digest_after : List (Call F257) → List ℕ
-digest_after calls = map residues.number (digest residues (turned residues 1 3) 2 (run_calls residues (turned residues 1 3) 2 start calls).after)
+digest_after calls = numbers (run_calls_to_digest by_calls start calls).after
+
+abbrev handed_to_digest : List (Call F257) → List (List ℕ)
+handed_to_digest calls = map numbers (run_calls_to_digest by_calls start calls).handed
 
 abbrev digest_after_segments : List (Call F257) → List ℕ
-digest_after_segments calls = map residues.number (digest residues (turned residues 1 3) 2 (run_segments residues (turned residues 1 3) 2 start (segments calls)).after)
+digest_after_segments calls = numbers (run_segments_to_digest by_segments start (segments calls)).after
+
+abbrev handed_to_digest_by_segments : List (Call F257) → List (List ℕ)
+handed_to_digest_by_segments calls = map numbers (run_segments_to_digest by_segments start (segments calls)).handed
+
+abbrev state : ℕ → ℕ → ℕ → List ℕ
+state a b c = a ∷ b ∷ c ∷ []
 
 abbrev five : Call F257
 five = observe (element 5)
@@ -57,25 +82,131 @@ short_block_digest = refl
 
 -- the same by segments
 fresh_draws_by_segments : drawn_by_segments (draw ∷ draw ∷ draw ∷ draw ∷ []) ≡ 2 ∷ 1 ∷ 5 ∷ 3 ∷ []
-unfolding absorbed_blocks permuted outputs_from
+unfolding absorbed_blocks handed_blocks permuted handed_in_turn outputs_from
 fresh_draws_by_segments = refl
 
 digest_after_one_draw_by_segments : digest_after_segments (five ∷ draw ∷ []) ≡ 4 ∷ 10 ∷ []
-unfolding absorbed_blocks permuted outputs_from
+unfolding absorbed_blocks handed_blocks permuted handed_in_turn outputs_from
 digest_after_one_draw_by_segments = refl
 
 full_block_digest_by_segments : digest_after_segments (five ∷ nought ∷ []) ≡ 5 ∷ 10 ∷ []
-unfolding absorbed_blocks permuted outputs_from
+unfolding absorbed_blocks handed_blocks permuted handed_in_turn outputs_from
 full_block_digest_by_segments = refl
 
 three_draws_by_segments : drawn_by_segments (five ∷ draw ∷ draw ∷ draw ∷ []) ≡ 3 ∷ 1 ∷ 10 ∷ []
-unfolding absorbed_blocks permuted outputs_from
+unfolding absorbed_blocks handed_blocks permuted handed_in_turn outputs_from
 three_draws_by_segments = refl
 
 full_block_draw_by_segments : drawn_by_segments (five ∷ nought ∷ draw ∷ []) ≡ 4 ∷ []
-unfolding absorbed_blocks permuted outputs_from
+unfolding absorbed_blocks handed_blocks permuted handed_in_turn outputs_from
 full_block_draw_by_segments = refl
 
 two_segments : drawn_by_segments (five ∷ draw ∷ draw ∷ five ∷ draw ∷ draw ∷ []) ≡ drawn (five ∷ draw ∷ draw ∷ five ∷ draw ∷ draw ∷ [])
-unfolding absorbed_blocks permuted outputs_from
+unfolding absorbed_blocks handed_blocks permuted handed_in_turn outputs_from
 two_segments = refl
+
+-- ---- what is handed to the permutation
+
+-- four draws from the start permute twice
+fresh_draws_handed : handed (draw ∷ draw ∷ draw ∷ draw ∷ []) ≡ state 0 0 0 ∷ state 1 2 3 ∷ []
+fresh_draws_handed = refl
+
+-- and a digest behind them once more
+fresh_draws_digest_handed : handed_to_digest (draw ∷ draw ∷ draw ∷ draw ∷ []) ≡ state 0 0 0 ∷ state 1 2 3 ∷ state 3 5 4 ∷ []
+fresh_draws_digest_handed = refl
+
+-- a digest of a fresh sponge permutes the zeros
+fresh_digest_handed : handed_to_digest [] ≡ state 0 0 0 ∷ []
+fresh_digest_handed = refl
+
+-- a draw absorbs a block of one value
+short_block_handed : handed (five ∷ draw ∷ []) ≡ state 5 0 1 ∷ []
+short_block_handed = refl
+
+-- which alone is only pending
+pending_handed : handed (five ∷ []) ≡ []
+pending_handed = refl
+
+-- so does a digest
+short_block_digest_handed : handed_to_digest (five ∷ []) ≡ state 5 0 1 ∷ []
+short_block_digest_handed = refl
+
+-- a full block is absorbed at once, and the draw behind it finds an output
+full_block_handed : handed (five ∷ nought ∷ draw ∷ []) ≡ state 5 0 2 ∷ []
+full_block_handed = refl
+
+-- a digest permutes once more all the same
+full_block_digest_handed : handed_to_digest (five ∷ nought ∷ []) ≡ state 5 0 2 ∷ state 1 4 8 ∷ []
+full_block_digest_handed = refl
+
+-- the second block is written over (1, 3, 8)
+two_segments_handed : handed (five ∷ draw ∷ draw ∷ five ∷ draw ∷ []) ≡ state 5 0 1 ∷ state 5 0 9 ∷ []
+two_segments_handed = refl
+
+-- a full block, and a short one that the digest absorbs over (1, 4, 8)
+three_values_digest_handed : handed_to_digest (five ∷ nought ∷ five ∷ []) ≡ state 5 0 2 ∷ state 5 0 9 ∷ []
+three_values_digest_handed = refl
+
+-- an array of no places keeps the outputs
+array_handed : handed (draw ∷ observe_empty_array ∷ draw ∷ []) ≡ state 0 0 0 ∷ []
+array_handed = refl
+
+-- the same by segments
+fresh_draws_handed_by_segments : handed_by_segments (draw ∷ draw ∷ draw ∷ draw ∷ []) ≡ state 0 0 0 ∷ state 1 2 3 ∷ []
+unfolding absorbed_blocks handed_blocks permuted handed_in_turn outputs_from
+fresh_draws_handed_by_segments = refl
+
+fresh_draws_digest_handed_by_segments : handed_to_digest_by_segments (draw ∷ draw ∷ draw ∷ draw ∷ []) ≡ state 0 0 0 ∷ state 1 2 3 ∷ state 3 5 4 ∷ []
+unfolding absorbed_blocks handed_blocks permuted handed_in_turn outputs_from
+fresh_draws_digest_handed_by_segments = refl
+
+fresh_digest_handed_by_segments : handed_to_digest_by_segments [] ≡ state 0 0 0 ∷ []
+unfolding absorbed_blocks handed_blocks permuted handed_in_turn outputs_from
+fresh_digest_handed_by_segments = refl
+
+short_block_handed_by_segments : handed_by_segments (five ∷ draw ∷ []) ≡ state 5 0 1 ∷ []
+unfolding absorbed_blocks handed_blocks permuted handed_in_turn outputs_from
+short_block_handed_by_segments = refl
+
+pending_handed_by_segments : handed_by_segments (five ∷ []) ≡ []
+unfolding absorbed_blocks handed_blocks permuted handed_in_turn outputs_from
+pending_handed_by_segments = refl
+
+short_block_digest_handed_by_segments : handed_to_digest_by_segments (five ∷ []) ≡ state 5 0 1 ∷ []
+unfolding absorbed_blocks handed_blocks permuted handed_in_turn outputs_from
+short_block_digest_handed_by_segments = refl
+
+full_block_handed_by_segments : handed_by_segments (five ∷ nought ∷ draw ∷ []) ≡ state 5 0 2 ∷ []
+unfolding absorbed_blocks handed_blocks permuted handed_in_turn outputs_from
+full_block_handed_by_segments = refl
+
+full_block_digest_handed_by_segments : handed_to_digest_by_segments (five ∷ nought ∷ []) ≡ state 5 0 2 ∷ state 1 4 8 ∷ []
+unfolding absorbed_blocks handed_blocks permuted handed_in_turn outputs_from
+full_block_digest_handed_by_segments = refl
+
+two_segments_handed_by_segments : handed_by_segments (five ∷ draw ∷ draw ∷ five ∷ draw ∷ []) ≡ state 5 0 1 ∷ state 5 0 9 ∷ []
+unfolding absorbed_blocks handed_blocks permuted handed_in_turn outputs_from
+two_segments_handed_by_segments = refl
+
+three_values_digest_handed_by_segments : handed_to_digest_by_segments (five ∷ nought ∷ five ∷ []) ≡ state 5 0 2 ∷ state 5 0 9 ∷ []
+unfolding absorbed_blocks handed_blocks permuted handed_in_turn outputs_from
+three_values_digest_handed_by_segments = refl
+
+array_handed_by_segments : handed_by_segments (draw ∷ observe_empty_array ∷ draw ∷ []) ≡ state 0 0 0 ∷ []
+unfolding absorbed_blocks handed_blocks permuted handed_in_turn outputs_from
+array_handed_by_segments = refl
+
+-- the digests behind those calls
+four_draws_digest : digest_after (draw ∷ draw ∷ draw ∷ draw ∷ []) ≡ 6 ∷ 6 ∷ []
+four_draws_digest = refl
+
+three_values_digest : digest_after (five ∷ nought ∷ five ∷ []) ≡ 1 ∷ 11 ∷ []
+three_values_digest = refl
+
+four_draws_digest_by_segments : digest_after_segments (draw ∷ draw ∷ draw ∷ draw ∷ []) ≡ 6 ∷ 6 ∷ []
+unfolding absorbed_blocks handed_blocks permuted handed_in_turn outputs_from
+four_draws_digest_by_segments = refl
+
+three_values_digest_by_segments : digest_after_segments (five ∷ nought ∷ five ∷ []) ≡ 1 ∷ 11 ∷ []
+unfolding absorbed_blocks handed_blocks permuted handed_in_turn outputs_from
+three_values_digest_by_segments = refl

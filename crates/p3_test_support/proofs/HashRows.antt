@@ -1,21 +1,127 @@
--- Worked rows, computed on the definitions.
-use Rattle.std.proofs.Common.{◌≡◌, [], ◌∷◌, Some, refl}
-use Rattle.p3_hash_challenger.specs.HashTranscript.{absorbing}
-use Rattle.p3_hash_challenger.specs.HashChain.{observe_empty_array, draw, run_calls, run_segments, segments, hashed, outputs_from}
+-- Worked rows, computed on the definitions: the places of a digest are the length of the message plus 0, 1, ..
+use Rattle.std.proofs.Common.{◌≡◌, ℕ, List, [], ◌∷◌, replicate, Option, Some, refl, ap}
+use Rattle.std.specs.List.{range_with_len}
+use Rattle.p3_challenger_core.specs.Segments.{Call, observe, observe_empty_array, draw, Run, Segment, IsCutOf, segments, run_calls, run_calls_to_digest, run_segments, run_segments_to_digest}
+use Rattle.p3_challenger_core.specs.SegmentLaws.{cut-only}
+use Rattle.p3_hash_challenger.specs.HashTranscript.{HashTranscript, absorbing, hash_by_calls}
+use Rattle.p3_hash_challenger.specs.HashChain.{hash_by_segments, hashed, handed_in_turn, outputs_from}
 use Rattle.p3_test_support.specs.LengthHasher.{length_digest}
 
--- from 0 1 2 3 the outputs are 35, 34, 33, and after an array of no places in place of the third draw 63
-three_draws : (run_calls length_digest 32 (absorbing (0 ∷ 1 ∷ 2 ∷ 3 ∷ [])) (draw ∷ draw ∷ draw ∷ [])).answers ≡ Some 35 ∷ Some 34 ∷ Some 33 ∷ []
-three_draws = refl
+-- what is pending at the start: its hash is 4, 5, .. 35, and the hash of that is 32, 33, .. 63
+abbrev start : List ℕ
+start = 0 ∷ 1 ∷ 2 ∷ 3 ∷ []
 
-empty_array : (run_calls length_digest 32 (absorbing (0 ∷ 1 ∷ 2 ∷ 3 ∷ [])) (draw ∷ draw ∷ observe_empty_array ∷ draw ∷ [])).answers ≡ Some 35 ∷ Some 34 ∷ Some 63 ∷ []
-empty_array = refl
+abbrev run : List (Call ℕ) → Run (Option ℕ) (List ℕ) (HashTranscript ℕ)
+run calls = run_calls (hash_by_calls length_digest 32) (absorbing start) calls
+
+abbrev run_to_digest : List (Call ℕ) → Run (Option ℕ) (List ℕ) (List ℕ)
+run_to_digest calls = run_calls_to_digest (hash_by_calls length_digest 32) (absorbing start) calls
 
 -- the same by the definition over segments
-three_draws_by_segments : (run_segments length_digest 32 (absorbing (0 ∷ 1 ∷ 2 ∷ 3 ∷ [])) (segments (draw ∷ draw ∷ draw ∷ []))).answers ≡ Some 35 ∷ Some 34 ∷ Some 33 ∷ []
-unfolding hashed outputs_from
+abbrev run_by_segments : List (Call ℕ) → Run (Option ℕ) (List ℕ) (HashTranscript ℕ)
+run_by_segments calls = run_segments (hash_by_segments length_digest 32) (absorbing start) (segments calls)
+
+abbrev run_to_digest_by_segments : List (Call ℕ) → Run (Option ℕ) (List ℕ) (List ℕ)
+run_to_digest_by_segments calls =
+    run_segments_to_digest (hash_by_segments length_digest 32) (absorbing start) (segments calls)
+
+-- the outputs are 35, 34, 33, and after an array of no places in place of the third draw 63
+three_draws : (run (draw ∷ draw ∷ draw ∷ [])).answers ≡ Some 35 ∷ Some 34 ∷ Some 33 ∷ []
+three_draws = refl
+
+empty_array : (run (draw ∷ draw ∷ observe_empty_array ∷ draw ∷ [])).answers ≡ Some 35 ∷ Some 34 ∷ Some 63 ∷ []
+empty_array = refl
+
+three_draws_by_segments : (run_by_segments (draw ∷ draw ∷ draw ∷ [])).answers ≡ Some 35 ∷ Some 34 ∷ Some 33 ∷ []
+unfolding hashed handed_in_turn outputs_from
 three_draws_by_segments = refl
 
-empty_array_by_segments : (run_segments length_digest 32 (absorbing (0 ∷ 1 ∷ 2 ∷ 3 ∷ [])) (segments (draw ∷ draw ∷ observe_empty_array ∷ draw ∷ []))).answers ≡ Some 35 ∷ Some 34 ∷ Some 63 ∷ []
-unfolding hashed outputs_from
+empty_array_by_segments : (run_by_segments (draw ∷ draw ∷ observe_empty_array ∷ draw ∷ [])).answers ≡ Some 35 ∷ Some 34 ∷ Some 63 ∷ []
+unfolding hashed handed_in_turn outputs_from
 empty_array_by_segments = refl
+
+-- ---- what is handed to the hash function
+
+-- three draws hash one string
+three_draws_handed : (run (draw ∷ draw ∷ draw ∷ [])).handed ≡ start ∷ []
+three_draws_handed = refl
+
+-- after an array of no places the next draw hashes the digest
+empty_array_handed : (run (draw ∷ draw ∷ observe_empty_array ∷ draw ∷ [])).handed ≡ start ∷ range_with_len 4 32 ∷ []
+empty_array_handed = refl
+
+-- as does a draw behind all 32 places
+places_handed : (run (replicate 32 draw)).handed ≡ start ∷ []
+places_handed = refl
+
+more_places_handed : (run (replicate 33 draw)).handed ≡ start ∷ range_with_len 4 32 ∷ []
+more_places_handed = refl
+
+-- what was observed stands behind what is pending
+observed_handed : (run (observe 9 ∷ observe 8 ∷ draw ∷ [])).handed ≡ (0 ∷ 1 ∷ 2 ∷ 3 ∷ 9 ∷ 8 ∷ []) ∷ []
+observed_handed = refl
+
+-- a digest hashes all that is pending, whatever outputs are left
+digest_handed : (run_to_digest []).handed ≡ start ∷ []
+digest_handed = refl
+
+three_draws_digest_handed : (run_to_digest (draw ∷ draw ∷ draw ∷ [])).handed ≡ start ∷ range_with_len 4 32 ∷ []
+three_draws_digest_handed = refl
+
+three_draws_digest : (run_to_digest (draw ∷ draw ∷ draw ∷ [])).after ≡ range_with_len 32 32
+three_draws_digest = refl
+
+-- the same by segments
+three_draws_handed_by_segments : (run_by_segments (draw ∷ draw ∷ draw ∷ [])).handed ≡ start ∷ []
+unfolding hashed handed_in_turn outputs_from
+three_draws_handed_by_segments = refl
+
+empty_array_handed_by_segments : (run_by_segments (draw ∷ draw ∷ observe_empty_array ∷ draw ∷ [])).handed ≡ start ∷ range_with_len 4 32 ∷ []
+unfolding hashed handed_in_turn outputs_from
+empty_array_handed_by_segments = refl
+
+places_handed_by_segments : (run_by_segments (replicate 32 draw)).handed ≡ start ∷ []
+unfolding hashed handed_in_turn outputs_from
+places_handed_by_segments = refl
+
+more_places_handed_by_segments : (run_by_segments (replicate 33 draw)).handed ≡ start ∷ range_with_len 4 32 ∷ []
+unfolding hashed handed_in_turn outputs_from
+more_places_handed_by_segments = refl
+
+observed_handed_by_segments : (run_by_segments (observe 9 ∷ observe 8 ∷ draw ∷ [])).handed ≡ (0 ∷ 1 ∷ 2 ∷ 3 ∷ 9 ∷ 8 ∷ []) ∷ []
+unfolding hashed handed_in_turn outputs_from
+observed_handed_by_segments = refl
+
+digest_handed_by_segments : (run_to_digest_by_segments []).handed ≡ start ∷ []
+unfolding hashed handed_in_turn outputs_from
+digest_handed_by_segments = refl
+
+three_draws_digest_handed_by_segments : (run_to_digest_by_segments (draw ∷ draw ∷ draw ∷ [])).handed ≡ start ∷ range_with_len 4 32 ∷ []
+unfolding hashed handed_in_turn outputs_from
+three_draws_digest_handed_by_segments = refl
+
+three_draws_digest_by_segments : (run_to_digest_by_segments (draw ∷ draw ∷ draw ∷ [])).after ≡ range_with_len 32 32
+unfolding hashed handed_in_turn outputs_from
+three_draws_digest_by_segments = refl
+
+-- ---- the cut
+
+abbrev segment : List ℕ → ℕ → Segment ℕ
+segment values draws = record { values = values; draws = draws }
+
+cut_at_values : segments (draw ∷ observe 1 ∷ observe 2 ∷ draw ∷ draw ∷ observe 3 ∷ []) ≡ record { first = segment [] 1; others = segment (1 ∷ 2 ∷ []) 2 ∷ segment (3 ∷ []) 0 ∷ [] }
+cut_at_values = refl
+
+cut_at_arrays : segments (observe 1 ∷ draw ∷ observe_empty_array ∷ draw ∷ observe_empty_array ∷ observe_empty_array ∷ observe 2 ∷ []) ≡ record { first = segment (1 ∷ []) 1; others = segment [] 1 ∷ segment [] 0 ∷ segment (2 ∷ []) 0 ∷ [] }
+cut_at_arrays = refl
+
+-- values in a row are not cut apart, nor are draws from the values before them
+not_between_values : IsCutOf (observe 1 ∷ observe 2 ∷ []) (record { first = segment (1 ∷ []) 0; others = segment (2 ∷ []) 0 ∷ [] }) → ⊥
+not_between_values h =
+    let others : segment (2 ∷ []) 0 ∷ [] ≡ [] = ap (λ cut. cut.others) (cut-only (observe 1 ∷ observe 2 ∷ []) (segment (1 ∷ []) 0) (segment (2 ∷ []) 0 ∷ []) h) in
+    cc
+
+not_before_draws : IsCutOf (observe 1 ∷ draw ∷ []) (record { first = segment (1 ∷ []) 0; others = segment [] 1 ∷ [] }) → ⊥
+not_before_draws h =
+    let others : segment [] 1 ∷ [] ≡ [] = ap (λ cut. cut.others) (cut-only (observe 1 ∷ draw ∷ []) (segment (1 ∷ []) 0) (segment [] 1 ∷ []) h) in
+    cc

@@ -1,8 +1,11 @@
 use Rattle.std.proofs.Common.{◌≡◌, length, take, subst, arith}
 use Rattle.std.proofs.lemmas.List.{length-take-le}
-use Rattle.p3_duplex.specs.DuplexTranscript.{DuplexSponge}
+use Rattle.p3_challenger_core.specs.SegmentLaws.{run_calls-segments, run_calls-segments_to_digest, run_calls-same, run_calls_to_digest-same}
+use Rattle.p3_duplex.specs.DuplexTranscript.{DuplexSponge, duplex_by_calls}
+use Rattle.p3_duplex.specs.DuplexChain.{duplex_by_segments}
 use Rattle.p3_duplex.specs.DuplexState.{Duplex}
-use Rattle.p3_duplex.proofs.DuplexChains.{Fits, run_calls-segments}
+use Rattle.p3_duplex.proofs.DuplexChains.{Fits, duplex_steps}
+use Rattle.p3_duplex.proofs.DuplexHanded.{Agree, same_call, same_digest}
 use Rattle.p3_duplex.proofs.duplex_challenger.DuplexChallenger.follows_duplex_transcript.Goals as goal
 
 -- a challenger keeps what the transcript asks of its sponge
@@ -15,4 +18,14 @@ returns g c =
     let sponge : DuplexSponge g.row.F.Denot = record { cells = inside.sponge_state; pending = take inside.inputs inside.input_buffer; outputs_left = inside.outputs_left } in
     let inside_fits : Fits rate sponge = record { short = omega (arith, long); left = keeps.left; none_left = λ more. keeps.none_left (omega (arith, long, more)) } in
     let fits : Fits rate c.args.self.now.sponge = subst (λ (d : Duplex g.row.F.Denot g.row.P.Denot). Fits rate d.sponge) c.self.view_is inside_fits in
-    run_calls-segments g.F.PrimeCharacteristicRing.residues (g.P.CryptographicPermutation.permutation c.args.self.now.permutation) rate keeps.positive c.args.self.now.sponge fits
+    let residues = g.F.PrimeCharacteristicRing.residues in
+    let permute = g.P.CryptographicPermutation.permutation c.args.self.now.permutation in
+    let by_calls = duplex_by_calls residues permute rate in
+    let by_segments = duplex_by_segments residues permute rate in
+    let steps = duplex_steps residues permute rate keeps.positive in
+    record {
+      calls = run_calls-segments (Fits rate) by_calls by_segments steps c.args.self.now.sponge fits;
+      digest = run_calls-segments_to_digest (Fits rate) by_calls by_segments steps c.args.self.now.sponge fits;
+      handed = λ calls other same. run_calls-same (Agree residues permute other rate) by_calls (duplex_by_calls residues other rate) (same_call residues permute other rate) (same_digest residues permute other rate) c.args.self.now.sponge calls same;
+      handed_to_digest = λ calls other same. run_calls_to_digest-same (Agree residues permute other rate) by_calls (duplex_by_calls residues other rate) (same_call residues permute other rate) (same_digest residues permute other rate) c.args.self.now.sponge calls same;
+    }

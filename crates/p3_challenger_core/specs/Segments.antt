@@ -1,0 +1,130 @@
+-- Lists of calls on a challenger, how they are cut into segments, and what they do: call by call, and
+-- segment by segment.
+use Rattle.std.specs.Prelude.{◌≡◌, ℕ, suc, ◌<◌, List, [], ◌∷◌, ◌++◌, ◌⊎◌, map, replicate}
+use Rattle.p3_challenger_core.specs.Sponge.{IsNonEmpty}
+
+-- a call on a challenger: a value is observed, an array of no places is observed, a value is drawn
+pub data Call (T : Type 0) : Type 0 where
+  observe : T → Call T
+  observe_empty_array : Call T
+  draw : Call T
+
+-- values that are observed one after another, and then a number of draws
+pub record Segment (T : Type 0) : Type 0 where
+  pub values : List T
+  pub draws : ℕ
+
+-- a list of calls, cut into segments: there is at least one
+pub record Segments (T : Type 0) : Type 0 where
+  pub first : Segment T
+  pub others : List (Segment T)
+
+-- ---- the cut
+
+abbrev pub nothing : {T : Type 0} → Segment T
+nothing = record { values = []; draws = 0 }
+
+-- a value observed before a cut list stands first in its first segment
+abbrev pub value_before : {T : Type 0} → T → Segments T → Segments T
+value_before x cut = record cut { first = record { values = x ∷ cut.first.values; draws = cut.first.draws } }
+
+-- an array of no places ends a segment
+abbrev pub segment_before : {T : Type 0} → Segment T → Segments T → Segments T
+segment_before segment cut = record { first = segment; others = cut.first ∷ cut.others }
+
+-- a draw before a cut list is the first segment's where that observes nothing, and else ends a
+-- segment of its own
+abbrev pub draw_before : {T : Type 0} → Segment T → List (Segment T) → List T → Segments T
+draw_before first others [] = record { first = record { values = []; draws = suc first.draws }; others = others }
+draw_before first others (x ∷ xs) = record { first = record { values = []; draws = 1 }; others = first ∷ others }
+
+abbrev pub segments : {T : Type 0} → List (Call T) → Segments T
+segments [] = record { first = nothing; others = [] }
+segments (observe x ∷ calls) = value_before x (segments calls)
+segments (observe_empty_array ∷ calls) = segment_before nothing (segments calls)
+segments (draw ∷ calls) = draw_before (segments calls).first (segments calls).others (segments calls).first.values
+
+-- ---- when segments are a cut of calls
+
+-- the calls of one segment: its values in order, and then its draws
+abbrev pub calls_of : {T : Type 0} → Segment T → List (Call T)
+calls_of segment = map observe segment.values ++ replicate segment.draws draw
+
+-- calls are those of a segment and then the rest, where the next segment begins: an array of no places
+-- stands between them; or nothing does, and then the segment draws and the next one observes a value
+abbrev pub EndsBefore : {T : Type 0} → Segment T → Segment T → List (Call T) → List (Call T) → Type 0
+EndsBefore segment next rest calls =
+    (calls ≡ calls_of segment ++ observe_empty_array ∷ rest)
+    ⊎ ((calls ≡ calls_of segment ++ rest) × (0 < segment.draws) × IsNonEmpty next.values)
+
+-- calls are those of a segment and of the others behind it, and each ends before the next one
+abbrev pub AreCutInto : {T : Type 0} → Segment T → List (Segment T) → List (Call T) → Type 0
+AreCutInto segment [] calls = calls ≡ calls_of segment
+AreCutInto {T} segment (next ∷ others) calls =
+    (rest : List (Call T)) × EndsBefore segment next rest calls × AreCutInto next others rest
+
+abbrev pub IsCutOf : {T : Type 0} → List (Call T) → Segments T → Type 0
+IsCutOf calls cut = AreCutInto cut.first cut.others calls
+
+-- ---- what calls do
+
+-- What calls answer, each draw in order; what they hand to the permutation or to the hash function, in
+-- order; and what they leave: the challenger, or the digest that they end in. An answer is an A, a state
+-- or string that is handed over an M, and what is left an S.
+pub record Run (A M S : Type 0) : Type 0 where
+  pub answers : List A
+  pub handed : List M
+  pub after : S
+
+-- nothing is done
+abbrev pub stays : {A M S : Type 0} → S → Run A M S
+stays s = record { answers = []; handed = []; after = s }
+
+-- one run and then another
+abbrev pub run_before : {A M S R : Type 0} → Run A M S → Run A M R → Run A M R
+run_before first next =
+    record {
+      answers = first.answers ++ next.answers;
+      handed = first.handed ++ next.handed;
+      after = next.after;
+    }
+
+-- ---- call by call
+
+-- a challenger of values T call by call: what a call does, and what a digest D does
+pub record ByCalls (T A M D S : Type 0) : Type 0 where
+  pub call : S → Call T → Run A M S
+  pub digest : S → Run A M D
+
+abbrev pub run_calls : {T A M D S : Type 0} → ByCalls T A M D S → S → List (Call T) → Run A M S
+run_calls by s [] = stays s
+run_calls by s (call ∷ calls) = let run = by.call s call in run_before run (run_calls by run.after calls)
+
+-- calls, and then a digest
+abbrev pub run_calls_to_digest : {T A M D S : Type 0} → ByCalls T A M D S → S → List (Call T) → Run A M D
+run_calls_to_digest by s calls = let run = run_calls by s calls in run_before run (by.digest run.after)
+
+-- ---- segment by segment
+
+-- a challenger over segments: what values do that are observed one after another, what a number of draws
+-- does, how it stands at the end of a segment before the next one begins, and what a digest does
+pub record BySegments (T A M D S : Type 0) : Type 0 where
+  pub values : S → List T → Run A M S
+  pub draws : S → ℕ → Run A M S
+  pub ended : S → S
+  pub digest : S → Run A M D
+
+abbrev pub run_segment : {T A M D S : Type 0} → BySegments T A M D S → S → Segment T → Run A M S
+run_segment by s segment = let run = by.values s segment.values in run_before run (by.draws run.after segment.draws)
+
+abbrev pub run_others : {T A M D S : Type 0} → BySegments T A M D S → S → List (Segment T) → Run A M S
+run_others by s [] = stays s
+run_others by s (segment ∷ others) =
+    let run = run_segment by (by.ended s) segment in run_before run (run_others by run.after others)
+
+abbrev pub run_segments : {T A M D S : Type 0} → BySegments T A M D S → S → Segments T → Run A M S
+run_segments by s cut = let run = run_segment by s cut.first in run_before run (run_others by run.after cut.others)
+
+-- segments, and then a digest
+abbrev pub run_segments_to_digest : {T A M D S : Type 0} → BySegments T A M D S → S → Segments T → Run A M D
+run_segments_to_digest by s cut = let run = run_segments by s cut in run_before run (by.digest run.after)
