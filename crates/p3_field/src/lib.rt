@@ -10,4 +10,4 @@ pub use p3_field_core::{
     PrimeField, PrimeField32, PrimeField64, log2_ceil_u64,
 };
 pub use p3_goldilocks::Goldilocks;
-pub use p3_small_primes::{BabyBear, F257};
+pub use p3_small_primes::{BabyBear, F257, SmallOrder, SmallPrime};

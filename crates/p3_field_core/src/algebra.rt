@@ -1,9 +1,11 @@
 ghost use Rattle.std.specs.Prelude.{◌≡◌, ℕ, ◌-◌, ◌<◌, ◌≤◌, List, ◌∷◌, length, replicate, slice_set};
+ghost use Rattle.p3_field_core.specs.Equality.{IsExact};
 
 use crate::{Field, PrimeCharacteristicRing};
 
-/// A vector space over a field, on a basis: an element is its list of coefficients.
-pub trait BasedVectorSpace<F: PrimeCharacteristicRing>: Copy {
+/// A vector space over a field, on a basis: an element is its list of coefficients. Elements compare equal
+/// exactly where they are one element.
+pub trait BasedVectorSpace<F: PrimeCharacteristicRing>: Copy + PartialEq {
     /// How many coefficients an element has: from 1 to 65535.
     const DIMENSION: usize;
 
@@ -36,6 +38,9 @@ pub trait BasedVectorSpace<F: PrimeCharacteristicRing>: Copy {
     ghost length_coefficients: { (x : Self) → length (coefficients x) ≡ DIMENSION };
 
     ghost same_coefficients: { (x y : Self) → coefficients x ≡ coefficients y → x ≡ y };
+
+    // Elements compare equal exactly where they are one.
+    ghost eq_law: { IsExact Self.eq };
 
     // Every list of that length is the coefficients of an element.
     ghost coefficients_element: { (xs : List F) → length xs ≡ DIMENSION → coefficients (element xs) ≡ xs };
@@ -78,6 +83,8 @@ impl<F: Field> BasedVectorSpace<F> for F {
     ghost length_coefficients = { λ _. refl };
 
     ghost same_coefficients = { one_coefficient };
+
+    ghost eq_law = { F.eq_law };
 
     ghost coefficients_element = { coefficients-element_of_one (F.residues.of 0) };
 

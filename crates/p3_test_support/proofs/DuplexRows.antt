@@ -1,8 +1,7 @@
 -- Worked rows, computed on the definitions: three cells of the field of order 257, of which two are
 -- the rate, under a turn by one place.
 use Rattle.std.proofs.Common.{◌≡◌, ℕ, List, [], ◌∷◌, map, refl}
-use Rattle.p3_small_primes.specs.F257Residues.{residues, element}
-use Rattle.p3_small_primes.specs.declared.f257.F257.{F257}
+use Rattle.p3_small_primes.specs.F257Residues.{F257, residues}
 use Rattle.p3_symmetric.specs.Turn.{turned}
 use Rattle.p3_duplex.specs.DuplexTranscript.{DuplexSponge, fresh, digest}
 use Rattle.p3_duplex.specs.DuplexChain.{Call, observe, draw, run_calls, run_segments, segments, absorbed_blocks, permuted, outputs_from}
@@ -26,10 +25,10 @@ abbrev digest_after_segments : List (Call F257) → List ℕ
 digest_after_segments calls = map residues.number (digest residues (turned residues 1 3) 2 (run_segments residues (turned residues 1 3) 2 start (segments calls)).after)
 
 abbrev five : Call F257
-five = observe (element 5)
+five = observe (residues.of 5)
 
 abbrev nought : Call F257
-nought = observe (element 0)
+nought = observe (residues.of 0)
 
 fresh_draws : drawn (draw ∷ draw ∷ draw ∷ draw ∷ []) ≡ 2 ∷ 1 ∷ 5 ∷ 3 ∷ []
 fresh_draws = refl

@@ -2,7 +2,7 @@ ghost use Rattle.std.specs.Prelude.{◌≡◌, ◌≢◌, ◌⊎◌, ℕ, ◌≤
 ghost use Rattle.std.specs.Io.KnownBytes.{Appends};
 ghost use Rattle.std.specs.Str.Parse.{IsNumeral, digits_value};
 ghost use Rattle.transcript_program.specs.Scalar.{order};
-ghost use Rattle.p3_challenger.specs.BabyBear.{BabyBear};
+ghost use Rattle.p3_challenger.specs.BabyBearResidues.{BabyBear};
 ghost use Rattle.transcript_program.specs.Program.{IsScalarText, Asks, AsksFirst, Answers, IsFirstText, lines, Writes, usage_line, out_of_memory_line, reason_of};
 ghost use Rattle.transcript_program.specs.Demo.{demo_text};
 
