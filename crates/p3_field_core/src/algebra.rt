@@ -63,6 +63,17 @@ pub trait AlgebraIdentity<F: PrimeCharacteristicRing>: Algebra<F> {
         ensures { result.now ≡ identity };
 }
 
+/// A field with a named extension of dimension `D`: the polynomials modulo `X^D - w`, for a `w` of the field. An
+/// element of the extension is an array of `D` coefficients.
+pub trait BinomiallyExtendable<const D: usize>: Field {
+    // The bytes of the identity of the extension.
+    ghost extension_identity: { List ℕ };
+
+    /// A text of its own for the extension: its construction, with the order of the field, `D` and `w`.
+    fn extension_id() -> &'static [u8]
+        ensures { result.now ≡ extension_identity };
+}
+
 impl<F: Field> BasedVectorSpace<F> for F {
     ghost use Rattle.std.specs.Prelude.{[], refl};
     ghost use Rattle.std.proofs.Common.{lit<, lit≤};

@@ -1,6 +1,6 @@
 ghost use Rattle.std.specs.Prelude.{◌≡◌, length};
 
-use crate::{Algebra, BasedVectorSpace, Field, Named};
+use crate::{Algebra, AlgebraIdentity, BasedVectorSpace, BinomiallyExtendable, Field, Named};
 use std::alloc::AllocError;
 
 /// An array of coefficients: an element of a vector space of dimension `D` over a field.
@@ -101,6 +101,14 @@ impl<F: Field> From<F> for Coeffs<F, 4> {
 
 impl<F: Field> Algebra<F> for Coeffs<F, 4> {
     ghost from_law = { λ _ _ given. given };
+}
+
+impl<F: BinomiallyExtendable<4>> AlgebraIdentity<F> for Coeffs<F, 4> {
+    ghost identity = { F.extension_identity };
+
+    fn algebra_id() -> &'static [u8] {
+        F::extension_id()
+    }
 }
 
 // The name of the type, whatever its field and dimension.

@@ -1,5 +1,5 @@
 use crate::{SmallOrder, SmallPrime};
-use p3_field_core::{AlgebraIdentity, Named, Coeffs};
+use p3_field_core::{AlgebraIdentity, BinomiallyExtendable, Named};
 
 /// An element of the prime field of order 2013265921 = 15 * 2^27 + 1.
 pub type BabyBear = SmallPrime<2013265921>;
@@ -44,12 +44,12 @@ impl AlgebraIdentity<BabyBear> for BabyBear {
     }
 }
 
-impl AlgebraIdentity<BabyBear> for Coeffs<BabyBear, 4> {
+impl BinomiallyExtendable<4> for BabyBear {
     ghost use Rattle.std.specs.Prelude.{codes};
 
-    ghost identity = { codes "binomial:2013265921:4:11" };
+    ghost extension_identity = { codes "binomial:2013265921:4:11" };
 
-    fn algebra_id() -> &'static [u8] {
+    fn extension_id() -> &'static [u8] {
         b"binomial:2013265921:4:11"
     }
 }

@@ -37,23 +37,25 @@ pub trait SmallOrder<const ORDER: u32> {
         ensures { result ≡ bit_length };
 }
 
-impl<const ORDER: u32> SmallPrime<ORDER> {
-    ghost use Rattle.std.specs.Prelude.{◌≡◌, ◌*◌, ◌%◌};
-    ghost use Rattle.p3_small_primes.specs.SmallPrimes.{number};
+impl<const ORDER: u32> SmallPrime<ORDER>
+where
+    Self: SmallOrder<ORDER>,
+{
+    ghost use Rattle.std.specs.Prelude.{◌≡◌, ◌*◌};
+    ghost use Rattle.p3_small_primes.specs.SmallPrimes.{element};
 
     // The element that a number is modulo the order.
-    fn reduced(value: u64) -> SmallPrime<ORDER>
-        requires { 1 < ORDER }
-        ensures { number result ≡ value % ORDER }
+    fn reduced(value: u64) -> Self
+        ensures { result ≡ element ORDER ⟦<Self as SmallOrder<ORDER>>⟧.above_one value }
     {
         let value = (value % u64::from(ORDER)) as u32;
         SmallPrime { value }
     }
 
     // The element that a number below twice the order is modulo the order.
-    fn reduced_once(value: u64) -> SmallPrime<ORDER>
+    fn reduced_once(value: u64) -> Self
         requires { value < 2 * ORDER }
-        ensures { number result ≡ value % ORDER }
+        ensures { result ≡ element ORDER ⟦<Self as SmallOrder<ORDER>>⟧.above_one value }
     {
         let order = u64::from(ORDER);
         let value = if value < order { value } else { value - order };
@@ -79,35 +81,43 @@ where
     Self: SmallOrder<ORDER>,
 {
     ghost use Rattle.std.specs.Prelude.{◌≡◌};
-    ghost use Rattle.p3_small_primes.specs.SmallPrimes.{number};
+    ghost use Rattle.p3_small_primes.specs.SmallPrimes.{element};
 
-    ghost is_default = { λ x. number x ≡ 0 };
+    ghost is_default = { λ x. x ≡ element ORDER ⟦<Self as SmallOrder<ORDER>>⟧.above_one 0 };
 
     fn default() -> Self {
         Self::ZERO
     }
 }
 
-impl<const ORDER: u32> Add for SmallPrime<ORDER> {
-    ghost use Rattle.std.specs.Prelude.{◌≡◌, ◌+◌, ◌%◌};
-    ghost use Rattle.p3_small_primes.specs.SmallPrimes.{number};
+impl<const ORDER: u32> Add for SmallPrime<ORDER>
+where
+    Self: SmallOrder<ORDER>,
+{
+    ghost use Rattle.std.specs.Prelude.{◌≡◌};
+    ghost use Rattle.p3_field_core.specs.Residues.{sum_of};
+    ghost use Rattle.p3_small_primes.specs.SmallPrimes.{residues_below};
 
     type Output = Self;
 
-    ghost add_gives = { λ x y r. number r ≡ (number x + number y) % ORDER };
+    ghost add_gives = { λ x y r. r ≡ sum_of (residues_below ORDER ⟦<Self as SmallOrder<ORDER>>⟧.above_one) x y };
 
     fn add(self, rhs: Self) -> Self {
         Self::reduced_once(u64::from(self.value) + u64::from(rhs.value))
     }
 }
 
-impl<const ORDER: u32> Sub for SmallPrime<ORDER> {
-    ghost use Rattle.std.specs.Prelude.{◌≡◌, ◌+◌, ◌-◌, ◌%◌};
-    ghost use Rattle.p3_small_primes.specs.SmallPrimes.{number};
+impl<const ORDER: u32> Sub for SmallPrime<ORDER>
+where
+    Self: SmallOrder<ORDER>,
+{
+    ghost use Rattle.std.specs.Prelude.{◌≡◌};
+    ghost use Rattle.p3_field_core.specs.Residues.{difference_of};
+    ghost use Rattle.p3_small_primes.specs.SmallPrimes.{residues_below};
 
     type Output = Self;
 
-    ghost sub_gives = { λ x y r. number r ≡ (number x + (ORDER - number y)) % ORDER };
+    ghost sub_gives = { λ x y r. r ≡ difference_of (residues_below ORDER ⟦<Self as SmallOrder<ORDER>>⟧.above_one) x y };
 
     fn sub(self, rhs: Self) -> Self {
         Self::reduced_once(u64::from(self.value) + u64::from(ORDER - rhs.value))
@@ -118,12 +128,13 @@ impl<const ORDER: u32> Mul for SmallPrime<ORDER>
 where
     Self: SmallOrder<ORDER>,
 {
-    ghost use Rattle.std.specs.Prelude.{◌≡◌, ◌*◌, ◌%◌};
-    ghost use Rattle.p3_small_primes.specs.SmallPrimes.{number};
+    ghost use Rattle.std.specs.Prelude.{◌≡◌};
+    ghost use Rattle.p3_field_core.specs.Residues.{product_of};
+    ghost use Rattle.p3_small_primes.specs.SmallPrimes.{residues_below};
 
     type Output = Self;
 
-    ghost mul_gives = { λ x y r. number r ≡ (number x * number y) % ORDER };
+    ghost mul_gives = { λ x y r. r ≡ product_of (residues_below ORDER ⟦<Self as SmallOrder<ORDER>>⟧.above_one) x y };
 
     fn mul(self, rhs: Self) -> Self {
         Self::reduced(u64::from(self.value) * u64::from(rhs.value))
@@ -169,15 +180,15 @@ where
 
     ghost can_add_law = { λ _ _. tt };
 
-    ghost add_law = { λ _ _ _ given. small.number-injective _ _ given };
+    ghost add_law = { λ _ _ _ given. given };
 
     ghost can_sub_law = { λ _ _. tt };
 
-    ghost sub_law = { λ _ _ _ given. small.number-injective _ _ given };
+    ghost sub_law = { λ _ _ _ given. given };
 
     ghost can_mul_law = { λ _ _. tt };
 
-    ghost mul_law = { λ _ _ _ given. small.number-injective _ _ given };
+    ghost mul_law = { λ _ _ _ given. given };
 
     fn from_u8(value: u8) -> Self {
         Self::reduced(u64::from(value))
@@ -200,8 +211,7 @@ impl<const ORDER: u32> Field for SmallPrime<ORDER>
 where
     Self: SmallOrder<ORDER>,
 {
-    ghost use Rattle.std.proofs.Common.{lit<, ◌∙◌, sym};
-    ghost use Rattle.p3_small_primes.specs.SmallPrimes as small;
+    ghost use Rattle.std.proofs.Common.{lit<};
 
     ghost bit_length = { ⟦<Self as SmallOrder<ORDER>>⟧.bit_length };
 
@@ -211,7 +221,7 @@ where
 
     ghost fits_in_memory = { lit< tt };
 
-    ghost default_law = { λ x given. small.number-injective x _ (given ∙ sym (small.zero-canonical ⟦<Self as SmallOrder<ORDER>>⟧.above_one)) };
+    ghost default_law = { λ _ given. given };
 
     fn bits() -> usize {
         Self::order_bits()
