@@ -51,11 +51,12 @@ pub use Rattle.p3_field.specs.Residues
 pub use Rattle.p3_field.specs.ResidueLaws
 pub use Rattle.p3_field.specs.Coefficients
 pub use Rattle.p3_field.specs.CoeffsCoefficients
+pub use Rattle.p3_field.specs.Equality
+pub use Rattle.p3_field.specs.SmallPrimes
 pub use Rattle.p3_field.specs.BabyBearResidues
 pub use Rattle.p3_field.specs.F257Residues
 pub use Rattle.p3_field.specs.GoldilocksResidues
-pub use Rattle.p3_small_primes.specs.declared.baby_bear.BabyBear
-pub use Rattle.p3_small_primes.specs.declared.f257.F257
+pub use Rattle.p3_small_primes.specs.declared.small_prime.SmallPrime
 pub use Rattle.p3_goldilocks.specs.declared.goldilocks.Goldilocks
 pub use Rattle.p3_field_core.specs.declared.coeffs.Coeffs
 pub use Rattle.p3_symmetric.specs.declared.sha256.Sha256Hasher

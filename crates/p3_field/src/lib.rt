@@ -6,8 +6,8 @@
 #![tactic(auto)]
 
 pub use p3_field_core::{
-    Algebra, AlgebraIdentity, BasedVectorSpace, Coeffs, Field, Named, PrimeCharacteristicRing,
-    PrimeField, PrimeField32, PrimeField64, log2_ceil_u64,
+    Algebra, AlgebraIdentity, BasedVectorSpace, BinomiallyExtendable, Coeffs, Field, Named,
+    PrimeCharacteristicRing, PrimeField, PrimeField32, PrimeField64, log2_ceil_u64,
 };
 pub use p3_goldilocks::Goldilocks;
-pub use p3_small_primes::{BabyBear, F257};
+pub use p3_small_primes::{BabyBear, F257, SmallOrder, SmallPrime};

@@ -1,9 +1,11 @@
 -- The coefficients of an array of coefficients.
-use Rattle.std.specs.Prelude.{◌≡◌, ℕ, ◌≤◌, List, ◌++◌, length, take, replicate}
+use Rattle.std.specs.Prelude.{◌≡◌, ℕ, ◌≤◌, Bool, List, ◌++◌, length, take, replicate}
 use Rattle.std.proofs.Common.{◌∙◌, arith}
 use Rattle.std.proofs.lemmas.List.{length-append, length-replicate, length-take-le, take-append-le, take_all}
 use Rattle.std.proofs.Math.Nat.{ℕ_set}
 use mathlib.Core.HLevel.{is_prop→PathP}
+use Rattle.std.specs.Cmp.Lexicographic.{pointwise, pointwise_decides}
+use Rattle.p3_field_core.specs.Equality.{IsExact, exact-by}
 use Rattle.p3_field_core.specs.declared.coeffs.Coeffs.{Coeffs}
 
 abbrev pub coefficients_of : {F : Type 0} {D : ℕ} → Coeffs F D → List F
@@ -19,6 +21,11 @@ coefficients-injective {F} {D} x y e =
       coefficients = e i;
       full = is_prop→PathP (λ j. length (e j) ≡ D) (λ j. ℕ_set (length (e j)) D) x.full y.full i;
     }
+
+-- elements compare equal exactly where they are one, if coefficients do
+pub compared-by-coefficients : {F : Type 0} {D : ℕ} {eq : F → F → Bool} → IsExact eq
+    → IsExact (λ (x y : Coeffs F D). pointwise eq (coefficients_of x) (coefficients_of y))
+compared-by-coefficients exact = exact-by coefficients_of (pointwise_decides exact) coefficients-injective
 
 -- the coefficients of an element of dimension D: the list cut or filled up with zeros
 abbrev pub cut_to : {F : Type 0} → F → ℕ → List F → List F

@@ -1,4 +1,5 @@
 pub mod Coefficients
 pub mod CoeffsCoefficients
+pub mod Equality
 pub mod ResidueLaws
 pub mod Residues

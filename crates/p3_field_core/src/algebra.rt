@@ -1,9 +1,11 @@
 ghost use Rattle.std.specs.Prelude.{◌≡◌, ℕ, ◌-◌, ◌<◌, ◌≤◌, List, ◌∷◌, length, replicate, slice_set};
+ghost use Rattle.p3_field_core.specs.Equality.{IsExact};
 
 use crate::{Field, PrimeCharacteristicRing};
 
-/// A vector space over a field, on a basis: an element is its list of coefficients.
-pub trait BasedVectorSpace<F: PrimeCharacteristicRing>: Copy {
+/// A vector space over a field, on a basis: an element is its list of coefficients. Elements compare equal
+/// exactly where they are one element.
+pub trait BasedVectorSpace<F: PrimeCharacteristicRing>: Copy + PartialEq {
     /// How many coefficients an element has: from 1 to 65535.
     const DIMENSION: usize;
 
@@ -37,6 +39,9 @@ pub trait BasedVectorSpace<F: PrimeCharacteristicRing>: Copy {
 
     ghost same_coefficients: { (x y : Self) → coefficients x ≡ coefficients y → x ≡ y };
 
+    // Elements compare equal exactly where they are one.
+    ghost eq_law: { IsExact Self.eq };
+
     // Every list of that length is the coefficients of an element.
     ghost coefficients_element: { (xs : List F) → length xs ≡ DIMENSION → coefficients (element xs) ≡ xs };
 }
@@ -56,6 +61,17 @@ pub trait AlgebraIdentity<F: PrimeCharacteristicRing>: Algebra<F> {
     /// A text of its own for each algebra: its construction, with the order of the field.
     fn algebra_id() -> &'static [u8]
         ensures { result.now ≡ identity };
+}
+
+/// A field with a named extension of dimension `D`: the polynomials modulo `X^D - w`, for a `w` of the field. An
+/// element of the extension is an array of `D` coefficients.
+pub trait BinomiallyExtendable<const D: usize>: Field {
+    // The bytes of the identity of the extension.
+    ghost extension_identity: { List ℕ };
+
+    /// A text of its own for the extension: its construction, with the order of the field, `D` and `w`.
+    fn extension_id() -> &'static [u8]
+        ensures { result.now ≡ extension_identity };
 }
 
 impl<F: Field> BasedVectorSpace<F> for F {
@@ -78,6 +94,8 @@ impl<F: Field> BasedVectorSpace<F> for F {
     ghost length_coefficients = { λ _. refl };
 
     ghost same_coefficients = { one_coefficient };
+
+    ghost eq_law = { F.eq_law };
 
     ghost coefficients_element = { coefficients-element_of_one (F.residues.of 0) };
 

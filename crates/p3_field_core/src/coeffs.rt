@@ -1,6 +1,6 @@
 ghost use Rattle.std.specs.Prelude.{◌≡◌, length};
 
-use crate::{Algebra, BasedVectorSpace, Field, Named};
+use crate::{Algebra, AlgebraIdentity, BasedVectorSpace, BinomiallyExtendable, Field, Named};
 use std::alloc::AllocError;
 
 /// An array of coefficients: an element of a vector space of dimension `D` over a field.
@@ -27,6 +27,7 @@ impl<F: Copy, const D: usize> Copy for Coeffs<F, D> {}
 impl<F: Field, const D: usize> Coeffs<F, D> {
     ghost use Rattle.std.specs.Prelude.{◌≡◌};
     ghost use Rattle.p3_field_core.specs.CoeffsCoefficients.{coefficients_of};
+    ghost use Rattle.p3_field_core.specs.Equality.{IsExact};
 
     /// The element with these coefficients.
     pub fn new(coefficients: [F; D]) -> Self
@@ -34,6 +35,13 @@ impl<F: Field, const D: usize> Coeffs<F, D> {
     {
         Coeffs { coefficients }
     }
+
+    /// Two elements compare equal exactly where they are one element, of any dimension.
+    ///
+    /// A law: the body is empty, and a caller cites the clause.
+    pub fn compared_by_coefficients()
+        ensures { IsExact ⟦<Coeffs<F, D> as PartialEq>⟧.eq }
+    {}
 }
 
 impl<F: Field> BasedVectorSpace<F> for Coeffs<F, 4> {
@@ -55,6 +63,8 @@ impl<F: Field> BasedVectorSpace<F> for Coeffs<F, 4> {
     ghost length_coefficients = { coeffs.length-coefficients };
 
     ghost same_coefficients = { coeffs.coefficients-injective };
+
+    ghost eq_law = { coeffs.compared-by-coefficients F.eq_law };
 
     ghost coefficients_element = { coeffs.coefficients-element_of (F.residues.of 0) };
 
@@ -91,6 +101,14 @@ impl<F: Field> From<F> for Coeffs<F, 4> {
 
 impl<F: Field> Algebra<F> for Coeffs<F, 4> {
     ghost from_law = { λ _ _ given. given };
+}
+
+impl<F: BinomiallyExtendable<4>> AlgebraIdentity<F> for Coeffs<F, 4> {
+    ghost identity = { F.extension_identity };
+
+    fn algebra_id() -> &'static [u8] {
+        F::extension_id()
+    }
 }
 
 // The name of the type, whatever its field and dimension.

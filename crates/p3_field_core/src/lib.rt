@@ -10,7 +10,7 @@ mod log2;
 mod named;
 mod ring;
 
-pub use algebra::{Algebra, AlgebraIdentity, BasedVectorSpace};
+pub use algebra::{Algebra, AlgebraIdentity, BasedVectorSpace, BinomiallyExtendable};
 pub use coeffs::Coeffs;
 pub use field::{Field, PrimeField, PrimeField32, PrimeField64};
 pub use log2::log2_ceil_u64;

@@ -1,4 +1,5 @@
 ghost use Rattle.std.specs.Prelude.{◌≡◌, ℕ, ◌-◌};
+ghost use Rattle.p3_field_core.specs.Equality.{IsExact};
 ghost use Rattle.p3_field_core.specs.Residues.{Residues, IsResidues, sum_of, difference_of, product_of, power_of};
 
 use crate::exponentiation::power;
@@ -6,8 +7,10 @@ use std::ops::{Add, Mul, Sub};
 
 /// The ring of the residues modulo a prime, the order.
 ///
-/// Contracts see an element by its canonical number, which is below the order.
+/// Contracts see an element by its canonical number, which is below the order. Elements compare equal exactly
+/// where they are one element.
 pub trait PrimeCharacteristicRing: Copy
+    + PartialEq
     + Add<Self, Output = Self>
     + Sub<Self, Output = Self>
     + Mul<Self, Output = Self> {
@@ -54,6 +57,9 @@ pub trait PrimeCharacteristicRing: Copy
 
     // The elements are exactly the numbers below the order.
     ghost are_residues: { IsResidues residues };
+
+    // Elements compare equal exactly where they are one.
+    ghost eq_law: { IsExact Self.eq };
 
     // The constants are the elements of 0, of 1 and of the order less 1.
     ghost zero_is: { ZERO ≡ residues.of 0 };

@@ -112,6 +112,8 @@ impl PrimeCharacteristicRing for Goldilocks {
 
     ghost are_residues = { goldilocks.laws };
 
+    ghost eq_law = { goldilocks.compared-by-numbers };
+
     ghost zero_is = { refl };
 
     ghost one_is = { refl };

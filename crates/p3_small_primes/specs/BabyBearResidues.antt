@@ -1,38 +1,12 @@
 -- The field of order 15 * 2 ^ 27 + 1 as residues.
-use Rattle.std.specs.Prelude.{◌≡◌, ℕ, ◌<◌, ◌%◌}
 use Rattle.std.proofs.Common.{lit<}
-use Rattle.std.proofs.Math.Nat.{mod-lt}
-use Rattle.std.proofs.Math.Bridge.{le_prop}
-use mathlib.Core.HLevel.{is_prop→PathP}
-use Rattle.p3_field_core.specs.Residues.{Residues, IsResidues}
-use Rattle.p3_field_core.specs.ResidueLaws.{laws-of-injective}
-use Rattle.p3_small_primes.specs.declared.baby_bear.BabyBear.{BabyBear}
+use Rattle.p3_field_core.specs.Residues.{Residues}
+use Rattle.p3_small_primes.specs.SmallPrimes.{residues_below}
+use Rattle.p3_small_primes.specs.declared.small_prime.SmallPrime.{SmallPrime}
 
-abbrev pub order : ℕ
-order = 2013265921
-
--- the canonical number of an element
-abbrev pub number : BabyBear → ℕ
-number x = x.value
-
--- what is left of a number modulo the order is below the order
-pub remainder_below : (n : ℕ) → n % order < order
-remainder_below n = mod-lt n (lit< tt)
-
--- the element that a number is modulo the order
-abbrev pub element : ℕ → BabyBear
-element n = record { value = n % order; canonical = remainder_below n }
+-- its elements
+abbrev pub BabyBear : Type 0
+BabyBear = SmallPrime 2013265921
 
 abbrev pub residues : Residues BabyBear
-residues = record { order = order; number = number; of = element }
-
--- elements of one number are one element
-pub number-injective : (x y : BabyBear) → number x ≡ number y → x ≡ y
-number-injective x y e =
-    λ i. record {
-      value = e i;
-      canonical = is_prop→PathP (λ j. e j < order) (λ j. le_prop) x.canonical y.canonical i;
-    }
-
-pub laws : IsResidues residues
-laws = laws-of-injective residues (lit< tt) (λ x. x.canonical) (λ n _. n % order) number-injective
+residues = residues_below 2013265921 (lit< tt)

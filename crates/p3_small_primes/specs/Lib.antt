@@ -1,2 +1,3 @@
 pub mod BabyBearResidues
 pub mod F257Residues
+pub mod SmallPrimes

@@ -1,8 +1,10 @@
-//! Prime fields whose order is below 2^32.
+//! Prime fields whose order is below 2^32: one type of elements for all of them, and two of them.
 #![tactic(auto)]
 
 mod baby_bear;
 mod f257;
+mod small_prime;
 
 pub use baby_bear::BabyBear;
 pub use f257::F257;
+pub use small_prime::{SmallOrder, SmallPrime};

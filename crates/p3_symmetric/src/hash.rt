@@ -29,6 +29,17 @@ impl<F, T, const N: usize> Hash<F, T, N> {
     }
 }
 
+impl<F, T: PartialEq, const N: usize> Hash<F, T, N> {
+    ghost use Rattle.p3_field_core.specs.Equality.{IsExact};
+
+    /// Two digests compare equal exactly where their values are the same, if values compare so.
+    ///
+    /// A law: the body is empty, and a caller cites the clause.
+    pub fn compared_by_values()
+        ensures { IsExact T.eq → IsExact ⟦<Hash<F, T, N> as PartialEq>⟧.eq }
+    {}
+}
+
 impl<F, T, const N: usize> From<[T; N]> for Hash<F, T, N> {
     ghost from_gives = { λ values digest. digest ≡ values };
 

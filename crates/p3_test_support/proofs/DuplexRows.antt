@@ -1,8 +1,7 @@
 -- Worked rows, computed on the definitions: three cells of the field of order 257, of which two are
 -- the rate, under a turn by one place, which makes (b + 1, c + 2, a + 3) of the cells (a, b, c).
 use Rattle.std.proofs.Common.{◌≡◌, ℕ, List, [], ◌∷◌, map, refl}
-use Rattle.p3_small_primes.specs.F257Residues.{residues, element}
-use Rattle.p3_small_primes.specs.declared.f257.F257.{F257}
+use Rattle.p3_small_primes.specs.F257Residues.{F257, residues}
 use Rattle.p3_symmetric.specs.Turn.{turned}
 use Rattle.p3_challenger_core.specs.Segments.{Call, observe, observe_empty_array, draw, ByCalls, BySegments, segments, run_calls, run_calls_to_digest, run_segments, run_segments_to_digest}
 use Rattle.p3_duplex.specs.DuplexTranscript.{DuplexSponge, fresh, duplex_by_calls}
@@ -51,10 +50,10 @@ abbrev state : ℕ → ℕ → ℕ → List ℕ
 state a b c = a ∷ b ∷ c ∷ []
 
 abbrev five : Call F257
-five = observe (element 5)
+five = observe (residues.of 5)
 
 abbrev nought : Call F257
-nought = observe (element 0)
+nought = observe (residues.of 0)
 
 fresh_draws : drawn (draw ∷ draw ∷ draw ∷ draw ∷ []) ≡ 2 ∷ 1 ∷ 5 ∷ 3 ∷ []
 fresh_draws = refl

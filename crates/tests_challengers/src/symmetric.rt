@@ -1,6 +1,6 @@
-ghost use Rattle.std.specs.Prelude.{◌≡◌};
+ghost use Rattle.std.specs.Prelude.{◌≡◌, ◌↔◌, IsTrue};
 
-use p3_field::{BabyBear, F257, PrimeCharacteristicRing};
+use p3_field::{BabyBear, F257, PrimeCharacteristicRing, PrimeField64};
 use p3_symmetric::{
     CryptographicHasher, CryptographicPermutation, Hash, MerkleCap, Sha256Hasher, Turn,
 };
@@ -28,6 +28,13 @@ fn digest_from<F, T, const N: usize>(values: [T; N]) -> Hash<F, T, N>
     ensures { result ≡ values }
 {
     Hash::from(values)
+}
+
+fn same_digest<F, T: PrimeField64, const N: usize>(x: &Hash<F, T, N>, y: &Hash<F, T, N>) -> bool
+    ensures { IsTrue result ↔ x.now ≡ y.now }
+{
+    Hash::<F, T, N>::compared_by_values();
+    x == y
 }
 
 // ---- the same at concrete types, with values from elsewhere
@@ -106,6 +113,9 @@ fn a_digest_holds_its_values(rt: HostRuntime) {
     assert_eq!(rt; digest.as_ref(), &[5, 6, 7]);
     let empty: Hash<Marker, u8, 0> = digest_from([]);
     assert_eq!(rt; empty.as_ref().len(), 0);
+    let digest: Hash<Marker, F257, 3> = digest_from(three(5, 6, 7));
+    assert!(rt; same_digest(&digest, &digest_from(three(5, 6, 264))));
+    assert!(rt; !same_digest(&digest, &digest_from(three(5, 6, 8))));
 }
 
 #[test]

@@ -1,5 +1,5 @@
-ghost use Rattle.std.specs.Prelude.{◌≡◌, ◌+◌, ◌*◌, ◌-◌, ◌%◌, ◌^◌, ◌<◌, ◌≤◌, ◌∷◌, Some, None, replicate, sum_by};
-ghost use Rattle.p3_field_core.specs.Residues.{plus};
+ghost use Rattle.std.specs.Prelude.{◌≡◌, ◌↔◌, ◌+◌, ◌*◌, ◌-◌, ◌%◌, ◌^◌, ◌<◌, ◌≤◌, ◌∷◌, IsTrue, Some, None, replicate, sum_by};
+ghost use Rattle.p3_field.specs.Residues.{plus};
 
 use p3_field::{
     Algebra, AlgebraIdentity, BabyBear, BasedVectorSpace, Coeffs, F257, Field, Goldilocks, Named,
@@ -89,6 +89,25 @@ fn identity_of<F: Field, A: AlgebraIdentity<F>>() -> &'static [u8]
     ensures { result.now ≡ A.identity }
 {
     A::algebra_id()
+}
+
+fn same<F: PrimeField64>(x: F, y: F) -> bool
+    ensures { IsTrue result ↔ x ≡ y }
+{
+    x == y
+}
+
+fn same_element<F: Field, A: Algebra<F>>(x: A, y: A) -> bool
+    ensures { IsTrue result ↔ x ≡ y }
+{
+    x == y
+}
+
+fn same_coefficients<F: Field, const D: usize>(x: Coeffs<F, D>, y: Coeffs<F, D>) -> bool
+    ensures { IsTrue result ↔ x ≡ y }
+{
+    Coeffs::<F, D>::compared_by_coefficients();
+    x == y
 }
 
 // ---- the same at each field, with numbers from elsewhere
@@ -347,5 +366,31 @@ fn copies_are_clones(rt: HostRuntime) -> Result<(), Fail> {
     let x = Coeffs::new([F257::ONE, F257::NEG_ONE]);
     assert_eq!(rt; x.clone()?, x);
     assert!(rt; F257::ONE < F257::NEG_ONE);
+    Ok(())
+}
+
+#[test]
+fn comparisons(rt: HostRuntime) {
+    assert!(rt; same(F257::from_u64(300), F257::from_u64(43)));
+    assert!(rt; !same(F257::ZERO, F257::ONE));
+    assert!(rt; same(BabyBear::from_u64(2013265921), BabyBear::ZERO));
+    assert!(rt; !same(Goldilocks::ONE, Goldilocks::NEG_ONE));
+    let (one, two) = (BabyBear::ONE, BabyBear::from_u64(2));
+    let x: Coeffs<BabyBear, 4> = element_of(two);
+    assert!(rt; same_element(x, x.with_coefficient(0, two)));
+    assert!(rt; !same_element(x, x.with_coefficient(3, one)));
+    assert!(rt; same_coefficients(Coeffs::new([one, two]), Coeffs::new([one, two])));
+    assert!(rt; !same_coefficients(Coeffs::new([one, two]), Coeffs::new([two, one])));
+}
+
+#[test]
+fn elements_are_shown_by_the_names_of_their_fields(rt: HostRuntime) -> Result<(), Fail> {
+    let shown = format!(in rt.alloc(); "{:?} {:?}", F257::NEG_ONE, BabyBear::ONE)?;
+    assert_eq!(rt; shown.as_str(), "F257 { value: 256 } BabyBear { value: 1 }");
+    let shown = format!(in rt.alloc(); "{:?}", Coeffs::new([F257::ONE]))?;
+    assert_eq!(rt;
+        shown.as_str(),
+        "Coeffs { coefficients: [F257 { value: 1 }] }"
+    );
     Ok(())
 }

@@ -1,7 +1,7 @@
 -- Lemmas on the program.
 use Rattle.std.proofs.Common.{◌≡◌, ◌≢◌, ℕ, ◌<◌, ◌≤◌, List, [], ◌∷◌, length, map, get_or, Bor, Option, Some, None, Result, Ok, Err, IfOk, IfErr, IsOk, IfNone, refl, ap, subst, sym, ◌∙◌, codes, arith}
 use Rattle.std.specs.Result.{result_unwrap_or}
-use Rattle.p3_challenger.specs.BabyBear.{BabyBear}
+use Rattle.p3_challenger.specs.BabyBearResidues.{BabyBear}
 use Rattle.transcript_program.specs.declared.program.Request.{Request}
 use Rattle.transcript_program.specs.declared.program.Request.TheVariants.{First, DemoPattern}
 use Rattle.transcript_program.specs.Program.{IsScalarText, Asks, AsksFirst}

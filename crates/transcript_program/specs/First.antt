@@ -4,7 +4,7 @@ use Rattle.transcript_program.specs.Scalar as scalar
 use Rattle.p3_challenger.specs.HashState.{HashState, observed, sampled, after_sampled}
 use Rattle.transcript_program.specs.Scalar.{width, read}
 use Rattle.p3_challenger.specs.Errors.{IsBadShape}
-use Rattle.p3_challenger.specs.BabyBear.{BabyBear}
+use Rattle.p3_challenger.specs.BabyBearResidues.{BabyBear}
 use Rattle.p3_challenger.specs.TranscriptError.{TranscriptError}
 use Rattle.p3_challenger.specs.TranscriptError.TheVariants.{OutOfMemory}
 

@@ -8,7 +8,7 @@ use Rattle.sha2.specs.Sha256.{sha256}
 use Rattle.p3_challenger.specs.HashState.{HashState}
 use Rattle.p3_challenger.specs.HashTranscript.{absorbing}
 use Rattle.transcript_program.specs.Scalar.{number, wire}
-use Rattle.p3_challenger.specs.BabyBear.{BabyBear}
+use Rattle.p3_challenger.specs.BabyBearResidues.{BabyBear}
 use Rattle.p3_challenger.specs.Sha256Hasher.{Sha256Hasher}
 use Rattle.p3_challenger.specs.ChallengerError.TheVariants as challenger
 use Rattle.p3_challenger.specs.TranscriptError.{TranscriptError}

@@ -2,7 +2,7 @@ ghost use Rattle.std.specs.Prelude.{◌≡◌, Some, IfOk, IfErr, MatchResult};
 ghost use Rattle.transcript_program.specs.Scalar as scalar;
 ghost use Rattle.p3_challenger.specs.HashState.{HashState, sampled, after_sampled};
 ghost use Rattle.transcript_program.specs.Scalar.{wire};
-ghost use Rattle.p3_challenger.specs.BabyBear.{BabyBear};
+ghost use Rattle.p3_challenger.specs.BabyBearResidues.{BabyBear};
 ghost use Rattle.p3_challenger.specs.Errors.{IsBadShape};
 ghost use Rattle.transcript_program.specs.First.{IsRun, read_whole, Verifies};
 

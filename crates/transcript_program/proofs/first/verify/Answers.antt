@@ -2,7 +2,7 @@ use Rattle.std.proofs.Common.{◌≡◌, [], length, drop, Option, Some, Result,
 use Rattle.transcript_program.specs.Scalar as scalar
 use Rattle.p3_challenger.specs.HashState.{observed, sampled, after_sampled}
 use Rattle.transcript_program.specs.Scalar.{width}
-use Rattle.p3_challenger.specs.BabyBear.{BabyBear}
+use Rattle.p3_challenger.specs.BabyBearResidues.{BabyBear}
 use Rattle.p3_challenger.specs.TranscriptError.{TranscriptError}
 use Rattle.transcript_program.specs.First.{read_whole}
 use Rattle.transcript_program.proofs.FirstLemmas.{read_whole-decoded}

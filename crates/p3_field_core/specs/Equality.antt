@@ -1,0 +1,13 @@
+-- Comparisons that find equal exactly what is one value. Lists compare so where their items do, by std's `pointwise_decides`.
+use Rattle.std.specs.Prelude.{◌≡◌, Bool, true, ◌↔◌}
+use Rattle.std.proofs.Common.{ap}
+
+-- what compares equal is one value, and each value compares equal with itself
+abbrev pub IsExact : {A : Type 0} → (A → A → Bool) → Type 0
+IsExact {A} eq = (x y : A) → (eq x y ≡ true ↔ x ≡ y)
+
+-- values compare so by a part that tells them apart
+pub exact-by : {A B : Type 0} (part : A → B) {eq : B → B → Bool} → IsExact eq
+    → ((x y : A) → part x ≡ part y → x ≡ y) → IsExact (λ x y. eq (part x) (part y))
+exact-by part exact tells x y =
+    (λ e. tells x y ((exact (part x) (part y)).0 e), λ e. (exact (part x) (part y)).1 (ap part e))

@@ -1,0 +1,283 @@
+ghost use Rattle.std.specs.Prelude.{◌<◌};
+
+use p3_field_core::{
+    Field, Named, PrimeCharacteristicRing, PrimeField, PrimeField32, PrimeField64,
+};
+use std::fmt;
+use std::ops::{Add, Mul, Sub};
+
+/// An element of the prime field of order `ORDER`, kept as its canonical number.
+///
+/// The number is below the order, and the type says so: two equal elements have equal numbers.
+#[derive(Clone, Copy, PartialEq, Eq, PartialOrd, Ord, Hash)]
+pub struct SmallPrime<const ORDER: u32> {
+    value: u32,
+    ghost canonical: { value < ORDER },
+}
+
+/// An order of a prime field: what [`SmallPrime`] of this order has to know of it. A field is its order, an
+/// `impl` of this, and the texts that name it.
+pub trait SmallOrder<const ORDER: u32> {
+    ghost use Rattle.std.specs.Prelude.{ℕ, ◌≡◌, ◌*◌, ◌^◌, ◌≤◌};
+
+    // There are a 0 and a 1.
+    ghost above_one: { 1 < ORDER };
+
+    ghost fits_u32: { ORDER < 2 ^ 32 };
+
+    // How many bits the order takes: the least count of bits that it fits in.
+    ghost bit_length: { ℕ };
+
+    ghost bits_below: { ORDER < 2 ^ bit_length };
+
+    ghost bits_least: { 2 ^ bit_length ≤ 2 * ORDER };
+
+    /// The bit length of the order.
+    fn order_bits() -> usize
+        ensures { result ≡ bit_length };
+}
+
+impl<const ORDER: u32> SmallPrime<ORDER>
+where
+    Self: SmallOrder<ORDER>,
+{
+    ghost use Rattle.std.specs.Prelude.{◌≡◌, ◌*◌};
+    ghost use Rattle.p3_small_primes.specs.SmallPrimes.{element};
+
+    // The element that a number is modulo the order.
+    fn reduced(value: u64) -> Self
+        ensures { result ≡ element ORDER ⟦<Self as SmallOrder<ORDER>>⟧.above_one value }
+    {
+        let value = (value % u64::from(ORDER)) as u32;
+        SmallPrime { value }
+    }
+
+    // The element that a number below twice the order is modulo the order.
+    fn reduced_once(value: u64) -> Self
+        requires { value < 2 * ORDER }
+        ensures { result ≡ element ORDER ⟦<Self as SmallOrder<ORDER>>⟧.above_one value }
+    {
+        let order = u64::from(ORDER);
+        let value = if value < order { value } else { value - order };
+        SmallPrime {
+            value: value as u32,
+        }
+    }
+}
+
+impl<const ORDER: u32> fmt::Debug for SmallPrime<ORDER>
+where
+    Self: Named,
+{
+    fn fmt<W: fmt::Write>(&self, f: &mut fmt::Formatter<W>) -> fmt::Result {
+        f.debug_struct(Self::type_name())
+            .field("value", &self.value)
+            .finish()
+    }
+}
+
+impl<const ORDER: u32> Default for SmallPrime<ORDER>
+where
+    Self: SmallOrder<ORDER>,
+{
+    ghost use Rattle.std.specs.Prelude.{◌≡◌};
+    ghost use Rattle.p3_small_primes.specs.SmallPrimes.{element};
+
+    ghost is_default = { λ x. x ≡ element ORDER ⟦<Self as SmallOrder<ORDER>>⟧.above_one 0 };
+
+    fn default() -> Self {
+        Self::ZERO
+    }
+}
+
+impl<const ORDER: u32> Add for SmallPrime<ORDER>
+where
+    Self: SmallOrder<ORDER>,
+{
+    ghost use Rattle.std.specs.Prelude.{◌≡◌};
+    ghost use Rattle.p3_field_core.specs.Residues.{sum_of};
+    ghost use Rattle.p3_small_primes.specs.SmallPrimes.{residues_below};
+
+    type Output = Self;
+
+    ghost add_gives = { λ x y r. r ≡ sum_of (residues_below ORDER ⟦<Self as SmallOrder<ORDER>>⟧.above_one) x y };
+
+    fn add(self, rhs: Self) -> Self {
+        Self::reduced_once(u64::from(self.value) + u64::from(rhs.value))
+    }
+}
+
+impl<const ORDER: u32> Sub for SmallPrime<ORDER>
+where
+    Self: SmallOrder<ORDER>,
+{
+    ghost use Rattle.std.specs.Prelude.{◌≡◌};
+    ghost use Rattle.p3_field_core.specs.Residues.{difference_of};
+    ghost use Rattle.p3_small_primes.specs.SmallPrimes.{residues_below};
+
+    type Output = Self;
+
+    ghost sub_gives = { λ x y r. r ≡ difference_of (residues_below ORDER ⟦<Self as SmallOrder<ORDER>>⟧.above_one) x y };
+
+    fn sub(self, rhs: Self) -> Self {
+        Self::reduced_once(u64::from(self.value) + u64::from(ORDER - rhs.value))
+    }
+}
+
+impl<const ORDER: u32> Mul for SmallPrime<ORDER>
+where
+    Self: SmallOrder<ORDER>,
+{
+    ghost use Rattle.std.specs.Prelude.{◌≡◌};
+    ghost use Rattle.p3_field_core.specs.Residues.{product_of};
+    ghost use Rattle.p3_small_primes.specs.SmallPrimes.{residues_below};
+
+    type Output = Self;
+
+    ghost mul_gives = { λ x y r. r ≡ product_of (residues_below ORDER ⟦<Self as SmallOrder<ORDER>>⟧.above_one) x y };
+
+    fn mul(self, rhs: Self) -> Self {
+        Self::reduced(u64::from(self.value) * u64::from(rhs.value))
+    }
+}
+
+impl<const ORDER: u32> PrimeCharacteristicRing for SmallPrime<ORDER>
+where
+    Self: SmallOrder<ORDER>,
+{
+    ghost use Rattle.std.specs.Prelude.{◌-◌, refl};
+    ghost use Rattle.p3_small_primes.specs.SmallPrimes as small;
+
+    const ZERO: Self = SmallPrime { value: 0 };
+
+    ghost ZERO = { small.element ORDER ⟦<Self as SmallOrder<ORDER>>⟧.above_one 0 };
+
+    const ONE: Self = SmallPrime { value: 1 };
+
+    ghost ONE = { small.element ORDER ⟦<Self as SmallOrder<ORDER>>⟧.above_one 1 };
+
+    const NEG_ONE: Self = SmallPrime { value: ORDER - 1 };
+
+    ghost NEG_ONE = { small.element ORDER ⟦<Self as SmallOrder<ORDER>>⟧.above_one (ORDER - 1) };
+
+    ghost residues = { small.residues_below ORDER ⟦<Self as SmallOrder<ORDER>>⟧.above_one };
+
+    ghost are_residues = { small.laws ORDER ⟦<Self as SmallOrder<ORDER>>⟧.above_one };
+
+    ghost eq_law = { small.compared-by-numbers };
+
+    ghost zero_is = { refl };
+
+    ghost one_is = { refl };
+
+    ghost neg_one_is = { refl };
+
+    ghost number_zero = { small.zero-canonical ⟦<Self as SmallOrder<ORDER>>⟧.above_one };
+
+    ghost number_one = { small.one-canonical ⟦<Self as SmallOrder<ORDER>>⟧.above_one };
+
+    ghost number_neg_one = { small.last-canonical ⟦<Self as SmallOrder<ORDER>>⟧.above_one };
+
+    ghost can_add_law = { λ _ _. tt };
+
+    ghost add_law = { λ _ _ _ given. given };
+
+    ghost can_sub_law = { λ _ _. tt };
+
+    ghost sub_law = { λ _ _ _ given. given };
+
+    ghost can_mul_law = { λ _ _. tt };
+
+    ghost mul_law = { λ _ _ _ given. given };
+
+    fn from_u8(value: u8) -> Self {
+        Self::reduced(u64::from(value))
+    }
+
+    fn from_u16(value: u16) -> Self {
+        Self::reduced(u64::from(value))
+    }
+
+    fn from_u32(value: u32) -> Self {
+        Self::reduced(u64::from(value))
+    }
+
+    fn from_u64(value: u64) -> Self {
+        Self::reduced(value)
+    }
+}
+
+impl<const ORDER: u32> Field for SmallPrime<ORDER>
+where
+    Self: SmallOrder<ORDER>,
+{
+    ghost use Rattle.std.proofs.Common.{lit<};
+
+    ghost bit_length = { ⟦<Self as SmallOrder<ORDER>>⟧.bit_length };
+
+    ghost bits_below = { ⟦<Self as SmallOrder<ORDER>>⟧.bits_below };
+
+    ghost bits_least = { ⟦<Self as SmallOrder<ORDER>>⟧.bits_least };
+
+    ghost fits_in_memory = { lit< tt };
+
+    ghost default_law = { λ _ given. given };
+
+    fn bits() -> usize {
+        Self::order_bits()
+    }
+}
+
+impl<const ORDER: u32> PrimeField for SmallPrime<ORDER>
+where
+    Self: SmallOrder<ORDER>,
+{
+    fn order() -> u128 {
+        u128::from(ORDER)
+    }
+}
+
+impl<const ORDER: u32> PrimeField64 for SmallPrime<ORDER>
+where
+    Self: SmallOrder<ORDER>,
+{
+    ghost use Rattle.std.specs.Prelude.{refl};
+    ghost use Rattle.p3_small_primes.specs.SmallPrimes as small;
+
+    const ORDER_U64: u64 = ORDER as u64;
+
+    ghost ORDER_U64 = { ORDER };
+
+    ghost order_u64_is = { refl };
+
+    ghost fits_u64 = { small.fits_64 ⟦<Self as SmallOrder<ORDER>>⟧.fits_u32 };
+
+    fn from_canonical(value: u64) -> Self {
+        SmallPrime {
+            value: value as u32,
+        }
+    }
+
+    fn as_canonical_u64(&self) -> u64 {
+        u64::from(self.value)
+    }
+}
+
+impl<const ORDER: u32> PrimeField32 for SmallPrime<ORDER>
+where
+    Self: SmallOrder<ORDER>,
+{
+    ghost use Rattle.std.specs.Prelude.{refl};
+
+    const ORDER_U32: u32 = ORDER;
+
+    ghost ORDER_U32 = { ORDER };
+
+    ghost order_u32_is = { refl };
+
+    ghost fits_u32 = { ⟦<Self as SmallOrder<ORDER>>⟧.fits_u32 };
+
+    fn as_canonical_u32(&self) -> u32 {
+        self.value
+    }
+}
