@@ -1,0 +1,89 @@
+"""The command line of `tools/gate`."""
+import argparse
+import os
+import signal
+import sys
+import tempfile
+import time
+
+from wrong_bodies import libraries
+from wrong_bodies.kit import rtlib
+
+from . import table
+from .parts import Part
+
+ROOT = os.path.dirname(os.path.dirname(os.path.dirname(os.path.realpath(__file__))))
+TABLE = "out/gate-table.md"
+USAGE = f"""
+The repository's test command. It runs, at the top of the repository,
+
+  rt ci                           every crate proved from nothing, its tests, and its programs as two compilers build them
+  tools/wrong-bodies --self-test  that the next command holds the right edits for refused
+  tools/wrong-bodies              every wrong body: an edit that the prover must refuse
+
+each on all processors, and each also where one before it failed. It prints what each part and each crate took, and writes
+that to {TABLE}. The last line is 'N passed, M failed', the counts of the parts added; a part that gives no count is a
+failure. The exit status is 1 where anything failed. It changes no file that git knows. Libraries that rt check built are
+built again when they are next needed."""
+
+
+def main(words):
+    """Runs the gate and returns its exit status."""
+    how = {"usage": "tools/gate [--only-wrong-bodies]", "formatter_class": argparse.RawDescriptionHelpFormatter}
+    parser = argparse.ArgumentParser(description=USAGE, **how)
+    parser.add_argument("--only-wrong-bodies", action="store_true", help="leave out the first two parts")
+    given = parser.parse_args(words)
+    signal.signal(signal.SIGTERM, lambda number, _: sys.exit(128 + number))
+    with tempfile.TemporaryDirectory(prefix="gate-") as room:
+        bodies = Part("tools/wrong-bodies", [f"{ROOT}/tools/wrong-bodies", "--rows", f"{room}/rows"])
+        parts = [bodies]
+        if not given.only_wrong_bodies:
+            proofs = Part("rt ci", ["rt", "ci"], is_watched=True)
+            run_marked(proofs)
+            test = Part("tools/wrong-bodies --self-test", [f"{ROOT}/tools/wrong-bodies", "--self-test"])
+            test.run(ROOT)
+            parts = [proofs, test, bodies]
+        bodies.run(ROOT)
+        rows = rtlib.text_of(f"{room}/rows") or ""
+    report(parts, rows)
+    failed = sum(it.failed for it in parts)
+    print(f"{sum(it.passed for it in parts)} passed, {failed} failed")
+    return 1 if failed else 0
+
+
+def run_marked(proofs):
+    """Runs rt ci, so that the libraries that it builds stay for the wrong bodies, marked with the text that they are of."""
+    try:
+        crates = [it for it in rtlib.crates_below(ROOT) if it.makes_rlib()]
+    except SystemExit:
+        # (rt ci says the same)
+        crates = []
+    held = rtlib.lock(crates)
+    libraries.clear(crates)
+    stamps = {it.name: it.stamp() for it in crates}
+    for it in held:
+        os.close(it)
+    proofs.run(ROOT)
+    libraries.mark(crates, stamps, f"{time.time_ns()}")
+
+
+def report(parts, rows):
+    """Prints what the parts and the crates took, and writes it to the table's file."""
+    seconds, functions = {}, {}
+    for part in parts:
+        if part.name == "rt ci":
+            seconds, functions = dict(part.seconds), table.functions_in(part.lines)
+    for crate, more in table.seconds_of_rows(rows).items():
+        seconds[crate, "edits"] = seconds.get((crate, "edits"), 0.0) + more
+    text = table.written(table.rows(names_of_crates(), functions, seconds))
+    text = "Processor minutes of one run of the gate.\n\n" + text + "\n" + "".join(f"- {it.told()}\n" for it in parts)
+    os.makedirs(os.path.dirname(f"{ROOT}/{TABLE}"), exist_ok=True)
+    with open(f"{ROOT}/{TABLE}", "w", encoding="utf-8") as it:
+        it.write(text)
+    print(f"\n{text}")
+
+
+def names_of_crates():
+    """Returns the names of the crates, in the order of crates.txt."""
+    lines = (rtlib.text_of(f"{ROOT}/crates.txt") or "").split("\n")
+    return [it.split(":")[0].split()[0] for it in lines if it.strip() and not it.startswith("#")]

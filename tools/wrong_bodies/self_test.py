@@ -1,0 +1,198 @@
+"""The command, tried on a small repository that it makes: which edits it holds for refused, and which not."""
+import collections
+import os
+import re
+import resource
+import subprocess
+import sys
+import tempfile
+
+COMMAND = f"{os.path.dirname(os.path.dirname(os.path.realpath(__file__)))}/wrong-bodies"
+
+LOW = """// A library for the crate above.
+#![tactic(auto)]
+
+ghost use Rattle.std.specs.Prelude.{◌≡◌, ◌≤◌, ◌+◌};
+
+/// Twice a number.
+pub fn doubled(n: u8) -> u8
+    requires { n ≤ 100 }
+    ensures { result ≡ n + n }
+{
+    n + n
+}
+"""
+HIGH = """// Small functions to try wrong bodies on.
+#![tactic(auto)]
+
+ghost use Rattle.std.specs.Prelude.{◌≡◌, ◌≤◌, ◌+◌};
+
+use low::doubled;
+
+// How far `stepped` goes.
+const STEP: u8 = 2;
+
+/// A number and the next one together.
+pub fn with_next(n: u8) -> u8
+    requires { n ≤ 50 }
+    ensures { result ≡ n + n + 1 }
+{
+    doubled(n) + 1
+}
+
+/// Three times a number.
+pub fn tripled(n: u8) -> u8
+    requires { n ≤ 60 }
+    ensures { result ≡ n + n + n }
+{
+    doubled(n) + n
+}
+
+/// Three times a number, and one.
+pub fn tripled_and_one(n: u8) -> u8
+    requires { n ≤ 40 }
+    ensures { result ≡ n + n + n + 1 }
+{
+    tripled(n) + 1
+}
+
+/// The number two further on.
+pub fn stepped(n: u8) -> u8
+    requires { n ≤ 200 }
+    ensures { result ≡ n + 2 }
+{
+    n + STEP
+}
+
+/// A number that is at least each of two.
+pub fn greater(a: u8, b: u8) -> u8
+    ensures first { a ≤ result }
+    ensures second { b ≤ result }
+{
+    if a < b { b } else { a }
+}
+
+/// A number that is at most each of two.
+pub fn lesser(a: u8, b: u8) -> u8
+    ensures first { result ≤ a }
+    ensures second { result ≤ b }
+{
+    if a < b { a } else { b }
+}
+
+/// How many elements the first half has.
+pub fn half(values: &mut [u8]) -> usize {
+    let count = values.len() / 2;
+    count
+}
+"""
+ANSWERS = """use Rattle.std.proofs.Common.{arith}
+use Rattle.high.proofs.lesser.Goals as goal
+
+pub returns-then-a-b-clause-second : goal.returns-then-a-b-clause-second
+returns-then-a-b-clause-second c = omega arith
+"""
+
+# An edit by its pairs of an old and a new text and the callers that refuse it, the word that its row must have, and its mark.
+Case = collections.namedtuple("Case", "pairs callers word mark", defaults=("",))
+NEXT, GREATER, LESSER = "doubled(n) + 1", "if a < b { b } else { a }", "if a < b { a } else { b }"
+ASKS_MORE = [("requires { n ≤ 60 }", "requires { n ≤ 30 }")]
+CASES = {
+    "meaning_turned": Case([(NEXT, "doubled(n)")], [], "refused"),
+    "branches_exchanged": Case([(GREATER, "if a < b { a } else { b }")], [], "refused", "[false]"),
+    "callee_asked_too_much": Case([("doubled(n) + n", "let _more = doubled(n + 60); doubled(n) + n")], [], "refused", "[requires]"),
+    "two_functions_turned": Case([(NEXT, "doubled(n) + 2"), (GREATER, "a")], [], "refused"),
+    "sum_in_another_order": Case([(NEXT, "1 + doubled(n)")], [], "not-refused"),
+    "literal_spelled_otherwise": Case([("n + STEP", "n + 0x2")], [], "not-refused"),
+    "one_of_two_functions_turned": Case([(NEXT, "doubled(n) + 2"), (GREATER, "if b > a { b } else { a }")], [], "partly"),
+    "refused_in_a_caller_only": Case(ASKS_MORE, [], "elsewhere"),
+    "refused_in_the_caller_named": Case(ASKS_MORE, ["tripled_and_one"], "refused", "[requires]"),
+    "refused_in_another_caller": Case(ASKS_MORE, ["with_next"], "elsewhere"),
+    "constant_turned": Case([("STEP: u8 = 2", "STEP: u8 = 3")], ["stepped"], "refused", "[false]"),
+    "caller_that_is_not_there": Case(ASKS_MORE, ["quadrupled"], "bad-edit"),
+    "brace_lost": Case([(GREATER, "if a < b { b } else { a")], [], "not-source"),
+    "clause_unreadable": Case([("ensures first { a ≤ result }", "ensures first { a ≤ outcome }")], [], "not-source"),
+    "text_not_there": Case([("if a > b", "if a == b")], [], "bad-edit"),
+    "text_there_twice": Case([("doubled(n)", "doubled(n) + 0")], [], "bad-edit"),
+    "names_of_a_proof_taken": Case([(LESSER, "if b > a { a } else { b }")], [], "names-only"),
+    "function_not_taken_on": Case(
+        [("let count = values.len() / 2;", "let mut held = [values]; let lent = &mut held; let count = lent[0].len();")], [], "not-covered"
+    ),
+}
+
+
+def write(path, text):
+    """Writes a file, and the folders above it."""
+    os.makedirs(os.path.dirname(path), exist_ok=True)
+    with open(path, "w", encoding="utf-8") as it:
+        it.write(text)
+
+
+def make(root):
+    """Makes the repository."""
+    write(f"{root}/crates.txt", "low:\nhigh: low\n")
+    write(f"{root}/crates/low/src/lib.rt", LOW)
+    write(f"{root}/crates/high/src/lib.rt", HIGH)
+    write(f"{root}/crates/high/proofs/lesser/Answers.antt", ANSWERS)
+    for name, case in CASES.items():
+        lines = ["file: src/lib.rt"]
+        for old, new in case.pairs:
+            lines += [f"old: {old}", f"new: {new}"]
+        lines += [f"refused at: {it}" for it in case.callers]
+        write(f"{root}/crates/high/wrong-bodies/{name}.edit", "\n".join(lines) + "\n")
+
+
+def run(root, *words):
+    """Runs the command in the repository, prints what it says, and returns its status and its lines."""
+    how = {"cwd": root, "stdin": subprocess.DEVNULL, "stdout": subprocess.PIPE, "stderr": subprocess.STDOUT, "text": True}
+    done = subprocess.run([sys.executable, COMMAND, *words], **how)
+    lines = done.stdout.rstrip("\n").split("\n")
+    print(*(f"    {it}" for it in lines), sep="\n", flush=True)
+    return done.returncode, lines
+
+
+def row_of(name, lines):
+    """Returns an edit's row, or an empty text."""
+    return next((it for it in lines if re.match(rf"\S+ +{name} ", it)), "")
+
+
+def of_all(root):
+    """Tries every case at once, and yields for each what is told and whether it is as it must be."""
+    status, lines = run(root, "--jobs", "1", "--rows", f"{root}/rows")
+    for name, case in CASES.items():
+        row = row_of(name, lines)
+        yield f"{name}: {case.word} {case.mark}".rstrip(), row.startswith(f"{case.word} ") and case.mark in row
+    alone = {it for line in lines for it in re.findall(r"# high: check \d+ \((\w+)\):", line)}
+    together = "callee_asked_too_much" not in alone and "literal_spelled_otherwise" in alone
+    yield "of a batch with a good and a bad edit, only the bad one is tried alone", together
+    refused = sum(it.word == "refused" for it in CASES.values())
+    yield "the last line counts the refused and the others", lines[-1] == f"{refused} passed, {len(CASES) - refused} failed"
+    yield "the status is 1 where an edit is not refused", status == 1
+    with open(f"{root}/rows", encoding="utf-8") as it:
+        counts = dict(line.split("\t", 1) for line in it.read().splitlines())
+    yield "a row counts the edits of the crate", counts.get("high", "").startswith(f"{len(CASES)}\t")
+    yield "a row tells of the library below", counts.get("low", "").startswith("0\t0\t")
+
+
+def of_one(root):
+    """Names one edit by its file: one that needs no check, since it cannot be applied."""
+    status, lines = run(root, "crates/high/wrong-bodies/text_not_there.edit")
+    holds = status == 1 and row_of("text_not_there", lines).startswith("bad-edit ") and lines[-1] == "0 passed, 1 failed"
+    yield "an edit can be named by its file", holds and any("1 edit in 0 checks" in it for it in lines)
+
+
+def main():
+    """Runs the self test and returns its exit status."""
+    counts = collections.Counter()
+    with tempfile.TemporaryDirectory(prefix="wrong-bodies-self-test-") as root:
+        make(root)
+        told = [*of_all(root), *of_one(root)]
+        with open(f"{root}/crates/high/src/lib.rt", encoding="utf-8") as it:
+            told.append(("the crate's own text is as it was", it.read() == HIGH))
+    for text, holds in told:
+        counts[holds] += 1
+        print(f"{'ok    ' if holds else 'FAILED'}  {text}")
+    used = resource.getrusage(resource.RUSAGE_CHILDREN)
+    print(f"the self test took {used.ru_utime + used.ru_stime:.0f} processor seconds")
+    print(f"{counts[True]} passed, {counts[False]} failed")
+    return 1 if counts[False] else 0
