@@ -1,6 +1,4 @@
-use p3_challenger_core::{
-    CanFinalizeDigest, CanObserve, CanSample, CanSampleBits, ChallengerError, Sponge, sample_array,
-};
+use p3_challenger_core::{CanFinalizeDigest, CanObserve, CanSample, ChallengerError, sample_array};
 use p3_hash_challenger::HashChallenger;
 use p3_symmetric::{CryptographicHasher, Hash, MerkleCap, Sha256Hasher};
 use p3_test_support::LengthHasher;
@@ -195,69 +193,5 @@ fn values_are_drawn_in_order(rt: HostRuntime) -> Result<(), Fail> {
     assert_eq!(rt; drawn, [27, 26]);
     let values: Vec<u8> = by_reference.sample_vec(rt.alloc(), 1)?;
     assert_eq!(rt; values.as_slice(), [25u8].as_slice());
-    Ok(())
-}
-
-// A challenger whose draw of some bits is their number.
-#[derive(Drop)]
-struct BitCounter {
-    drawn: usize,
-}
-
-impl Sponge for BitCounter {
-    ghost use Rattle.std.specs.Prelude.{refl};
-
-    type State = usize;
-
-    type Symbol = u8;
-
-    ghost state = { λ c. c.drawn };
-
-    ghost fed = { λ s _. s };
-
-    ghost fed_nothing = { λ _. refl };
-
-    ghost fed_more = { λ _ _ _. refl };
-}
-
-impl CanSampleBits<usize> for BitCounter {
-    ghost use Rattle.std.specs.Prelude.{◌≡◌, ◌+◌, Some};
-
-    ghost most_bits = { 10 };
-
-    ghost sampled_bits = { λ bits _. Some bits };
-
-    ghost after_bits = { λ _ s. s };
-
-    ghost bits_meet_limit = { λ _ _. ⊥ };
-
-    ghost bits_may_leave = { λ _ _ _. ⊥ };
-
-    ghost bits_limit_gives_none = { λ _ _ h. absurd h };
-
-    fn max_bits() -> usize {
-        10
-    }
-
-    fn sample_bits(&mut self, bits: usize) -> Result<usize, ChallengerError> {
-        Ok(bits)
-    }
-}
-
-fn most_bits<C: CanSampleBits<usize>>(_challenger: &C) -> usize {
-    C::max_bits()
-}
-
-fn draw_most_bits<C: CanSampleBits<usize>>(challenger: &mut C) -> Result<usize, ChallengerError> {
-    challenger.sample_bits(C::max_bits())
-}
-
-#[test]
-fn bits_are_drawn(rt: HostRuntime) -> Result<(), Fail> {
-    let mut challenger = BitCounter { drawn: 0 };
-    assert_eq!(rt; draw_most_bits(&mut challenger)?, 10);
-    let by_reference = &mut challenger;
-    assert_eq!(rt; most_bits(&by_reference), 10);
-    assert_eq!(rt; draw_most_bits(&mut &mut challenger)?, 10);
     Ok(())
 }
