@@ -27,10 +27,14 @@ class Findings:
         self.doubtful = []
         # Goals of no function: of a type, an impl, a lemma.
         self.strays = []
+        # Goals in an edited function's text that are of another function, which the edit adds there.
+        self.added = []
+        # Notes with their functions, until the line of the function that they are of.
+        self.pending = []
         # By function, the words of its own line, where it is not proved and not only for what it calls.
         self.unproved = {}
         self.changed = {it for edit in layouts.edits for it in edit.functions}
-        for line in self.lines:
+        for line in [*self.lines, "impl : "]:
             self.read(line)
 
     def was_read(self):
@@ -51,10 +55,23 @@ class Findings:
         # (a note that names no goal is advice)
         if at and (re.search(r"\(`[^`]*`\)", at["words"]) if at["note"] else at["words"].startswith("error")):
             self.read_goal(at)
-        elif line.startswith("fn "):
-            symbol, _, words = line[len("fn ") :].partition(": ")
-            if not words.startswith("proved") and not BY_OTHERS.match(words):
+        elif re.match(r"(fn|impl|struct|trait) \S*: ", line):
+            symbol, _, words = line.partition(" ")[2].partition(": ")
+            self.place_notes(symbol)
+            if line.startswith("fn ") and not words.startswith("proved") and not BY_OTHERS.match(words):
                 self.unproved.update((it, words) for it in self.functions_of(symbol))
+
+    def place_notes(self, symbol):
+        """Gives the notes above the line of a function, an impl or a type to the functions in whose text they stand."""
+        path = symbol.split("::")
+        cycles = {it.cycle for it in self.functions_of(symbol)} - {None}
+        for item, goal in self.pending:
+            is_closure = item and "fn" in path and item.name in path
+            if item and (path[-1].partition("+")[0] == item.name or is_closure or item.cycle in cycles):
+                self.goals[item].append(goal)
+            else:
+                (self.added if item in self.changed else self.strays).append(goal)
+        self.pending = []
 
     def read_goal(self, at):
         """Notes a goal that was not proved, or an error."""
@@ -67,6 +84,9 @@ class Findings:
         else:
             item = self.layouts.item_at(file, int(at["row"]), int(at["column"]))
             found, goal = [item] * bool(item), Goal(kind_in_source(words, at["note"]), where, words)
+            if at["note"]:
+                self.pending.append((item, goal))
+                return
         if not found:
             self.strays.append(goal)
         elif len(found) == 1:
@@ -112,7 +132,7 @@ class Findings:
 
     def first_failure(self):
         """Returns the first line that says what is wrong, cut to what fits a row."""
-        goals = [goal for of_one in self.goals.values() for goal in of_one] + self.strays
+        goals = [goal for of_one in self.goals.values() for goal in of_one] + self.strays + self.added
         errors = [it for it in self.lines if re.search(r"\berror[:\[]", it)]
         failed = [it for it in self.lines if re.match(r"(fn|impl|struct|trait) \S+: (?!proved)", it)]
         told = errors + [f"{it.where}: {it.words}" for it in goals] + failed + self.lines[-1:]

@@ -7,11 +7,11 @@ from .kit import bodies
 
 
 class Item:
-    """A function or a constant: its file, and where it begins, where its body begins and where it ends, in characters."""
+    """A function or a constant, and where it begins, where its head ends, its body begins and it ends, in characters."""
 
     def __init__(self, file, name, module, block):
         self.file, self.name, self.module, self.block = file, name, list(module), block
-        self.begin = self.body = self.end = 0
+        self.begin = self.head = self.body = self.end = 0
         # The cycle of calls that it is in, where it names one.
         self.cycle = None
         # Of a method of an impl of a trait, what a check calls the impl.
@@ -32,6 +32,11 @@ class Item:
         if self.block.trait and not self.block.is_trait:
             return f"<{owner} as {bodies.written(self.block.trait)}>::{self.name}"
         return f"{self.owner() or owner}::{self.name}"
+
+    def is_changed_within(self, change):
+        """Returns whether a change is one of the body alone, or puts another body before it."""
+        is_new_body = self.head <= change.start and change.end < self.body and change.text.lstrip().startswith("{")
+        return not self.is_constant and (change.start >= self.body or is_new_body)
 
     def spellings(self):
         """Returns the texts that may stand after `refused at:` for it."""
@@ -97,6 +102,7 @@ class Functions:
         made = Item(it.file, it.name, it.module, it.block)
         data = self.text_of(it.file).encode()
         made.begin, made.body, made.end = (len(data[:at].decode()) for at in (it.first, it.opens + 1, it.end))
+        made.head = len(data[: it.opens].decode().rstrip())
         cycle = re.search(r"#\[cycle\((\w+)\)\]", self.text_of(it.file)[made.begin : made.body])
         made.cycle = cycle[1] if cycle else None
         return made
@@ -114,7 +120,7 @@ class Functions:
             block = next((it for it in blocks if it.span[0] <= first < it.span[1]), None)
             made = Item(file, words[at + 1], module_of(file), block)
             made.begin, made.end = len(data[:first].decode()), len(data[:last].decode())
-            made.body, made.is_constant = made.begin, True
+            made.is_constant = True
             if not any(it.file == file and it.begin <= made.begin < it.end for it in self.items if not it.is_constant):
                 found.append(made)
         return found
@@ -157,8 +163,8 @@ class Functions:
                 item = self.holding(file, it.start, it.end) if file.endswith(".rt") else None
                 if item and item not in edit.functions:
                     edit.functions.append(item)
-                # a body is all that other functions do not see
-                edit.is_apart = edit.is_apart or not item or item.is_constant or it.start < item.body
+                # (a body is all that other functions do not see)
+                edit.is_apart = edit.is_apart or not item or not item.is_changed_within(it)
         try:
             edit.judges = [self.called(it) for it in edit.callers] or edit.functions
             if not edit.judges:

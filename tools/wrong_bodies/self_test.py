@@ -108,6 +108,9 @@ CASES = {
     "refused_in_a_caller_only": Case(ASKS_MORE, [], "elsewhere"),
     "refused_in_the_caller_named": Case(ASKS_MORE, ["tripled_and_one"], "refused", "[requires]"),
     "refused_in_another_caller": Case(ASKS_MORE, ["with_next"], "elsewhere"),
+    "body_before_another_function": Case(
+        [("ensures { result ≡ n + 2 }", "ensures { result ≡ n + 2 } { n + 0x2 } fn unasked(n: u8) -> u8")], [], "elsewhere"
+    ),
     "constant_turned": Case([("STEP: u8 = 2", "STEP: u8 = 3")], ["stepped"], "refused", "[false]"),
     "caller_that_is_not_there": Case(ASKS_MORE, ["quadrupled"], "bad-edit"),
     "brace_lost": Case([(GREATER, "if a < b { b } else { a")], [], "not-source"),
