@@ -85,5 +85,5 @@ def report(parts, rows):
 
 def names_of_crates():
     """Returns the names of the crates, in the order of crates.txt."""
-    lines = (rtlib.text_of(f"{ROOT}/crates.txt") or "").split("\n")
-    return [it.split(":")[0].split()[0] for it in lines if it.strip() and not it.startswith("#")]
+    lines = [it.partition("#")[0] for it in (rtlib.text_of(f"{ROOT}/{rtlib.LIST}") or "").split("\n")]
+    return [it.partition(":")[0].split()[0] for it in lines if it.strip()]
