@@ -88,4 +88,3 @@ module _ {S T : Type 0} (d : Sampling S T) where
   drew-stops n start xs i here h so_far =
       let left : n - i ≡ suc (n - (i + 1)) = omega arith in
       drew-refused n start xs (n - (i + 1)) here (subst (λ k. Drew n start xs k here) left so_far)
-

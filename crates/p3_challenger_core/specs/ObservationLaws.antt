@@ -130,8 +130,8 @@ module _ {S Symbol : Type 0} (fed : S → List Symbol → S) (fed_nothing : (s :
         let front = behind_append left.0 (o.symbols x) (flat_map o.symbols xs) in (
           front.0,
           left.1
-          ∙ ap (fed s) (append_assoc (y ∷ ys) (o.symbols x) (take left.0 (flat_map o.symbols xs)))
-          ∙ ap (λ zs. fed s ((y ∷ ys) ++ zs)) (sym front.1),
+              ∙ ap (fed s) (append_assoc (y ∷ ys) (o.symbols x) (take left.0 (flat_map o.symbols xs)))
+              ∙ ap (λ zs. fed s ((y ∷ ys) ++ zs)) (sym front.1),
         )
 
     later-left : (s here t : S) (a : List Symbol) (xs : List T) → IsFed fed s a here → LeavesInCalls o.observed o.may_leave here xs t → LeavesFed fed here (flat_map o.symbols xs) t → LeavesFed fed s (a ++ flat_map o.symbols xs) t

@@ -38,13 +38,13 @@ impl<C: Sponge, F: Field, EF: BasedVectorSpace<F>, BaseCodec: ScalarCodec<C, F>>
 
     ghost is_codec = { record {
       encodes = is_encoding BaseCodec.encoding BaseCodec.is_codec.encodes EF.DIMENSION EF.coefficients EF.element
-        EF.length_coefficients EF.same_coefficients EF.coefficients_element;
+          EF.length_coefficients EF.same_coefficients EF.coefficients_element;
       observes = observed_as-is_observation C.fed C.fed_nothing C.fed_more
-        (observation.in_row BaseCodec.observation)
-        (in_row-is_observation C.fed C.fed_nothing C.fed_more BaseCodec.observation BaseCodec.is_codec.observes)
-        EF.coefficients;
+          (observation.in_row BaseCodec.observation)
+          (in_row-is_observation C.fed C.fed_nothing C.fed_more BaseCodec.observation BaseCodec.is_codec.observes)
+          EF.coefficients;
       samples = made_of-is_sampling C.next EF.element (sampling.in_row BaseCodec.sampling EF.DIMENSION)
-        (in_row-is_sampling C.next BaseCodec.sampling BaseCodec.is_codec.samples EF.DIMENSION);
+          (in_row-is_sampling C.next BaseCodec.sampling BaseCodec.is_codec.samples EF.DIMENSION);
     } };
 
     ghost symbols_read_one_way = { λ given. coefficients-tell_apart BaseCodec.observation.symbols

@@ -105,6 +105,8 @@ impl<U, D> DomainSeparator<U, D> {
         ensures err { IfErr result (λ e. RefusesChunk (length self.old.instance_label.items + 4 + length chunk.now) e
             × (self.new.instance_label.items ≡ self.old.instance_label.items)) }
         ensures rest { (self.new.protocol_id ≡ self.old.protocol_id) × (self.new.pattern ≡ self.old.pattern) }
+        // The length of a chunk that is taken fits in its four bytes, and so does that of the label.
+        ensures fits { OnOk result (FitsCount chunk.now × (length self.new.instance_label.items < 2 ^ 32)) }
         // The label is that of the chunks so far.
         ensures chunks { OnOk result ((chunks : List (List ℕ)) → self.old.instance_label.items ≡ label_of chunks →
             self.new.instance_label.items ≡ label_of (chunks ++ (chunk.now ∷ []))) }

@@ -1,0 +1,217 @@
+// Codecs and alphabets, through their bounds.
+ghost use Rattle.std.specs.Prelude.{◌<◌, ◌≤◌};
+
+use crate::answer;
+use crate::names::{ALGEBRAS, AlgebraName, FIELDS, FieldName};
+use crate::replay::Replayed;
+use crate::subject::observe_bytes;
+use crate::symbol::{Symbol, coefficients_of, element_of, numbers_of};
+use crate::words::{look_up, split_name};
+use anyhow::{Context, Result, bail};
+use p3_challenger::fs::{
+    BytesToFieldCodec, Codec, ExtensionFieldCodec, FieldToFieldCodec, FieldUnit, Unit,
+};
+use p3_challenger::{CanObserve, DuplexChallenger, Sponge};
+use p3_field::{Algebra, BabyBear, BasedVectorSpace, Coeffs, F257, Goldilocks, PrimeField64};
+use p3_symmetric::Turn;
+use p3_test_support::{RecordingChallenger, Supply};
+use std::alloc::Global;
+
+/// A call on the codec of an algebra, or on an alphabet.
+#[derive(Drop)]
+pub enum CodecCall {
+    /// A call on the codec of an algebra.
+    OfAlgebra(AlgebraName, ElementCall),
+    /// `draw A HEX`: the coefficients of the element that a codec of bytes draws from these, and how many are
+    /// left.
+    Draw(AlgebraName, Vec<u8>),
+    /// `unit F HEX`: the elements that a byte string is, or why it is none.
+    Spell(FieldName, Vec<u8>),
+    /// `unit u8 HEX`: the bytes that a byte string is.
+    SpellBytes(Vec<u8>),
+}
+
+/// What is asked of a codec.
+#[derive(Drop)]
+pub enum ElementCall {
+    /// `wire-len A`: how many bytes a spelling has.
+    WireLen,
+    /// `security-bits A`.
+    SecurityBits,
+    /// `enc A HEX`: how the element is spelled whose coefficients are numbers of 8 bytes.
+    Encode(Vec<u8>),
+    /// `dec A HEX`: the coefficients of the element that bytes begin with, or why they begin with none.
+    Decode(Vec<u8>),
+}
+
+/// The codecs and the alphabets: no challenger is kept from call to call.
+#[derive(Clone, Copy)]
+pub enum Codecs {
+    /// Those through a challenger of bytes.
+    OfBytes,
+    /// Those through a challenger of elements.
+    OfElements,
+}
+
+type Cells<F> = DuplexChallenger<F, Turn<1>, 3, 2>;
+
+type Four = Coeffs<BabyBear, 4>;
+
+type FourOfBytes = ExtensionFieldCodec<BabyBear, Four, BytesToFieldCodec<BabyBear>>;
+
+type FourOfElements = ExtensionFieldCodec<BabyBear, Four, FieldToFieldCodec<BabyBear>>;
+
+impl CodecCall {
+    fn parse(alloc: Global, text: &str) -> Result<CodecCall> {
+        let (name, words) = split_name(text);
+        let (values, bytes) = split_name(words);
+        let bytes = hex::decode(alloc, bytes)?;
+        if name == "unit" {
+            return match values {
+                "u8" => Ok(CodecCall::SpellBytes(bytes)),
+                _ => Ok(CodecCall::Spell(look_up(&FIELDS, values)?, bytes)),
+            };
+        }
+        let algebra = look_up(&ALGEBRAS, values)?;
+        match name {
+            "draw" => Ok(CodecCall::Draw(algebra, bytes)),
+            "enc" => Ok(CodecCall::OfAlgebra(algebra, ElementCall::Encode(bytes))),
+            "dec" => Ok(CodecCall::OfAlgebra(algebra, ElementCall::Decode(bytes))),
+            "wire-len" => Ok(CodecCall::OfAlgebra(algebra, ElementCall::WireLen)),
+            "security-bits" => Ok(CodecCall::OfAlgebra(algebra, ElementCall::SecurityBits)),
+            _ => bail!("an unknown call"),
+        }
+    }
+}
+
+impl Replayed for Codecs {
+    fn answer(&mut self, alloc: Global, call: &str) -> Result<String> {
+        match CodecCall::parse(alloc, call)? {
+            CodecCall::OfAlgebra(algebra, call) => match self {
+                Codecs::OfBytes => through_bytes(alloc, algebra, &call),
+                Codecs::OfElements => through_elements(alloc, algebra, &call),
+            },
+            CodecCall::Draw(algebra, bytes) => drawn(alloc, algebra, bytes.as_slice()),
+            CodecCall::SpellBytes(bytes) => spelled::<u8, u8>(alloc, bytes.as_slice()),
+            CodecCall::Spell(field, bytes) => match field {
+                FieldName::BabyBear => {
+                    spelled::<FieldUnit<BabyBear>, BabyBear>(alloc, bytes.as_slice())
+                }
+                FieldName::Goldilocks => {
+                    spelled::<FieldUnit<Goldilocks>, Goldilocks>(alloc, bytes.as_slice())
+                }
+                FieldName::F257 => spelled::<FieldUnit<F257>, F257>(alloc, bytes.as_slice()),
+            },
+        }
+    }
+}
+
+fn through_bytes(alloc: Global, algebra: AlgebraName, call: &ElementCall) -> Result<String> {
+    match algebra {
+        AlgebraName::Scalars(FieldName::BabyBear) => {
+            through::<BabyBear, BabyBear, BytesToFieldCodec<BabyBear>, Supply<'_>>(alloc, call)
+        }
+        AlgebraName::Scalars(FieldName::Goldilocks) => {
+            through::<Goldilocks, Goldilocks, BytesToFieldCodec<Goldilocks>, Supply<'_>>(
+                alloc, call,
+            )
+        }
+        AlgebraName::Scalars(FieldName::F257) => {
+            through::<F257, F257, BytesToFieldCodec<F257>, Supply<'_>>(alloc, call)
+        }
+        AlgebraName::Four => through::<BabyBear, Four, FourOfBytes, Supply<'_>>(alloc, call),
+    }
+}
+
+fn through_elements(alloc: Global, algebra: AlgebraName, call: &ElementCall) -> Result<String> {
+    match algebra {
+        AlgebraName::Scalars(FieldName::BabyBear) => {
+            through::<BabyBear, BabyBear, FieldToFieldCodec<BabyBear>, Cells<BabyBear>>(alloc, call)
+        }
+        AlgebraName::Scalars(FieldName::Goldilocks) => through::<
+            Goldilocks,
+            Goldilocks,
+            FieldToFieldCodec<Goldilocks>,
+            Cells<Goldilocks>,
+        >(alloc, call),
+        AlgebraName::Scalars(FieldName::F257) => {
+            through::<F257, F257, FieldToFieldCodec<F257>, Cells<F257>>(alloc, call)
+        }
+        AlgebraName::Four => through::<BabyBear, Four, FourOfElements, Cells<BabyBear>>(
+            alloc, call,
+        ),
+    }
+}
+
+// What a codec answers.
+fn through<F: PrimeField64 + Symbol, A: BasedVectorSpace<F>, K: Codec<C, A>, C: Sponge>(
+    alloc: Global,
+    call: &ElementCall,
+) -> Result<String> {
+    match call {
+        ElementCall::WireLen => Ok(K::wire_len().to_string(alloc)?),
+        ElementCall::SecurityBits => Ok(K::SECURITY_BITS.to_string(alloc)?),
+        ElementCall::Encode(numbers) => {
+            let element: A = element_of(coefficients::<F>(alloc, numbers.as_slice())?.as_slice())?;
+            let mut wire = Vec::new(alloc);
+            K::encode(&element, &mut wire)?;
+            Ok(hex::encode(alloc, wire.as_slice())?)
+        }
+        ElementCall::Decode(bytes) => match K::decode(bytes.as_slice()) {
+            Ok(element) => answer::numbers(alloc, coefficients_of(alloc, &element)?.as_slice()),
+            Err(error) => Ok(error.to_string(alloc)?),
+        },
+    }
+}
+
+// The elements of canonical numbers of 8 bytes each.
+fn coefficients<F: PrimeField64>(alloc: Global, numbers: &[u8]) -> Result<Vec<F>> {
+    let mut found = Vec::new(alloc);
+    for number in numbers.chunks(8) {
+        let Ok(number) = <[u8; 8]>::try_from(number) else {
+            bail!("a number of another length");
+        };
+        let element = F::from_canonical_checked(u64::from_be_bytes(number));
+        found.push(element.context("a value that is no canonical number")?)?;
+    }
+    Ok(found)
+}
+
+fn drawn(alloc: Global, algebra: AlgebraName, bytes: &[u8]) -> Result<String> {
+    match algebra {
+        AlgebraName::Scalars(FieldName::BabyBear) => {
+            drawn_by::<BabyBear, BabyBear, BytesToFieldCodec<BabyBear>>(alloc, bytes)
+        }
+        AlgebraName::Scalars(FieldName::Goldilocks) => {
+            drawn_by::<Goldilocks, Goldilocks, BytesToFieldCodec<Goldilocks>>(alloc, bytes)
+        }
+        AlgebraName::Scalars(FieldName::F257) => {
+            drawn_by::<F257, F257, BytesToFieldCodec<F257>>(alloc, bytes)
+        }
+        AlgebraName::Four => drawn_by::<BabyBear, Four, FourOfBytes>(alloc, bytes),
+    }
+}
+
+// The coefficients of the element drawn from bytes, and how many of them are left.
+fn drawn_by<'a, F: PrimeField64 + Symbol, A: BasedVectorSpace<F>, K: Codec<Supply<'a>, A>>(
+    alloc: Global,
+    bytes: &'a [u8],
+) -> Result<String>
+    requires { 128 ≤ K.SECURITY_BITS }
+{
+    let mut supply = Supply::new(bytes);
+    let element = K::sample(&mut supply)?;
+    let numbers = answer::numbers(alloc, coefficients_of(alloc, &element)?.as_slice())?;
+    Ok(format!(in alloc; "{numbers} left {}", supply.left().len())?)
+}
+
+// The symbols that a byte string is, or why it is none.
+fn spelled<U: Unit<Item = T>, T: Symbol>(alloc: Global, bytes: &[u8]) -> Result<String>
+    requires { U.is_alphabet }
+{
+    let mut recorder = RecordingChallenger::new(alloc);
+    match U::observe_bytes(&mut recorder, bytes) {
+        Ok(()) => answer::numbers(alloc, numbers_of(alloc, recorder.symbols())?.as_slice()),
+        Err(error) => Ok(error.to_string(alloc)?),
+    }
+}

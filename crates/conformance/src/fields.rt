@@ -1,0 +1,322 @@
+// Fields, their algebras and names, through their bounds.
+use crate::answer;
+use crate::line::Step;
+use crate::names::{ALGEBRAS, AlgebraName, FIELDS, FieldName};
+use crate::replay::{Replayed, first_difference};
+use crate::symbol::{Symbol, coefficients_of};
+use crate::words::{look_up, parse_pair, split_name};
+use anyhow::{Result, bail};
+use p3_field::{
+    Algebra, AlgebraIdentity, BabyBear, Coeffs, F257, Field, Goldilocks, Named, PrimeField,
+    PrimeField32, PrimeField64,
+};
+use std::alloc::Global;
+use std::marker::PhantomData;
+
+/// A call on a field. An element is answered by its canonical number.
+#[derive(Clone, Copy)]
+pub enum FieldCall {
+    /// A call without words.
+    Constant(Constant),
+    /// A call with a number.
+    Unary(Unary, u64),
+    /// A call with two.
+    Binary(Binary, u64, u64),
+}
+
+/// What a field has of its own.
+#[derive(Clone, Copy)]
+pub enum Constant {
+    /// `zero`, `one`, `negative-one`, `default`.
+    Zero,
+    One,
+    NegativeOne,
+    Default,
+    /// `bits`, `order`, `order-constant`; `field32` has the last one alone of these.
+    Bits,
+    Order,
+    OrderConstant,
+}
+
+/// What a number gives.
+#[derive(Clone, Copy)]
+pub enum Unary {
+    /// `u8 n`, `u16 n`, `u32 n` and `u64 n`: the element that it is.
+    FromU8,
+    FromU16,
+    FromU32,
+    FromU64,
+    /// `checked n`: the element of which it is the canonical number, or `none`.
+    Checked,
+    /// `canonical n`: the element of which it is the canonical number; at `field32` the canonical number of the
+    /// element that it is.
+    Canonical,
+    /// `unique n`: the number of its own of the element that it is.
+    Unique,
+}
+
+/// What the elements of two numbers give.
+#[derive(Clone, Copy)]
+pub enum Binary {
+    /// `sum x y`, `difference x y`, `product x y`.
+    Sum,
+    Difference,
+    Product,
+    /// `power x n`: the element of x to the power n.
+    Power,
+}
+
+const CONSTANTS: [(&str, Constant); 7] = [
+    ("zero", Constant::Zero),
+    ("one", Constant::One),
+    ("negative-one", Constant::NegativeOne),
+    ("default", Constant::Default),
+    ("bits", Constant::Bits),
+    ("order", Constant::Order),
+    ("order-constant", Constant::OrderConstant),
+];
+
+const UNARY: [(&str, Unary); 7] = [
+    ("u8", Unary::FromU8),
+    ("u16", Unary::FromU16),
+    ("u32", Unary::FromU32),
+    ("u64", Unary::FromU64),
+    ("checked", Unary::Checked),
+    ("canonical", Unary::Canonical),
+    ("unique", Unary::Unique),
+];
+
+const BINARY: [(&str, Binary); 4] = [
+    ("sum", Binary::Sum),
+    ("difference", Binary::Difference),
+    ("product", Binary::Product),
+    ("power", Binary::Power),
+];
+
+/// A call on an algebra over a field. An element is answered by its coefficients.
+#[derive(Clone, Copy)]
+pub enum AlgebraCall {
+    /// `dimension`.
+    Dimension,
+    /// `identity`: the text that says which algebra it is.
+    Identity,
+    /// `zero`.
+    Zero,
+    /// `from v`: the element that a value of the field is.
+    From(u64),
+    /// `with i v`: zero with this coefficient replaced.
+    With(u64, u64),
+}
+
+impl FieldCall {
+    fn parse(text: &str) -> Result<FieldCall> {
+        let Some((name, words)) = text.split_once(' ') else {
+            return Ok(FieldCall::Constant(look_up(&CONSTANTS, text)?));
+        };
+        if words.contains(' ') {
+            let (x, y) = parse_pair(words)?;
+            return Ok(FieldCall::Binary(look_up(&BINARY, name)?, x, y));
+        }
+        Ok(FieldCall::Unary(look_up(&UNARY, name)?, words.parse()?))
+    }
+}
+
+impl AlgebraCall {
+    fn parse(text: &str) -> Result<AlgebraCall> {
+        let (name, words) = split_name(text);
+        Ok(match name {
+            "dimension" => AlgebraCall::Dimension,
+            "identity" => AlgebraCall::Identity,
+            "zero" => AlgebraCall::Zero,
+            "from" => AlgebraCall::From(words.parse()?),
+            "with" => {
+                let (index, value) = parse_pair(words)?;
+                AlgebraCall::With(index, value)
+            }
+            _ => bail!("an unknown call"),
+        })
+    }
+}
+
+// A field, of which calls ask.
+#[derive(Drop)]
+struct OfField<F>(PhantomData<F>);
+
+// A field of order below 2^32.
+#[derive(Drop)]
+struct OfField32<F>(PhantomData<F>);
+
+// An algebra over a field.
+#[derive(Drop)]
+struct OfAlgebra<F, A>(PhantomData<(F, A)>);
+
+/// A type with a name. The calls are `name`, and `constant` for the same as the constant has it.
+#[derive(Drop)]
+struct OfType<T>(PhantomData<T>);
+
+/// The first call with another answer, on a field.
+pub fn field_difference(
+    alloc: Global,
+    field: &str,
+    steps: &[Step<'_>],
+) -> Result<Option<(usize, String)>> {
+    match look_up(&FIELDS, field)? {
+        FieldName::BabyBear => first_difference(alloc, OfField::<BabyBear>(PhantomData), steps),
+        FieldName::Goldilocks => first_difference(alloc, OfField::<Goldilocks>(PhantomData), steps),
+        FieldName::F257 => first_difference(alloc, OfField::<F257>(PhantomData), steps),
+    }
+}
+
+/// The same, by the calls of a field whose order is below 2^32.
+pub fn field32_difference(
+    alloc: Global,
+    field: &str,
+    steps: &[Step<'_>],
+) -> Result<Option<(usize, String)>> {
+    match look_up(&FIELDS, field)? {
+        FieldName::BabyBear => first_difference(alloc, OfField32::<BabyBear>(PhantomData), steps),
+        FieldName::F257 => first_difference(alloc, OfField32::<F257>(PhantomData), steps),
+        FieldName::Goldilocks => bail!("an order above 2^32"),
+    }
+}
+
+/// The same, on an algebra.
+pub fn algebra_difference(
+    alloc: Global,
+    algebra: &str,
+    steps: &[Step<'_>],
+) -> Result<Option<(usize, String)>> {
+    match look_up(&ALGEBRAS, algebra)? {
+        AlgebraName::Scalars(FieldName::BabyBear) => {
+            first_difference(alloc, OfAlgebra::<BabyBear, BabyBear>(PhantomData), steps)
+        }
+        AlgebraName::Scalars(FieldName::Goldilocks) => {
+            first_difference(
+                alloc,
+                OfAlgebra::<Goldilocks, Goldilocks>(PhantomData),
+                steps,
+            )
+        }
+        AlgebraName::Scalars(FieldName::F257) => {
+            first_difference(alloc, OfAlgebra::<F257, F257>(PhantomData), steps)
+        }
+        AlgebraName::Four => {
+            first_difference(
+                alloc,
+                OfAlgebra::<BabyBear, Coeffs<BabyBear, 4>>(PhantomData),
+                steps,
+            )
+        }
+    }
+}
+
+/// The same, on a type with a name.
+pub fn type_difference(
+    alloc: Global,
+    name: &str,
+    steps: &[Step<'_>],
+) -> Result<Option<(usize, String)>> {
+    match name {
+        "u8" => first_difference(alloc, OfType::<u8>(PhantomData), steps),
+        "usize" => first_difference(alloc, OfType::<usize>(PhantomData), steps),
+        "()" => first_difference(alloc, OfType::<()>(PhantomData), steps),
+        "bb" => first_difference(alloc, OfType::<BabyBear>(PhantomData), steps),
+        "gl" => first_difference(alloc, OfType::<Goldilocks>(PhantomData), steps),
+        "f257" => first_difference(alloc, OfType::<F257>(PhantomData), steps),
+        "bb4" => first_difference(alloc, OfType::<Coeffs<BabyBear, 4>>(PhantomData), steps),
+        "f257_3" => first_difference(alloc, OfType::<Coeffs<F257, 3>>(PhantomData), steps),
+        _ => bail!("an unknown type"),
+    }
+}
+
+impl<F: PrimeField64> Replayed for OfField<F> {
+    fn answer(&mut self, alloc: Global, call: &str) -> Result<String> {
+        let number = match FieldCall::parse(call)? {
+            FieldCall::Constant(constant) => constant_of::<F>(constant)?,
+            FieldCall::Unary(Unary::Checked, n) => match F::from_canonical_checked(n) {
+                Some(element) => element.as_canonical_u64(),
+                None => return Ok(String::from_str(alloc, "none")?),
+            },
+            FieldCall::Unary(Unary::Unique, n) => F::from_u64(n).to_unique_u64(),
+            FieldCall::Unary(unary, n) => element_of::<F>(unary, n)?.as_canonical_u64(),
+            FieldCall::Binary(binary, x, y) => computed::<F>(binary, x, y).as_canonical_u64(),
+        };
+        Ok(number.to_string(alloc)?)
+    }
+}
+
+fn constant_of<F: PrimeField64>(constant: Constant) -> Result<u64> {
+    Ok(match constant {
+        Constant::Zero => F::ZERO.as_canonical_u64(),
+        Constant::One => F::ONE.as_canonical_u64(),
+        Constant::NegativeOne => F::NEG_ONE.as_canonical_u64(),
+        Constant::Default => F::default().as_canonical_u64(),
+        Constant::Bits => F::bits() as u64,
+        Constant::Order => u64::try_from(F::order())?,
+        Constant::OrderConstant => F::ORDER_U64,
+    })
+}
+
+fn element_of<F: PrimeField64>(unary: Unary, n: u64) -> Result<F> {
+    match unary {
+        Unary::FromU8 => Ok(F::from_u8(u8::try_from(n)?)),
+        Unary::FromU16 => Ok(F::from_u16(u16::try_from(n)?)),
+        Unary::FromU32 => Ok(F::from_u32(u32::try_from(n)?)),
+        Unary::FromU64 => Ok(F::from_u64(n)),
+        Unary::Canonical if n < F::ORDER_U64 => Ok(F::from_canonical(n)),
+        _ => bail!("no canonical number"),
+    }
+}
+
+fn computed<F: PrimeField64>(binary: Binary, x: u64, y: u64) -> F {
+    let first = F::from_u64(x);
+    match binary {
+        Binary::Sum => first + F::from_u64(y),
+        Binary::Difference => first - F::from_u64(y),
+        Binary::Product => first * F::from_u64(y),
+        Binary::Power => first.exp_u64(y),
+    }
+}
+
+impl<F: PrimeField32> Replayed for OfField32<F> {
+    fn answer(&mut self, alloc: Global, call: &str) -> Result<String> {
+        let number = match FieldCall::parse(call)? {
+            FieldCall::Unary(Unary::Canonical, n) => F::from_u64(n).as_canonical_u32(),
+            FieldCall::Unary(Unary::Unique, n) => F::from_u64(n).to_unique_u32(),
+            FieldCall::Constant(Constant::OrderConstant) => F::ORDER_U32,
+            _ => bail!("a call on a field"),
+        };
+        Ok(number.to_string(alloc)?)
+    }
+}
+
+impl<F: PrimeField64 + Symbol, A: AlgebraIdentity<F>> Replayed for OfAlgebra<F, A> {
+    fn answer(&mut self, alloc: Global, call: &str) -> Result<String> {
+        let element: A = match AlgebraCall::parse(call)? {
+            AlgebraCall::Dimension => return Ok((A::DIMENSION as u64).to_string(alloc)?),
+            AlgebraCall::Identity => {
+                return Ok(String::from_str(alloc, str::from_utf8(A::algebra_id())?)?);
+            }
+            AlgebraCall::Zero => A::zero(),
+            AlgebraCall::From(value) => A::from(F::from_u64(value)),
+            AlgebraCall::With(index, value) => {
+                let index = usize::try_from(index)?;
+                if index >= A::DIMENSION {
+                    bail!("no coefficient");
+                }
+                A::zero().with_coefficient(index, F::from_u64(value))
+            }
+        };
+        answer::numbers(alloc, coefficients_of(alloc, &element)?.as_slice())
+    }
+}
+
+impl<T: Named> Replayed for OfType<T> {
+    fn answer(&mut self, alloc: Global, call: &str) -> Result<String> {
+        match call {
+            "name" => Ok(String::from_str(alloc, T::type_name())?),
+            "constant" => Ok(String::from_str(alloc, T::NAME)?),
+            _ => bail!("an unknown call"),
+        }
+    }
+}

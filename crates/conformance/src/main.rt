@@ -1,0 +1,217 @@
+//! The program `conformance`: makes the calls that its files list, and compares what is answered with the
+//! answers that stand there.
+//!
+//! Its files lie in the folder that it runs in, or in the one that its argument names. The first lines of a
+//! file, which begin with `#`, say where its answers are from. Each other line is `SPEC | CALLS | ANSWERS`, with
+//! ` ; ` between the calls and between the answers. An answer is `-` for a call without one, `()` for no
+//! numbers, `\n` for a newline; an error is answered by its text. The calls are made in order, on what the SPEC
+//! makes:
+//!
+//! | SPEC | Calls |
+//! |---|---|
+//! | `field F` | [`fields::FieldCall`], on the field `bb` (BabyBear), `gl` (Goldilocks) or `f257` (F257) |
+//! | `field32 F` | the same by the functions of 32 bits, on `bb` or `f257` |
+//! | `algebra A` | [`fields::AlgebraCall`], on a field or on `bb4`, its elements of four coefficients |
+//! | `type T` | `name`, and `constant`, the same as the constant has it; T is `u8`, `usize`, `()`, a field, `bb4` or `f257_3` |
+//! | `turn K` | `v..`: what the permutation by K places makes of these cells of F257 |
+//! | `duplex F K W R` | [`challenger_call::ChallengerCall`], on a new challenger of W cells, R of them the rate |
+//! | `hash H [HEX]` | the same, on a new challenger with these bytes pending; H is `len`, `sum` or `sha256` |
+//! | `by-reference duplex ..`, `by-reference hash ..` | the same, each made on a reference to the challenger |
+//! | `codec`, `codec elements` | [`codecs::CodecCall`], through challengers of bytes, or of elements |
+//! | `count` | [`counts::CountCall`] |
+//! | `part` | [`steps::PartCall`] |
+//! | `pattern` | [`patterns::PatternCall`], on a list of steps that is empty first |
+//! | `separator A V NAME` | [`separators::SeparatorCall`], of the version V; A is `u8`, `bb` or `f257` |
+//! | `program` | [`program::ProgramCall`] |
+#![tactic(auto)]
+
+// An expression of the values as an array, whose length is part of its type.
+macro_rules! with_array {
+    ($values:expr, $array:ident => $result:expr) => {
+        match $values {
+            [] => {
+                let $array = [];
+                $result
+            }
+            [a] => {
+                let $array = [*a];
+                $result
+            }
+            [a, b] => {
+                let $array = [*a, *b];
+                $result
+            }
+            [a, b, c] => {
+                let $array = [*a, *b, *c];
+                $result
+            }
+            [a, b, c, d] => {
+                let $array = [*a, *b, *c, *d];
+                $result
+            }
+            _ => bail!("more than 4 places"),
+        }
+    };
+}
+
+// An expression of the challenger, or of a reference to it, as the line has it.
+macro_rules! with_challenger {
+    ($subject:expr, $challenger:ident => $result:expr) => {
+        match $subject.way {
+            Way::Direct => {
+                let $challenger = &mut $subject.challenger;
+                $result
+            }
+            Way::ByReference => {
+                let mut reference = &mut $subject.challenger;
+                let $challenger = &mut reference;
+                $result
+            }
+        }
+    };
+}
+
+mod answer;
+mod challenger_call;
+mod codecs;
+mod counts;
+mod duplex;
+mod fields;
+mod hash;
+mod line;
+mod names;
+mod patterns;
+mod program;
+mod replay;
+mod separators;
+mod steps;
+mod subject;
+mod symbol;
+mod symmetric;
+mod words;
+
+use anyhow::{Context, Result, bail};
+use codecs::Codecs;
+use counts::Counts;
+use line::{Line, Step};
+use patterns::Steps;
+use program::Program;
+use replay::first_difference;
+use std::alloc::Global;
+use std::process::ExitCode;
+use std::{env, fs};
+use steps::Parts;
+use subject::Way;
+use symmetric::Turning;
+
+// The files, without their ending.
+const FILES: [&str; 8] = [
+    "duplex",
+    "hash",
+    "codecs",
+    "patterns",
+    "fields",
+    "challengers",
+    "transcripts",
+    "program",
+];
+
+fn main(rt: HostRuntime) -> Result<ExitCode> {
+    let argument = env::args(&rt)?.nth(1);
+    let folder = match &argument {
+        Some(word) => word.as_str(),
+        None => ".",
+    };
+    for name in FILES {
+        let path = format!(in rt.alloc(); "{folder}/{name}.txt")?;
+        let text = fs::read_to_string(&rt, path.as_str()).context(path.as_str())?;
+        match compare(rt.alloc(), text.as_str()).context(path.as_str())? {
+            Outcome::Agree { lines, calls } => {
+                println!(rt; "{name}: {lines} lines, {calls} calls, all agree")?
+            }
+            Outcome::Differs { line, call, answer } => {
+                println!(rt; "{name}: line {line}, call {call} answers {answer}")?;
+                return Ok(ExitCode::from(1));
+            }
+        }
+    }
+    Ok(ExitCode::from(0))
+}
+
+// How a file was replayed: whole, or up to the first call with another answer. A line and a call are
+// counted from 1.
+#[derive(Drop)]
+enum Outcome {
+    Agree {
+        lines: usize,
+        calls: usize,
+    },
+    Differs {
+        line: usize,
+        call: usize,
+        answer: String,
+    },
+}
+
+// Replays each line of a file, up to the first one that does not agree.
+fn compare(alloc: Global, text: &str) -> Result<Outcome> {
+    let mut lines = 0usize;
+    let mut calls = 0usize;
+    for (text, number) in text.lines().zip(1usize..) {
+        if text.starts_with('#') {
+            continue;
+        }
+        let line = Line::parse(alloc, text).context(format_args!("line {number}"))?;
+        let found = difference(alloc, &line).context(format_args!("line {number}"))?;
+        if let Some((index, answer)) = found {
+            return Ok(Outcome::Differs {
+                line: number,
+                call: index.saturating_add(1),
+                answer,
+            });
+        }
+        lines = lines.saturating_add(1);
+        calls = calls.saturating_add(line.steps.len());
+    }
+    Ok(Outcome::Agree { lines, calls })
+}
+
+// The first call of a line with another answer, and its answer.
+fn difference(alloc: Global, line: &Line<'_>) -> Result<Option<(usize, String)>> {
+    let (kind, spec) = words::split_name(line.spec);
+    let steps = line.steps.as_slice();
+    match kind {
+        "by-reference" => challenger_difference(alloc, Way::ByReference, spec, steps),
+        "field" => fields::field_difference(alloc, spec, steps),
+        "field32" => fields::field32_difference(alloc, spec, steps),
+        "algebra" => fields::algebra_difference(alloc, spec, steps),
+        "type" => fields::type_difference(alloc, spec, steps),
+        "turn" => {
+            let places = spec.parse()?;
+            first_difference(alloc, Turning { places }, steps)
+        }
+        "codec" if spec == "elements" => first_difference(alloc, Codecs::OfElements, steps),
+        "codec" => first_difference(alloc, Codecs::OfBytes, steps),
+        "count" => first_difference(alloc, Counts, steps),
+        "part" => first_difference(alloc, Parts, steps),
+        "pattern" => first_difference(alloc, Steps::new(alloc), steps),
+        "separator" => separators::difference(alloc, spec, steps),
+        "program" => first_difference(alloc, Program, steps),
+        _ => challenger_difference(alloc, Way::Direct, line.spec, steps),
+    }
+}
+
+// The same, for calls on a challenger.
+fn challenger_difference(
+    alloc: Global,
+    way: Way,
+    spec: &str,
+    steps: &[Step<'_>],
+) -> Result<Option<(usize, String)>> {
+    let (kind, spec) = words::split_name(spec);
+    match kind {
+        "duplex" => duplex::difference(alloc, way, spec, steps),
+        "hash" => hash::difference(alloc, way, spec, steps),
+        _ => bail!("an unknown subject"),
+    }
+}

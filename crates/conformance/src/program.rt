@@ -1,0 +1,89 @@
+// The program `transcript`: what it writes, and its two sides.
+use crate::answer;
+use crate::replay::Replayed;
+use crate::words::split_name;
+use anyhow::{Context, Result, bail};
+use p3_challenger::HashChallenger;
+use p3_field::{BabyBear, PrimeField64};
+use p3_symmetric::Sha256Hasher;
+use std::alloc::Global;
+use transcript_program::{first, reason, run};
+
+/// A call on the program `transcript`.
+#[derive(Drop)]
+pub enum ProgramCall<'a> {
+    /// `run "WORD" ..`: the status of a run with these words, and what it writes.
+    Run(Vec<&'a str>),
+    /// `prove N`: the proof of a scalar, and the challenge.
+    Prove(u64),
+    /// `verify HEX`: the scalar of a proof and the challenge, or why it is refused.
+    Verify(Vec<u8>),
+}
+
+/// The program `transcript`.
+#[derive(Clone, Copy)]
+pub struct Program;
+
+impl<'a> ProgramCall<'a> {
+    fn parse(alloc: Global, text: &'a str) -> Result<ProgramCall<'a>> {
+        let (name, words) = split_name(text);
+        match name {
+            "run" => Ok(ProgramCall::Run(quoted(alloc, words)?)),
+            "prove" => Ok(ProgramCall::Prove(words.parse()?)),
+            "verify" => Ok(ProgramCall::Verify(hex::decode(alloc, words)?)),
+            _ => bail!("an unknown call"),
+        }
+    }
+}
+
+// The texts in quotation marks.
+fn quoted(alloc: Global, words: &str) -> Result<Vec<&str>> {
+    let mut texts = Vec::new(alloc);
+    for (part, index) in words.split('"').zip(0usize..) {
+        if index % 2 == 1 {
+            texts.push(part)?;
+        }
+    }
+    Ok(texts)
+}
+
+impl Replayed for Program {
+    fn answer(&mut self, alloc: Global, call: &str) -> Result<String> {
+        match ProgramCall::parse(alloc, call)? {
+            ProgramCall::Run(words) => written(alloc, words.as_slice()),
+            ProgramCall::Prove(number) => proved(alloc, number),
+            ProgramCall::Verify(proof) => verified(alloc, proof.as_slice()),
+        }
+    }
+}
+
+fn written(alloc: Global, words: &[&str]) -> Result<String> {
+    let mut input: &[u8] = b"";
+    let mut output = Vec::new(alloc);
+    let status = run(alloc, words, &mut input, &mut output);
+    let text = answer::one_line(alloc, str::from_utf8(output.as_slice())?)?;
+    Ok(format!(in alloc; "{status} {text}")?)
+}
+
+fn new_challenger(alloc: Global) -> HashChallenger<u8, Sha256Hasher, 32> {
+    HashChallenger::new(Vec::new(alloc), Sha256Hasher)
+}
+
+fn proved(alloc: Global, number: u64) -> Result<String> {
+    let value = BabyBear::from_canonical_checked(number).context("no canonical number")?;
+    let run = first::prove(alloc, new_challenger(alloc), value)?;
+    let wire = hex::encode(alloc, run.wire.as_slice())?;
+    let challenge = run.challenge.as_canonical_u64();
+    Ok(format!(in alloc; "{wire} {challenge}")?)
+}
+
+fn verified(alloc: Global, proof: &[u8]) -> Result<String> {
+    match first::verify(new_challenger(alloc), proof) {
+        Ok(found) => {
+            let value = found.value.as_canonical_u64();
+            let challenge = found.challenge.as_canonical_u64();
+            Ok(format!(in alloc; "{value} {challenge}")?)
+        }
+        Err(error) => Ok(String::from_str(alloc, reason(&error))?),
+    }
+}

@@ -1,0 +1,26 @@
+// The calls of a line, made in order.
+use crate::line::Step;
+use anyhow::{Context, Result};
+use std::alloc::Global;
+
+/// What calls of a file are made on.
+pub trait Replayed {
+    /// Makes the call, and gives its answer as a file writes it. The error says what is no call here.
+    fn answer(&mut self, alloc: Global, call: &str) -> Result<String>;
+}
+
+/// Makes the calls in order. The first one with another answer than the file's is given: its index,
+/// and its answer here.
+pub fn first_difference<S: Replayed + Drop>(
+    alloc: Global,
+    mut subject: S,
+    steps: &[Step<'_>],
+) -> Result<Option<(usize, String)>> {
+    for (step, index) in steps.iter().zip(0usize..) {
+        let answer = subject.answer(alloc, step.call).context(step.call)?;
+        if answer.as_str() != step.answer {
+            return Ok(Some((index, answer)));
+        }
+    }
+    Ok(None)
+}
