@@ -2,8 +2,6 @@
 #![tactic(auto)]
 
 #[cfg(test)]
-mod duplex;
-#[cfg(test)]
 mod hash;
 #[cfg(test)]
 mod symmetric;

@@ -1,20 +1,10 @@
 ghost use Rattle.std.specs.Prelude.{◌≡◌, ◌↔◌, IsTrue};
 
 use p3_field::{BabyBear, F257, PrimeCharacteristicRing, PrimeField64};
-use p3_symmetric::{
-    CryptographicHasher, CryptographicPermutation, Hash, MerkleCap, Sha256Hasher, Turn,
-};
-use std::alloc::Global;
-use std::fmt::Write;
+use p3_symmetric::{CryptographicPermutation, Hash, MerkleCap, Turn};
 use std::test::Fail;
 
 // ---- what generic code knows: each of these is proved from its bound alone
-
-fn digest_of<T, Out, H: CryptographicHasher<T, Out>>(hasher: H, values: &[T]) -> Out
-    ensures { result ≡ H.hash hasher values.now }
-{
-    hasher.hash_slice(values)
-}
 
 fn permuted<T: Copy, P: CryptographicPermutation<T>>(permutation: P, state: T) -> T
     ensures { result ≡ P.permutation permutation state }
@@ -69,42 +59,6 @@ fn cells_turn_and_get_their_place_and_one(rt: HostRuntime) {
         permuted(Turn::<1>, state),
         [BabyBear::from_u64(6), BabyBear::from_u64(1)]
     );
-}
-
-// The digest as the command `sha256sum` prints it.
-fn sha256_text(alloc: Global, message: &[u8]) -> Result<String, Fail> {
-    let digest: [u8; 32] = digest_of(Sha256Hasher, message);
-    let mut text = String::new(alloc);
-    for byte in digest {
-        write!(text, "{byte:02x}")?;
-    }
-    Ok(text)
-}
-
-#[test]
-fn sha256_gives_the_published_digests(rt: HostRuntime) -> Result<(), Fail> {
-    let table = [
-        (
-            "",
-            "e3b0c44298fc1c149afbf4c8996fb92427ae41e4649b934ca495991b7852b855",
-        ),
-        (
-            "abc",
-            "ba7816bf8f01cfea414140de5dae2223b00361a396177a9cb410ff61f20015ad",
-        ),
-        (
-            "abcdefghbcdefghicdefghijdefghijkefghijklfghijklmghijklmnhijklmnoijklmnopjklmnopqklmnopqrlmnopqrsmnopqrstnopqrstu",
-            "cf5b16a778af8380036ce59e7b0492370b249b11e8f07a51afac45037afee9d1",
-        ),
-    ];
-    for (message, digest) in table {
-        assert_eq!(rt;
-            sha256_text(rt.alloc(), message.as_bytes())?.as_str(),
-            digest,
-            "of {message}"
-        );
-    }
-    Ok(())
 }
 
 #[test]

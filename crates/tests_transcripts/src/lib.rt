@@ -10,19 +10,11 @@ mod domain_separator;
 #[cfg(test)]
 mod errors;
 #[cfg(test)]
-mod extensions;
-#[cfg(test)]
 mod interactions;
-#[cfg(test)]
-mod lengths;
-#[cfg(test)]
-mod players;
 #[cfg(test)]
 mod program;
 #[cfg(test)]
 mod recorders;
-#[cfg(test)]
-mod renderings;
 #[cfg(test)]
 mod sequences;
 #[cfg(test)]

@@ -1,7 +1,4 @@
-use p3_fs_core::{
-    Hierarchy, Interaction, InvalidKindInfo, Kind, Label, Length, MismatchedBeginEndInfo,
-    MissingBeginInfo, MissingEndInfo, PatternError, TranscriptError,
-};
+use p3_fs_core::{Hierarchy, Interaction, Kind, Label, Length, TranscriptError};
 use p3_patterns::{InteractionPattern, Pattern, PatternState};
 use std::alloc::{AllocError, Global};
 use std::test::Fail;
@@ -107,109 +104,6 @@ fn short_words_are_patterns_by_the_grammar_alone(rt: HostRuntime) -> Result<(), 
             found = found.saturating_add(u64::from(is));
         }
         assert_eq!(rt; found, patterns, "{len}");
-    }
-    Ok(())
-}
-
-#[test]
-fn a_recorder_refuses_a_lone_closer(rt: HostRuntime) -> Result<(), Fail> {
-    let end = step(Hierarchy::End, Kind::Protocol, "outer");
-    let mut recorder = PatternState::<u8>::new(rt.alloc());
-    let fault = TranscriptError::MissingBegin(MissingBeginInfo { position: 0, end });
-    assert_eq!(rt; recorder.interact(end), Err(fault));
-    recorder.abort();
-    Ok(())
-}
-
-#[test]
-fn a_recorder_lets_no_challenge_into_messages(rt: HostRuntime) -> Result<(), Fail> {
-    let begin = step(Hierarchy::Begin, Kind::Message, "round");
-    let interaction = step(Hierarchy::Begin, Kind::Challenge, "inner");
-    let mut recorder = PatternState::<u8>::new(rt.alloc());
-    assert_eq!(rt; recorder.interact(begin), Ok(()));
-    let fault = TranscriptError::InvalidKind(InvalidKindInfo {
-        begin_position: 0,
-        begin,
-        interaction_position: 1,
-        interaction,
-    });
-    assert_eq!(rt; recorder.interact(interaction), Err(fault));
-    recorder.abort();
-    Ok(())
-}
-
-#[test]
-fn a_recorder_names_the_innermost_open_container(rt: HostRuntime) -> Result<(), Fail> {
-    let begin = step(Hierarchy::Begin, Kind::Message, "inner");
-    let mut recorder = PatternState::<u8>::new(rt.alloc());
-    assert_eq!(rt;
-        recorder.interact(step(Hierarchy::Begin, Kind::Protocol, "outer")),
-        Ok(())
-    );
-    assert_eq!(rt; recorder.interact(begin), Ok(()));
-    let fault = TranscriptError::MissingEnd(MissingEndInfo { position: 1, begin });
-    assert_eq!(rt; recorder.finalize(), Err(fault));
-    Ok(())
-}
-
-#[test]
-fn nothing_follows_a_step_that_a_recorder_refused(rt: HostRuntime) -> Result<(), Fail> {
-    let finished = TranscriptError::Pattern(PatternError::Finished);
-    let mut recorder = PatternState::<u8>::new(rt.alloc());
-    let refused = recorder.interact(step(Hierarchy::End, Kind::Protocol, "outer"));
-    assert!(rt; refused.is_err());
-    let after = recorder.interact(step(Hierarchy::Atomic, Kind::Message, "message"));
-    assert_eq!(rt; after, Err(finished));
-    let finished = TranscriptError::Pattern(PatternError::Finished);
-    assert_eq!(rt; recorder.finalize(), Err(finished));
-    Ok(())
-}
-
-#[test]
-fn a_recorder_names_the_inner_one_of_two_openers(rt: HostRuntime) -> Result<(), Fail> {
-    let outer = step(Hierarchy::Begin, Kind::Protocol, "outer");
-    let begin = step(Hierarchy::Begin, Kind::Message, "inner");
-    let end = step(Hierarchy::End, Kind::Protocol, "outer");
-    let fault = TranscriptError::MismatchedBeginEnd(MismatchedBeginEndInfo {
-        begin_position: 1,
-        begin,
-        end_position: 2,
-        end,
-    });
-    assert_eq!(rt; record(rt.alloc(), &[outer, begin, end]), Err(fault));
-    let interaction = step(Hierarchy::Atomic, Kind::Challenge, "challenge");
-    let fault = TranscriptError::InvalidKind(InvalidKindInfo {
-        begin_position: 1,
-        begin,
-        interaction_position: 2,
-        interaction,
-    });
-    assert_eq!(rt;
-        record(rt.alloc(), &[outer, begin, interaction]),
-        Err(fault)
-    );
-    Ok(())
-}
-
-#[test]
-fn the_markers_of_a_recorder_carry_the_name_of_their_type(rt: HostRuntime) -> Result<(), Fail> {
-    let mut recorder = PatternState::<u8>::new(rt.alloc());
-    assert_eq!(rt; recorder.begin_protocol::<()>("outer"), Ok(()));
-    assert_eq!(rt; recorder.begin::<u8>("inner", Kind::Hint), Ok(()));
-    assert_eq!(rt; recorder.end::<u8>("inner", Kind::Hint), Ok(()));
-    assert_eq!(rt; recorder.end_protocol::<()>("outer"), Ok(()));
-    let pattern = recorder.finalize();
-    let texts = [
-        "Begin Protocol outer None ()",
-        "Begin Hint inner None u8",
-        "End Hint inner None u8",
-        "End Protocol outer None ()",
-    ];
-    let pattern = pattern?;
-    assert_eq!(rt; pattern.len(), 4);
-    for (step, text) in pattern.interactions().iter().zip(texts) {
-        let shown = step.to_string(rt.alloc())?;
-        assert_eq!(rt; shown.as_str(), text);
     }
     Ok(())
 }
