@@ -132,8 +132,8 @@ impl<
         let _ = &self.outputs_left;
     }
 
-    /// Observations are never refused, whatever is observed: no list of them leaves any challenger with
-    /// an error.
+    /// Observations of single values are never refused: no list of them leaves any challenger with an
+    /// error.
     ///
     /// A law: the body is empty, and a caller cites the clause.
     pub fn observes_are_not_refused(&self)

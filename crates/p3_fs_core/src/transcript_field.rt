@@ -30,7 +30,7 @@ pub trait TranscriptField: PrimeField64 {
         }
     }
 
-    /// Observes a byte string as [`FieldUnit`](crate::FieldUnit) does: its length, and then its chunks. The
+    /// Observes a byte string as the alphabet `FieldUnit` does: its length, and then its chunks. The
     /// field has more than 256 elements.
     ///
     /// The errors are [`ChallengerError::TooLong`] where the length is not below the order, with nothing
