@@ -1,0 +1,124 @@
+// How long the calls of a challenger over SHA-256 take, and SHA-256 itself.
+use crate::timing::least;
+use anyhow::Result;
+use p3_challenger::{CanObserve, CanSample, ChallengerError, HashChallenger};
+use p3_symmetric::{CryptographicHasher, Sha256Hasher};
+use std::alloc::Global;
+
+const OBSERVES: u32 = 1_000_000;
+
+const DRAWS: u32 = 100_000;
+
+const PIECE: usize = 1000;
+
+const PIECES: u32 = 1000;
+
+const MEBIBYTE: u32 = 1 << 20;
+
+const BLOCKS: u32 = MEBIBYTE / 64;
+
+pub type Chain = HashChallenger<u8, Sha256Hasher, 32>;
+
+/// Times each call, and gives a sum of what they draw.
+pub fn measure(rt: &HostRuntime, runs: u32, text: &[u8]) -> Result<u64> {
+    let alloc = rt.alloc();
+    let fresh = || Ok(Chain::new(Vec::new(alloc), Sha256Hasher));
+    let bytes = least(rt, "hash byte", runs, OBSERVES, fresh, observe_bytes)?;
+    let slices = least(rt, "hash slice1000", runs, OBSERVES, fresh, observe_slices)?;
+    let raw = least(
+        rt,
+        "raw sha256 1MiB per byte",
+        runs,
+        MEBIBYTE,
+        || Ok(()),
+        |_| { Ok(first_byte(text)) },
+    )?;
+    let short = least(
+        rt,
+        "raw sha256 of 96 bytes",
+        runs,
+        BLOCKS,
+        || Ok(()),
+        |_| { Ok(hash_blocks(text)) },
+    )?;
+    let turns = least(
+        rt,
+        "hash 64-byte slice + sample",
+        runs,
+        BLOCKS,
+        fresh,
+        |chain| { Ok(observe_and_draw(chain, text)?) },
+    )?;
+    let list = least(
+        rt,
+        "hash sample_vec per byte",
+        runs,
+        MEBIBYTE,
+        fresh,
+        |chain| { Ok(draw_list(alloc, chain)?) },
+    )?;
+    let draws = least(
+        rt,
+        "hash sample per byte",
+        runs,
+        DRAWS,
+        fresh,
+        |chain| Ok(draw(chain)?),
+    )?;
+    Ok(
+        [bytes, slices, raw, short, turns, list, draws]
+            .iter()
+            .fold(0, |sum: u64, part| sum.wrapping_add(*part)),
+    )
+}
+
+fn observe_bytes(mut chain: Chain) -> Result<u64> {
+    for i in 0..OBSERVES {
+        chain.observe((i % 256) as u8)?;
+    }
+    let drawn: u8 = chain.sample()?;
+    Ok(u64::from(drawn))
+}
+
+fn observe_slices(mut chain: Chain) -> Result<u64> {
+    let piece = [1u8; PIECE];
+    for _ in 0..PIECES {
+        chain.observe_slice(&piece[..])?;
+    }
+    Ok(1)
+}
+
+fn first_byte(text: &[u8]) -> u64 {
+    let digest: [u8; 32] = Sha256Hasher.hash_slice(text);
+    u64::from(digest[0])
+}
+
+fn hash_blocks(text: &[u8]) -> u64 {
+    text.windows(96)
+        .step_by(48)
+        .fold(0, |sum: u64, window| sum.wrapping_add(first_byte(window)))
+}
+
+fn observe_and_draw(mut chain: Chain, text: &[u8]) -> Result<u64, ChallengerError> {
+    let mut sum = 0u64;
+    for piece in text.chunks_exact(64) {
+        chain.observe_slice(piece)?;
+        let drawn: u8 = chain.sample()?;
+        sum = sum.wrapping_add(u64::from(drawn));
+    }
+    Ok(sum)
+}
+
+fn draw_list(alloc: Global, mut chain: Chain) -> Result<u64, ChallengerError> {
+    let drawn: Vec<u8> = chain.sample_vec(alloc, MEBIBYTE as usize)?;
+    Ok(drawn.last().map_or(0, |last| u64::from(*last)))
+}
+
+fn draw(mut chain: Chain) -> Result<u64, ChallengerError> {
+    let mut sum = 0u64;
+    for _ in 0..DRAWS {
+        let drawn: u8 = chain.sample()?;
+        sum = sum.wrapping_add(u64::from(drawn));
+    }
+    Ok(sum)
+}

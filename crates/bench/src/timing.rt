@@ -1,0 +1,36 @@
+// How long an operation takes.
+use anyhow::Result;
+use std::time::Instant;
+
+/// Prints how many nanoseconds each of so many operations takes, the least of several runs, and gives the sum of
+/// what the runs answer. Each run gets what `setup` makes, and that is not timed. The sums are shown at the end,
+/// so that nothing of what makes them can be left out.
+pub fn least<S: Drop, M, R>(
+    rt: &HostRuntime,
+    name: &str,
+    runs: u32,
+    operations: u32,
+    mut setup: M,
+    mut run: R,
+) -> Result<u64>
+where
+    M: FnMut() -> Result<S>,
+    R: FnMut(S) -> Result<u64>,
+    requires makes { (state : M) → M.pre state }
+    requires runs { (state : R) (made : _) → R.pre state made }
+{
+    let mut least = f64::INFINITY;
+    let mut sum = 0u64;
+    for _ in 0..runs {
+        let made = setup()?;
+        let start = Instant::now(rt)?;
+        sum = sum.wrapping_add(run(made)?);
+        let nanoseconds = start.elapsed(rt)?.as_secs_f64() * 1e9;
+        if nanoseconds < least {
+            least = nanoseconds;
+        }
+    }
+    let each = least / f64::from(operations);
+    println!(rt; "{name}: {each:.2}")?;
+    Ok(sum)
+}
