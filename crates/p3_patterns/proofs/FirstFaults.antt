@@ -1,5 +1,5 @@
 -- Laws of the first fault of steps.
-use Rattle.std.proofs.Common.{◌≡◌, ℕ, ◌+◌, ◌<◌, List, [], ◌∷◌, ◌++◌, map, length, take, drop, slice_index_or, refl, sym, ap, subst, ◌∙◌, append_assoc, add-one}
+use Rattle.std.proofs.Common.{◌≡◌, ◌⊎◌, inl, ℕ, ◌+◌, ◌<◌, List, [], ◌∷◌, ◌++◌, map, length, take, drop, slice_index_or, refl, sym, ap, subst, ◌∙◌, append_assoc, add-one}
 use Rattle.std.proofs.Math.Seq.{drop-cons}
 use Rattle.std.proofs.lemmas.List.{take-append-drop, map-append}
 use Rattle.std.specs.Prelude.{Result, Ok, Err, IfErr}
@@ -80,6 +80,6 @@ missing-first steps (Challenger e) h = h
 missing-first steps LabelTooLong h = h
 missing-first steps OutOfMemory h = h
 
-pub missing-result : {T : Type 0} (steps : List Step) (result : Result T TranscriptError) → IfErr result (λ e. NamesMissingEnd steps e) → IfErr result (λ e. NamesFirstFault steps e)
+pub missing-result : {T : Type 0} (steps : List Step) (result : Result T TranscriptError) → IfErr result (λ e. NamesMissingEnd steps e) → IfErr result (λ e. NamesFirstFault steps e ⊎ (e ≡ OutOfMemory))
 missing-result steps (Ok x) h = tt
-missing-result steps (Err e) h = missing-first steps e h
+missing-result steps (Err e) h = inl (missing-first steps e h)

@@ -1,7 +1,7 @@
 pub mod FirstFaults
 pub mod OneFault
+pub mod OpenPositions
 pub mod PatternEquality
 pub mod PatternGrammarLaws
 pub mod Rendered
-pub mod Seeking
 pub mod WorkedRows

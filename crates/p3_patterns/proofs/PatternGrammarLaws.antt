@@ -6,6 +6,7 @@ use Rattle.p3_fs_core.specs.declared.step.Kind.{Kind}
 use Rattle.p3_fs_core.specs.declared.step.Kind.TheVariants.{Protocol}
 use Rattle.p3_fs_core.specs.Steps.{Step, Closes}
 use Rattle.p3_patterns.specs.PatternGrammar.{Allows, IsPattern, nothing, leaf, container, IsViable, IsInnermost, IsNoneOpen}
+use Rattle.p3_patterns.specs.OpenContainers.{kind_of}
 
 -- ---- patterns one behind the other
 
@@ -18,14 +19,10 @@ pattern-append _ _ b (container kind opener closer inside rest allowed inner clo
     (container kind opener closer inside (rest ++ b) allowed inner closes (pattern-append kind rest b more h))
 
 -- a step that is a pattern by itself
-one_leaf : (kind : Kind) (s : Step) → s.hierarchy ≡ Atomic → Allows kind s → IsPattern kind (s ∷ [])
+pub one_leaf : (kind : Kind) (s : Step) → s.hierarchy ≡ Atomic → Allows kind s → IsPattern kind (s ∷ [])
 one_leaf kind s atomic allowed = leaf kind s [] atomic allowed (nothing kind)
 
 -- ---- the containers that are open, the innermost first
-
-abbrev pub kind_of : List Step → Kind
-kind_of [] = Protocol
-kind_of (opener ∷ below) = opener.kind
 
 -- behind the steps these containers are open
 abbrev pub Opens : List Step → List Step → Type 0
@@ -126,7 +123,7 @@ closer-closes : (opener : Step) → opener.hierarchy ≡ Begin → Closes (close
 closer-closes opener begins =
     record { ends = refl; begins = begins; kind = refl; label = refl; type_tag = refl; type_name = refl; length = refl }
 
-viable-opens : (stack steps : List Step) → Opens stack steps → IsViable steps
+pub viable-opens : (stack steps : List Step) → Opens stack steps → IsViable steps
 viable-opens [] steps h = ([], subst (IsPattern Protocol) (sym (append-nil steps)) h)
 viable-opens (opener ∷ below) steps h =
     let closer = closer_of opener in
@@ -226,33 +223,6 @@ pattern-none_open steps pattern position opener h =
 opens-innermost : (opener : Step) (below steps : List Step) → (h : Opens (opener ∷ below) steps) → IsInnermost steps (length h.0) opener
 opens-innermost opener below steps h =
     record { before = h.0; inside = h.1; split = h.2; place = refl; begins = h.3; pattern = h.5 }
-
--- where no opener is found the steps are a pattern
-none_found : (stack steps : List Step) → Opens stack steps → seek 0 (reversed_onto steps []) ≡ None → IsPattern Protocol steps
-none_found [] steps h none = h
-none_found (opener ∷ below) steps h none =
-    let found = seek-innermost steps (length h.0) opener (opens-innermost opener below steps h) in
-    absurd (cc)
-
-pub seek-none : (steps : List Step) → IsViable steps → seek 0 (reversed_onto steps []) ≡ None → IsPattern Protocol steps
-seek-none steps viable none =
-    let r = opens-viable steps viable.0 viable.1 in
-    none_found r.0 steps r.1 none
-
-one_found : (stack steps : List Step) (position : ℕ) (opener : Step) → Opens stack steps → seek 0 (reversed_onto steps []) ≡ Some (position, opener) → IsInnermost steps position opener
-one_found [] steps position opener h found =
-    let none : seek 0 (reversed_onto steps []) ≡ None = seek-pattern Protocol steps h 0 [] in
-    absurd (cc)
-one_found (other ∷ below) steps position opener h found =
-    let is = opens-innermost other below steps h in
-    let again = seek-innermost steps (length h.0) other is in
-    let same : ◌≡◌ {A = ℕ × Step} (length h.0, other) (position, opener) = cc in
-    subst (λ (x : ℕ × Step). IsInnermost steps x.0 x.1) same is
-
-pub seek-some : (steps : List Step) (position : ℕ) (opener : Step) → IsViable steps → seek 0 (reversed_onto steps []) ≡ Some (position, opener) → IsInnermost steps position opener
-seek-some steps position opener viable found =
-    let r = opens-viable steps viable.0 viable.1 in
-    one_found r.0 steps position opener r.1 found
 
 -- ---- which step may come next
 

@@ -2,6 +2,7 @@
 //! and played.
 #![tactic(auto)]
 
+mod open_containers;
 mod pattern;
 mod player;
 mod rendering;

@@ -1,10 +1,13 @@
 // The steps of a whole protocol.
-ghost use Rattle.std.specs.Prelude.{◌≡◌, ◌↔◌, true, [], ◌∷◌, ◌++◌, List, Some, None, map, length, IfOk, IfErr, IfSome, IfNone, OnOk, IsOk, IsTrue};
+ghost use Rattle.std.specs.Prelude.{◌≡◌, ◌↔◌, ◌⊎◌, true, [], ◌∷◌, ◌++◌, List, Some, None, map, length, IfOk, IfErr, IfSome, IfNone, OnOk, IsOk, IsTrue};
 ghost use Rattle.p3_fs_core.specs.Steps.{Step, step_of};
-ghost use Rattle.p3_patterns.specs.PatternGrammar.{Allows, IsPattern, IsViable, IsInnermost, IsNoneOpen, Fault, IsFirstFault};
+ghost use Rattle.p3_patterns.specs.PatternGrammar.{Allows, IsPattern, IsViable, Fault, IsFirstFault};
 ghost use Rattle.p3_patterns.specs.PatternFaults.{steps_of, NamesFirstFault};
+ghost use Rattle.p3_patterns.specs.OpenContainers.{AreOpen};
 ghost use Rattle.p3_patterns.specs.Recording.{NamesMissingEnd};
+ghost use Rattle.p3_fs_core.specs.declared.error.TranscriptError.TheVariants as error;
 
+use crate::open_containers::OpenContainers;
 use p3_fs_core::{
     Hierarchy, Interaction, InvalidKindInfo, Kind, MismatchedBeginEndInfo, MissingBeginInfo,
     MissingEndInfo, TranscriptError,
@@ -23,26 +26,30 @@ impl InteractionPattern {
     ///
     /// Steps that are no pattern are refused with their first fault: [`TranscriptError::MissingBegin`],
     /// [`TranscriptError::InvalidKind`], [`TranscriptError::MismatchedBeginEnd`] or
-    /// [`TranscriptError::MissingEnd`]. The steps are gone then. It takes no memory.
+    /// [`TranscriptError::MissingEnd`]. The error is [`TranscriptError::OutOfMemory`] where no memory is given for
+    /// the positions of the containers that are open. The steps are gone then.
     pub fn new(interactions: Vec<Interaction>) -> Result<Self, TranscriptError>
         ensures ok { IfOk result (λ pattern. (pattern.interactions.items ≡ interactions.items) × IsPattern Kind.Protocol (steps_of pattern)) }
-        ensures err { IfErr result (λ e. NamesFirstFault (map step_of interactions.items) e) }
-        ensures only { IsPattern Kind.Protocol (map step_of interactions.items) → IsOk result }
+        ensures err { IfErr result (λ e. NamesFirstFault (map step_of interactions.items) e ⊎ (e ≡ error.OutOfMemory)) }
+        ensures only { IsPattern Kind.Protocol (map step_of interactions.items) → IfErr result (λ e. e ≡ error.OutOfMemory) }
         // A list of steps has one first fault at most.
         ensures one_fault { (steps : List Step) (f g : Fault) → IsFirstFault steps f → IsFirstFault steps g → f ≡ g }
     {
-        validate(&interactions)?;
+        validate(*interactions.allocator(), &interactions)?;
         Ok(InteractionPattern { interactions })
     }
 
     // The pattern of steps that were checked one by one, which is refused where a container is still open.
-    pub(crate) fn recorded(interactions: Vec<Interaction>) -> Result<Self, TranscriptError>
-        requires { IsViable (map step_of interactions.items) }
+    pub(crate) fn recorded(
+        interactions: Vec<Interaction>,
+        containers: &OpenContainers,
+    ) -> Result<Self, TranscriptError>
+        requires { AreOpen (map step_of interactions.items) containers.now.openers.items }
         ensures ok { IfOk result (λ pattern. (pattern.interactions.items ≡ interactions.items) × IsPattern Kind.Protocol (steps_of pattern)) }
         ensures err { IfErr result (λ e. NamesMissingEnd (map step_of interactions.items) e) }
         ensures only { IsPattern Kind.Protocol (map step_of interactions.items) → IsOk result }
     {
-        check_end(&interactions)?;
+        check_end(&interactions, containers)?;
         Ok(InteractionPattern { interactions })
     }
 
@@ -102,68 +109,75 @@ impl InteractionPattern {
     }
 }
 
-// The steps are a pattern, or the error names their first fault.
-fn validate(steps: &[Interaction]) -> Result<(), TranscriptError>
+// The steps are a pattern, or the error names their first fault, or memory was refused.
+fn validate(alloc: Global, steps: &[Interaction]) -> Result<(), TranscriptError>
     ensures ok { OnOk result (IsPattern Kind.Protocol (map step_of steps.now)) }
-    ensures err { IfErr result (λ e. NamesFirstFault (map step_of steps.now) e) }
+    ensures err { IfErr result (λ e. NamesFirstFault (map step_of steps.now) e ⊎ (e ≡ error.OutOfMemory)) }
 {
+    let mut containers = OpenContainers::new(alloc);
     for position in 0..steps.len() {
-        check_next(&steps[..position], steps[position])?;
+        let next = &steps[position];
+        check_next(&steps[..position], &containers, next)?;
+        containers.follow(position, next)?;
     }
-    check_end(steps)
+    check_end(steps, &containers)
 }
 
 // The steps leave no container open.
-fn check_end(steps: &[Interaction]) -> Result<(), TranscriptError>
-    requires { IsViable (map step_of steps.now) }
+fn check_end(steps: &[Interaction], containers: &OpenContainers) -> Result<(), TranscriptError>
+    requires { AreOpen (map step_of steps.now) containers.now.openers.items }
     ensures ok { OnOk result (IsPattern Kind.Protocol (map step_of steps.now)) }
     ensures err { IfErr result (λ e. NamesMissingEnd (map step_of steps.now) e) }
 {
-    match innermost(steps) {
+    match containers.innermost(steps) {
         None => Ok(()),
         Some((position, begin)) => Err(TranscriptError::MissingEnd(MissingEndInfo {
             position,
-            begin,
+            begin: *begin,
         })),
     }
 }
 
 // The step may stand behind those before it. The fault is named alike whatever follows.
-pub(crate) fn check_next(before: &[Interaction], next: Interaction) -> Result<(), TranscriptError>
-    requires { IsViable (map step_of before.now) }
-    ensures ok { OnOk result (IsViable (map step_of before.now ++ (step_of next ∷ []))) }
-    ensures err { IfErr result (λ e. (IsViable (map step_of before.now ++ (step_of next ∷ [])) → ⊥)
-        × ((rest : List Step) → NamesFirstFault (map step_of before.now ++ (step_of next ∷ rest)) e)) }
+pub(crate) fn check_next(
+    before: &[Interaction],
+    containers: &OpenContainers,
+    next: &Interaction,
+) -> Result<(), TranscriptError>
+    requires { AreOpen (map step_of before.now) containers.now.openers.items }
+    ensures ok { OnOk result (IsViable (map step_of before.now ++ (step_of next.now ∷ []))) }
+    ensures err { IfErr result (λ e. (IsViable (map step_of before.now ++ (step_of next.now ∷ [])) → ⊥)
+        × ((rest : List Step) → NamesFirstFault (map step_of before.now ++ (step_of next.now ∷ rest)) e)) }
 {
     let position = before.len();
-    let Some((begin_position, begin)) = innermost(before) else {
-        return if is_closer(&next) {
+    let Some((begin_position, begin)) = containers.innermost(before) else {
+        return if is_closer(next) {
             Err(TranscriptError::MissingBegin(MissingBeginInfo {
                 position,
-                end: next,
+                end: *next,
             }))
         } else {
             Ok(())
         };
     };
-    if is_closer(&next) {
-        if next.closes(&begin) {
+    if is_closer(next) {
+        if next.closes(begin) {
             return Ok(());
         }
         Err(TranscriptError::MismatchedBeginEnd(MismatchedBeginEndInfo {
             begin_position,
-            begin,
+            begin: *begin,
             end_position: position,
-            end: next,
+            end: *next,
         }))
-    } else if allows(begin.kind(), &next) {
+    } else if allows(begin.kind(), next) {
         Ok(())
     } else {
         Err(TranscriptError::InvalidKind(InvalidKindInfo {
             begin_position,
-            begin,
+            begin: *begin,
             interaction_position: position,
-            interaction: next,
+            interaction: *next,
         }))
     }
 }
@@ -180,26 +194,4 @@ fn allows(kind: Kind, step: &Interaction) -> bool
     ensures { IsTrue result ↔ Allows kind (step_of step.now) }
 {
     kind == Kind::Protocol || step.kind() == kind
-}
-
-// The innermost opener that the steps leave open, and where it stands. The last opener is looked for that no
-// closer behind it wants.
-fn innermost(steps: &[Interaction]) -> Option<(usize, Interaction)>
-    requires { IsViable (map step_of steps.now) }
-    ensures some { IfSome result (λ found. IsInnermost (map step_of steps.now) found.0 (step_of found.1)) }
-    ensures none { IfNone result (IsPattern Kind.Protocol (map step_of steps.now)) }
-{
-    let mut closers: usize = 0;
-    let mut position = steps.len();
-    while position > 0 {
-        position -= 1;
-        let step = steps[position];
-        match step.hierarchy() {
-            Hierarchy::Atomic => {}
-            Hierarchy::End => closers += 1,
-            Hierarchy::Begin if closers == 0 => return Some((position, step)),
-            Hierarchy::Begin => closers -= 1,
-        }
-    }
-    None
 }

@@ -2,9 +2,11 @@
 ghost use Rattle.std.specs.Prelude.{◌≡◌, [], ◌∷◌, ◌++◌, false, map, IfOk, IfErr, OnOk, IsOk};
 ghost use Rattle.p3_fs_core.specs.Steps.{step_of};
 ghost use Rattle.p3_patterns.specs.PatternGrammar.{IsPattern, IsViable};
+ghost use Rattle.p3_patterns.specs.OpenContainers.{AreOpen};
 ghost use Rattle.p3_patterns.specs.PatternFaults.{steps_of};
 ghost use Rattle.p3_patterns.specs.Recording.{Recording, Records, RefusesToRecord, FaultOfNext, FaultOfEnd};
 
+use crate::open_containers::OpenContainers;
 use crate::sequence::check_next;
 use crate::{InteractionPattern, Pattern};
 use p3_field_core::Named;
@@ -19,6 +21,7 @@ use std::marker::{Model, PhantomData};
 #[derive_where(Debug)]
 pub struct PatternState<U> {
     interactions: Vec<Interaction>,
+    containers: OpenContainers,
     finished: bool,
     unit: PhantomData<U>,
 }
@@ -26,14 +29,14 @@ pub struct PatternState<U> {
 impl<U> Model for PatternState<U> {
     ghost use Rattle.std.specs.Prelude.{map};
     ghost use Rattle.p3_fs_core.specs.Steps.{step_of};
-    ghost use Rattle.p3_patterns.specs.PatternGrammar.{IsViable};
+    ghost use Rattle.p3_patterns.specs.OpenContainers.{AreOpen};
     ghost use Rattle.p3_patterns.specs.Recording.{Recording};
 
     ghost Value = { Recording };
 
     ghost view = { λ r. record { steps = map step_of r.interactions.items; finished = r.finished } };
 
-    ghost invariant = { λ r. IsViable (map step_of r.interactions.items) };
+    ghost invariant = { λ r. AreOpen (map step_of r.interactions.items) r.containers.openers.items };
 }
 
 impl<U> PatternState<U> {
@@ -43,6 +46,7 @@ impl<U> PatternState<U> {
     {
         PatternState {
             interactions: Vec::new(alloc),
+            containers: OpenContainers::new(alloc),
             finished: false,
             unit: PhantomData,
         }
@@ -60,13 +64,14 @@ impl<U> PatternState<U> {
     {
         let PatternState {
             interactions,
+            containers,
             finished,
             unit: _,
         } = self;
         if finished {
             return Err(TranscriptError::Pattern(PatternError::Finished));
         }
-        InteractionPattern::recorded(interactions)
+        InteractionPattern::recorded(interactions, &containers)
     }
 }
 
@@ -78,6 +83,7 @@ impl<U> Pattern for PatternState<U> {
     fn abort(self) {
         let PatternState {
             interactions: _,
+            containers: _,
             finished: _,
             unit: _,
         } = self;
@@ -90,7 +96,7 @@ impl<U> Pattern for PatternState<U> {
         if self.finished {
             return Err(TranscriptError::Pattern(PatternError::Finished));
         }
-        let taken = take(&mut self.interactions, interaction);
+        let taken = take(&mut self.interactions, &mut self.containers, interaction);
         self.finished = taken.is_err();
         taken
     }
@@ -115,14 +121,22 @@ impl<U> Pattern for PatternState<U> {
 }
 
 // Takes the step where it may come next. A refused one leaves the steps as they were.
-fn take(steps: &mut Vec<Interaction>, next: Interaction) -> Result<(), TranscriptError>
-    requires { IsViable (map step_of steps.old.items) }
+fn take(
+    steps: &mut Vec<Interaction>,
+    containers: &mut OpenContainers,
+    next: Interaction,
+) -> Result<(), TranscriptError>
+    requires { AreOpen (map step_of steps.old.items) containers.old.openers.items }
     ensures ok { OnOk result (IsViable (map step_of steps.old.items ++ (step_of next ∷ []))
+        × AreOpen (map step_of steps.new.items) containers.new.openers.items
         × (map step_of steps.new.items ≡ map step_of steps.old.items ++ (step_of next ∷ []))) }
     ensures err { IfErr result (λ e. FaultOfNext (map step_of steps.old.items) (step_of next) e
-        × (steps.new.items ≡ steps.old.items)) }
+        × (steps.new.items ≡ steps.old.items) × (containers.new.openers.items ≡ containers.old.openers.items)) }
 {
-    check_next(steps, next)?;
-    steps.push(next)?;
+    check_next(steps, containers, &next)?;
+    // Room for the step first, so that nothing has changed where there is none.
+    steps.reserve(1)?;
+    containers.follow(steps.len(), &next)?;
+    steps.push_reserved(next);
     Ok(())
 }

@@ -1,8 +1,8 @@
 use Rattle.std.proofs.Common.{map, take}
 use Rattle.p3_fs_core.specs.Steps.{step_of}
-use Rattle.p3_patterns.specs.PatternGrammar.{IsViable}
+use Rattle.p3_patterns.specs.OpenContainers.{AreOpen}
 use Rattle.p3_patterns.proofs.sequence.validate.Given as goal
 
--- some pattern begins with the steps so far
+-- the containers are those that the steps so far leave open
 abbrev pub invariant-loop-position : goal.invariant-loop-position
-invariant-loop-position l = IsViable (map step_of (take l.position l.steps))
+invariant-loop-position l = AreOpen (map step_of (take l.position l.steps)) l.containers.openers.items

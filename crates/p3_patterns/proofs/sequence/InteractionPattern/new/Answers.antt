@@ -1,4 +1,5 @@
-use Rattle.std.proofs.Common.{List, map, sym, subst}
+use Rattle.std.proofs.Common.{List, map, ⊎_elim, sym, subst}
+use Rattle.std.proofs.lemmas.Result.{err_from_is_err_and}
 use Rattle.p3_fs_core.specs.declared.step.Kind.TheVariants.{Protocol}
 use Rattle.p3_fs_core.specs.declared.interaction.Interaction.{Interaction}
 use Rattle.p3_fs_core.specs.Steps.{step_of}
@@ -10,8 +11,10 @@ use Rattle.p3_patterns.proofs.sequence.InteractionPattern.new.Goals as goal
 -- steps with a first fault are no pattern
 pub returns-in_err-validate-clause-only : goal.returns-in_err-validate-clause-only
 returns-in_err-validate-clause-only c = λ pattern.
+    let p = err_from_is_err_and c.from_residual.result c.from_residual.ensures.1 in
     let lent = subst (λ (xs : List Interaction). IsPattern Protocol (map step_of xs)) (sym c.deref.ensures.value) pattern in
-    absurd (names-no_pattern (map step_of c.deref.result.now) c.in_err-validate.field-0.0 c.in_err-validate.ensures.err lent)
+    ⊎_elim (λ fault. absurd (names-no_pattern (map step_of c.deref.result.now) c.in_err-validate.field-0.0 fault lent))
+    (λ refused. rw (p.1, p.2) refused) c.in_err-validate.ensures.err
 
 pub returns-in_err-validate-clause-one_fault : goal.returns-in_err-validate-clause-one_fault
 returns-in_err-validate-clause-one_fault c = one_fault
