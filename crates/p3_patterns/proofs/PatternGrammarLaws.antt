@@ -1,5 +1,5 @@
 -- Laws of patterns: which step may come next, and which opener is still open.
-use Rattle.std.proofs.Common.{◌≡◌, ℕ, zero, suc, ◌⊎◌, pred, ◌+◌, List, [], ◌∷◌, ◌++◌, length, Option, Some, None, refl, sym, ap, subst, ◌∙◌, inl, inr, ⊎_elim, append_assoc, append-nil, arith}
+use Rattle.std.proofs.Common.{◌≡◌, Bool, true, false, not, ℕ, zero, suc, ◌⊎◌, pred, ◌+◌, List, [], ◌∷◌, ◌++◌, length, Option, Some, None, refl, sym, ap, subst, ◌∙◌, inl, inr, ⊎_elim, append_assoc, append-nil, arith}
 use Rattle.p3_fs_core.specs.declared.step.Hierarchy.{Hierarchy}
 use Rattle.p3_fs_core.specs.declared.step.Hierarchy.TheVariants.{Atomic, Begin, End}
 use Rattle.p3_fs_core.specs.declared.step.Kind.{Kind}
@@ -310,3 +310,35 @@ pub viable-closed : (steps : List Step) (s : Step) (position : ℕ) (opener : St
 viable-closed steps s position opener viable is closes =
     let r = opens-viable steps viable.0 viable.1 in
     closed-next r.0 steps s position opener r.1 is closes
+
+-- ---- whether a step may come next
+
+-- where no container is open, exactly a closer may not
+pub top-test : (closer : Bool) (steps : List Step) (s : Step) → IsPattern Protocol steps → (closer ≡ true → s.hierarchy ≡ End) × (s.hierarchy ≡ End → closer ≡ true) → (not closer ≡ true → IsViable (steps ++ (s ∷ []))) × (IsViable (steps ++ (s ∷ [])) → not closer ≡ true)
+top-test true steps s pattern ends =
+    ((λ is. absurd (cc)), λ viable. absurd (closer-with_none_open steps s (pattern-none_open steps pattern) (ends.0 refl) viable))
+top-test false steps s pattern ends =
+    ((λ is. viable-top steps s pattern (λ e. let is_one = ends.1 e in cc)), λ viable. refl)
+
+-- a closer may where it closes the innermost opener
+pub closer-test : (steps : List Step) (s : Step) (position : ℕ) (opener : Step) → IsViable steps → IsInnermost steps position opener → s.hierarchy ≡ End → (Closes s opener → IsViable (steps ++ (s ∷ []))) × (IsViable (steps ++ (s ∷ [])) → Closes s opener)
+closer-test steps s position opener viable is ends = (
+  viable-closed steps s position opener viable is,
+  λ more. ⊎_elim (λ fits. absurd (fits.0 ends)) (λ closes. closes) (next-innermost steps s position opener is more),
+)
+
+-- another step may where the innermost opener allows it
+pub allowed-test : (steps : List Step) (s : Step) (position : ℕ) (opener : Step) → IsViable steps → IsInnermost steps position opener → (s.hierarchy ≡ End → ⊥) → (Allows opener.kind s → IsViable (steps ++ (s ∷ []))) × (IsViable (steps ++ (s ∷ [])) → Allows opener.kind s)
+allowed-test steps s position opener viable is goes_on = (
+  viable-allowed steps s position opener viable is goes_on,
+  λ more. ⊎_elim (λ fits. fits.1) (λ closes. absurd (goes_on closes.ends)) (next-innermost steps s position opener is more),
+)
+
+by_hierarchy-ends : (hierarchy : Hierarchy) (steps : List Step) (s : Step) → s.hierarchy ≡ hierarchy → IsPattern Protocol steps → (IsViable (steps ++ (s ∷ [])) → ⊥) → s.hierarchy ≡ End
+by_hierarchy-ends Atomic steps s is pattern stuck = absurd (stuck (viable-top steps s pattern (λ ends. cc)))
+by_hierarchy-ends Begin steps s is pattern stuck = absurd (stuck (viable-top steps s pattern (λ ends. cc)))
+by_hierarchy-ends End steps s is pattern stuck = is
+
+-- what may not stand where no container is open is a closer
+pub stuck-ends : (steps : List Step) (s : Step) → IsPattern Protocol steps → (IsViable (steps ++ (s ∷ [])) → ⊥) → s.hierarchy ≡ End
+stuck-ends steps s pattern stuck = by_hierarchy-ends s.hierarchy steps s refl pattern stuck

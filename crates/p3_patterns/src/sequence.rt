@@ -117,7 +117,10 @@ fn validate(alloc: Global, steps: &[Interaction]) -> Result<(), TranscriptError>
     let mut containers = OpenContainers::new(alloc);
     for position in 0..steps.len() {
         let next = &steps[position];
-        check_next(&steps[..position], &containers, next)?;
+        let before = &steps[..position];
+        if !may_follow(before, &containers, next) {
+            return Err(fault_of_next(before, &containers, next));
+        }
         containers.follow(position, next)?;
     }
     check_end(steps, &containers)
@@ -138,47 +141,59 @@ fn check_end(steps: &[Interaction], containers: &OpenContainers) -> Result<(), T
     }
 }
 
-// The step may stand behind those before it. The fault is named alike whatever follows.
-pub(crate) fn check_next(
+// The step may stand after those before it. This is asked of each step, and makes no error, so that a pattern costs
+// none.
+pub(crate) fn may_follow(
     before: &[Interaction],
     containers: &OpenContainers,
     next: &Interaction,
-) -> Result<(), TranscriptError>
+) -> bool
     requires { AreOpen (map step_of before.now) containers.now.openers.items }
-    ensures ok { OnOk result (IsViable (map step_of before.now ++ (step_of next.now ∷ []))) }
-    ensures err { IfErr result (λ e. (IsViable (map step_of before.now ++ (step_of next.now ∷ [])) → ⊥)
-        × ((rest : List Step) → NamesFirstFault (map step_of before.now ++ (step_of next.now ∷ rest)) e)) }
+    ensures { IsTrue result ↔ IsViable (map step_of before.now ++ (step_of next.now ∷ [])) }
+{
+    match containers.innermost(before) {
+        None => !is_closer(next),
+        Some((_, begin)) => {
+            if is_closer(next) {
+                next.closes(begin)
+            } else {
+                allows(begin.kind(), next)
+            }
+        }
+    }
+}
+
+// Why the step may not stand after those before it. The fault is named alike whatever follows.
+pub(crate) fn fault_of_next(
+    before: &[Interaction],
+    containers: &OpenContainers,
+    next: &Interaction,
+) -> TranscriptError
+    requires open { AreOpen (map step_of before.now) containers.now.openers.items }
+    requires stuck { IsViable (map step_of before.now ++ (step_of next.now ∷ [])) → ⊥ }
+    ensures { (rest : List Step) → NamesFirstFault (map step_of before.now ++ (step_of next.now ∷ rest)) result }
 {
     let position = before.len();
     let Some((begin_position, begin)) = containers.innermost(before) else {
-        return if is_closer(next) {
-            Err(TranscriptError::MissingBegin(MissingBeginInfo {
-                position,
-                end: *next,
-            }))
-        } else {
-            Ok(())
-        };
+        return TranscriptError::MissingBegin(MissingBeginInfo {
+            position,
+            end: *next,
+        });
     };
     if is_closer(next) {
-        if next.closes(begin) {
-            return Ok(());
-        }
-        Err(TranscriptError::MismatchedBeginEnd(MismatchedBeginEndInfo {
+        TranscriptError::MismatchedBeginEnd(MismatchedBeginEndInfo {
             begin_position,
             begin: *begin,
             end_position: position,
             end: *next,
-        }))
-    } else if allows(begin.kind(), next) {
-        Ok(())
+        })
     } else {
-        Err(TranscriptError::InvalidKind(InvalidKindInfo {
+        TranscriptError::InvalidKind(InvalidKindInfo {
             begin_position,
             begin: *begin,
             interaction_position: position,
             interaction: *next,
-        }))
+        })
     }
 }
 

@@ -7,7 +7,7 @@ ghost use Rattle.p3_patterns.specs.PatternFaults.{steps_of};
 ghost use Rattle.p3_patterns.specs.Recording.{Recording, Records, RefusesToRecord, FaultOfNext, FaultOfEnd};
 
 use crate::open_containers::OpenContainers;
-use crate::sequence::check_next;
+use crate::sequence::{fault_of_next, may_follow};
 use crate::{InteractionPattern, Pattern};
 use p3_field_core::Named;
 use p3_fs_core::{Hierarchy, Interaction, Kind, Label, PatternError, TranscriptError};
@@ -133,7 +133,9 @@ fn take(
     ensures err { IfErr result (λ e. FaultOfNext (map step_of steps.old.items) (step_of next) e
         × (steps.new.items ≡ steps.old.items) × (containers.new.openers.items ≡ containers.old.openers.items)) }
 {
-    check_next(steps, containers, &next)?;
+    if !may_follow(steps, containers, &next) {
+        return Err(fault_of_next(steps, containers, &next));
+    }
     // Room for the step first, so that nothing has changed where there is none.
     steps.reserve(1)?;
     containers.follow(steps.len(), &next)?;

@@ -44,7 +44,3 @@ pub none_there : {T A : Type 0} (found : Option T) → found ≡ None → A → 
 none_there (Some x) is h = tt
 none_there None is h = h
 
--- what is taken is not refused
-pub not_refused : {T E : Type 0} (r : Result T E) (P : E → Type 0) → IsOk r → IfErr r P
-not_refused (Ok x) P ok = tt
-not_refused (Err e) P ok = absurd (cc)

@@ -1,5 +1,4 @@
-use Rattle.std.proofs.Common.{◌≡◌, [], ◌∷◌, ◌++◌, length, List, map, inl, refl, ap, ◌∙◌, subst, rules}
-use Rattle.std.proofs.lemmas.Result.{err_from_is_err_and}
+use Rattle.std.proofs.Common.{◌≡◌, [], ◌∷◌, ◌++◌, length, List, map, inl, refl, sym, ap, ◌∙◌, subst, rules}
 use Rattle.p3_fs_core.specs.declared.interaction.Interaction.{Interaction}
 use Rattle.p3_fs_core.specs.Steps.{step_of}
 use Rattle.p3_patterns.specs.PatternGrammar.{IsViable}
@@ -8,21 +7,20 @@ use Rattle.p3_patterns.specs.OpenContainers.{opened_by}
 use Rattle.p3_patterns.proofs.OpenPositions.{open-pushed}
 use Rattle.p3_patterns.proofs.state.take.Goals as goal
 
-pub returns-in_err-check_next-clause-err : goal.returns-in_err-check_next-clause-err
-returns-in_err-check_next-clause-err c =
-    let p = err_from_is_err_and c.from_residual.result c.from_residual.ensures.1 in
+pub returns-then-not-may_follow-clause-err : goal.returns-then-not-may_follow-clause-err
+returns-then-not-may_follow-clause-err c =
     let s = step_of c.args.next in
-    let fault = c.in_err-check_next.ensures.err in
-    let named =
-    subst (λ (xs : List Interaction). (IsViable (map step_of xs ++ (s ∷ [])) → ⊥) × NamesFirstFault (map step_of xs ++ (s ∷ [])) c.in_err-check_next.field-0.0) c.deref.ensures.value
-    (fault.0, fault.1 []) in
-    rw (p.1, p.2) (inl named, refl, refl)
+    let stuck : IsViable (map step_of c.args.steps.now.items ++ (s ∷ [])) → ⊥ = λ viable.
+    let lent = c.may_follow.ensures.1 (subst (λ (xs : List Interaction). IsViable (map step_of xs ++ (s ∷ []))) (sym c.deref.ensures.value) viable) in
+    let not_so = c.if-not-may_follow.true in cc in
+    let named = subst (λ (xs : List Interaction). NamesFirstFault (map step_of xs ++ (s ∷ [])) c.fault_of_next.result) c.deref-then-not-may_follow.ensures.value (c.fault_of_next.ensures []) in
+    (inl (stuck, named), refl, refl)
 
 pub returns-clause-ok : goal.returns-clause-ok
 returns-clause-ok c =
     let steps = c.args.steps.now.items in
     let viable : IsViable (map step_of steps ++ (step_of c.args.next ∷ [])) =
-    subst (λ (xs : List Interaction). IsViable (map step_of xs ++ (step_of c.args.next ∷ []))) c.deref.ensures.value c.in_ok-check_next.ensures.ok in
+    subst (λ (xs : List Interaction). IsViable (map step_of xs ++ (step_of c.args.next ∷ []))) c.deref.ensures.value (c.may_follow.ensures.0 c.if-not-may_follow.false) in
     let at : c.len.result ≡ length steps = search rules in
     let follows : c.follow.new.self.openers.items ≡ opened_by (step_of c.args.next).hierarchy (length steps) c.args.containers.now.openers.items =
     c.in_ok-follow.ensures.ok ∙ ap (λ n. opened_by (step_of c.args.next).hierarchy n c.args.containers.now.openers.items) at in
