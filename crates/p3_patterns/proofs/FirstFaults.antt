@@ -8,7 +8,8 @@ use Rattle.p3_fs_core.specs.declared.error.TranscriptError.TheVariants.{MissingB
 use Rattle.p3_fs_core.specs.declared.step.Hierarchy.TheVariants.{End}
 use Rattle.p3_fs_core.specs.declared.step.Kind.TheVariants.{Protocol}
 use Rattle.p3_fs_core.specs.declared.interaction.Interaction.{Interaction}
-use Rattle.p3_fs_core.specs.Steps.{Step, step_of, Closes}
+use Rattle.p3_fs_core.specs.Steps.{Step, Closes}
+use Rattle.p3_fs_core.specs.Interactions.{step_of}
 use Rattle.p3_patterns.specs.PatternGrammar.{Allows, IsPattern, IsViable, IsInnermost, StopsAt, IsFirstFault, missing_begin, invalid_kind, mismatched_begin_end, missing_end}
 use Rattle.p3_patterns.specs.PatternFaults.{NamesFirstFault}
 use Rattle.p3_patterns.specs.Recording.{NamesMissingEnd}

@@ -4,7 +4,8 @@ use Rattle.std.proofs.Math.Seq.{drop-cons}
 use Rattle.std.proofs.lemmas.List.{drop-map, drop_all, length-map, take_more, map-append}
 use Rattle.std.specs.List.{repeat}
 use Rattle.std.specs.Fmt.{decimal}
-use Rattle.p3_fs_core.specs.Steps.{Step, step_of}
+use Rattle.p3_fs_core.specs.Steps.{Step}
+use Rattle.p3_fs_core.specs.Interactions.{step_of}
 use Rattle.p3_patterns.specs.Rendering.{depth_behind, indentation, padded, line, lines, position_digits, rendering, FitsTypes, AllFitTypes}
 use Rattle.p3_fs_core.specs.declared.interaction.Interaction.{Interaction}
 use Rattle.p3_fs_core.specs.declared.step.Hierarchy.{Hierarchy}

@@ -6,7 +6,8 @@ use Rattle.p3_fs_core.specs.declared.error.PatternError.{PatternError}
 use Rattle.p3_fs_core.specs.declared.error.PatternError.TheVariants.{Finished, NoMoreSteps, WrongStep, Unplayed, OverCap}
 use Rattle.p3_fs_core.specs.declared.interaction.Interaction.{Interaction}
 use Rattle.p3_patterns.specs.declared.sequence.InteractionPattern.{InteractionPattern}
-use Rattle.p3_fs_core.specs.Steps.{Step, step_of}
+use Rattle.p3_fs_core.specs.Steps.{Step}
+use Rattle.p3_fs_core.specs.Interactions.{step_of}
 use Rattle.p3_patterns.specs.PatternFaults.{steps_of}
 
 -- a player: its pattern, how many of its steps were taken, and whether a step was refused since

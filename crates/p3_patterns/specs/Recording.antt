@@ -3,7 +3,8 @@ use Rattle.std.specs.Prelude.{◌≡◌, ◌⊎◌, Bool, true, false, List, [],
 use Rattle.p3_fs_core.specs.declared.error.TranscriptError.{TranscriptError}
 use Rattle.p3_fs_core.specs.declared.error.TranscriptError.TheVariants.{MissingBegin, InvalidKind, MismatchedBeginEnd, MissingEnd, BadProofShape, Pattern, Challenger, LabelTooLong, OutOfMemory}
 use Rattle.p3_fs_core.specs.declared.error.PatternError.TheVariants.{Finished}
-use Rattle.p3_fs_core.specs.Steps.{Step, step_of}
+use Rattle.p3_fs_core.specs.Steps.{Step}
+use Rattle.p3_fs_core.specs.Interactions.{step_of}
 use Rattle.p3_patterns.specs.PatternGrammar.{IsViable, IsFirstFault, missing_end}
 use Rattle.p3_patterns.specs.PatternFaults.{NamesFirstFault}
 

@@ -1,6 +1,6 @@
 // Playing a pattern step by step.
 ghost use Rattle.std.specs.Prelude.{◌≡◌, ◌↔◌, ◌+◌, [], false, Some, length, slice_get, option_copied, IsTrue, IfErr, OnOk, IsOk};
-ghost use Rattle.p3_fs_core.specs.Steps.{step_of};
+ghost use Rattle.p3_fs_core.specs.Interactions.{step_of};
 ghost use Rattle.p3_patterns.specs.PatternFaults.{steps_of};
 ghost use Rattle.p3_patterns.specs.Playing.{Plays, RefusesToPlay, FaultOfPlay, FaultOfPlayEnd, IsPatternError, IsPlayed, CarriesReceived, CarriesNext, next_step, next_interaction};
 

@@ -2,7 +2,8 @@
 ghost use Rattle.std.specs.Prelude.{◌≡◌, ◌↔◌, ◌+◌, ◌*◌, ◌<◌, ◌^◌, ◌++◌, ℕ, List, Some, map, length, replicate, codes, IfOk, string_bytes, if◌then◌else◌};
 ghost use Rattle.std.specs.Fmt.{decimal};
 ghost use Rattle.std.specs.List.{repeat};
-ghost use Rattle.p3_fs_core.specs.Steps.{Step, step_of, plain_text, alternate_text};
+ghost use Rattle.p3_fs_core.specs.Steps.{Step, plain_text, alternate_text};
+ghost use Rattle.p3_fs_core.specs.Interactions.{step_of};
 ghost use Rattle.p3_patterns.specs.PatternFaults.{steps_of};
 ghost use Rattle.p3_patterns.specs.Rendering.{depth_behind, indentation, padded, rendering, SameButTypeNames, FitsTypes, AllFitTypes};
 ghost use Rattle.p3_fs_core.specs.StepTextLaws.{IsEnd, FitsLength, FitsTag};

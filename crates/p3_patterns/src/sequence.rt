@@ -1,6 +1,7 @@
 // The steps of a whole protocol.
 ghost use Rattle.std.specs.Prelude.{◌≡◌, ◌↔◌, true, [], ◌∷◌, ◌++◌, List, Some, None, map, length, IfOk, IfErr, IfSome, IfNone, OnOk, IsOk, IsTrue};
-ghost use Rattle.p3_fs_core.specs.Steps.{Step, step_of};
+ghost use Rattle.p3_fs_core.specs.Steps.{Step};
+ghost use Rattle.p3_fs_core.specs.Interactions.{step_of};
 ghost use Rattle.p3_patterns.specs.PatternGrammar.{Allows, IsPattern, IsViable, IsInnermost, IsNoneOpen, Fault, IsFirstFault};
 ghost use Rattle.p3_patterns.specs.PatternFaults.{steps_of, NamesFirstFault};
 ghost use Rattle.p3_patterns.specs.Recording.{NamesMissingEnd};

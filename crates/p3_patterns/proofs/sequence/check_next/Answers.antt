@@ -1,7 +1,7 @@
 use Rattle.std.proofs.Common.{◌≡◌, map, Bool, true, false, sym, subst}
 use Rattle.std.proofs.lemmas.List.{length-map}
 use Rattle.p3_fs_core.specs.declared.step.Kind.{Kind}
-use Rattle.p3_fs_core.specs.Steps.{step_of}
+use Rattle.p3_fs_core.specs.Interactions.{step_of}
 use Rattle.p3_patterns.specs.PatternGrammar.{Allows}
 use Rattle.p3_patterns.proofs.PatternGrammarLaws.{viable-top, viable-closed, viable-allowed, closer-with_none_open, closer-mismatched, kind-invalid, pattern-none_open}
 use Rattle.p3_patterns.proofs.FirstFaults.{first-missing_begin, first-mismatched, first-invalid_kind}

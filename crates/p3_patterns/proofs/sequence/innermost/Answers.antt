@@ -1,5 +1,5 @@
 use Rattle.std.proofs.Common.{◌≡◌, [], ◌-◌, map, take, sym, ap, ◌∙◌, arith}
-use Rattle.p3_fs_core.specs.Steps.{step_of}
+use Rattle.p3_fs_core.specs.Interactions.{step_of}
 use Rattle.p3_patterns.proofs.PatternGrammarLaws.{seek, reversed_onto, seek-some, seek-none}
 use Rattle.p3_patterns.proofs.Seeking.{past-atomic, past-end, past-begin, at-opener}
 use Rattle.p3_patterns.proofs.sequence.innermost.Goals as goal

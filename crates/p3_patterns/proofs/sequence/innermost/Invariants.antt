@@ -1,5 +1,5 @@
 use Rattle.std.proofs.Common.{◌≡◌, ◌+◌, ◌≤◌, [], map, length, take}
-use Rattle.p3_fs_core.specs.Steps.{step_of}
+use Rattle.p3_fs_core.specs.Interactions.{step_of}
 use Rattle.p3_patterns.proofs.PatternGrammarLaws.{seek, reversed_onto}
 use Rattle.p3_patterns.proofs.sequence.innermost.Given as goal
 

@@ -1,7 +1,7 @@
 use Rattle.std.proofs.Common.{[], map, arith}
 use Rattle.std.proofs.lemmas.Result.{err_from_is_err_and}
 use Rattle.p3_fs_core.specs.declared.step.Kind.TheVariants.{Protocol}
-use Rattle.p3_fs_core.specs.Steps.{step_of}
+use Rattle.p3_fs_core.specs.Interactions.{step_of}
 use Rattle.p3_patterns.specs.PatternGrammar.{nothing}
 use Rattle.p3_patterns.proofs.FirstFaults.{names-whole, missing-result}
 use Rattle.p3_patterns.proofs.sequence.validate.Goals as goal

@@ -1,7 +1,7 @@
 use Rattle.std.proofs.Common.{List, map, sym, subst}
 use Rattle.p3_fs_core.specs.declared.step.Kind.TheVariants.{Protocol}
 use Rattle.p3_fs_core.specs.declared.interaction.Interaction.{Interaction}
-use Rattle.p3_fs_core.specs.Steps.{step_of}
+use Rattle.p3_fs_core.specs.Interactions.{step_of}
 use Rattle.p3_patterns.specs.PatternGrammar.{IsPattern}
 use Rattle.p3_patterns.proofs.FirstFaults.{names-no_pattern}
 use Rattle.p3_patterns.proofs.OneFault.{one_fault}
