@@ -73,8 +73,3 @@ refusal_of OutOfMemory = out_of_memory
 abbrev pub IsFault : (Fault → Type 0) → Refusal → Type 0
 IsFault Is (fault f) = Is f
 IsFault Is _ = ⊥
-
--- it is that a step does not fit a pattern, in this way
-abbrev pub IsMisfit : (PatternError Step → Type 0) → Refusal → Type 0
-IsMisfit Is (misfit m) = Is m
-IsMisfit Is _ = ⊥

@@ -1,5 +1,6 @@
--- What is so of every step that a program holds is so in one way: each fact has one proof at most.
-use Rattle.std.specs.Prelude.{ℕ, List, length}
+-- What is so of every step that a program holds is so in one way: each fact has one proof at most. So steps are told
+-- apart by their parts alone.
+use Rattle.std.specs.Prelude.{ℕ, List, [], ◌∷◌, length}
 use Rattle.std.specs.Coded.{×_prop, Unit-prop, le_prop, Coded-set, coded_ℕ}
 use Rattle.p3_challenger_core.specs.Reading.{AreBytes}
 use Rattle.p3_fs_core.specs.declared.step.Length.{Length}
@@ -7,7 +8,7 @@ use Rattle.p3_fs_core.specs.declared.step.Length.TheVariants.{None, Scalar, Fixe
 use Rattle.p3_fs_core.specs.declared.step.TypeTag.{TypeTag}
 use Rattle.p3_fs_core.specs.declared.step.TypeTag.TheVariants.{Marker, Bytes, Algebra, BinaryTower, BinaryPolynomial, Opaque, Bits, UniformBits}
 use Rattle.p3_fs_core.specs.Steps.{Step}
-use Rattle.p3_fs_core.specs.StepFits.{FitsLength, IsEnd, FitsTag, FitsTypes, IsProgramStep}
+use Rattle.p3_fs_core.specs.StepFits.{FitsLength, IsEnd, FitsTag, FitsTypes, IsProgramStep, AreProgramSteps}
 
 AreBytes-prop : (bytes : List ℕ) → IsProp (AreBytes bytes)
 AreBytes-prop bytes x y = λ k i. le_prop (x i) (y i) k
@@ -49,3 +50,7 @@ IsProgramStep-prop s x y = λ k. record {
   label = AreBytes-prop s.label x.label y.label k;
   type_name = AreBytes-prop s.type_name x.type_name y.type_name k;
 }
+
+pub AreProgramSteps-prop : (steps : List Step) → IsProp (AreProgramSteps steps)
+AreProgramSteps-prop [] = Unit-prop
+AreProgramSteps-prop (s ∷ steps) = ×_prop (IsProgramStep-prop s) (AreProgramSteps-prop steps)

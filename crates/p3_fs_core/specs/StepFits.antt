@@ -1,5 +1,5 @@
 -- What is so of every step that a program holds.
-use Rattle.std.specs.Prelude.{◌≡◌, ℕ, ◌<◌, ◌^◌, List, length}
+use Rattle.std.specs.Prelude.{◌≡◌, ℕ, ◌<◌, ◌^◌, List, [], ◌∷◌, length}
 use Rattle.p3_challenger_core.specs.Reading.{AreBytes}
 use Rattle.p3_fs_core.specs.declared.step.Length.{Length}
 use Rattle.p3_fs_core.specs.declared.step.Length.TheVariants.{None, Scalar, Fixed, Bounded}
@@ -40,3 +40,8 @@ pub record IsProgramStep (s : Step) : Type 0 where
   pub fits : FitsTypes s
   pub label : AreBytes s.label
   pub type_name : AreBytes s.type_name
+
+-- a program can hold each of the steps
+abbrev pub AreProgramSteps : List Step → Type 0
+AreProgramSteps [] = Unit {0}
+AreProgramSteps (s ∷ steps) = IsProgramStep s × AreProgramSteps steps

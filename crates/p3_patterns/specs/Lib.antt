@@ -1,6 +1,9 @@
 pub mod PatternFaults
 pub mod PatternGrammar
+pub mod PatternStepLaws
+pub mod PatternSteps
 pub mod Playing
+pub mod PlayingLaws
 pub mod Recording
 pub mod Rendering
 pub mod RenderingLaws

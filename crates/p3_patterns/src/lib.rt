@@ -2,6 +2,7 @@
 //! and played.
 #![tactic(auto)]
 
+mod comparison;
 mod pattern;
 mod player;
 mod rendering;

@@ -2,7 +2,7 @@
 ghost use Rattle.std.specs.Prelude.{◌≡◌, [], ◌∷◌, ◌++◌, false, map, IfOk, IfErr, OnOk, IsOk};
 ghost use Rattle.p3_fs_core.specs.Interactions.{step_of};
 ghost use Rattle.p3_patterns.specs.PatternGrammar.{IsPattern, IsViable};
-ghost use Rattle.p3_patterns.specs.PatternFaults.{steps_of};
+ghost use Rattle.p3_patterns.specs.PatternSteps.{steps_of};
 ghost use Rattle.p3_patterns.specs.Recording.{Recording, Records, RefusesToRecord, FaultOfNext, FaultOfEnd};
 
 use crate::sequence::check_next;
