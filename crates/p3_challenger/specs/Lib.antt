@@ -27,10 +27,15 @@ pub use Rattle.p3_fs_core.specs.BigEndianLaws
 pub use Rattle.p3_fs_core.specs.DecodingLaws
 pub use Rattle.p3_fs_core.specs.Encoding
 pub use Rattle.p3_fs_core.specs.Errors
+pub use Rattle.p3_fs_core.specs.InteractionLaws
+pub use Rattle.p3_fs_core.specs.Interactions
 pub use Rattle.p3_fs_core.specs.Packing
 pub use Rattle.p3_fs_core.specs.PackingLaws
 pub use Rattle.p3_fs_core.specs.Scalar
 pub use Rattle.p3_fs_core.specs.ScalarLaws
+pub use Rattle.p3_fs_core.specs.StepCodes
+pub use Rattle.p3_fs_core.specs.StepFitLaws
+pub use Rattle.p3_fs_core.specs.StepFits
 pub use Rattle.p3_fs_core.specs.StepTextLaws
 pub use Rattle.p3_fs_core.specs.StepTexts
 pub use Rattle.p3_fs_core.specs.Steps

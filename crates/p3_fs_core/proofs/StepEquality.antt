@@ -1,11 +1,12 @@
--- Interactions compare equal exactly where they are one step.
+-- The parts of steps compare equal exactly where they are one, and interactions where they are one step.
 use Rattle.std.proofs.Common.{◌≡◌, ◌↔◌, ℕ, Bool, true, false, ◌&&◌, List, Bor, refl, sym, ap, rules}
+use Rattle.p3_field_core.specs.Equality.{IsExact}
 use Rattle.p3_fs_core.specs.declared.step.Hierarchy.{Hierarchy}
 use Rattle.p3_fs_core.specs.declared.step.Kind.{Kind}
 use Rattle.p3_fs_core.specs.declared.step.Length.{Length}
 use Rattle.p3_fs_core.specs.declared.step.TypeTag.{TypeTag}
 use Rattle.p3_fs_core.specs.declared.interaction.Interaction.{Interaction}
-use Rattle.p3_fs_core.specs.Steps.{step_of}
+use Rattle.p3_fs_core.specs.Interactions.{step_of}
 use Rattle.std.specs.contracts.prelude.RefStrPartialEq.TheImpl as texts
 use Rattle.p3_fs_core.specs.contracts.step.HierarchyPartialEq.TheImpl as hierarchies
 use Rattle.p3_fs_core.specs.contracts.step.KindPartialEq.TheImpl as kinds
@@ -19,11 +20,17 @@ hierarchy-same a b e = search rules
 hierarchy-self : (a b : Hierarchy) → a ≡ b → hierarchies.ghosts.eq a b ≡ true
 hierarchy-self a b e = search rules
 
+pub equal_hierarchies : IsExact hierarchies.ghosts.eq
+equal_hierarchies a b = (hierarchy-same a b, hierarchy-self a b)
+
 kind-same : (a b : Kind) → kinds.ghosts.eq a b ≡ true → a ≡ b
 kind-same a b e = search rules
 
 kind-self : (a b : Kind) → a ≡ b → kinds.ghosts.eq a b ≡ true
 kind-self a b e = search rules
+
+pub equal_kinds : IsExact kinds.ghosts.eq
+equal_kinds a b = (kind-same a b, kind-self a b)
 
 length-same : (a b : Length) → lengths.ghosts.eq a b ≡ true → a ≡ b
 length-same a b e = search rules
@@ -31,16 +38,22 @@ length-same a b e = search rules
 length-self : (a b : Length) → a ≡ b → lengths.ghosts.eq a b ≡ true
 length-self a b e = search rules
 
+pub equal_lengths : IsExact lengths.ghosts.eq
+equal_lengths a b = (length-same a b, length-self a b)
+
 tag-same : (a b : TypeTag) → tags.ghosts.eq a b ≡ true → a ≡ b
 tag-same a b e = search rules
 
 tag-self : (a b : TypeTag) → a ≡ b → tags.ghosts.eq a b ≡ true
 tag-self a b e = search rules
 
-text-same : (a b : Bor (List ℕ)) → texts.ghosts.eq a b ≡ true → a.now ≡ b.now
+pub equal_type_tags : IsExact tags.ghosts.eq
+equal_type_tags a b = (tag-same a b, tag-self a b)
+
+pub text-same : (a b : Bor (List ℕ)) → texts.ghosts.eq a b ≡ true → a.now ≡ b.now
 text-same a b e = search rules
 
-text-self : (a b : Bor (List ℕ)) → a.now ≡ b.now → texts.ghosts.eq a b ≡ true
+pub text-self : (a b : Bor (List ℕ)) → a.now ≡ b.now → texts.ghosts.eq a b ≡ true
 text-self a b e = search rules
 
 pub both : (a b : Bool) → a && b ≡ true → (a ≡ true) × (b ≡ true)

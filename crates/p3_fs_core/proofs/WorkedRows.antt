@@ -3,12 +3,12 @@ use Rattle.std.proofs.Common.{◌≡◌, [], ◌∷◌, codes, refl}
 use Rattle.std.specs.Fmt.{digits}
 use Rattle.p3_fs_core.specs.BigEndian.{in_bytes, bytes_for}
 use Rattle.p3_fs_core.specs.Packing.{chunk_bytes}
-use Rattle.p3_fs_core.specs.Steps.{Step, plain_text, alternate_text}
+use Rattle.p3_fs_core.specs.Steps.{Step, step_with, marker_of, plain_text, alternate_text}
 use Rattle.p3_fs_core.specs.declared.step.Hierarchy.{Hierarchy}
 use Rattle.p3_fs_core.specs.declared.step.Hierarchy.TheVariants.{Atomic, Begin, End}
 use Rattle.p3_fs_core.specs.declared.step.Kind.TheVariants.{Protocol, Message}
-use Rattle.p3_fs_core.specs.declared.step.Length.TheVariants.{None, Scalar}
-use Rattle.p3_fs_core.specs.declared.step.TypeTag.TheVariants.{Marker, Opaque}
+use Rattle.p3_fs_core.specs.declared.step.Length.TheVariants.{Scalar}
+use Rattle.p3_fs_core.specs.declared.step.TypeTag.TheVariants.{Opaque}
 
 -- how many bytes an element takes, and how many a chunk has
 widths : (bytes_for 31 ≡ 4) × (bytes_for 64 ≡ 8) × (bytes_for 9 ≡ 2)
@@ -25,12 +25,10 @@ counted = refl
 
 -- a marker of the type (), and an opaque value
 abbrev outer : Hierarchy → Step
-outer hierarchy =
-    record { hierarchy = hierarchy; kind = Protocol; label = codes "outer"; type_tag = Marker; type_name = codes "()"; length = None }
+outer hierarchy = marker_of hierarchy Protocol (codes "outer") (codes "()")
 
 abbrev commit : Step
-commit =
-    record { hierarchy = Atomic; kind = Message; label = codes "commit"; type_tag = Opaque; type_name = codes "opaque"; length = Scalar }
+commit = step_with Atomic Message (codes "commit") Opaque (codes "opaque") Scalar
 
 plain_texts : (plain_text (outer Begin) ≡ codes "Begin Protocol outer None ()") × (plain_text commit ≡ codes "Atomic Message commit Scalar opaque")
 plain_texts = (refl, refl)

@@ -2,7 +2,7 @@
 use Rattle.std.specs.Prelude.{◌≡◌, ◌⊎◌, List, [], ◌∷◌}
 use Rattle.p3_challenger_core.specs.Observation.{Observation, LeavesInCalls}
 use Rattle.p3_challenger_core.specs.declared.error.ChallengerError.{ChallengerError}
-use Rattle.p3_challenger_core.specs.declared.error.ChallengerError.TheVariants.{OutOfMemory, DrawLimit, NoWitness, TooLong}
+use Rattle.p3_challenger_core.specs.declared.error.ChallengerError.TheVariants.{OutOfMemory, TooLong}
 
 -- what an observation that answers this error leaves: the byte string was too long, and nothing of it was
 -- absorbed, or it was refused for memory alone

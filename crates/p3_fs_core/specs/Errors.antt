@@ -1,9 +1,14 @@
 -- Refusals of a transcript.
 use Rattle.std.specs.Prelude.{◌≡◌, ℕ, List, Result, Ok, Err}
+use Rattle.p3_fs_core.specs.Interactions.{step_of}
+use Rattle.p3_fs_core.specs.Steps.{Step}
+use Rattle.p3_fs_core.specs.declared.interaction.Interaction.{Interaction}
+use Rattle.p3_fs_core.specs.declared.error.PatternError.{PatternError}
+use Rattle.p3_fs_core.specs.declared.error.PatternError.TheVariants.{Finished, NoMoreSteps, WrongStep, Unplayed, OverCap}
 use Rattle.p3_challenger_core.specs.declared.error.ChallengerError.{ChallengerError}
 use Rattle.p3_challenger_core.specs.declared.error.ChallengerError.TheVariants as challenger
 use Rattle.p3_fs_core.specs.declared.error.TranscriptError.{TranscriptError}
-use Rattle.p3_fs_core.specs.declared.error.TranscriptError.TheVariants.{BadProofShape, Challenger, OutOfMemory}
+use Rattle.p3_fs_core.specs.declared.error.TranscriptError.TheVariants.{MissingBegin, InvalidKind, MismatchedBeginEnd, MissingEnd, BadProofShape, Pattern, Challenger, LabelTooLong, OutOfMemory}
 
 -- a challenger's refusal inside a transcript: want of memory is the transcript's own
 abbrev pub transcript_error : ChallengerError → TranscriptError
@@ -23,3 +28,48 @@ Decodes (Ok found) (Ok x) = x ≡ found.0
 Decodes (Ok found) (Err e) = ⊥
 Decodes (Err reason) (Ok x) = ⊥
 Decodes (Err reason) (Err e) = IsBadShape reason e
+
+-- ---- what an error says
+
+-- what is wrong with steps that are no pattern, with positions and steps
+pub data Fault : Type 0 where
+  missing_begin : (position : ℕ) (closer : Step) → Fault
+  invalid_kind : (begin_position : ℕ) (opener : Step) (position : ℕ) (s : Step) → Fault
+  mismatched_begin_end : (begin_position : ℕ) (opener : Step) (position : ℕ) (closer : Step) → Fault
+  missing_end : (position : ℕ) (opener : Step) → Fault
+
+-- why a step does not fit a pattern, with its steps wherever their texts lie
+abbrev pub misfit_of : PatternError Interaction → PatternError Step
+misfit_of Finished = Finished
+misfit_of (NoMoreSteps received) = NoMoreSteps (step_of received)
+misfit_of (WrongStep received expected) = WrongStep (step_of received) (step_of expected)
+misfit_of (Unplayed expected) = Unplayed (step_of expected)
+misfit_of (OverCap len max) = OverCap len max
+
+-- why a transcript was refused
+pub data Refusal : Type 0 where
+  fault : Fault → Refusal
+  bad_proof_shape : (reason : List ℕ) → Refusal
+  misfit : PatternError Step → Refusal
+  challenger_refused : ChallengerError → Refusal
+  label_too_long : Refusal
+  out_of_memory : Refusal
+
+-- what an error says, with its steps and its reason wherever their texts lie
+abbrev pub refusal_of : TranscriptError → Refusal
+refusal_of (MissingBegin info) = fault (missing_begin info.position (step_of info.end))
+refusal_of (InvalidKind info) =
+    fault (invalid_kind info.begin_position (step_of info.begin) info.interaction_position (step_of info.interaction))
+refusal_of (MismatchedBeginEnd info) =
+    fault (mismatched_begin_end info.begin_position (step_of info.begin) info.end_position (step_of info.end))
+refusal_of (MissingEnd info) = fault (missing_end info.position (step_of info.begin))
+refusal_of (BadProofShape reason) = bad_proof_shape reason.now
+refusal_of (Pattern e) = misfit (misfit_of e)
+refusal_of (Challenger e) = challenger_refused e
+refusal_of LabelTooLong = label_too_long
+refusal_of OutOfMemory = out_of_memory
+
+-- it is a fault of steps, of this kind
+abbrev pub IsFault : (Fault → Type 0) → Refusal → Type 0
+IsFault Is (fault f) = Is f
+IsFault Is _ = ⊥

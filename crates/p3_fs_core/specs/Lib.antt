@@ -3,10 +3,15 @@ pub mod AlphabetLaws
 pub mod BigEndian
 pub mod BigEndianLaws
 pub mod DecodingLaws
+pub mod InteractionLaws
+pub mod Interactions
 pub mod Packing
 pub mod PackingLaws
 pub mod Scalar
 pub mod ScalarLaws
+pub mod StepCodes
+pub mod StepFitLaws
+pub mod StepFits
 pub mod StepTextLaws
 pub mod StepTexts
 pub mod Steps

@@ -7,6 +7,7 @@ use Rattle.std.specs.Char.{digit_value}
 use Rattle.std.specs.Fmt.{decimal, digits, digit_glyph}
 use Rattle.std.specs.Str.Parse.{AllDigits, digits_value}
 use Rattle.p3_challenger_core.specs.Reading.{ReadsOneWay, ReadsOneWayOn, IsByte, AreBytes}
+use Rattle.p3_fs_core.specs.StepFits.{FitsLength, IsEnd, FitsTag}
 use Rattle.p3_fs_core.specs.StepTexts.{hierarchy_text, kind_text, length_text, hex_number, hex_text, hex_byte_text, algebra_end, type_tag_text}
 use Rattle.p3_fs_core.specs.declared.step.Hierarchy.{Hierarchy}
 use Rattle.p3_fs_core.specs.declared.step.Hierarchy.TheVariants.{Atomic, Begin, End}
@@ -139,13 +140,6 @@ closed-one_way m n a b m_fits n_fits e =
 
 -- ---- lengths
 
--- the number of a length fits its type
-abbrev pub FitsLength : Length → Type 0
-FitsLength None = Unit {0}
-FitsLength Scalar = Unit {0}
-FitsLength (Fixed count) = count < 2 ^ 64
-FitsLength (Bounded most) = most < 2 ^ 64
-
 -- a length with another number
 abbrev counted : Length → ℕ → Length
 counted None n = None
@@ -204,21 +198,6 @@ length-one_way x y a b x_fits y_fits e =
     (sym own ∙ parts.0 ∙ other, parts.1)
 
 -- ---- tags
-
--- a degree fits its type, and a basis is 32 bytes
-abbrev pub IsEnd : ℕ → List ℕ → Type 0
-IsEnd degree basis = (degree < 2 ^ 64) × (length basis ≡ 32) × AreBytes basis
-
--- the numbers of a tag fit their types, and its basis is 32 bytes
-abbrev pub FitsTag : TypeTag → Type 0
-FitsTag Marker = Unit {0}
-FitsTag Bytes = Unit {0}
-FitsTag (Algebra modulus degree basis) = (modulus < 2 ^ 64) × IsEnd degree basis
-FitsTag (BinaryTower bits degree basis) = (bits < 2 ^ 64) × IsEnd degree basis
-FitsTag (BinaryPolynomial bits modulus degree basis) = (bits < 2 ^ 64) × (modulus < 2 ^ 128) × IsEnd degree basis
-FitsTag Opaque = Unit {0}
-FitsTag (Bits width) = width < 2 ^ 64
-FitsTag (UniformBits width) = width < 2 ^ 64
 
 -- a tag with other numbers: bits, modulus, degree and basis
 abbrev refill : TypeTag → ℕ → ℕ → ℕ → List ℕ → TypeTag

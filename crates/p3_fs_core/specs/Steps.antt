@@ -8,7 +8,6 @@ use Rattle.p3_fs_core.specs.declared.step.Length.{Length}
 use Rattle.p3_fs_core.specs.declared.step.Length.TheVariants.{None}
 use Rattle.p3_fs_core.specs.declared.step.TypeTag.{TypeTag}
 use Rattle.p3_fs_core.specs.declared.step.TypeTag.TheVariants.{Marker}
-use Rattle.p3_fs_core.specs.declared.interaction.Interaction.{Interaction}
 use Rattle.p3_fs_core.specs.StepTexts.{hierarchy_text, kind_text, length_text, type_tag_text}
 
 -- what a step is: six things, of which two are texts
@@ -20,15 +19,22 @@ pub record Step : Type 0 where
   pub type_name : List ℕ
   pub length : Length
 
--- an interaction as a step, wherever its texts lie
-abbrev pub step_of : Interaction → Step
-step_of i =
-    record { hierarchy = i.hierarchy; kind = i.kind; label = i.label.now; type_tag = i.type_tag; type_name = i.type_name.now; length = i.length }
+-- the step of these parts: where it stands, what it is for, its label, and what it carries, with the name of the
+-- type that this has in the program
+abbrev pub step_with : Hierarchy → Kind → List ℕ → TypeTag → List ℕ → Length → Step
+step_with hierarchy kind label type_tag type_name length =
+    record {
+      hierarchy = hierarchy;
+      kind = kind;
+      label = label;
+      type_tag = type_tag;
+      type_name = type_name;
+      length = length;
+    }
 
 -- the opener or the closer of a container, which carries nothing
 abbrev pub marker_of : Hierarchy → Kind → List ℕ → List ℕ → Step
-marker_of hierarchy kind label type_name =
-    record { hierarchy = hierarchy; kind = kind; label = label; type_tag = Marker; type_name = type_name; length = None }
+marker_of hierarchy kind label type_name = step_with hierarchy kind label Marker type_name None
 
 -- a closer closes an opener that is the same in all but that it opens
 pub record Closes (closer opener : Step) : Type 0 where
@@ -48,9 +54,11 @@ carried_by tag length = length
 -- a step as people read it: with the name of its type
 abbrev pub plain_text : Step → List ℕ
 plain_text s =
-    hierarchy_text s.hierarchy ++ (codes " " ++ (kind_text s.kind ++ (codes " " ++ (s.label ++ (codes " " ++ (length_text s.length ++ (codes " " ++ s.type_name)))))))
+    hierarchy_text s.hierarchy ++ (codes " " ++ (kind_text s.kind ++ (codes " " ++ (s.label ++ (codes " " ++
+    (length_text s.length ++ (codes " " ++ s.type_name)))))))
 
 -- a step as it is hashed: with its type's tag, and with the length of its label before the label
 abbrev pub alternate_text : Step → List ℕ
 alternate_text s =
-    hierarchy_text s.hierarchy ++ (codes " " ++ (kind_text s.kind ++ (codes " " ++ (decimal (length s.label) ++ (codes " " ++ (s.label ++ (codes " " ++ (length_text s.length ++ (codes " " ++ type_tag_text s.type_tag)))))))))
+    hierarchy_text s.hierarchy ++ (codes " " ++ (kind_text s.kind ++ (codes " " ++ (decimal (length s.label) ++
+    (codes " " ++ (s.label ++ (codes " " ++ (length_text s.length ++ (codes " " ++ type_tag_text s.type_tag)))))))))

@@ -3,6 +3,7 @@ ghost use Rattle.std.specs.Prelude.{◌≡◌};
 use crate::Interaction;
 use p3_challenger_core::ChallengerError;
 use std::alloc::{AllocError, AllocFailed};
+use std::fmt::Display;
 use thiserror::Error;
 
 /// Why a step of a transcript was refused, or why steps are no pattern.
@@ -89,8 +90,11 @@ pub struct MissingEndInfo {
 }
 
 /// Why a step does not fit a pattern that is recorded or played.
+///
+/// `I` is what the steps are: an [`Interaction`] in a program, and in a contract also what it says.
 #[derive(Clone, Copy, Debug, PartialEq, Eq, Error)]
-pub enum PatternError {
+#[error_bound(I: Display)]
+pub enum PatternError<I = Interaction> {
     /// A step was refused before, so nothing may follow.
     #[error("already finished")]
     Finished,
@@ -98,21 +102,21 @@ pub enum PatternError {
     #[error("no more steps, received {received}")]
     NoMoreSteps {
         /// The step that came.
-        received: Interaction,
+        received: I,
     },
     /// The pattern has another step next.
     #[error("received {received}, expected {expected}")]
     WrongStep {
         /// The step that came.
-        received: Interaction,
+        received: I,
         /// The step that the pattern has next.
-        expected: Interaction,
+        expected: I,
     },
     /// The pattern has steps left at the end.
     #[error("unplayed {expected}")]
     Unplayed {
         /// The first of them.
-        expected: Interaction,
+        expected: I,
     },
     /// A list is longer than the step lets it be.
     #[error("length {len} exceeds {max}")]
@@ -160,4 +164,32 @@ impl<T: Drop> From<AllocFailed<T>> for TranscriptError {
     fn from(_failed: AllocFailed<T>) -> TranscriptError {
         TranscriptError::OutOfMemory
     }
+}
+
+impl PatternError {
+    ghost use Rattle.std.specs.Prelude.{◌≡◌, ◌↔◌, true};
+    ghost use Rattle.p3_fs_core.specs.Errors.{misfit_of};
+
+    /// Two errors compare equal exactly where they say the same: that of one variant, with the same steps and numbers,
+    /// wherever the steps' texts lie.
+    ///
+    /// A law: the body is empty, and a caller cites the clause.
+    #[tactic(auto, using(crate::proofs::ErrorEquality::equal_misfits))]
+    pub fn compared_by_parts()
+        ensures { (a b : PatternError Interaction) → (⟦<PatternError as PartialEq>⟧.eq a b ≡ true ↔ misfit_of a ≡ misfit_of b) }
+    {}
+}
+
+impl TranscriptError {
+    ghost use Rattle.std.specs.Prelude.{◌≡◌, ◌↔◌, true};
+    ghost use Rattle.p3_fs_core.specs.Errors.{refusal_of};
+
+    /// Two errors compare equal exactly where they say the same: that of one variant, with the same steps, numbers
+    /// and reason, wherever the texts lie.
+    ///
+    /// A law: the body is empty, and a caller cites the clause.
+    #[tactic(auto, using(crate::proofs::ErrorEquality::equal_refusals))]
+    pub fn compared_by_parts()
+        ensures { (a b : TranscriptError) → (⟦<TranscriptError as PartialEq>⟧.eq a b ≡ true ↔ refusal_of a ≡ refusal_of b) }
+    {}
 }

@@ -1,6 +1,8 @@
 // One step of an interactive protocol.
 ghost use Rattle.std.specs.Prelude.{◌≡◌, ◌↔◌, ℕ, true, Some, codes, IsTrue};
-ghost use Rattle.p3_fs_core.specs.Steps.{Step, step_of, Closes, carried_by, plain_text, alternate_text};
+ghost use Rattle.p3_fs_core.specs.StepFits.{FitsLength, IsEnd, FitsTag, IsProgramStep};
+ghost use Rattle.p3_fs_core.specs.StepFitLaws.{IsProgramStep-prop};
+ghost use Rattle.p3_fs_core.specs.Steps.{step_with, marker_of, Closes, carried_by, plain_text, alternate_text};
 
 use crate::{Hierarchy, Kind, Length, TranscriptField, TypeTag};
 use p3_field_core::{AlgebraIdentity, Named};
@@ -21,9 +23,36 @@ pub struct Interaction {
     type_tag: TypeTag,
     type_name: &'static str,
     length: Length,
+    /// Its numbers fit their types, and its texts are bytes.
+    pub ghost fits: { IsProgramStep (step_with hierarchy kind label.now type_tag type_name.now length) } by { IsProgramStep-prop (step_with hierarchy kind label.now type_tag type_name.now length) },
 }
 
 impl Interaction {
+    ghost use Rattle.p3_fs_core.specs.Interactions.{step_of};
+
+    // The step of these parts.
+    fn with_parts(
+        hierarchy: Hierarchy,
+        kind: Kind,
+        label: Label,
+        type_tag: TypeTag,
+        type_name: &'static str,
+        length: Length,
+    ) -> Self
+        ensures { step_of result ≡ step_with hierarchy kind label.now type_tag type_name.now length }
+    {
+        fits_tag(type_tag);
+        fits_length(length);
+        Interaction {
+            hierarchy,
+            kind,
+            label,
+            type_tag,
+            type_name,
+            length,
+        }
+    }
+
     /// A step that carries elements of an algebra `A` over the field `F`. `D` digests the identity of the
     /// algebra. A step of scalars is the one with `A = F`.
     pub fn algebra<F: TranscriptField, A: AlgebraIdentity<F> + Named, D: DigestHasher>(
@@ -32,65 +61,32 @@ impl Interaction {
         label: Label,
         length: Length,
     ) -> Self
-        ensures { step_of result ≡ record {
-          hierarchy = hierarchy;
-          kind = kind;
-          label = label.now;
-          type_tag = TypeTag.Algebra F.residues.order A.DIMENSION (D.digest_of A.identity);
-          type_name = A.name_bytes;
-          length = length;
-        } }
+        ensures { step_of result ≡ step_with hierarchy kind label.now
+            (TypeTag.Algebra F.residues.order A.DIMENSION (D.digest_of A.identity)) A.name_bytes length }
     {
-        Interaction {
-            hierarchy,
-            kind,
-            label,
-            type_tag: F::algebra_tag(A::DIMENSION, D::digest(A::algebra_id())),
-            type_name: A::type_name(),
-            length,
-        }
+        let type_tag = F::algebra_tag(A::DIMENSION, D::digest(A::algebra_id()));
+        Self::with_parts(hierarchy, kind, label, type_tag, A::type_name(), length)
     }
 
     /// A step that carries bytes as they are.
     pub fn bytes(hierarchy: Hierarchy, kind: Kind, label: Label, length: Length) -> Self
-        ensures { step_of result ≡ record {
-          hierarchy = hierarchy;
-          kind = kind;
-          label = label.now;
-          type_tag = TypeTag.Bytes;
-          type_name = codes "u8";
-          length = length;
-        } }
+        ensures { step_of result ≡ step_with hierarchy kind label.now TypeTag.Bytes (codes "u8") length }
     {
-        Interaction {
+        Self::with_parts(
             hierarchy,
             kind,
             label,
-            type_tag: TypeTag::Bytes,
-            type_name: u8::type_name(),
+            TypeTag::Bytes,
+            u8::type_name(),
             length,
-        }
+        )
     }
 
     /// A step whose value the challenger alone knows how to observe. The name of its type is `opaque`.
     pub fn opaque(hierarchy: Hierarchy, kind: Kind, label: Label, length: Length) -> Self
-        ensures { step_of result ≡ record {
-          hierarchy = hierarchy;
-          kind = kind;
-          label = label.now;
-          type_tag = TypeTag.Opaque;
-          type_name = codes "opaque";
-          length = length;
-        } }
+        ensures { step_of result ≡ step_with hierarchy kind label.now TypeTag.Opaque (codes "opaque") length }
     {
-        Interaction {
-            hierarchy,
-            kind,
-            label,
-            type_tag: TypeTag::Opaque,
-            type_name: "opaque",
-            length,
-        }
+        Self::with_parts(hierarchy, kind, label, TypeTag::Opaque, "opaque", length)
     }
 
     /// A step that draws numbers of `width` bits, as the low bits of a drawn element.
@@ -101,23 +97,16 @@ impl Interaction {
         width: usize,
         length: Length,
     ) -> Self
-        ensures { step_of result ≡ record {
-          hierarchy = hierarchy;
-          kind = kind;
-          label = label.now;
-          type_tag = TypeTag.Bits width;
-          type_name = codes "usize";
-          length = length;
-        } }
+        ensures { step_of result ≡ step_with hierarchy kind label.now (TypeTag.Bits width) (codes "usize") length }
     {
-        Interaction {
+        Self::with_parts(
             hierarchy,
             kind,
             label,
-            type_tag: TypeTag::Bits { width },
-            type_name: usize::type_name(),
+            TypeTag::Bits { width },
+            usize::type_name(),
             length,
-        }
+        )
     }
 
     /// A step that draws numbers of `width` bits, each as often as any other.
@@ -128,45 +117,32 @@ impl Interaction {
         width: usize,
         length: Length,
     ) -> Self
-        ensures { step_of result ≡ record {
-          hierarchy = hierarchy;
-          kind = kind;
-          label = label.now;
-          type_tag = TypeTag.UniformBits width;
-          type_name = codes "usize";
-          length = length;
-        } }
+        ensures { step_of result ≡ step_with hierarchy kind label.now (TypeTag.UniformBits width)
+            (codes "usize") length }
     {
-        Interaction {
+        Self::with_parts(
             hierarchy,
             kind,
             label,
-            type_tag: TypeTag::UniformBits { width },
-            type_name: usize::type_name(),
+            TypeTag::UniformBits { width },
+            usize::type_name(),
             length,
-        }
+        )
     }
 
     /// The opener or the closer of a container, which carries nothing. `T` names the container for those who
     /// read its steps.
     pub fn marker<T: Named>(hierarchy: Hierarchy, kind: Kind, label: Label) -> Self
-        ensures { step_of result ≡ record {
-          hierarchy = hierarchy;
-          kind = kind;
-          label = label.now;
-          type_tag = TypeTag.Marker;
-          type_name = T.name_bytes;
-          length = Length.None;
-        } }
+        ensures { step_of result ≡ marker_of hierarchy kind label.now T.name_bytes }
     {
-        Interaction {
+        Self::with_parts(
             hierarchy,
             kind,
             label,
-            type_tag: TypeTag::Marker,
-            type_name: T::type_name(),
-            length: Length::None,
-        }
+            TypeTag::Marker,
+            T::type_name(),
+            Length::None,
+        )
     }
 
     /// A step that carries values of the same type as this one. Nothing is hashed for it, so that many steps of
@@ -178,26 +154,21 @@ impl Interaction {
         label: Label,
         length: Length,
     ) -> Self
-        ensures { step_of result ≡ record {
-          hierarchy = hierarchy;
-          kind = kind;
-          label = label.now;
-          type_tag = (step_of self.now).type_tag;
-          type_name = (step_of self.now).type_name;
-          length = carried_by (step_of self.now).type_tag length;
-        } }
+        ensures { step_of result ≡ step_with hierarchy kind label.now (step_of self.now).type_tag
+            (step_of self.now).type_name (carried_by (step_of self.now).type_tag length) }
     {
         let length = match self.type_tag {
             TypeTag::Marker => Length::None,
             _ => length,
         };
-        Interaction {
+        Self::with_parts(
             hierarchy,
             kind,
             label,
+            self.type_tag,
+            self.type_name,
             length,
-            ..*self
-        }
+        )
     }
 
     /// Where the step stands.
@@ -256,6 +227,13 @@ impl Interaction {
             && self.length == other.length
     }
 
+    /// A program can hold each step: its numbers fit their types, and its texts are bytes.
+    ///
+    /// A law: the body is empty, and a caller cites the clause.
+    pub fn each_fits_its_types()
+        ensures { (i : Interaction) → IsProgramStep (step_of i) }
+    {}
+
     /// Two steps compare equal exactly where their six parts are the same, wherever their texts lie. Order and
     /// hash agree with that, as they do of every type.
     ///
@@ -267,6 +245,10 @@ impl Interaction {
 }
 
 impl fmt::Display for Interaction {
+    ghost use Rattle.std.specs.Prelude.{Some};
+    ghost use Rattle.p3_fs_core.specs.Interactions.{step_of};
+    ghost use Rattle.p3_fs_core.specs.Steps.{plain_text};
+
     ghost output = { λ i. Some (plain_text (step_of i)) };
 
     // The alternate form, `{:#}`, is the one that is hashed.
@@ -289,6 +271,10 @@ impl fmt::Display for Interaction {
 pub struct Alternate<'a>(pub &'a Interaction);
 
 impl fmt::Display for Alternate<'_> {
+    ghost use Rattle.std.specs.Prelude.{Some};
+    ghost use Rattle.p3_fs_core.specs.Interactions.{step_of};
+    ghost use Rattle.p3_fs_core.specs.Steps.{alternate_text};
+
     ghost output = { λ alternate. Some (alternate_text (step_of alternate.0.now)) };
 
     fn fmt<W: fmt::Write>(&self, f: &mut fmt::Formatter<W>) -> fmt::Result {
@@ -304,3 +290,29 @@ impl fmt::Display for Alternate<'_> {
         )
     }
 }
+
+// The number of a length fits its type. It does nothing but tell so.
+fn fits_length(length: Length)
+    ensures { FitsLength length }
+{}
+
+// The numbers of a tag fit their types. It does nothing but tell so.
+fn fits_tag(tag: TypeTag)
+    ensures { FitsTag tag }
+{
+    match tag {
+        TypeTag::Algebra { degree, basis, .. }
+        | TypeTag::BinaryTower { degree, basis, .. }
+        | TypeTag::BinaryPolynomial { degree, basis, .. } => fits_end(degree, basis),
+        TypeTag::Marker
+        | TypeTag::Bytes
+        | TypeTag::Opaque
+        | TypeTag::Bits { .. }
+        | TypeTag::UniformBits { .. } => {}
+    }
+}
+
+// A degree fits its type, and a basis is 32 bytes.
+fn fits_end(degree: usize, basis: [u8; 32])
+    ensures { IsEnd degree basis }
+{}

@@ -2,6 +2,7 @@
 
 ghost use Rattle.std.specs.Prelude.{◌≡◌, Some};
 ghost use Rattle.std.specs.Str.{IsAscii};
+ghost use Rattle.p3_field_core.specs.Equality.{IsExact};
 ghost use Rattle.p3_fs_core.specs.StepTexts.{hierarchy_text, kind_text, length_text, type_tag_text, hex_text, hex_number};
 
 use std::fmt;
@@ -97,6 +98,46 @@ pub enum TypeTag {
         /// How many bits a number has.
         width: usize,
     },
+}
+
+impl Hierarchy {
+    /// Two places compare equal exactly where they are one.
+    ///
+    /// A law: the body is empty, and a caller cites the clause.
+    #[tactic(auto, using(crate::proofs::StepEquality::equal_hierarchies))]
+    pub fn compared_exactly()
+        ensures { IsExact ⟦<Hierarchy as PartialEq>⟧.eq }
+    {}
+}
+
+impl Kind {
+    /// Two kinds compare equal exactly where they are one.
+    ///
+    /// A law: the body is empty, and a caller cites the clause.
+    #[tactic(auto, using(crate::proofs::StepEquality::equal_kinds))]
+    pub fn compared_exactly()
+        ensures { IsExact ⟦<Kind as PartialEq>⟧.eq }
+    {}
+}
+
+impl Length {
+    /// Two lengths compare equal exactly where they are one.
+    ///
+    /// A law: the body is empty, and a caller cites the clause.
+    #[tactic(auto, using(crate::proofs::StepEquality::equal_lengths))]
+    pub fn compared_exactly()
+        ensures { IsExact ⟦<Length as PartialEq>⟧.eq }
+    {}
+}
+
+impl TypeTag {
+    /// Two tags compare equal exactly where they are one.
+    ///
+    /// A law: the body is empty, and a caller cites the clause.
+    #[tactic(auto, using(crate::proofs::StepEquality::equal_type_tags))]
+    pub fn compared_exactly()
+        ensures { IsExact ⟦<TypeTag as PartialEq>⟧.eq }
+    {}
 }
 
 impl fmt::Display for Hierarchy {

@@ -4,12 +4,14 @@ use Rattle.std.proofs.Math.Seq.{drop-cons}
 use Rattle.std.proofs.lemmas.List.{take-append-drop, map-append}
 use Rattle.std.specs.Prelude.{Result, Ok, Err, IfErr}
 use Rattle.p3_fs_core.specs.declared.error.TranscriptError.{TranscriptError}
-use Rattle.p3_fs_core.specs.declared.error.TranscriptError.TheVariants.{MissingBegin, InvalidKind, MismatchedBeginEnd, MissingEnd, BadProofShape, Pattern, Challenger, LabelTooLong, OutOfMemory}
+use Rattle.p3_fs_core.specs.declared.error.TranscriptError.TheVariants.{MissingBegin, InvalidKind, MismatchedBeginEnd, MissingEnd, OutOfMemory}
 use Rattle.p3_fs_core.specs.declared.step.Hierarchy.TheVariants.{End}
 use Rattle.p3_fs_core.specs.declared.step.Kind.TheVariants.{Protocol}
 use Rattle.p3_fs_core.specs.declared.interaction.Interaction.{Interaction}
-use Rattle.p3_fs_core.specs.Steps.{Step, step_of, Closes}
-use Rattle.p3_patterns.specs.PatternGrammar.{Allows, IsPattern, IsViable, IsInnermost, StopsAt, IsFirstFault, missing_begin, invalid_kind, mismatched_begin_end, missing_end}
+use Rattle.p3_fs_core.specs.Steps.{Step, Closes}
+use Rattle.p3_fs_core.specs.Interactions.{step_of}
+use Rattle.p3_fs_core.specs.Errors.{missing_begin, invalid_kind, mismatched_begin_end, missing_end}
+use Rattle.p3_patterns.specs.PatternGrammar.{Allows, IsPattern, IsViable, IsInnermost, StopsAt, IsFirstFault}
 use Rattle.p3_patterns.specs.PatternFaults.{NamesFirstFault}
 use Rattle.p3_patterns.specs.Recording.{NamesMissingEnd}
 use Rattle.p3_patterns.proofs.PatternGrammarLaws.{closer-with_none_open, closer-mismatched, kind-invalid, pattern-none_open}
@@ -49,11 +51,7 @@ names-no_pattern steps (MissingBegin info) h pattern = stops-no_pattern steps _ 
 names-no_pattern steps (InvalidKind info) h pattern = stops-no_pattern steps _ _ h.0 pattern
 names-no_pattern steps (MismatchedBeginEnd info) h pattern = stops-no_pattern steps _ _ h.0 pattern
 names-no_pattern steps (MissingEnd info) h pattern = h.1 pattern
-names-no_pattern steps (BadProofShape reason) h pattern = h
-names-no_pattern steps (Pattern e) h pattern = h
-names-no_pattern steps (Challenger e) h pattern = h
-names-no_pattern steps LabelTooLong h pattern = h
-names-no_pattern steps OutOfMemory h pattern = h
+names-no_pattern steps _ h pattern = h
 
 -- the steps before a position, the step there and the steps behind it
 split_at : (steps : List Interaction) (i : ℕ) (d : Interaction) → i < length steps → map step_of steps ≡ map step_of (take i steps) ++ (step_of (slice_index_or steps i d) ∷ map step_of (drop (i + 1) steps))
@@ -71,14 +69,7 @@ names-whole steps i d e within named =
 -- an opener that is left open at the end is the first fault
 pub missing-first : (steps : List Step) (e : TranscriptError) → NamesMissingEnd steps e → NamesFirstFault steps e
 missing-first steps (MissingEnd info) h = h
-missing-first steps (MissingBegin info) h = absurd h
-missing-first steps (InvalidKind info) h = absurd h
-missing-first steps (MismatchedBeginEnd info) h = absurd h
-missing-first steps (BadProofShape reason) h = h
-missing-first steps (Pattern e) h = h
-missing-first steps (Challenger e) h = h
-missing-first steps LabelTooLong h = h
-missing-first steps OutOfMemory h = h
+missing-first steps _ h = absurd h
 
 pub missing-result : {T : Type 0} (steps : List Step) (result : Result T TranscriptError) → IfErr result (λ e. NamesMissingEnd steps e) → IfErr result (λ e. NamesFirstFault steps e ⊎ (e ≡ OutOfMemory))
 missing-result steps (Ok x) h = tt

@@ -3,7 +3,8 @@ use Rattle.std.proofs.Common.{◌≡◌, ℕ, ◌⊎◌, List, [], ◌∷◌, �
 use Rattle.p3_fs_core.specs.declared.step.Hierarchy.TheVariants.{End}
 use Rattle.p3_fs_core.specs.declared.step.Kind.TheVariants.{Protocol}
 use Rattle.p3_fs_core.specs.Steps.{Step}
-use Rattle.p3_patterns.specs.PatternGrammar.{IsPattern, IsViable, IsInnermost, IsNoneOpen, StopsAt, Fault, missing_begin, invalid_kind, mismatched_begin_end, missing_end, IsFirstFault}
+use Rattle.p3_fs_core.specs.Errors.{Fault, missing_begin, invalid_kind, mismatched_begin_end, missing_end}
+use Rattle.p3_patterns.specs.PatternGrammar.{IsPattern, IsViable, IsInnermost, IsNoneOpen, StopsAt, IsFirstFault}
 use Rattle.p3_patterns.proofs.PatternGrammarLaws.{only-innermost}
 use Rattle.p3_patterns.proofs.FirstFaults.{viable-front}
 

@@ -6,7 +6,8 @@ use Rattle.p3_fs_core.specs.declared.step.Hierarchy.{Hierarchy}
 use Rattle.p3_fs_core.specs.declared.step.Hierarchy.TheVariants.{Atomic, Begin, End}
 use Rattle.p3_fs_core.specs.declared.step.Kind.TheVariants.{Protocol}
 use Rattle.p3_fs_core.specs.declared.interaction.Interaction.{Interaction}
-use Rattle.p3_fs_core.specs.Steps.{Step, step_of, Closes}
+use Rattle.p3_fs_core.specs.Interactions.{step_of}
+use Rattle.p3_fs_core.specs.Steps.{Step, Closes}
 use Rattle.p3_patterns.specs.PatternGrammar.{Allows, IsPattern, nothing, container, IsViable, IsInnermost}
 use Rattle.p3_patterns.specs.OpenContainers.{kind_of, OpensAt, AreOpen, opened_by}
 use Rattle.p3_patterns.proofs.PatternGrammarLaws.{pattern-append, one_leaf, Opens, viable-opens, pattern-none_open, closer-with_none_open, next-innermost}

@@ -1,12 +1,40 @@
--- Patterns compare equal exactly where they have the same steps.
-use Rattle.std.proofs.Common.{◌≡◌, ◌↔◌, Bool, true, false, ◌&&◌, List, [], ◌∷◌, map, refl, ap, ◌∙◌}
+-- Patterns compare as the lists of their steps, and equal exactly where they have the same.
+use Rattle.std.proofs.Common.{◌≡◌, ◌↔◌, Bool, true, false, ◌&&◌, List, [], ◌∷◌, map, refl, sym, ap, subst, ◌∙◌}
 use Rattle.std.specs.Cmp.Lexicographic.{pointwise}
+use Rattle.p3_field_core.specs.Equality.{IsExact}
 use Rattle.p3_fs_core.specs.declared.interaction.Interaction.{Interaction}
-use Rattle.p3_fs_core.specs.Steps.{step_of}
+use Rattle.p3_fs_core.specs.Interactions.{step_of, interaction_of, interactions_of}
+use Rattle.p3_fs_core.specs.InteractionLaws.{steps-of_interactions}
+use Rattle.p3_fs_core.specs.StepFitLaws.{IsProgramStep-prop}
+use Rattle.p3_fs_core.specs.StepFits.{AreProgramSteps}
+use Rattle.p3_fs_core.specs.Steps.{Step}
 use Rattle.p3_fs_core.specs.contracts.interaction.InteractionPartialEq.TheImpl as interactions
-use Rattle.p3_patterns.specs.contracts.sequence.InteractionPatternPartialEq.TheImpl as patterns
-use Rattle.p3_patterns.specs.declared.sequence.InteractionPattern.{InteractionPattern}
-use Rattle.p3_patterns.specs.PatternFaults.{steps_of}
+use Rattle.p3_patterns.specs.PatternStepLaws.{PatternSteps-same}
+use Rattle.p3_patterns.specs.PatternSteps.{PatternSteps, interactions_of_pattern}
+use Rattle.p3_patterns.specs.contracts.comparison.InteractionPatternPartialEq.TheImpl as patterns
+
+-- ---- interactions with their texts at one place
+
+abbrev pub placed : Interaction → Interaction
+placed i = interaction_of (step_of i) i.fits
+
+all-placed : (xs : List Interaction) (fit : AreProgramSteps (map step_of xs)) → interactions_of (map step_of xs) fit ≡ map placed xs
+all-placed [] fit = refl
+all-placed (x ∷ xs) fit =
+    λ i. interaction_of (step_of x) (IsProgramStep-prop (step_of x) fit.0 x.fits i) ∷ all-placed xs fit.1 i
+
+-- a pattern's interactions are those that have its steps, but for the places of the texts
+pub pattern-placed : (xs : List Interaction) (pattern : PatternSteps) → map step_of xs ≡ pattern.steps → interactions_of_pattern pattern ≡ map placed xs
+pattern-placed xs pattern same =
+    let IsPlaced : List Step → Type 0 = λ (steps : List Step). (fit : AreProgramSteps steps) → interactions_of steps fit ≡ map placed xs in
+    subst IsPlaced same (all-placed xs) pattern.fit
+
+-- so what is made of both lists is made of both patterns
+pub as_patterns : {A : Type 0} (F : List Interaction → List Interaction → A) (xs ys : List Interaction) (a b : PatternSteps) → map step_of xs ≡ a.steps → map step_of ys ≡ b.steps → F (map placed xs) (map placed ys) ≡ F (interactions_of_pattern a) (interactions_of_pattern b)
+as_patterns F xs ys a b first second =
+    λ i. F (sym (pattern-placed xs a first) i) (sym (pattern-placed ys b second) i)
+
+-- ---- equality
 
 both : (a b : Bool) → a && b ≡ true → (a ≡ true) × (b ≡ true)
 both true true e = (refl, refl)
@@ -34,6 +62,10 @@ module _ (compared : (a b : Interaction) → (interactions.ghosts.eq a b ≡ tru
       let first : step_of x ≡ step_of y = cc in
       and _ _ ((compared x y).1 first) (items-same xs ys (cc))
 
-  pub equal_patterns : (a b : InteractionPattern) → (patterns.ghosts.eq a b ≡ true ↔ steps_of a ≡ steps_of b)
+  pub equal_patterns : IsExact patterns.ghosts.eq
   equal_patterns a b =
-      (same-items a.interactions.items b.interactions.items, items-same a.interactions.items b.interactions.items)
+      let first = steps-of_interactions a.steps a.fit in
+      let second = steps-of_interactions b.steps b.fit in (
+        λ e. PatternSteps-same a b (sym first ∙ same-items (interactions_of_pattern a) (interactions_of_pattern b) e ∙ second),
+        λ e. items-same (interactions_of_pattern a) (interactions_of_pattern b) (first ∙ ap (λ p. p.steps) e ∙ sym second),
+      )

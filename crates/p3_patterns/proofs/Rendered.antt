@@ -1,11 +1,12 @@
 -- What is written of a line, and of the lines so far.
-use Rattle.std.proofs.Common.{◌≡◌, ℕ, zero, suc, ◌+◌, ◌-◌, ◌*◌, ◌<◌, ◌≤◌, List, [], ◌∷◌, ◌++◌, length, map, get_or, take, drop, replicate, codes, append_assoc, append-nil, add-one, refl, sym, ap, subst, ◌∙◌, arith}
+use Rattle.std.proofs.Common.{◌≡◌, ℕ, zero, suc, ◌+◌, ◌-◌, ◌*◌, ◌<◌, ◌≤◌, List, [], ◌∷◌, ◌++◌, length, map, get_or, drop, replicate, codes, append_assoc, append-nil, add-one, refl, sym, ap, ◌∙◌, arith}
 use Rattle.std.proofs.Math.Seq.{drop-cons}
-use Rattle.std.proofs.lemmas.List.{drop-map, drop_all, length-map, take_more, map-append}
+use Rattle.std.proofs.lemmas.List.{drop-map, drop_all, length-map}
 use Rattle.std.specs.List.{repeat}
 use Rattle.std.specs.Fmt.{decimal}
-use Rattle.p3_fs_core.specs.Steps.{Step, step_of}
-use Rattle.p3_patterns.specs.Rendering.{depth_behind, indentation, padded, line, lines, position_digits, rendering, FitsTypes, AllFitTypes}
+use Rattle.p3_fs_core.specs.Steps.{Step}
+use Rattle.p3_fs_core.specs.Interactions.{step_of}
+use Rattle.p3_patterns.specs.Rendering.{depth_behind, indentation, padded, line, lines, position_digits, rendering}
 use Rattle.p3_fs_core.specs.declared.interaction.Interaction.{Interaction}
 use Rattle.p3_fs_core.specs.declared.step.Hierarchy.{Hierarchy}
 use Rattle.p3_fs_core.specs.declared.step.Hierarchy.TheVariants.{Atomic, Begin, End}
@@ -44,7 +45,7 @@ first-line text digits position depth steps d within =
     ap (lines text digits position depth) left
 
 -- what is written so far and the lines that are left are the same with one line more
-pub one-more : (text : Step → List ℕ) (digits position depth indented deeper : ℕ) (first second : Hierarchy) (steps : List Interaction) (d : Interaction) (written whole : List ℕ) → position < length steps → first ≡ (get_or steps position d).hierarchy → indented ≡ indentation first depth → second ≡ (get_or steps position d).hierarchy → deeper ≡ depth_behind second depth → written ++ lines text digits position depth (drop position (map step_of steps)) ≡ whole → (written ++ (padded digits position ++ (codes " " ++ (replicate (2 * indented) 32 ++ (text (step_of (get_or steps position d)) ++ codes "\n"))))) ++ lines text digits (position + 1) deeper (drop (position + 1) (map step_of steps)) ≡ whole
+one-more : (text : Step → List ℕ) (digits position depth indented deeper : ℕ) (first second : Hierarchy) (steps : List Interaction) (d : Interaction) (written whole : List ℕ) → position < length steps → first ≡ (get_or steps position d).hierarchy → indented ≡ indentation first depth → second ≡ (get_or steps position d).hierarchy → deeper ≡ depth_behind second depth → written ++ lines text digits position depth (drop position (map step_of steps)) ≡ whole → (written ++ (padded digits position ++ (codes " " ++ (replicate (2 * indented) 32 ++ (text (step_of (get_or steps position d)) ++ codes "\n"))))) ++ lines text digits (position + 1) deeper (drop (position + 1) (map step_of steps)) ≡ whole
 one-more text digits position depth indented deeper first second steps d written whole within first_is indented_is second_is deeper_is so_far =
     let s = get_or steps position d in
     let rest : ℕ → List ℕ = λ k. lines text digits (position + 1) k (drop (position + 1) (map step_of steps)) in
@@ -56,6 +57,13 @@ one-more text digits position depth indented deeper first second steps d written
     ∙ ap (λ k. written ++ (shown (indentation s.hierarchy depth) ++ rest k)) behind
     ∙ ap (λ all. written ++ all) (sym (first-line text digits position depth steps d within))
     ∙ so_far
+
+-- so it is at a step that was read there
+pub one-more-read : (text : Step → List ℕ) (digits position depth indented deeper : ℕ) (first second : Hierarchy) (steps : List Interaction) (d read : Interaction) (written whole : List ℕ) → read ≡ get_or steps position d → position < length steps → first ≡ read.hierarchy → indented ≡ indentation first depth → second ≡ read.hierarchy → deeper ≡ depth_behind second depth → written ++ lines text digits position depth (drop position (map step_of steps)) ≡ whole → (written ++ (padded digits position ++ (codes " " ++ (replicate (2 * indented) 32 ++ (text (step_of read) ++ codes "\n"))))) ++ lines text digits (position + 1) deeper (drop (position + 1) (map step_of steps)) ≡ whole
+one-more-read text digits position depth indented deeper first second steps d read written whole is within first_is indented_is second_is deeper_is so_far =
+    let place = ap (λ (s : Interaction). s.hierarchy) is in
+    ap (λ (s : Interaction). (written ++ (padded digits position ++ (codes " " ++ (replicate (2 * indented) 32 ++ (text (step_of s) ++ codes "\n"))))) ++ lines text digits (position + 1) deeper (drop (position + 1) (map step_of steps))) is
+    ∙ one-more text digits position depth indented deeper first second steps d written whole within (first_is ∙ place) indented_is (second_is ∙ place) deeper_is so_far
 
 -- ---- all of them
 
@@ -72,15 +80,3 @@ all-lines text digits last position depth steps written past digits_is last_is s
     ap (λ front. codes "Plonky3 Fiat-Shamir Transcript (" ++ front) (append_assoc (decimal (length steps)) (codes " interactions)\n") written)
     ∙ ap (λ k. codes "Plonky3 Fiat-Shamir Transcript (" ++ (decimal k ++ (codes " interactions)\n" ++ written))) (sym count)
     ∙ ap (λ all. codes "Plonky3 Fiat-Shamir Transcript (" ++ (decimal (length (map step_of steps)) ++ (codes " interactions)\n" ++ all))) shown
-
--- ---- steps whose numbers fit
-
-all_fit-more : (steps : List Step) (s : Step) → AllFitTypes steps → FitsTypes s → AllFitTypes (steps ++ (s ∷ []))
-all_fit-more [] s fit fits = (fits, tt)
-all_fit-more (first ∷ steps) s fit fits = (fit.0, all_fit-more steps s fit.1 fits)
-
-pub all_fit-next : (steps : List Interaction) (i : ℕ) (d : Interaction) → i < length steps → AllFitTypes (map step_of (take i steps)) → FitsTypes (step_of (get_or steps i d)) → AllFitTypes (map step_of (take (i + 1) steps))
-all_fit-next steps i d within fit fits =
-    let longer : map step_of (take (i + 1) steps) ≡ map step_of (take i steps) ++ (step_of (get_or steps i d) ∷ []) =
-    ap (map step_of) (take_more steps i d within) ∙ map-append step_of (take i steps) (get_or steps i d ∷ []) in
-    subst AllFitTypes (sym longer) (all_fit-more (map step_of (take i steps)) (step_of (get_or steps i d)) fit fits)

@@ -1,25 +1,24 @@
 -- Worked rows, computed on the definitions.
 use Rattle.std.proofs.Common.{◌≡◌, List, [], ◌∷◌, ℕ, codes, get_or, refl, ap, inl, inr, arith}
 use Rattle.std.specs.Fmt.{digits}
-use Rattle.p3_fs_core.specs.Steps.{Step, Closes, plain_text, alternate_text}
+use Rattle.p3_fs_core.specs.Steps.{Step, step_with, marker_of, Closes, plain_text, alternate_text}
 use Rattle.p3_patterns.specs.Rendering.{rendering}
-use Rattle.p3_patterns.specs.PatternGrammar.{nothing, container, IsViable, IsFirstFault, missing_begin, invalid_kind, mismatched_begin_end, missing_end}
+use Rattle.p3_fs_core.specs.Errors.{missing_begin, invalid_kind, mismatched_begin_end, missing_end}
+use Rattle.p3_patterns.specs.PatternGrammar.{nothing, container, IsViable, IsFirstFault}
 use Rattle.p3_patterns.proofs.FirstFaults.{first-missing_begin, first-invalid_kind, first-mismatched, first-missing_end}
 use Rattle.p3_fs_core.specs.declared.step.Hierarchy.{Hierarchy}
 use Rattle.p3_fs_core.specs.declared.step.Hierarchy.TheVariants.{Atomic, Begin, End}
 use Rattle.p3_fs_core.specs.declared.step.Kind.{Kind}
 use Rattle.p3_fs_core.specs.declared.step.Kind.TheVariants.{Protocol, Message, Challenge}
-use Rattle.p3_fs_core.specs.declared.step.Length.TheVariants.{None, Scalar}
-use Rattle.p3_fs_core.specs.declared.step.TypeTag.TheVariants.{Marker, Opaque}
+use Rattle.p3_fs_core.specs.declared.step.Length.TheVariants.{Scalar}
+use Rattle.p3_fs_core.specs.declared.step.TypeTag.TheVariants.{Opaque}
 
 -- a marker of the type (), and an opaque value
 abbrev outer : Hierarchy → Step
-outer hierarchy =
-    record { hierarchy = hierarchy; kind = Protocol; label = codes "outer"; type_tag = Marker; type_name = codes "()"; length = None }
+outer hierarchy = marker_of hierarchy Protocol (codes "outer") (codes "()")
 
 abbrev commit : Step
-commit =
-    record { hierarchy = Atomic; kind = Message; label = codes "commit"; type_tag = Opaque; type_name = codes "opaque"; length = Scalar }
+commit = step_with Atomic Message (codes "commit") Opaque (codes "opaque") Scalar
 
 -- ---- the text of a pattern
 

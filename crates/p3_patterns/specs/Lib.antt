@@ -1,7 +1,10 @@
 pub mod PatternFaults
 pub mod PatternGrammar
 pub mod OpenContainers
+pub mod PatternStepLaws
+pub mod PatternSteps
 pub mod Playing
+pub mod PlayingLaws
 pub mod Recording
 pub mod Rendering
 pub mod RenderingLaws

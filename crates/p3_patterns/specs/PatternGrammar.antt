@@ -3,6 +3,7 @@ use Rattle.std.specs.Prelude.{◌≡◌, ℕ, ◌⊎◌, List, [], ◌∷◌, �
 use Rattle.p3_fs_core.specs.declared.step.Hierarchy.TheVariants.{Atomic, Begin, End}
 use Rattle.p3_fs_core.specs.declared.step.Kind.{Kind}
 use Rattle.p3_fs_core.specs.declared.step.Kind.TheVariants.{Protocol}
+use Rattle.p3_fs_core.specs.Errors.{Fault, missing_begin, invalid_kind, mismatched_begin_end, missing_end}
 use Rattle.p3_fs_core.specs.Steps.{Step, Closes}
 
 -- the step may stand directly in a container of the kind: a protocol takes any, another kind its own alone
@@ -43,13 +44,6 @@ pub record StopsAt (steps : List Step) (position : ℕ) (s : Step) : Type 0 wher
   pub place : length before ≡ position
   pub viable : IsViable before
   pub stuck : IsViable (before ++ (s ∷ [])) → ⊥
-
--- what is wrong, with positions and steps
-pub data Fault : Type 0 where
-  missing_begin : (position : ℕ) (closer : Step) → Fault
-  invalid_kind : (begin_position : ℕ) (opener : Step) (position : ℕ) (s : Step) → Fault
-  mismatched_begin_end : (begin_position : ℕ) (opener : Step) (position : ℕ) (closer : Step) → Fault
-  missing_end : (position : ℕ) (opener : Step) → Fault
 
 -- the fault is the first one of the steps
 abbrev pub IsFirstFault : List Step → Fault → Type 0

@@ -1,10 +1,12 @@
 -- Recording a pattern step by step.
 use Rattle.std.specs.Prelude.{◌≡◌, ◌⊎◌, Bool, true, false, List, [], ◌∷◌, ◌++◌}
 use Rattle.p3_fs_core.specs.declared.error.TranscriptError.{TranscriptError}
-use Rattle.p3_fs_core.specs.declared.error.TranscriptError.TheVariants.{MissingBegin, InvalidKind, MismatchedBeginEnd, MissingEnd, BadProofShape, Pattern, Challenger, LabelTooLong, OutOfMemory}
+use Rattle.p3_fs_core.specs.declared.error.TranscriptError.TheVariants.{MissingEnd, Pattern, OutOfMemory}
 use Rattle.p3_fs_core.specs.declared.error.PatternError.TheVariants.{Finished}
-use Rattle.p3_fs_core.specs.Steps.{Step, step_of}
-use Rattle.p3_patterns.specs.PatternGrammar.{IsViable, IsFirstFault, missing_end}
+use Rattle.p3_fs_core.specs.Errors.{missing_end}
+use Rattle.p3_fs_core.specs.Steps.{Step}
+use Rattle.p3_fs_core.specs.Interactions.{step_of}
+use Rattle.p3_patterns.specs.PatternGrammar.{IsViable, IsFirstFault}
 use Rattle.p3_patterns.specs.PatternFaults.{NamesFirstFault}
 
 -- a recorder: the steps that it took, and whether it refused one since
@@ -37,14 +39,7 @@ pub record RefusesToRecord (before : Recording) (s : Step) (e : TranscriptError)
 -- the error names the innermost opener that the steps leave open at their end
 abbrev pub NamesMissingEnd : List Step → TranscriptError → Type 0
 NamesMissingEnd steps (MissingEnd info) = IsFirstFault steps (missing_end info.position (step_of info.begin))
-NamesMissingEnd steps (MissingBegin info) = ⊥
-NamesMissingEnd steps (InvalidKind info) = ⊥
-NamesMissingEnd steps (MismatchedBeginEnd info) = ⊥
-NamesMissingEnd steps (BadProofShape reason) = ⊥
-NamesMissingEnd steps (Pattern e) = ⊥
-NamesMissingEnd steps (Challenger e) = ⊥
-NamesMissingEnd steps LabelTooLong = ⊥
-NamesMissingEnd steps OutOfMemory = ⊥
+NamesMissingEnd steps _ = ⊥
 
 -- why a recording is no pattern in the end: a step was refused, or a container is still open
 abbrev pub FaultOfEnd : Recording → TranscriptError → Type 0

@@ -1,10 +1,10 @@
 -- The text of a list of steps.
-use Rattle.std.specs.Prelude.{◌≡◌, ℕ, ◌+◌, ◌-◌, ◌*◌, ◌<◌, ◌^◌, List, [], ◌∷◌, ◌++◌, length, map, replicate, codes}
+use Rattle.std.specs.Prelude.{◌≡◌, ℕ, ◌+◌, ◌-◌, ◌*◌, List, [], ◌∷◌, ◌++◌, length, map, replicate, codes}
 use Rattle.std.specs.Fmt.{decimal}
 use Rattle.p3_fs_core.specs.declared.step.Hierarchy.{Hierarchy}
 use Rattle.p3_fs_core.specs.declared.step.Hierarchy.TheVariants.{Atomic, Begin, End}
 use Rattle.p3_fs_core.specs.Steps.{Step}
-use Rattle.p3_fs_core.specs.StepTextLaws.{FitsLength, FitsTag}
+use Rattle.p3_fs_core.specs.StepFits.{FitsTypes}
 
 -- how many containers are open behind a step
 abbrev pub depth_behind : Hierarchy → ℕ → ℕ
@@ -52,12 +52,7 @@ without_type_name s = record s { type_name = [] }
 abbrev pub SameButTypeNames : List Step → List Step → Type 0
 SameButTypeNames xs ys = map without_type_name xs ≡ map without_type_name ys
 
--- the numbers of a step fit their types, which is so of every step of a program
-pub record FitsTypes (s : Step) : Type 0 where
-  pub label : length s.label < 2 ^ 64
-  pub carried : FitsLength s.length
-  pub tag : FitsTag s.type_tag
-
+-- the numbers of each step fit their types, which is so of every step of a program
 abbrev pub AllFitTypes : List Step → Type 0
 AllFitTypes [] = Unit {0}
 AllFitTypes (s ∷ steps) = FitsTypes s × AllFitTypes steps

@@ -3,9 +3,10 @@ use Rattle.std.proofs.Common.{◌≡◌, ◌↔◌, ℕ, zero, suc, ◌+◌, ◌
 use Rattle.std.specs.Fmt.{decimal}
 use Rattle.p3_fs_core.specs.BigEndianLaws.{front-one_way}
 use Rattle.p3_fs_core.specs.StepTexts.{hierarchy_text, kind_text, length_text, type_tag_text}
+use Rattle.p3_fs_core.specs.StepFits.{FitsTypes, AreProgramSteps}
 use Rattle.p3_fs_core.specs.StepTextLaws.{decimal-one_way, hierarchy-one_way, kind-one_way, length-one_way, type_tag-one_way}
 use Rattle.p3_fs_core.specs.Steps.{Step, alternate_text}
-use Rattle.p3_patterns.specs.Rendering.{depth_behind, indentation, padded, line, lines, position_digits, rendering, without_type_name, SameButTypeNames, FitsTypes, AllFitTypes}
+use Rattle.p3_patterns.specs.Rendering.{depth_behind, indentation, padded, line, lines, position_digits, rendering, without_type_name, SameButTypeNames, AllFitTypes}
 use Rattle.p3_fs_core.specs.declared.step.Hierarchy.{Hierarchy}
 use Rattle.p3_fs_core.specs.declared.step.Hierarchy.TheVariants.{Atomic, Begin, End}
 
@@ -43,6 +44,11 @@ hierarchy-begins Begin p q rest = lit≤ tt
 hierarchy-begins End p q rest = lit≤ tt
 
 -- ---- steps
+
+-- the numbers of steps of a program fit their types
+pub AllFitTypes-program : (steps : List Step) → AreProgramSteps steps → AllFitTypes steps
+AllFitTypes-program [] fit = tt
+AllFitTypes-program (s ∷ steps) fit = (fit.0.fits, AllFitTypes-program steps fit.1)
 
 -- a step is read back from what is hashed of it, but for the name of its type
 pub alternate-one_way : (x y : Step) (a b : List ℕ) → FitsTypes x → FitsTypes y → alternate_text x ++ a ≡ alternate_text y ++ b → (without_type_name x ≡ without_type_name y) × (a ≡ b)

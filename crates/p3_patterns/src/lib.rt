@@ -2,6 +2,7 @@
 //! and played.
 #![tactic(auto)]
 
+mod comparison;
 mod open_containers;
 mod pattern;
 mod player;

@@ -1,6 +1,6 @@
 // The containers that steps leave open.
 ghost use Rattle.std.specs.Prelude.{◌≡◌, [], map, IfSome, IfNone, OnOk, OnErr};
-ghost use Rattle.p3_fs_core.specs.Steps.{step_of};
+ghost use Rattle.p3_fs_core.specs.Interactions.{step_of};
 ghost use Rattle.p3_patterns.specs.PatternGrammar.{IsPattern, IsInnermost};
 ghost use Rattle.p3_patterns.specs.OpenContainers.{AreOpen, opened_by};
 

@@ -1,6 +1,7 @@
 // What takes the steps of a protocol: a recorder or a player.
 ghost use Rattle.std.specs.Prelude.{OnOk, IfErr};
-ghost use Rattle.p3_fs_core.specs.Steps.{Step, step_of, marker_of};
+ghost use Rattle.p3_fs_core.specs.Steps.{Step, marker_of};
+ghost use Rattle.p3_fs_core.specs.Interactions.{step_of};
 
 use p3_field_core::Named;
 use p3_fs_core::{Hierarchy, Interaction, Kind, Label, TranscriptError};

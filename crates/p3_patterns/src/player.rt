@@ -1,8 +1,10 @@
 // Playing a pattern step by step.
-ghost use Rattle.std.specs.Prelude.{◌≡◌, ◌↔◌, ◌+◌, [], false, Some, length, slice_get, option_copied, IsTrue, IfErr, OnOk, IsOk};
-ghost use Rattle.p3_fs_core.specs.Steps.{step_of};
-ghost use Rattle.p3_patterns.specs.PatternFaults.{steps_of};
-ghost use Rattle.p3_patterns.specs.Playing.{Plays, RefusesToPlay, FaultOfPlay, FaultOfPlayEnd, IsPatternError, IsPlayed, CarriesReceived, CarriesNext, next_step, next_interaction};
+ghost use Rattle.std.specs.Prelude.{◌≡◌, ◌↔◌, ◌+◌, [], false, Some, length, option_copied, IsTrue, IfErr, OnOk, IsOk};
+ghost use Rattle.std.specs.Option.{option_map};
+ghost use Rattle.p3_fs_core.specs.Errors.{misfit_of};
+ghost use Rattle.p3_fs_core.specs.Interactions.{step_of};
+ghost use Rattle.p3_patterns.specs.PatternSteps.{steps_of};
+ghost use Rattle.p3_patterns.specs.Playing.{Plays, RefusesToPlay, FaultOfPlay, FaultOfPlayEnd, IsPatternError, IsPlayed, CarriesReceived, next_step};
 
 use crate::{InteractionPattern, Pattern};
 use p3_fs_core::{Interaction, PatternError, TranscriptError};
@@ -22,10 +24,13 @@ pub struct PatternPlayer {
 
 impl Model for PatternPlayer {
     ghost use Rattle.std.specs.Prelude.{◌≤◌, length};
-    ghost use Rattle.p3_patterns.specs.PatternFaults.{steps_of};
+    ghost use Rattle.p3_patterns.specs.PatternSteps.{steps_of};
     ghost use Rattle.p3_patterns.specs.Playing.{Playing};
+    ghost use Rattle.p3_patterns.specs.PlayingLaws.{playing_code};
 
     ghost Value = { Playing };
+
+    ghost coded = { playing_code };
 
     ghost view = { λ p. record { pattern = p.pattern.value; position = p.position; finished = p.finished } };
 
@@ -88,7 +93,7 @@ impl PatternPlayer {
 
     /// The step that the pattern has next, if it has one.
     pub fn next_interaction(&self) -> Option<&Interaction>
-        ensures { option_copied result ≡ next_interaction self.now }
+        ensures { option_map step_of (option_copied result) ≡ next_step self.now }
     {
         self.pattern.interactions().get(self.position)
     }
@@ -99,8 +104,7 @@ impl PatternPlayer {
     /// with the next step where there is one.
     pub fn finalize(self) -> Result<(), TranscriptError>
         ensures ok { OnOk result (IsPlayed self) }
-        ensures err { IfErr result (λ e. IsPatternError (FaultOfPlayEnd self) e) }
-        ensures next { IfErr result (λ e. IsPatternError (CarriesNext self) e) }
+        ensures err { IfErr result (λ e. IsPatternError (λ m. FaultOfPlayEnd self (misfit_of m)) e) }
         ensures only { IsPlayed self → IsOk result }
     {
         let checked = self.check_end();
@@ -114,7 +118,8 @@ impl PatternPlayer {
     // The step is the next one, and none was refused.
     fn check(&self, received: Interaction) -> Result<(), PatternError>
         ensures ok { OnOk result ((self.now.finished ≡ false) × (next_step self.now ≡ Some (step_of received))) }
-        ensures err { IfErr result (λ e. FaultOfPlay self.now (step_of received) e × CarriesReceived received e × CarriesNext self.now e) }
+        ensures err { IfErr result (λ e. FaultOfPlay self.now (step_of received) (misfit_of e)
+            × CarriesReceived received e) }
     {
         if self.finished {
             return Err(PatternError::Finished);
@@ -132,7 +137,7 @@ impl PatternPlayer {
     // All steps are taken, and none was refused.
     fn check_end(&self) -> Result<(), PatternError>
         ensures ok { OnOk result (IsPlayed self.now) }
-        ensures err { IfErr result (λ e. FaultOfPlayEnd self.now e × CarriesNext self.now e) }
+        ensures err { IfErr result (λ e. FaultOfPlayEnd self.now (misfit_of e)) }
     {
         if self.finished {
             return Err(PatternError::Finished);
@@ -169,7 +174,6 @@ impl Pattern for PatternPlayer {
         ensures ok { OnOk result (Plays self.old (step_of interaction) self.new) }
         ensures err { IfErr result (λ e. RefusesToPlay self.old (step_of interaction) e self.new) }
         ensures received { IfErr result (λ e. IsPatternError (CarriesReceived interaction) e) }
-        ensures next { IfErr result (λ e. IsPatternError (CarriesNext self.old) e) }
     {
         match self.check(interaction) {
             Ok(()) => {

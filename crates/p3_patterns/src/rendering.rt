@@ -2,13 +2,13 @@
 ghost use Rattle.std.specs.Prelude.{◌≡◌, ◌↔◌, ◌+◌, ◌*◌, ◌<◌, ◌^◌, ◌++◌, ℕ, List, Some, map, length, replicate, codes, IfOk, string_bytes, if◌then◌else◌};
 ghost use Rattle.std.specs.Fmt.{decimal};
 ghost use Rattle.std.specs.List.{repeat};
-ghost use Rattle.p3_fs_core.specs.Steps.{Step, step_of, plain_text, alternate_text};
-ghost use Rattle.p3_patterns.specs.PatternFaults.{steps_of};
-ghost use Rattle.p3_patterns.specs.Rendering.{depth_behind, indentation, padded, rendering, SameButTypeNames, FitsTypes, AllFitTypes};
-ghost use Rattle.p3_fs_core.specs.StepTextLaws.{IsEnd, FitsLength, FitsTag};
+ghost use Rattle.p3_fs_core.specs.Steps.{Step, plain_text, alternate_text};
+ghost use Rattle.p3_fs_core.specs.Interactions.{step_of};
+ghost use Rattle.p3_patterns.specs.PatternSteps.{steps_of};
+ghost use Rattle.p3_patterns.specs.Rendering.{depth_behind, indentation, padded, rendering, SameButTypeNames, AllFitTypes};
 
 use crate::InteractionPattern;
-use p3_fs_core::{Alternate, Hierarchy, Interaction, Length, TypeTag};
+use p3_fs_core::{Alternate, Hierarchy, Interaction};
 use p3_symmetric::DigestHasher;
 use std::alloc::AllocError;
 use std::fmt;
@@ -52,7 +52,6 @@ impl InteractionPattern {
         ensures digest { IfOk result (λ digest. digest ≡ D.digest_of (rendering alternate_text (steps_of self.now))) }
         ensures fits { AllFitTypes (steps_of self.now) × (length (steps_of self.now) < 2 ^ 64) }
     {
-        fit_types(self.interactions());
         let text = self.alternate()?;
         Ok(D::digest(text.as_bytes()))
     }
@@ -66,50 +65,6 @@ impl InteractionPattern {
 pub fn renderings_read_one_way()
     ensures { (x y : List Step) → AllFitTypes x → AllFitTypes y → length x < 2 ^ 64 → length y < 2 ^ 64
         → (rendering alternate_text x ≡ rendering alternate_text y ↔ SameButTypeNames x y) }
-{}
-
-// The numbers of each step fit their types. It does nothing but tell so.
-fn fit_types(steps: &[Interaction])
-    ensures { AllFitTypes (map step_of steps.now) }
-{
-    for step in steps {
-        fits_types(step);
-    }
-}
-
-// The numbers of a step fit their types. It does nothing but tell so.
-fn fits_types(step: &Interaction)
-    ensures { FitsTypes (step_of step.now) }
-{
-    let _label = step.label().len();
-    fits_length(step.length());
-    fits_tag(step.type_tag());
-}
-
-// The number of a length fits its type.
-fn fits_length(length: Length)
-    ensures { FitsLength length }
-{}
-
-// The numbers of a tag fit their types.
-fn fits_tag(tag: TypeTag)
-    ensures { FitsTag tag }
-{
-    match tag {
-        TypeTag::Algebra { degree, basis, .. }
-        | TypeTag::BinaryTower { degree, basis, .. }
-        | TypeTag::BinaryPolynomial { degree, basis, .. } => fits_end(degree, basis),
-        TypeTag::Marker
-        | TypeTag::Bytes
-        | TypeTag::Opaque
-        | TypeTag::Bits { .. }
-        | TypeTag::UniformBits { .. } => {}
-    }
-}
-
-// A degree fits its type, and a basis is 32 bytes.
-fn fits_end(degree: usize, basis: [u8; 32])
-    ensures { IsEnd degree basis }
 {}
 
 // Steps that print below a header, a line each.

@@ -1,8 +1,13 @@
 // The steps of a whole protocol.
-ghost use Rattle.std.specs.Prelude.{◌≡◌, ◌↔◌, ◌⊎◌, true, [], ◌∷◌, ◌++◌, List, Some, None, map, length, IfOk, IfErr, IfSome, IfNone, OnOk, IsOk, IsTrue};
-ghost use Rattle.p3_fs_core.specs.Steps.{Step, step_of};
-ghost use Rattle.p3_patterns.specs.PatternGrammar.{Allows, IsPattern, IsViable, Fault, IsFirstFault};
-ghost use Rattle.p3_patterns.specs.PatternFaults.{steps_of, NamesFirstFault};
+ghost use Rattle.std.specs.Prelude.{◌≡◌, ◌↔◌, ◌⊎◌, ◌<◌, ◌^◌, [], ◌∷◌, ◌++◌, List, map, length, IfOk, IfErr, IfSome, IfNone, OnOk, IsOk, IsTrue};
+ghost use Rattle.p3_field_core.specs.Equality.{IsExact};
+ghost use Rattle.p3_fs_core.specs.declared.step.Kind.TheVariants.{Protocol};
+ghost use Rattle.p3_fs_core.specs.Errors.{Fault};
+ghost use Rattle.p3_fs_core.specs.Interactions.{step_of};
+ghost use Rattle.p3_fs_core.specs.Steps.{Step};
+ghost use Rattle.p3_patterns.specs.PatternGrammar.{Allows, IsPattern, IsViable, IsFirstFault};
+ghost use Rattle.p3_patterns.specs.PatternFaults.{NamesFirstFault};
+ghost use Rattle.p3_patterns.specs.PatternSteps.{steps_of};
 ghost use Rattle.p3_patterns.specs.OpenContainers.{AreOpen};
 ghost use Rattle.p3_patterns.specs.Recording.{NamesMissingEnd};
 ghost use Rattle.p3_fs_core.specs.declared.error.TranscriptError.TheVariants as error;
@@ -13,12 +18,38 @@ use p3_fs_core::{
     MissingEndInfo, TranscriptError,
 };
 use std::alloc::{AllocError, Global};
+use std::marker::Model;
 
 /// The steps of a whole protocol. Each opener has its closer, and each step is of a kind that the container
 /// around it allows.
-#[derive(Debug, PartialEq, Eq, PartialOrd, Ord, Hash, Drop)]
+///
+/// Contracts see its steps, wherever their texts lie, with the facts that they are a pattern, fewer than 2^64, and
+/// steps that a program can hold. So two patterns are one value exactly where they have the same steps. Comparisons,
+/// order and hash go by the list of the steps.
+#[derive(Debug, Drop)]
 pub struct InteractionPattern {
     interactions: Vec<Interaction>,
+    ghost is_pattern: { ∥ IsPattern Protocol (map step_of interactions.items) ∥₁ },
+    ghost few: { length (map step_of interactions.items) < 2 ^ 64 },
+}
+
+impl Model for InteractionPattern {
+    ghost use Rattle.std.specs.Prelude.{map};
+    ghost use Rattle.p3_fs_core.specs.InteractionLaws.{each-fits};
+    ghost use Rattle.p3_fs_core.specs.Interactions.{step_of};
+    ghost use Rattle.p3_patterns.specs.PatternStepLaws.{pattern_steps_code};
+    ghost use Rattle.p3_patterns.specs.PatternSteps.{PatternSteps};
+
+    ghost Value = { PatternSteps };
+
+    ghost coded = { pattern_steps_code };
+
+    ghost view = { λ p. record {
+      steps = map step_of p.interactions.items;
+      is_pattern = p.is_pattern;
+      few = p.few;
+      fit = each-fits p.interactions.items;
+    } };
 }
 
 impl InteractionPattern {
@@ -29,9 +60,12 @@ impl InteractionPattern {
     /// [`TranscriptError::MissingEnd`]. The error is [`TranscriptError::OutOfMemory`] where no memory is given for
     /// the positions of the containers that are open. The steps are gone then.
     pub fn new(interactions: Vec<Interaction>) -> Result<Self, TranscriptError>
-        ensures ok { IfOk result (λ pattern. (pattern.interactions.items ≡ interactions.items) × IsPattern Kind.Protocol (steps_of pattern)) }
-        ensures err { IfErr result (λ e. NamesFirstFault (map step_of interactions.items) e ⊎ (e ≡ error.OutOfMemory)) }
-        ensures only { IsPattern Kind.Protocol (map step_of interactions.items) → IfErr result (λ e. e ≡ error.OutOfMemory) }
+        ensures ok { IfOk result (λ pattern. (steps_of pattern ≡ map step_of interactions.items)
+            × IsPattern Kind.Protocol (steps_of pattern)) }
+        ensures err { IfErr result (λ e.
+            NamesFirstFault (map step_of interactions.items) e ⊎ (e ≡ error.OutOfMemory)) }
+        ensures only { IsPattern Kind.Protocol (map step_of interactions.items) →
+            IfErr result (λ e. e ≡ error.OutOfMemory) }
         // A list of steps has one first fault at most.
         ensures one_fault { (steps : List Step) (f g : Fault) → IsFirstFault steps f → IsFirstFault steps g → f ≡ g }
     {
@@ -45,7 +79,8 @@ impl InteractionPattern {
         containers: &OpenContainers,
     ) -> Result<Self, TranscriptError>
         requires { AreOpen (map step_of interactions.items) containers.now.openers.items }
-        ensures ok { IfOk result (λ pattern. (pattern.interactions.items ≡ interactions.items) × IsPattern Kind.Protocol (steps_of pattern)) }
+        ensures ok { IfOk result (λ pattern. (steps_of pattern ≡ map step_of interactions.items)
+            × IsPattern Kind.Protocol (steps_of pattern)) }
         ensures err { IfErr result (λ e. NamesMissingEnd (map step_of interactions.items) e) }
         ensures only { IsPattern Kind.Protocol (map step_of interactions.items) → IsOk result }
     {
@@ -64,7 +99,7 @@ impl InteractionPattern {
 
     /// The steps, the first one first.
     pub fn interactions(&self) -> &[Interaction]
-        ensures { result.now ≡ self.now.interactions.items }
+        ensures { map step_of result.now ≡ steps_of self.now }
     {
         &self.interactions
     }
@@ -88,20 +123,20 @@ impl InteractionPattern {
         *self.interactions.allocator()
     }
 
-    /// Two patterns compare equal exactly where they have the same steps. Order and hash agree with that, as
-    /// they do of every type.
+    /// Two patterns compare equal exactly where they are one, that is, where they have the same steps. Order and
+    /// hash agree with that, as they do of every type.
     ///
     /// A law: the body is empty, and a caller cites the clause.
     #[tactic(auto, using(crate::proofs::PatternEquality::equal_patterns))]
     pub fn compared_by_steps()
-        ensures { (a b : InteractionPattern) → (⟦<InteractionPattern as PartialEq>⟧.eq a b ≡ true ↔ steps_of a ≡ steps_of b) }
+        ensures { IsExact ⟦<InteractionPattern as PartialEq>⟧.eq }
     {
         Interaction::compared_by_parts();
     }
 
     /// An equal pattern. The one error is that memory was refused.
     pub fn clone(&self) -> Result<Self, AllocError>
-        ensures { IfOk result (λ pattern. pattern.interactions.items ≡ self.now.interactions.items) }
+        ensures { IfOk result (λ pattern. pattern ≡ self.now) }
     {
         Ok(InteractionPattern {
             interactions: self.interactions.clone()?,

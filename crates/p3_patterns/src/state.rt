@@ -1,9 +1,9 @@
 // Recording a pattern step by step.
 ghost use Rattle.std.specs.Prelude.{◌≡◌, [], ◌∷◌, ◌++◌, false, map, IfOk, IfErr, OnOk, IsOk};
-ghost use Rattle.p3_fs_core.specs.Steps.{step_of};
+ghost use Rattle.p3_fs_core.specs.Interactions.{step_of};
 ghost use Rattle.p3_patterns.specs.PatternGrammar.{IsPattern, IsViable};
 ghost use Rattle.p3_patterns.specs.OpenContainers.{AreOpen};
-ghost use Rattle.p3_patterns.specs.PatternFaults.{steps_of};
+ghost use Rattle.p3_patterns.specs.PatternSteps.{steps_of};
 ghost use Rattle.p3_patterns.specs.Recording.{Recording, Records, RefusesToRecord, FaultOfNext, FaultOfEnd};
 
 use crate::open_containers::OpenContainers;
@@ -28,7 +28,7 @@ pub struct PatternState<U> {
 
 impl<U> Model for PatternState<U> {
     ghost use Rattle.std.specs.Prelude.{map};
-    ghost use Rattle.p3_fs_core.specs.Steps.{step_of};
+    ghost use Rattle.p3_fs_core.specs.Interactions.{step_of};
     ghost use Rattle.p3_patterns.specs.OpenContainers.{AreOpen};
     ghost use Rattle.p3_patterns.specs.Recording.{Recording};
 

@@ -1,7 +1,7 @@
 //! The protocol that the program shows.
 
 ghost use Rattle.std.specs.Prelude.{◌≡◌, map, IfOk, IfErr};
-ghost use Rattle.p3_challenger.specs.Steps.{step_of};
+ghost use Rattle.p3_challenger.specs.Interactions.{step_of};
 ghost use Rattle.p3_challenger.specs.PatternFaults.{steps_of};
 ghost use Rattle.transcript_program.specs.Demo.{demo_steps};
 

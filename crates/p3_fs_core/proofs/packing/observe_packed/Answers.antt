@@ -1,4 +1,4 @@
-use Rattle.std.proofs.Common.{ℕ, ◌<◌, List, [], ◌∷◌, length, map, min, sym, ap, ◌∙◌, subst}
+use Rattle.std.proofs.Common.{ℕ, ◌<◌, List, length, map, min, sym, ap, ◌∙◌, subst}
 use Rattle.std.specs.Slice.Iter.{chunks_rest}
 use Rattle.std.proofs.lemmas.Result.{err_from_is_err_and}
 use Rattle.p3_challenger_core.specs.Observation.{RefusesObserve}

@@ -1,5 +1,5 @@
 use Rattle.std.proofs.Common.{map}
-use Rattle.p3_fs_core.specs.Steps.{step_of}
+use Rattle.p3_fs_core.specs.Interactions.{step_of}
 use Rattle.p3_patterns.proofs.FirstFaults.{first-missing_end}
 use Rattle.p3_patterns.proofs.OpenPositions.{open-viable}
 use Rattle.p3_patterns.proofs.sequence.check_end.Goals as goal

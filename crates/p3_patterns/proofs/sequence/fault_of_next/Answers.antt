@@ -1,7 +1,7 @@
 use Rattle.std.proofs.Common.{◌≡◌, map}
 use Rattle.std.proofs.lemmas.List.{length-map}
 use Rattle.p3_fs_core.specs.declared.step.Hierarchy.TheVariants.{End}
-use Rattle.p3_fs_core.specs.Steps.{step_of}
+use Rattle.p3_fs_core.specs.Interactions.{step_of}
 use Rattle.p3_patterns.proofs.PatternGrammarLaws.{closer-test, allowed-test, stuck-ends}
 use Rattle.p3_patterns.proofs.FirstFaults.{first-missing_begin, first-mismatched, first-invalid_kind}
 use Rattle.p3_patterns.proofs.OpenPositions.{open-viable}

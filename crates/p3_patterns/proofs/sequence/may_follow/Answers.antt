@@ -1,6 +1,6 @@
 use Rattle.std.proofs.Common.{◌≡◌, Bool, true, false, map, sym, subst}
 use Rattle.p3_fs_core.specs.declared.step.Kind.{Kind}
-use Rattle.p3_fs_core.specs.Steps.{step_of}
+use Rattle.p3_fs_core.specs.Interactions.{step_of}
 use Rattle.p3_patterns.specs.PatternGrammar.{Allows}
 use Rattle.p3_patterns.proofs.PatternGrammarLaws.{top-test, closer-test, allowed-test}
 use Rattle.p3_patterns.proofs.OpenPositions.{open-viable}

@@ -1,6 +1,6 @@
 use Rattle.std.proofs.Common.{◌≡◌, [], ◌∷◌, ◌++◌, length, List, map, inl, refl, sym, ap, ◌∙◌, subst, rules}
 use Rattle.p3_fs_core.specs.declared.interaction.Interaction.{Interaction}
-use Rattle.p3_fs_core.specs.Steps.{step_of}
+use Rattle.p3_fs_core.specs.Interactions.{step_of}
 use Rattle.p3_patterns.specs.PatternGrammar.{IsViable}
 use Rattle.p3_patterns.specs.PatternFaults.{NamesFirstFault}
 use Rattle.p3_patterns.specs.OpenContainers.{opened_by}

@@ -1,6 +1,8 @@
 use Rattle.std.proofs.Common.{◌≡◌, ◌-◌, ◌<◌, ℕ, List, map, length, Some, None, sym, subst, arith}
 use Rattle.std.specs.List.{slice_get}
-use Rattle.p3_fs_core.specs.Steps.{step_of}
+use Rattle.p3_fs_core.specs.declared.interaction.Interaction.{Interaction}
+use Rattle.p3_fs_core.specs.Interactions.{step_of}
+use Rattle.p3_patterns.specs.PatternGrammar.{IsInnermost}
 use Rattle.p3_patterns.proofs.OpenPositions.{open-pattern, open-innermost}
 use Rattle.p3_patterns.proofs.open_containers.OpenContainers.innermost.Goals as goal
 
@@ -23,4 +25,5 @@ offset_bounds-steps-position c =
 pub returns-clause-some : goal.returns-clause-some
 returns-clause-some c =
     let found = subst (λ (xs : List ℕ). slice_get xs (length xs - 1) ≡ Some c.in_ok-position.field-0.now) c.deref.ensures.value (sym c.in_ok-position.ensures.value) in
-    (open-innermost c.args.steps.now c.args.self.now.openers.items c.in_ok-position.field-0.now c.requires found).1 _
+    let there = (open-innermost c.args.steps.now c.args.self.now.openers.items c.in_ok-position.field-0.now c.requires found).1 in
+    subst (λ (s : Interaction). IsInnermost (map step_of c.args.steps.now) c.in_ok-position.field-0.now (step_of s)) (sym c.index-steps-position.is) (there _)

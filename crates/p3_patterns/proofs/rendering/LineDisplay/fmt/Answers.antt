@@ -2,7 +2,8 @@ use Rattle.std.proofs.Common.{◌≡◌, ◌-◌, ◌*◌, ◌++◌, length, cod
 use Rattle.std.specs.Fmt.{HasWritten, decimal}
 use Rattle.std.specs.List.{repeat}
 use Rattle.std.proofs.Output.{has_written_append, has_written_of_eq}
-use Rattle.p3_fs_core.specs.Steps.{step_of, plain_text, alternate_text}
+use Rattle.p3_fs_core.specs.Steps.{plain_text, alternate_text}
+use Rattle.p3_fs_core.specs.Interactions.{step_of}
 use Rattle.p3_patterns.specs.Rendering.{padded}
 use Rattle.p3_patterns.proofs.Rendered.{line-front}
 use Rattle.p3_patterns.proofs.rendering.LineDisplay.fmt.Goals as goal

@@ -3,7 +3,7 @@ use Rattle.std.specs.Fmt.{HasWritten, decimal}
 use Rattle.std.proofs.Output.{has_written_append, has_written_of_eq}
 use Rattle.p3_fs_core.specs.Steps.{Step, plain_text, alternate_text}
 use Rattle.p3_patterns.specs.Rendering.{depth_behind}
-use Rattle.p3_patterns.proofs.Rendered.{depth-small, one-more, all-lines}
+use Rattle.p3_patterns.proofs.Rendered.{depth-small, one-more-read, all-lines}
 use Rattle.p3_patterns.proofs.rendering.RenderingDisplay.fmt.Goals as goal
 
 pub loop-position-preserved : goal.loop-position-preserved
@@ -18,7 +18,7 @@ loop-position-preserved g c =
           let wrote = c.write.ensures.writes so_far.1.plain ok in (
             _,
             has_written_append _ _ _ _ _ _ so_far.1 wrote,
-            one-more text _ _ _ _ _ _ _ c.args.self.now.steps.now _ _ _ c.loop-position-test.true c.hierarchy.ensures c.indentation.ensures c.hierarchy-in-loop-position.ensures c.depth_behind-depth.ensures so_far.2,
+            one-more-read text _ _ _ _ _ _ _ c.args.self.now.steps.now _ c.step-item.result _ _ c.step-item.is c.loop-position-test.true c.hierarchy.ensures c.indentation.ensures c.hierarchy-in-loop-position.ensures c.depth_behind-depth.ensures so_far.2,
           ),
     )
 

@@ -1,6 +1,7 @@
 use Rattle.std.proofs.Common.{◌≡◌, ◌≤◌, List, ℕ, ◌++◌, map, drop, if◌then◌else◌}
 use Rattle.std.specs.Fmt.{HasWritten, IsPlainFormatter}
-use Rattle.p3_fs_core.specs.Steps.{Step, step_of, plain_text, alternate_text}
+use Rattle.p3_fs_core.specs.Steps.{Step, plain_text, alternate_text}
+use Rattle.p3_fs_core.specs.Interactions.{step_of}
 use Rattle.p3_patterns.specs.Rendering.{lines}
 use Rattle.p3_patterns.proofs.rendering.RenderingDisplay.fmt.Given as goal
 
