@@ -115,22 +115,29 @@ impl PatternPlayer {
         }
     }
 
-    // The step is the next one, and none was refused.
-    fn check(&self, received: Interaction) -> Result<(), PatternError>
-        ensures ok { OnOk result ((self.now.finished ≡ false) × (next_step self.now ≡ Some (step_of received))) }
-        ensures err { IfErr result (λ e. FaultOfPlay self.now (step_of received) (misfit_of e)
-            × CarriesReceived received e) }
+    // The step is the next one, and none was refused. This is asked of each step, and makes no error, so that a
+    // step that is played costs none.
+    fn may_take(&self, received: &Interaction) -> bool
+        ensures { IsTrue result ↔ (self.now.finished ≡ false) × (next_step self.now ≡ Some (step_of received.now)) }
+    {
+        match self.next_interaction() {
+            None => false,
+            Some(expected) => !self.finished && is_same(received, expected),
+        }
+    }
+
+    // Why the step may not be taken.
+    fn fault_of(&self, received: Interaction) -> PatternError
+        requires { (self.now.finished ≡ false) × (next_step self.now ≡ Some (step_of received)) → ⊥ }
+        ensures fault { FaultOfPlay self.now (step_of received) (misfit_of result) }
+        ensures received { CarriesReceived received result }
     {
         if self.finished {
-            return Err(PatternError::Finished);
+            return PatternError::Finished;
         }
-        let Some(&expected) = self.next_interaction() else {
-            return Err(PatternError::NoMoreSteps { received });
-        };
-        if is_same(&received, &expected) {
-            Ok(())
-        } else {
-            Err(PatternError::WrongStep { received, expected })
+        match self.next_interaction() {
+            None => PatternError::NoMoreSteps { received },
+            Some(&expected) => PatternError::WrongStep { received, expected },
         }
     }
 
@@ -175,15 +182,12 @@ impl Pattern for PatternPlayer {
         ensures err { IfErr result (λ e. RefusesToPlay self.old (step_of interaction) e self.new) }
         ensures received { IfErr result (λ e. IsPatternError (CarriesReceived interaction) e) }
     {
-        match self.check(interaction) {
-            Ok(()) => {
-                self.position += 1;
-                Ok(())
-            }
-            Err(fault) => {
-                self.finished = true;
-                Err(TranscriptError::Pattern(fault))
-            }
+        if self.may_take(&interaction) {
+            self.position += 1;
+            return Ok(());
         }
+        let fault = self.fault_of(interaction);
+        self.finished = true;
+        Err(TranscriptError::Pattern(fault))
     }
 }
