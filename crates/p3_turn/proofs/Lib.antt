@@ -1,3 +1,5 @@
 pub mod Identifiers
+pub mod Labels
+pub mod SeparatorContents
 pub mod SeparatorEquality
 pub mod WorkedRows

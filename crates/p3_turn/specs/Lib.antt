@@ -1,2 +1,5 @@
 pub mod Seed
 pub mod SeedLaws
+pub mod SeparatorLaws
+pub mod SeparatorParts
+pub mod Separators

@@ -2,11 +2,11 @@
 use Rattle.std.specs.Prelude.{◌≡◌, ℕ, ◌-◌, ◌<◌, ◌≤◌, ◌^◌, ◌⊎◌, List, [], ◌∷◌, ◌++◌, length, replicate, flat_map}
 use Rattle.p3_challenger_core.specs.declared.error.ChallengerError.TheVariants as challenger
 use Rattle.p3_fs_core.specs.declared.error.TranscriptError.{TranscriptError}
-use Rattle.p3_fs_core.specs.declared.error.TranscriptError.TheVariants.{MissingBegin, InvalidKind, MismatchedBeginEnd, MissingEnd, BadProofShape, Pattern, Challenger, LabelTooLong, OutOfMemory}
+use Rattle.p3_fs_core.specs.declared.error.TranscriptError.TheVariants.{Challenger, LabelTooLong, OutOfMemory}
 use Rattle.p3_patterns.specs.declared.sequence.InteractionPattern.{InteractionPattern}
 use Rattle.p3_fs_core.specs.BigEndian.{in_bytes}
 use Rattle.p3_fs_core.specs.Steps.{alternate_text}
-use Rattle.p3_patterns.specs.PatternFaults.{steps_of}
+use Rattle.p3_patterns.specs.PatternSteps.{steps_of}
 use Rattle.p3_patterns.specs.Rendering.{rendering}
 
 -- a protocol's identifier: version, name, zeros, and in the last of 64 places the length of the name

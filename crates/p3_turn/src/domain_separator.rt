@@ -1,11 +1,13 @@
 // What binds a transcript to a protocol, its pattern and the instance.
-ghost use Rattle.std.specs.Prelude.{◌≡◌, ◌↔◌, ℕ, true, ◌+◌, ◌<◌, ◌≤◌, ◌^◌, List, [], ◌∷◌, ◌++◌, length, OnOk, IfOk, IfErr};
+ghost use Rattle.std.specs.Prelude.{◌≡◌, ◌↔◌, ℕ, true, ◌+◌, ◌<◌, ◌≤◌, ◌^◌, List, [], ◌∷◌, ◌++◌, length, OnOk, OnErr, IfOk, IfErr};
 ghost use Rattle.std.specs.List.{All, flat_map};
 ghost use Rattle.p3_challenger_core.specs.Observation.{observed_all};
 ghost use Rattle.p3_challenger_core.specs.Sponge.{IsFed};
 ghost use Rattle.p3_fs_core.specs.Alphabet.{LeavesItems};
-ghost use Rattle.p3_patterns.specs.PatternFaults.{steps_of};
+ghost use Rattle.p3_patterns.specs.PatternSteps.{steps_of};
 ghost use Rattle.p3_challenger_core.specs.Reading.{ReadsOneWayOn};
+ghost use Rattle.p3_turn.specs.SeparatorLaws.{IsIdentifier-prop, IsLabel-prop};
+ghost use Rattle.p3_turn.specs.Separators.{IsIdentifier, IsLabel};
 ghost use Rattle.p3_turn.specs.Seed.{identifier, counted, label_of, FitsCount, RefusesChunk, seed_of, RefusesSeed, AreSeedParts, parts_of, seed_of_parts};
 
 use p3_challenger_core::CanObserve;
@@ -33,7 +35,9 @@ const MAX_LABEL_LEN: usize = u32::MAX as usize;
 ///
 /// `U` is the alphabet of the sponge, and `D` the hash function that the pattern's digest is made with.
 ///
-/// The label of the instance stays shorter than 2^32 bytes, so that its length can be written in four.
+/// Contracts see what it is made of: the version and the name of the protocol, a name of 1 to 62 bytes; the chunks of
+/// the instance's label; and the pattern. The label is that of the chunks, and stays shorter than 2^32 bytes, so that
+/// its length can be written in four.
 #[derive(Drop)]
 #[derive_where(Debug, PartialEq, Eq)]
 pub struct DomainSeparator<U, D> {
@@ -42,10 +46,16 @@ pub struct DomainSeparator<U, D> {
     pattern: Rc<InteractionPattern>,
     alphabet: PhantomData<U>,
     hasher: PhantomData<D>,
+    /// It is the identifier of a version and a name.
+    pub ghost is_identifier: { IsIdentifier protocol_id } by { IsIdentifier-prop protocol_id },
+    /// It is the label of chunks.
+    pub ghost is_label: { IsLabel instance_label.items } by { IsLabel-prop instance_label.items },
     ghost label_fits: { length instance_label.items < 2 ^ 32 },
 }
 
 impl<U, D> DomainSeparator<U, D> {
+    ghost use Rattle.p3_turn.specs.SeparatorParts.{separator_of};
+
     /// A separator of the protocol with this version, name and pattern, for an instance with no label yet.
     ///
     /// The identifier is the version, the name, zeros, and in the last place the length of the name.
@@ -60,9 +70,8 @@ impl<U, D> DomainSeparator<U, D> {
     ) -> Result<Self, AllocError>
         requires named { 1 ≤ length name.now }
         requires short { length name.now ≤ 62 }
-        ensures protocol_id { IfOk result (λ separator. separator.protocol_id ≡ identifier version name.now) }
-        ensures label { IfOk result (λ separator. separator.instance_label.items ≡ []) }
-        ensures pattern { IfOk result (λ separator. separator.pattern.value ≡ pattern) }
+        ensures { IfOk result (λ separator. separator_of separator
+            ≡ record { version = version; name = name.now; chunks = []; pattern = pattern }) }
     {
         Ok(DomainSeparator {
             protocol_id: protocol_identifier(version, name),
@@ -107,27 +116,28 @@ impl<U, D> DomainSeparator<U, D> {
         ensures rest { (self.new.protocol_id ≡ self.old.protocol_id) × (self.new.pattern ≡ self.old.pattern) }
         // The length of a chunk that is taken fits in its four bytes, and so does that of the label.
         ensures fits { OnOk result (FitsCount chunk.now × (length self.new.instance_label.items < 2 ^ 32)) }
-        // The label is that of the chunks so far.
-        ensures chunks { OnOk result ((chunks : List (List ℕ)) → self.old.instance_label.items ≡ label_of chunks →
-            self.new.instance_label.items ≡ label_of (chunks ++ (chunk.now ∷ []))) }
+        // The separator has this chunk more, or is the same.
+        ensures chunks { OnOk result (separator_of self.new ≡ record (separator_of self.old) {
+          chunks = (separator_of self.old).chunks ++ (chunk.now ∷ []);
+        }) }
+        ensures same { OnErr result (separator_of self.new ≡ separator_of self.old) }
     {
         let added = COUNT_LEN.saturating_add(chunk.len());
         if added > MAX_LABEL_LEN - self.instance_label.len() {
             return Err(TranscriptError::LabelTooLong);
         }
-        // Room for both parts is asked for first: where it is refused, neither is added.
-        self.instance_label.reserve(added)?;
-        let count = chunk.len() as u32;
-        self.instance_label.extend_from_slice(&count.to_be_bytes())?;
-        self.instance_label.extend_from_slice(chunk)?;
+        push_counted(&mut self.instance_label, chunk)?;
         Ok(())
     }
 
-    /// Two separators compare equal exactly where they have one identifier, one label and the same steps.
+    /// Two separators compare equal exactly where they are made of the same: one version, one name, the same chunks
+    /// and one pattern; that is, where they have one identifier, one label and the same steps.
     ///
     /// A law: the body is empty, and a caller cites the clause.
     pub fn compared_by_parts(&self, other: &Self)
-        ensures { ⟦<DomainSeparator<U, D> as PartialEq>⟧.eq self.now other.now ≡ true ↔ (
+        ensures exact { ⟦<DomainSeparator<U, D> as PartialEq>⟧.eq self.now other.now ≡ true
+            ↔ separator_of self.now ≡ separator_of other.now }
+        ensures parts { ⟦<DomainSeparator<U, D> as PartialEq>⟧.eq self.now other.now ≡ true ↔ (
             (self.now.protocol_id ≡ other.now.protocol_id)
             × (self.now.instance_label.items ≡ other.now.instance_label.items)
             × (steps_of self.now.pattern.value ≡ steps_of other.now.pattern.value)) }
@@ -137,9 +147,7 @@ impl<U, D> DomainSeparator<U, D> {
 
     /// An equal separator, which shares the pattern. The one error is that memory was refused.
     pub fn clone(&self) -> Result<Self, AllocError>
-        ensures protocol_id { IfOk result (λ copy. copy.protocol_id ≡ self.now.protocol_id) }
-        ensures label { IfOk result (λ copy. copy.instance_label.items ≡ self.now.instance_label.items) }
-        ensures pattern { IfOk result (λ copy. copy.pattern.value ≡ self.now.pattern.value) }
+        ensures { IfOk result (λ copy. separator_of copy ≡ separator_of self.now) }
     {
         Ok(DomainSeparator {
             protocol_id: self.protocol_id,
@@ -193,16 +201,28 @@ impl<U: Unit, D: DigestHasher> DomainSeparator<U, D> {
             (parts_of D.digest_of self.now.protocol_id self.now.pattern.value self.now.instance_label.items)) }
     {
         let digest = self.pattern.pattern_hash::<D>()?;
-        let label_len = self.instance_label.len();
-        let len = PROTOCOL_ID_LEN + digest.len() + COUNT_LEN + label_len + 1;
+        let len = PROTOCOL_ID_LEN + digest.len() + COUNT_LEN + self.instance_label.len() + 1;
         let mut seed = Vec::with_capacity(*self.instance_label.allocator(), len)?;
         seed.extend_from_slice(self.protocol_id())?;
         seed.extend_from_slice(&digest)?;
-        seed.extend_from_slice(&(label_len as u32).to_be_bytes())?;
-        seed.extend_from_slice(self.instance_label())?;
+        push_counted(&mut seed, self.instance_label())?;
         seed.push(CLOSING_BYTE)?;
         Ok(seed)
     }
+}
+
+// Adds a byte string behind its length in four bytes. Where memory is refused, nothing is added.
+fn push_counted(bytes: &mut Vec<u8>, added: &[u8]) -> Result<(), AllocError>
+    requires { FitsCount added.now }
+    ensures ok { OnOk result (bytes.new.items ≡ bytes.old.items ++ counted added.now) }
+    ensures err { OnErr result (bytes.new.items ≡ bytes.old.items) }
+{
+    // Room for both parts is asked for first: where it is refused, neither is added.
+    bytes.reserve(COUNT_LEN + added.len())?;
+    let count = added.len() as u32;
+    bytes.extend_from_slice(&count.to_be_bytes())?;
+    bytes.extend_from_slice(added)?;
+    Ok(())
 }
 
 // The identifier of a protocol.

@@ -7,29 +7,26 @@ use Rattle.p3_challenger.specs.Hierarchy.TheVariants.{Atomic, Begin, End}
 use Rattle.p3_challenger.specs.Kind.{Kind}
 use Rattle.p3_challenger.specs.Kind.TheVariants.{Protocol, Public, Message, Hint, Challenge, Pow, Salt}
 use Rattle.p3_challenger.specs.Length.{Length}
-use Rattle.p3_challenger.specs.Length.TheVariants.{None, Scalar, Fixed, Bounded}
-use Rattle.p3_challenger.specs.TypeTag.TheVariants.{Marker, Bytes, Algebra, UniformBits}
-use Rattle.p3_challenger.specs.Steps.{Step, alternate_text}
+use Rattle.p3_challenger.specs.Length.TheVariants.{Scalar, Fixed, Bounded}
+use Rattle.p3_challenger.specs.TypeTag.TheVariants.{Bytes, Algebra, UniformBits}
+use Rattle.p3_challenger.specs.Steps.{Step, step_with, marker_of, alternate_text}
 use Rattle.p3_challenger.specs.Rendering.{rendering}
 
 -- the opener or the closer of the whole protocol
 abbrev pub container : Hierarchy → Step
-container hierarchy =
-    record { hierarchy = hierarchy; kind = Protocol; label = codes "demo"; type_tag = Marker; type_name = codes "()"; length = None }
+container hierarchy = marker_of hierarchy Protocol (codes "demo") (codes "()")
 
 -- elements of the field of order 15 * 2 ^ 27 + 1
 abbrev pub scalars : Kind → List ℕ → Length → Step
 scalars kind label length =
-    record { hierarchy = Atomic; kind = kind; label = label; type_tag = Algebra 2013265921 1 (sha256 (codes "prime:2013265921")); type_name = codes "BabyBear"; length = length }
+    step_with Atomic kind label (Algebra 2013265921 1 (sha256 (codes "prime:2013265921"))) (codes "BabyBear") length
 
 abbrev pub bytes : Kind → List ℕ → Length → Step
-bytes kind label length =
-    record { hierarchy = Atomic; kind = kind; label = label; type_tag = Bytes; type_name = codes "u8"; length = length }
+bytes kind label length = step_with Atomic kind label Bytes (codes "u8") length
 
 -- numbers of four bits
 abbrev pub indices : Step
-indices =
-    record { hierarchy = Atomic; kind = Challenge; label = codes "indices"; type_tag = UniformBits 4; type_name = codes "usize"; length = Fixed 2 }
+indices = step_with Atomic Challenge (codes "indices") (UniformBits 4) (codes "usize") (Fixed 2)
 
 -- its steps
 abbrev pub demo_steps : List Step

@@ -2,7 +2,7 @@
 
 ghost use Rattle.std.specs.Prelude.{◌≡◌, map, IfOk, IfErr};
 ghost use Rattle.p3_challenger.specs.Interactions.{step_of};
-ghost use Rattle.p3_challenger.specs.PatternFaults.{steps_of};
+ghost use Rattle.p3_challenger.specs.PatternSteps.{steps_of};
 ghost use Rattle.transcript_program.specs.Demo.{demo_steps};
 
 use p3_challenger::fs::{
