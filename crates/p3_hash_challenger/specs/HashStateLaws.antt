@@ -1,11 +1,13 @@
 -- Laws of a hash challenger call by call.
-use Rattle.std.proofs.Common.{◌≡◌, ℕ, List, [], ◌∷◌, ◌++◌, ◌⊎◌, inl, inr, length, take, ◌==◌, false, refl, sym, ap, subst, ◌∙◌, append_assoc, append-nil}
+use Rattle.std.proofs.Common.{◌≡◌, ℕ, Some, List, [], ◌∷◌, ◌++◌, ◌⊎◌, inl, inr, length, take, ◌==◌, false, refl, sym, ap, subst, ◌∙◌, append_assoc, append-nil}
 use Rattle.std.specs.List.{flat_map}
 use Rattle.p3_challenger_core.specs.Sponge.{IsNonEmpty}
 use Rattle.p3_challenger_core.specs.Observation.{Observation, IsObservation, LeavesFed, LeavesBehind, LeavesBeginning, LeavesInCalls, observed_all}
 use Rattle.p3_challenger_core.specs.ObservationLaws.{nothing-fed, exact-observation, unchanged-front, behind_append}
-use Rattle.p3_hash_challenger.specs.HashTranscript.{absorbing}
-use Rattle.p3_hash_challenger.specs.HashState.{HashState, observed, fed, array_observed}
+use Rattle.p3_challenger_core.specs.Sampling.{IsSampling, unrefused_draw}
+use Rattle.p3_challenger_core.specs.SamplingLaws.{unrefused_draw-is_sampling, one_step}
+use Rattle.p3_hash_challenger.specs.HashTranscript.{HashFunction, absorbing}
+use Rattle.p3_hash_challenger.specs.HashState.{HashState, observed, fed, array_observed, sampled, after_sampled}
 
 -- feeding a list and then another is feeding both
 pub fed-append : {T H : Type 0} (s : HashState T H) (xs ys : List T) → fed (fed s xs) ys ≡ fed s (xs ++ ys)
@@ -132,3 +134,12 @@ module _ {T H X U : Type 0} (parts : X → List U) (items : U → List T) where
         let moved = subst (λ u. LeavesBeginning part_fed u (flat_map parts xs) t) (all_fed items s (parts x)) behind in
         inr (parts-front (fed s (flat_map items (parts x))) xs t moved)
   ]
+
+-- ---- draws
+
+-- each draw is the smallest there is
+pub values-sampled : {T H : Type 0} (function : H → HashFunction T) →
+    IsSampling (after_sampled function) (unrefused_draw (λ s. Some (sampled function s)) (after_sampled function))
+values-sampled function =
+    unrefused_draw-is_sampling (after_sampled function) (λ s. Some (sampled function s)) (after_sampled function)
+    (one_step (after_sampled function))
