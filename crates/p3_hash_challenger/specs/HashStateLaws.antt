@@ -82,14 +82,14 @@ arrays-observed =
       leaves_behind = λ s y ys xs t is. unchanged-behind s (y ∷ ys) t xs is;
     }
 
--- a digest
-abbrev pub of_digest : {T H : Type 0} → Observation (HashState T H) T (List T)
-of_digest = record { symbols = λ xs. xs; observed = λ s xs. fed s xs; may_leave = λ s _ t. t ≡ s }
+-- a value that is fed as one list
+abbrev pub of_list : {T H X : Type 0} → (X → List T) → Observation (HashState T H) T X
+of_list values = record { symbols = values; observed = λ s x. fed s (values x); may_leave = λ s _ t. t ≡ s }
 
-pub digests-observed : {T H : Type 0} → IsObservation fed (of_digest {T = T} {H = H})
-digests-observed =
-    exact-observation fed (λ _. refl) fed-append of_digest (λ _ _. refl)
-    (λ s xs t is. unchanged-front fed (λ _. refl) fed-append s t xs is)
+pub lists-observed : {T H X : Type 0} (values : X → List T) → IsObservation fed (of_list {H = H} values)
+lists-observed values =
+    exact-observation fed (λ _. refl) fed-append (of_list values) (λ _ _. refl)
+    (λ s x t is. unchanged-front fed (λ _. refl) fed-append s t (values x) is)
 
 -- a value of parts that are fed one after another
 module _ {T H X U : Type 0} (parts : X → List U) (items : U → List T) where

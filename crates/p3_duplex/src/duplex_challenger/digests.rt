@@ -1,6 +1,6 @@
 // What a duplex challenger observes beside single values and arrays: digests, caps and lists of
 // lists, each value by value. None of it is ever refused.
-ghost use Rattle.std.specs.Prelude.{◌≡◌};
+ghost use Rattle.std.specs.Prelude.{◌≡◌, ◌↔◌};
 ghost use Rattle.p3_challenger_core.specs.Observation.{observed_all};
 
 use crate::DuplexChallenger;
@@ -15,6 +15,22 @@ impl<
     const RATE: usize,
 > DuplexChallenger<F, P, WIDTH, RATE> {
     ghost use Rattle.p3_duplex.specs.DuplexState as duplex_state;
+
+    /// A cap that is lent is observed as its contents are, the cap itself: it feeds the same symbols, and leaves
+    /// the same state.
+    ///
+    /// A law: the body is empty, and a caller cites the clauses.
+    pub fn lent_caps_are_caps<'a, M, const N: usize>()
+        ensures symbols { (cap : _) →
+            ⟦<DuplexChallenger<F, P, WIDTH, RATE> as CanObserve<&'a MerkleCap<M, [F; N]>>>⟧.observation.symbols cap
+            ≡ ⟦<DuplexChallenger<F, P, WIDTH, RATE> as CanObserve<MerkleCap<M, [F; N]>>>⟧.observation.symbols cap.now }
+        ensures observed { (s : duplex_state.Duplex F P) (cap : _) →
+            ⟦<DuplexChallenger<F, P, WIDTH, RATE> as CanObserve<&'a MerkleCap<M, [F; N]>>>⟧.observation.observed s cap
+            ≡ ⟦<DuplexChallenger<F, P, WIDTH, RATE> as CanObserve<MerkleCap<M, [F; N]>>>⟧.observation.observed s cap.now }
+        ensures left { (s : duplex_state.Duplex F P) (cap : _) (t : duplex_state.Duplex F P) →
+            ⟦<DuplexChallenger<F, P, WIDTH, RATE> as CanObserve<&'a MerkleCap<M, [F; N]>>>⟧.observation.may_leave s cap t
+            ↔ ⟦<DuplexChallenger<F, P, WIDTH, RATE> as CanObserve<MerkleCap<M, [F; N]>>>⟧.observation.may_leave s cap.now t }
+    {}
 
     // Makes the values of the roots pending, root by root.
     fn push_roots<const N: usize>(&mut self, roots: &[[F; N]])
@@ -44,17 +60,17 @@ impl<
     const N: usize,
 > CanObserve<Hash<M, F, N>> for DuplexChallenger<F, P, WIDTH, RATE> {
     ghost use Rattle.std.specs.Prelude.{refl};
-    ghost use Rattle.std.specs.List.{flat_map};
+    ghost use Rattle.p3_symmetric.specs.HashValues.{values_of};
     ghost use Rattle.p3_challenger_core.specs.Observation.{unrefused_observe, observed_all};
     ghost use Rattle.p3_duplex.specs.DuplexState as duplex_state;
     ghost use Rattle.p3_duplex.specs.DuplexStateLaws.{is_observation, fed-flat_map};
 
     // An observation takes no memory: it is never refused.
-    ghost observation = { unrefused_observe (λ digest. digest) (λ s digest. duplex_state.fed F.residues P.permutation RATE s digest) };
+    ghost observation = { unrefused_observe values_of (λ s digest. duplex_state.fed F.residues P.permutation RATE s (values_of digest)) };
 
     ghost slice_may_leave = { λ _ _ _. ⊥ };
 
-    ghost observes = { is_observation F.residues P.permutation RATE (λ digest. digest) (λ s digest. duplex_state.fed F.residues P.permutation RATE s digest) (λ _ _. refl) };
+    ghost observes = { is_observation F.residues P.permutation RATE values_of (λ s digest. duplex_state.fed F.residues P.permutation RATE s (values_of digest)) (λ _ _. refl) };
 
     ghost slice_leaves = { λ _ _ _ h. absurd h };
 

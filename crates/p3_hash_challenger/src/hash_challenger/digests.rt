@@ -1,6 +1,6 @@
 // What a hash challenger observes beside single values and arrays: digests, caps and lists of lists.
 // Each feeds its values in order, by one call a digest or a list.
-ghost use Rattle.std.specs.Prelude.{◌≡◌, List, OnOk, IfErr, map};
+ghost use Rattle.std.specs.Prelude.{◌≡◌, ◌↔◌, List, OnOk, IfErr, map};
 ghost use Rattle.std.specs.List.{flat_map};
 ghost use Rattle.p3_challenger_core.specs.Observation.{RefusesObserve, LeavesBeginning};
 
@@ -14,6 +14,22 @@ impl<T: Copy, H: CryptographicHasher<T, [T; OUT_LEN]>, const OUT_LEN: usize> Has
     OUT_LEN,
 > {
     ghost use Rattle.p3_hash_challenger.specs.HashState as hash_state;
+
+    /// A cap that is lent is observed as its contents are, the cap itself: it feeds the same symbols, and leaves
+    /// the same state.
+    ///
+    /// A law: the body is empty, and a caller cites the clauses.
+    pub fn lent_caps_are_caps<'a, F, const N: usize>()
+        ensures symbols { (cap : _) →
+            ⟦<HashChallenger<T, H, OUT_LEN> as CanObserve<&'a MerkleCap<F, [T; N]>>>⟧.observation.symbols cap
+            ≡ ⟦<HashChallenger<T, H, OUT_LEN> as CanObserve<MerkleCap<F, [T; N]>>>⟧.observation.symbols cap.now }
+        ensures observed { (s : hash_state.HashState T H) (cap : _) →
+            ⟦<HashChallenger<T, H, OUT_LEN> as CanObserve<&'a MerkleCap<F, [T; N]>>>⟧.observation.observed s cap
+            ≡ ⟦<HashChallenger<T, H, OUT_LEN> as CanObserve<MerkleCap<F, [T; N]>>>⟧.observation.observed s cap.now }
+        ensures left { (s : hash_state.HashState T H) (cap : _) (t : hash_state.HashState T H) →
+            ⟦<HashChallenger<T, H, OUT_LEN> as CanObserve<&'a MerkleCap<F, [T; N]>>>⟧.observation.may_leave s cap t
+            ↔ ⟦<HashChallenger<T, H, OUT_LEN> as CanObserve<MerkleCap<F, [T; N]>>>⟧.observation.may_leave s cap.now t }
+    {}
 
     // Feeds the roots in order. A refused call has fed the roots before the refused one.
     fn feed_roots<const N: usize>(&mut self, roots: &[[T; N]]) -> Result<(), ChallengerError>
@@ -49,20 +65,22 @@ impl<
 > CanObserve<Hash<F, T, N>> for HashChallenger<T, H, OUT_LEN> {
     ghost use Rattle.std.specs.Prelude.{◌≡◌};
     ghost use Rattle.p3_challenger_core.specs.Observation.{LeavesBeginning};
+    ghost use Rattle.p3_symmetric.specs.HashValues.{values_of};
     ghost use Rattle.p3_hash_challenger.specs.HashState as hash_state;
-    ghost use Rattle.p3_hash_challenger.specs.HashStateLaws.{digests-observed};
+    ghost use Rattle.p3_hash_challenger.specs.HashStateLaws.{lists-observed};
 
     // A refused call changes nothing.
     ghost observation = { record {
-      symbols = λ digest. digest;
-      observed = λ s digest. hash_state.fed s digest;
+      symbols = values_of;
+      observed = λ s digest. hash_state.fed s (values_of digest);
       may_leave = λ s _ t. t ≡ s;
     } };
 
     // A refused slice has fed the digests before the refused one.
-    ghost slice_may_leave = { λ s digests t. LeavesBeginning hash_state.fed s digests t };
+    ghost slice_may_leave = { λ s digests t.
+        LeavesBeginning (λ u digest. hash_state.fed u (values_of digest)) s digests t };
 
-    ghost observes = { digests-observed };
+    ghost observes = { lists-observed values_of };
 
     ghost slice_leaves = { λ _ _ _ h. h };
 
