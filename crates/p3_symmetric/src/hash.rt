@@ -1,6 +1,7 @@
 ghost use Rattle.std.specs.Prelude.{◌≡◌, length};
 
 use std::alloc::AllocError;
+use std::convert::AsSlice;
 use std::marker::PhantomData;
 
 /// A digest: `N` values of `T`, of a hash function over the field `F`.
@@ -60,6 +61,16 @@ impl<F, T: PartialEq, const N: usize> Hash<F, T, N> {
     pub fn compared_by_values()
         ensures { IsExact T.eq → IsExact ⟦<Hash<F, T, N> as PartialEq>⟧.eq }
     {}
+}
+
+impl<F, T, const N: usize> AsSlice<T> for Hash<F, T, N> {
+    ghost use Rattle.p3_symmetric.specs.HashValues.{values_of};
+
+    ghost items = { values_of };
+
+    fn as_slice(&self) -> &[T] {
+        &self.value[..]
+    }
 }
 
 impl<F, T, const N: usize> From<[T; N]> for Hash<F, T, N> {

@@ -7,6 +7,7 @@ use crate::DuplexChallenger;
 use p3_challenger_core::{CanObserve, ChallengerError};
 use p3_field_core::PrimeField64;
 use p3_symmetric::{CryptographicPermutation, Hash, MerkleCap};
+use std::convert::AsSlice;
 
 impl<
     F: PrimeField64,
@@ -32,21 +33,25 @@ impl<
             ↔ ⟦<DuplexChallenger<F, P, WIDTH, RATE> as CanObserve<MerkleCap<M, [F; N]>>>⟧.observation.may_leave s cap.now t }
     {}
 
-    // Makes the values of the roots pending, root by root.
-    fn push_roots<const N: usize>(&mut self, roots: &[[F; N]])
-        ensures { self.new ≡ observed_all (λ s root. duplex_state.fed F.residues P.permutation RATE s root) self.old roots.now }
+    // Makes the values of parts pending, part by part.
+    pub(crate) fn push_parts<Part: AsSlice<F>>(&mut self, parts: &[Part])
+        ensures { self.new ≡ observed_all
+            (λ s part. duplex_state.fed F.residues P.permutation RATE s (Part.items part)) self.old parts.now }
     {
-        for i in 0..roots.len() {
-            self.push_all(&roots[i][..]);
+        for i in 0..parts.len() {
+            self.push_all(parts[i].as_slice());
         }
     }
 
-    // Makes the values of the lists pending, list by list.
-    fn push_lists(&mut self, lists: &[Vec<F>])
-        ensures { self.new ≡ observed_all (λ s list. duplex_state.fed F.residues P.permutation RATE s list.items) self.old lists.now }
+    // Makes the values of values of parts pending, part by part.
+    fn push_values<Part: AsSlice<F>, V: AsSlice<Part>>(&mut self, values: &[V])
+        ensures { self.new ≡ observed_all
+            (λ s value. observed_all
+            (λ u part. duplex_state.fed F.residues P.permutation RATE u (Part.items part)) s (V.items value))
+            self.old values.now }
     {
-        for i in 0..lists.len() {
-            self.push_all(lists[i].as_slice());
+        for i in 0..values.len() {
+            self.push_parts(values[i].as_slice());
         }
     }
 }
@@ -75,14 +80,12 @@ impl<
     ghost slice_leaves = { λ _ _ _ h. absurd h };
 
     fn observe(&mut self, value: Hash<M, F, N>) -> Result<(), ChallengerError> {
-        self.push_all(&value.as_ref()[..]);
+        self.push_all(value.as_slice());
         Ok(())
     }
 
     fn observe_slice(&mut self, values: &[Hash<M, F, N>]) -> Result<(), ChallengerError> {
-        for i in 0..values.len() {
-            self.push_all(&values[i].as_ref()[..]);
-        }
+        self.push_parts(values);
         Ok(())
     }
 }
@@ -111,14 +114,12 @@ impl<
     ghost slice_leaves = { λ _ _ _ h. absurd h };
 
     fn observe(&mut self, value: MerkleCap<M, [F; N]>) -> Result<(), ChallengerError> {
-        self.push_roots(value.roots());
+        self.push_parts(value.roots());
         Ok(())
     }
 
     fn observe_slice(&mut self, values: &[MerkleCap<M, [F; N]>]) -> Result<(), ChallengerError> {
-        for i in 0..values.len() {
-            self.push_roots(values[i].roots());
-        }
+        self.push_values(values);
         Ok(())
     }
 }
@@ -147,14 +148,12 @@ impl<
     ghost slice_leaves = { λ _ _ _ h. absurd h };
 
     fn observe(&mut self, value: &MerkleCap<M, [F; N]>) -> Result<(), ChallengerError> {
-        self.push_roots(value.roots());
+        self.push_parts(value.roots());
         Ok(())
     }
 
     fn observe_slice(&mut self, values: &[&MerkleCap<M, [F; N]>]) -> Result<(), ChallengerError> {
-        for i in 0..values.len() {
-            self.push_roots(values[i].roots());
-        }
+        self.push_values(values);
         Ok(())
     }
 }
@@ -181,14 +180,12 @@ impl<
     ghost slice_leaves = { λ _ _ _ h. absurd h };
 
     fn observe(&mut self, value: Vec<Vec<F>>) -> Result<(), ChallengerError> {
-        self.push_lists(value.as_slice());
+        self.push_parts(value.as_slice());
         Ok(())
     }
 
     fn observe_slice(&mut self, values: &[Vec<Vec<F>>]) -> Result<(), ChallengerError> {
-        for i in 0..values.len() {
-            self.push_lists(values[i].as_slice());
-        }
+        self.push_values(values);
         Ok(())
     }
 }
