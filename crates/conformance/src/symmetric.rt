@@ -5,7 +5,7 @@ use crate::symbol::{numbers_of, symbols};
 use crate::words::parse_row;
 use anyhow::{Result, bail};
 use p3_field::F257;
-use p3_symmetric::{CryptographicHasher, CryptographicPermutation, Turn};
+use p3_symmetric::{CryptographicHasher, CryptographicPermutation, HashOutput, Turn};
 use std::alloc::Global;
 
 /// The permutation by so many places. A call `v..` is answered by what it makes of these cells of F257.
@@ -40,6 +40,9 @@ pub fn permuted<T: Copy, P: CryptographicPermutation<T>>(permutation: P, state: 
 }
 
 /// The digest of a list.
-pub fn digest_of<T, Out, H: CryptographicHasher<T, Out>>(hasher: H, values: &[T]) -> Out {
+pub fn digest_of<T, Out: HashOutput, H: CryptographicHasher<T, Out>>(
+    hasher: H,
+    values: &[T],
+) -> Out {
     hasher.hash_slice(values)
 }

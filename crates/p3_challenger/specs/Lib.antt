@@ -1,4 +1,5 @@
 pub use Rattle.p3_symmetric.specs.Turn
+pub use Rattle.p3_symmetric.specs.HashValues
 pub use Rattle.p3_challenger_core.specs.BitLaws
 pub use Rattle.p3_challenger_core.specs.Bits
 pub use Rattle.p3_challenger_core.specs.CallLaws

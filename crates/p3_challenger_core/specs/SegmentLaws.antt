@@ -205,3 +205,15 @@ module _ {T A M D S : Type 0} (P : M → Type 0) (by other : ByCalls T A M D S) 
       let last = (by.digest run.after).handed in
       ap (λ r. run_before r (other.digest r.after)) (run_calls-same s calls (all-first P run.handed last h))
       ∙ ap (run_before run) (same_digest run.after (all-second P run.handed last h))
+
+-- ---- one challenger, and another that does the same in each state that it comes to
+
+module _ {T A M D S : Type 0} (Keeps : S → Type 0) (by other : ByCalls T A M D S)
+    (same_call : (s : S) → Keeps s → (call : Call T) → other.call s call ≡ by.call s call)
+    (keeps : (s : S) → Keeps s → (call : Call T) → Keeps (by.call s call).after) where
+  pub run_calls-alike : (s : S) → Keeps s → (calls : List (Call T)) → run_calls other s calls ≡ run_calls by s calls
+  run_calls-alike s kept [] = refl
+  run_calls-alike s kept (call ∷ calls) =
+      let run = by.call s call in
+      ap (λ r. run_before r (run_calls other r.after calls)) (same_call s kept call)
+      ∙ ap (run_before run) (run_calls-alike run.after (keeps s kept call) calls)

@@ -78,6 +78,31 @@ module _ {T S : Type 0} (spelling : T → List S) where
       let others = row-one_way one_way xs ys a b fewer first.1 in
       (ap (λ z. z ∷ xs) first.0 ∙ ap (λ zs. y ∷ zs) others.0, others.1)
 
+-- lists of one length read one way
+pub as_many-one_way : {S : Type 0} (xs ys a b : List S) → length xs ≡ length ys → xs ++ a ≡ ys ++ b
+    → (xs ≡ ys) × (a ≡ b)
+as_many-one_way [] [] a b same e = (refl, e)
+as_many-one_way [] (y ∷ ys) a b same e = absurd (omega (arith, same))
+as_many-one_way (x ∷ xs) [] a b same e = absurd (omega (arith, same))
+as_many-one_way (x ∷ xs) (y ∷ ys) a b same e =
+    let first = one_symbol_each x y (xs ++ a) (ys ++ b) e in
+    let fewer : length xs ≡ length ys = omega (arith, same) in
+    let others = as_many-one_way xs ys a b fewer first.1 in
+    (ap (λ z. z ∷ xs) first.0 ∙ ap (λ zs. y ∷ zs) others.0, others.1)
+
+-- so do arrays of N places
+pub places-one_way : {S : Type 0} (N : ℕ) → ReadsOneWayOn (λ (xs : List S). length xs ≡ N) (λ xs. xs)
+places-one_way N xs ys a b x_is y_is e =
+    let same : length xs ≡ length ys = omega (arith, x_is, y_is) in
+    as_many-one_way xs ys a b same e
+
+-- and so do values of N places, which their places tell apart
+pub valued-one_way : {X S : Type 0} (N : ℕ) (values : X → List S) → ((x : X) → length (values x) ≡ N)
+    → ((x y : X) → values x ≡ values y → x ≡ y) → ReadsOneWay values
+valued-one_way N values places tells x y a b e =
+    let read = places-one_way N (values x) (values y) a b (places x) (places y) e in
+    (tells x y read.0, read.1)
+
 -- bytes too
 pub bytes-one_way : {S : Type 0} (symbols : ℕ → List S) → ReadsOneWayOn IsByte symbols → (xs ys : List ℕ) (a b : List S) → AreBytes xs → AreBytes ys → length xs ≡ length ys → flat_map symbols xs ++ a ≡ flat_map symbols ys ++ b → (xs ≡ ys) × (a ≡ b)
 bytes-one_way symbols one_way [] [] a b x_are y_are same e = (refl, e)

@@ -1,4 +1,4 @@
-ghost use Rattle.std.specs.Prelude.{◌≡◌, [], Some, OnOk, IfOk, IfErr};
+ghost use Rattle.std.specs.Prelude.{◌≡◌, [], length, Some, OnOk, IfOk, IfErr};
 ghost use Rattle.p3_challenger_core.specs.Sampling.{draws, after_draws, RefusesDraws};
 
 use crate::{CanSample, ChallengerError};
@@ -11,6 +11,7 @@ pub fn sample_array<T: Copy, C: CanSample<T>, const N: usize>(
 ) -> Result<[T; N], ChallengerError>
     ensures drawn { IfOk result (λ values.
         draws C.sampling N (C.state challenger.old) ≡ Some values) }
+    ensures places { IfOk result (λ values. length values ≡ N) }
     ensures after { OnOk result (
         C.state challenger.new ≡ after_draws C.sampling N (C.state challenger.old)) }
     ensures err { IfErr result (λ e.
@@ -25,6 +26,15 @@ pub fn sample_array<T: Copy, C: CanSample<T>, const N: usize>(
         values[i] = challenger.sample()?;
     }
     drawn_array(values)
+}
+
+/// An array of `N` has `N` places, whoever made it.
+///
+/// A law: the body is empty, and a caller cites the clause.
+pub fn array_has_places<T, const N: usize>(values: &[T; N])
+    ensures { length values.now ≡ N }
+{
+    let _ = &values[..];
 }
 
 // The array of no values.

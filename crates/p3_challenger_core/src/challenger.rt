@@ -158,6 +158,9 @@ pub trait CanSampleBits<T>: Sponge {
     // Each of these draws is made of the smallest ones.
     ghost samples_bits: { (bits : ℕ) → IsSampling Self.next (bits_sampling bits) };
 
+    // Values of one number are one value.
+    ghost number_tells: { (x y : T) → number x ≡ number y → x ≡ y };
+
     // A draw of so many bits is below that power of two.
     ghost bits_below: { (bits : ℕ) (s : Self.State) (x : T) → bits ≤ most_bits →
         (bits_sampling bits).sampled s ≡ Some x → number x < 2 ^ bits };

@@ -1,4 +1,5 @@
 ghost use Rattle.std.specs.Prelude.{◌≡◌};
+ghost use Rattle.p3_field_core.specs.Equality.{IsExact};
 ghost use Rattle.p3_challenger_core.specs.declared.error.ChallengerError.TheVariants.{OutOfMemory};
 
 use std::alloc::{AllocError, AllocFailed};
@@ -19,6 +20,15 @@ pub enum ChallengerError {
     /// A byte string is too long for the alphabet that would feed it.
     #[error("too long")]
     TooLong,
+}
+
+impl ChallengerError {
+    /// Two errors compare equal exactly where they are one.
+    ///
+    /// A law: the body is empty, and a caller cites the clause.
+    pub fn compared_exactly()
+        ensures { IsExact ⟦<ChallengerError as PartialEq>⟧.eq }
+    {}
 }
 
 impl From<AllocError> for ChallengerError {

@@ -66,6 +66,8 @@ impl<T, C: CanSampleBits<T>> CanSampleBits<T> for &mut C {
 
     ghost samples_bits = { C.samples_bits };
 
+    ghost number_tells = { C.number_tells };
+
     ghost bits_below = { C.bits_below };
 
     ghost most_bits_short = { C.most_bits_short };

@@ -12,7 +12,7 @@ mod field_challenger;
 mod forward;
 mod segments;
 
-pub use arrays::sample_array;
+pub use arrays::{array_has_places, sample_array};
 pub use challenger::{CanFinalizeDigest, CanObserve, CanSample, CanSampleBits, Sponge};
 pub use error::ChallengerError;
 pub use field_challenger::FieldChallenger;

@@ -239,15 +239,6 @@ impl<
         }
     }
 
-    // Makes the values of an array pending, one after another.
-    fn push_array<const N: usize>(&mut self, values: &[F; N])
-        ensures { self.new ≡ duplex_state.fed F.residues P.permutation RATE self.old values.now }
-    {
-        for i in 0..N {
-            self.push(values[i]);
-        }
-    }
-
     // Makes values pending, one after another.
     pub(crate) fn push_all(&mut self, values: &[F])
         ensures { self.new ≡ duplex_state.fed F.residues P.permutation RATE self.old values.now }
@@ -336,14 +327,12 @@ impl<
     ghost slice_leaves = { λ _ _ _ h. absurd h };
 
     fn observe(&mut self, values: [F; N]) -> Result<(), ChallengerError> {
-        self.push_array(&values);
+        self.push_all(&values[..]);
         Ok(())
     }
 
     fn observe_slice(&mut self, values: &[[F; N]]) -> Result<(), ChallengerError> {
-        for i in 0..values.len() {
-            self.push_array(&values[i]);
-        }
+        self.push_parts(values);
         Ok(())
     }
 }

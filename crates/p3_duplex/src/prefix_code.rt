@@ -1,10 +1,13 @@
-// What a duplex challenger feeds reads one way: the premise of the laws on symbols.
-ghost use Rattle.p3_challenger_core.specs.Reading.{ReadsOneWay};
+// What a duplex challenger feeds reads one way: the premises of the laws on symbols.
+ghost use Rattle.std.specs.Prelude.{◌≡◌, List, length, ◌++◌};
+ghost use Rattle.p3_challenger_core.specs.Reading.{ReadsOneWay, ReadsOneWayOn};
+ghost use Rattle.p3_symmetric.specs.declared.hash.Hash.{Hash};
+ghost use Rattle.p3_symmetric.specs.HashValues.{values_of};
 
 use crate::DuplexChallenger;
 use p3_challenger_core::CanObserve;
 use p3_field_core::PrimeField64;
-use p3_symmetric::CryptographicPermutation;
+use p3_symmetric::{CryptographicPermutation, Hash};
 
 /// The elements that a duplex challenger observes feed symbols that read one way.
 ///
@@ -17,4 +20,26 @@ pub fn duplex_elements_read_one_way<
     const RATE: usize,
 >()
     ensures { ReadsOneWay ⟦<DuplexChallenger<F, P, WIDTH, RATE> as CanObserve<F>>⟧.observation.symbols }
+{}
+
+/// Arrays of `N` elements and digests of `N` elements feed symbols that read one way, each among themselves and
+/// both together.
+///
+/// A law: the body is empty, and a caller cites the clauses.
+pub fn duplex_arrays_read_one_way<
+    M,
+    F: PrimeField64,
+    P: CryptographicPermutation<[F; WIDTH]>,
+    const WIDTH: usize,
+    const RATE: usize,
+    const N: usize,
+>()
+    ensures arrays { ReadsOneWayOn (λ values. length values ≡ N)
+        ⟦<DuplexChallenger<F, P, WIDTH, RATE> as CanObserve<[F; N]>>⟧.observation.symbols }
+    ensures digests { ReadsOneWay
+        ⟦<DuplexChallenger<F, P, WIDTH, RATE> as CanObserve<Hash<M, F, N>>>⟧.observation.symbols }
+    ensures both { (digest : Hash M F N) (values a b : List F) → length values ≡ N →
+        ⟦<DuplexChallenger<F, P, WIDTH, RATE> as CanObserve<Hash<M, F, N>>>⟧.observation.symbols digest ++ a
+        ≡ ⟦<DuplexChallenger<F, P, WIDTH, RATE> as CanObserve<[F; N]>>⟧.observation.symbols values ++ b
+        → (values_of digest ≡ values) × (a ≡ b) }
 {}

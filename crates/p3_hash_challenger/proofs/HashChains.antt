@@ -1,11 +1,14 @@
 -- The hash chain over segments is what the calls do one by one.
-use Rattle.std.proofs.Common.{◌≡◌, ℕ, zero, suc, ◌<◌, ◌≤◌, ◌+◌, ◌-◌, ◌/◌, ◌%◌, List, [], ◌∷◌, slice_get, ◌==◌, false, if◌then◌else◌, refl, sym, ap, ◌∙◌, append_assoc, append-nil, add-one, arith}
+use Rattle.std.proofs.Common.{◌≡◌, ℕ, zero, suc, ◌<◌, ◌≤◌, ◌+◌, ◌-◌, ◌/◌, ◌%◌, List, [], ◌∷◌, slice_index_or, ◌==◌}
+use Rattle.std.proofs.Common.{false, if◌then◌else◌, refl, sym, ap, ◌∙◌, append_assoc, append-nil, add-one, arith}
 use Rattle.std.proofs.lemmas.Bool.Decides.{nat_tests}
 use Rattle.std.proofs.Math.Nat.{add-div_left, add-mod_left, div-eq_of_lt, mod-eq_of_lt}
 use Rattle.p3_challenger_core.specs.Segments.{Call, observe, observe_empty_array, draw, stays, run_before}
 use Rattle.p3_challenger_core.specs.SegmentLaws.{StepsAgree}
-use Rattle.p3_hash_challenger.specs.HashTranscript.{HashTranscript, HashRun, absorbing, observed, flushed, last_output, one_taken, after_sampled, run_call, hash_by_calls}
-use Rattle.p3_hash_challenger.specs.HashChain.{run_values, hashed, handed_in_turn, output_at, left_behind, outputs_from, draws_from, run_draws, hash_by_segments}
+use Rattle.p3_hash_challenger.specs.HashTranscript.{HashFunction, HashTranscript, HashRun, absorbing, observed, flushed}
+use Rattle.p3_hash_challenger.specs.HashTranscript.{last_output, one_taken, after_sampled, run_call, hash_by_calls}
+use Rattle.p3_hash_challenger.specs.HashChain.{run_values, hashed, handed_in_turn, output_at, left_behind}
+use Rattle.p3_hash_challenger.specs.HashChain.{outputs_from, draws_from, run_draws, hash_by_segments}
 
 -- a digest further on in the row is one hash more, at the same place
 further-div : (n q : ℕ) → 0 < n → (n + q) / n ≡ suc (q / n)
@@ -21,7 +24,7 @@ here-mod n left more h =
     let same : (n - left) % n ≡ n - left = mod-eq_of_lt below in
     omega (arith, same)
 
-not_zero : (m : ℕ) → (suc m == 0) ≡ false
+pub not_zero : (m : ℕ) → (suc m == 0) ≡ false
 not_zero m = grind (arith, nat_tests)
 
 -- a string that is handed over first
@@ -29,104 +32,146 @@ abbrev handed_first : {T : Type 0} → List T → HashRun T → HashRun T
 handed_first message run = record run { handed = message ∷ run.handed }
 
 -- a value and then a list are fed as one list
-run_values-next : {T : Type 0} (s : HashTranscript T) (x : T) (xs : List T) → run_values s (x ∷ xs) ≡ run_before (stays (observed s x)) (run_values (observed s x) xs)
+run_values-next : {T : Type 0} (s : HashTranscript T) (x : T) (xs : List T)
+    → run_values s (x ∷ xs) ≡ run_before (stays (observed s x)) (run_values (observed s x) xs)
 run_values-next s x [] = refl
 run_values-next s x (y ∷ ys) = ap (λ p. stays (absorbing p)) (sym (append_assoc s.pending (x ∷ []) (y ∷ ys)))
 
-module _ {T : Type 0} (hash : List T → List T) (n : ℕ) (positive : 0 < n) where
+module _ {T : Type 0} (h : HashFunction T) (positive : 0 < h.out_len) where
   -- outputs further on in the row are those of the chain hashed once
-  output_at-further : (chain : List T) (q : ℕ) → output_at hash n chain (n + q) ≡ output_at hash n (hash chain) q
+  output_at-further : (chain : List T) (q : ℕ) → output_at h chain (h.out_len + q) ≡ output_at h (h.digest chain) q
   unfolding hashed
   output_at-further chain q =
-      λ i. slice_get (hashed hash (further-div n q positive i) chain) (n - 1 - add-mod_left n q i)
+      λ i. slice_index_or (hashed h.digest (further-div h.out_len q positive i) chain)
+      (h.out_len - 1 - add-mod_left h.out_len q i) h.filler
 
-  left_behind-further : (chain : List T) (q : ℕ) → left_behind hash n chain (n + q) ≡ left_behind hash n (hash chain) q
+  left_behind-further : (chain : List T) (q : ℕ)
+      → left_behind h chain (h.out_len + q) ≡ left_behind h (h.digest chain) q
   unfolding hashed
   left_behind-further chain q =
-      λ i. record { pending = hashed hash (further-div n q positive i) chain; outputs_left = n - 1 - add-mod_left n q i }
+      λ i. record {
+        pending = hashed h.digest (further-div h.out_len q positive i) chain;
+        outputs_left = h.out_len - 1 - add-mod_left h.out_len q i;
+      }
 
-  outputs_from-further : (chain : List T) (q k : ℕ) → outputs_from hash n chain (n + q) k ≡ outputs_from hash n (hash chain) q k
+  outputs_from-further : (chain : List T) (q k : ℕ)
+      → outputs_from h chain (h.out_len + q) k ≡ outputs_from h (h.digest chain) q k
   unfolding outputs_from
   outputs_from-further chain q zero = refl
   outputs_from-further chain q (suc k) =
-      let next : suc (n + q) ≡ n + suc q = omega arith in
-      let tail = ap (λ p. outputs_from hash n chain p k) next ∙ outputs_from-further chain (suc q) k in
+      let next : suc (h.out_len + q) ≡ h.out_len + suc q = omega arith in
+      let tail = ap (λ p. outputs_from h chain p k) next ∙ outputs_from-further chain (suc q) k in
       λ i. output_at-further chain q i ∷ tail i
 
   -- the chain itself is hashed before that
-  draws_from-further : (chain : List T) (q k : ℕ) → draws_from hash n chain (n + q) k ≡ handed_first chain (draws_from hash n (hash chain) q k)
+  draws_from-further : (chain : List T) (q k : ℕ)
+      → draws_from h chain (h.out_len + q) k ≡ handed_first chain (draws_from h (h.digest chain) q k)
   unfolding handed_in_turn
   draws_from-further chain q k =
-      let same : n + q + k ≡ n + (q + k) = omega arith in
-      let turns : (n + q + k) / n ≡ suc ((q + k) / n) = ap (λ p. p / n) same ∙ further-div n (q + k) positive in
-      let behind = ap (left_behind hash n chain) same ∙ left_behind-further chain (q + k) in
+      let same : h.out_len + q + k ≡ h.out_len + (q + k) = omega arith in
+      let turns : (h.out_len + q + k) / h.out_len ≡ suc ((q + k) / h.out_len) =
+      ap (λ p. p / h.out_len) same ∙ further-div h.out_len (q + k) positive in
+      let behind = ap (left_behind h chain) same ∙ left_behind-further chain (q + k) in
       λ i. record {
         answers = outputs_from-further chain q (suc k) i;
-        handed = handed_in_turn hash (turns i) chain;
+        handed = handed_in_turn h.digest (turns i) chain;
         after = behind i;
       }
 
-  output_at-here : (chain : List T) (left : ℕ) → 0 < left → left ≤ n → output_at hash n chain (n - left) ≡ slice_get chain (left - 1)
+  output_at-here : (chain : List T) (left : ℕ) → 0 < left → left ≤ h.out_len
+      → output_at h chain (h.out_len - left) ≡ slice_index_or chain (left - 1) h.filler
   unfolding hashed
-  output_at-here chain left more h =
-      λ i. slice_get (hashed hash (here-div n left more h i) chain) (here-mod n left more h i)
+  output_at-here chain left more fits =
+      λ i. slice_index_or (hashed h.digest (here-div h.out_len left more fits i) chain)
+      (here-mod h.out_len left more fits i) h.filler
 
-  left_behind-here : (chain : List T) (left : ℕ) → 0 < left → left ≤ n → left_behind hash n chain (n - left) ≡ record { pending = chain; outputs_left = left - 1 }
+  left_behind-here : (chain : List T) (left : ℕ) → 0 < left → left ≤ h.out_len
+      → left_behind h chain (h.out_len - left) ≡ record { pending = chain; outputs_left = left - 1 }
   unfolding hashed
-  left_behind-here chain left more h =
-      λ i. record { pending = hashed hash (here-div n left more h i) chain; outputs_left = here-mod n left more h i }
+  left_behind-here chain left more fits =
+      λ i. record {
+        pending = hashed h.digest (here-div h.out_len left more fits i) chain;
+        outputs_left = here-mod h.out_len left more fits i;
+      }
+
+  -- draws, once the last output left is drawn
+  abbrev then_draws : List T → ℕ → ℕ → HashRun T
+  then_draws chain left k =
+      let next = run_draws h (record { pending = chain; outputs_left = left - 1 }) k in
+      record next { answers = slice_index_or chain (left - 1) h.filler ∷ next.answers }
 
   -- a draw that finds an output, and then k draws
-  taken-next : (chain : List T) (left k : ℕ) → 0 < left → left ≤ n → draws_from hash n chain (n - left) k ≡ (let next = run_draws hash n (record { pending = chain; outputs_left = left - 1 }) k in record next { answers = slice_get chain (left - 1) ∷ next.answers })
+  taken-next : (chain : List T) (left k : ℕ) → 0 < left → left ≤ h.out_len
+      → draws_from h chain (h.out_len - left) k ≡ then_draws chain left k
   unfolding outputs_from handed_in_turn
-  taken-next chain left zero more h =
-      let same : n - left + 0 ≡ n - left = omega arith in
-      let turns : (n - left + 0) / n ≡ 0 = ap (λ p. p / n) same ∙ here-div n left more h in
-      let behind = ap (left_behind hash n chain) same ∙ left_behind-here chain left more h in
+  taken-next chain left zero more fits =
+      let same : h.out_len - left + 0 ≡ h.out_len - left = omega arith in
+      let turns : (h.out_len - left + 0) / h.out_len ≡ 0 =
+      ap (λ p. p / h.out_len) same ∙ here-div h.out_len left more fits in
+      let behind = ap (left_behind h chain) same ∙ left_behind-here chain left more fits in
       λ i. record {
-        answers = output_at-here chain left more h i ∷ [];
-        handed = handed_in_turn hash (turns i) chain;
+        answers = output_at-here chain left more fits i ∷ [];
+        handed = handed_in_turn h.digest (turns i) chain;
         after = behind i;
       }
-  taken-next chain left (suc k) more h =
-      let next : suc (n - left) ≡ n - (left - 1) = omega arith in
-      let further : n - left + suc k ≡ n - (left - 1) + k = omega arith in
+  taken-next chain left (suc k) more fits =
+      let next : suc (h.out_len - left) ≡ h.out_len - (left - 1) = omega arith in
+      let further : h.out_len - left + suc k ≡ h.out_len - (left - 1) + k = omega arith in
       λ i. record {
-        answers = output_at-here chain left more h i ∷ outputs_from hash n chain (next i) (suc k);
-        handed = handed_in_turn hash (further i / n) chain;
-        after = left_behind hash n chain (further i);
+        answers = output_at-here chain left more fits i ∷ outputs_from h chain (next i) (suc k);
+        handed = handed_in_turn h.digest (further i / h.out_len) chain;
+        after = left_behind h chain (further i);
       }
 
   -- with outputs left nothing is hashed
-  drawn-left : (chain : List T) (m : ℕ) → run_call hash n (record { pending = chain; outputs_left = suc m }) draw ≡ record { answers = slice_get chain (suc m - 1) ∷ []; handed = []; after = record { pending = chain; outputs_left = suc m - 1 } }
+  drawn-left : (chain : List T) (m : ℕ)
+      → run_call h (record { pending = chain; outputs_left = suc m }) draw ≡ record {
+        answers = slice_index_or chain (suc m - 1) h.filler ∷ [];
+        handed = [];
+        after = record { pending = chain; outputs_left = suc m - 1 };
+      }
   drawn-left chain m =
       let s : HashTranscript T = record { pending = chain; outputs_left = suc m } in
-      ap (λ b. let t = if b then flushed hash n s else s in record { answers = last_output t ∷ []; handed = if b then chain ∷ [] else []; after = one_taken t }) (not_zero m)
+      ap (λ b. let t = if b then flushed h s else s in record {
+        answers = last_output h t ∷ [];
+        handed = if b then chain ∷ [] else [];
+        after = one_taken t;
+      }) (not_zero m)
 
-  -- a draw and then k draws are one draw more
-  next-by : (chain : List T) (left k : ℕ) → left ≤ n → run_draws hash n (record { pending = chain; outputs_left = left }) (suc k) ≡ (let run = run_call hash n (record { pending = chain; outputs_left = left }) draw in run_before run (run_draws hash n run.after k))
-  next-by chain zero k h =
-      let there : n - 0 ≡ n + 0 = omega arith in
-      let start : 0 ≡ n - n = omega arith in
-      ap (λ p. draws_from hash n chain p k) there
+  -- a draw and then k draws
+  abbrev draw_then : HashTranscript T → ℕ → HashRun T
+  draw_then s k = let run = run_call h s draw in run_before run (run_draws h run.after k)
+
+  -- are one draw more
+  next-by : (chain : List T) (left k : ℕ) → left ≤ h.out_len
+      → run_draws h (record { pending = chain; outputs_left = left }) (suc k)
+      ≡ draw_then (record { pending = chain; outputs_left = left }) k
+  next-by chain zero k fits =
+      let there : h.out_len - 0 ≡ h.out_len + 0 = omega arith in
+      let start : 0 ≡ h.out_len - h.out_len = omega arith in
+      let first = ap (λ p. draws_from h (h.digest chain) p k) start in
+      ap (λ p. draws_from h chain p k) there
       ∙ draws_from-further chain 0 k
-      ∙ ap (handed_first chain) (ap (λ p. draws_from hash n (hash chain) p k) start ∙ taken-next (hash chain) n k positive (omega arith))
-  next-by chain (suc m) k h =
-      taken-next chain (suc m) k (omega arith) h
-      ∙ sym (ap (λ run. run_before run (run_draws hash n run.after k)) (drawn-left chain m))
+      ∙ ap (handed_first chain) (first ∙ taken-next (h.digest chain) h.out_len k positive (omega arith))
+  next-by chain (suc m) k fits =
+      taken-next chain (suc m) k (omega arith) fits
+      ∙ sym (ap (λ run. run_before run (run_draws h run.after k)) (drawn-left chain m))
 
   -- a challenger never has more outputs left than a digest has places
-  after_sampled-fits : (chain : List T) (left : ℕ) → left ≤ n → (after_sampled hash n (record { pending = chain; outputs_left = left })).outputs_left ≤ n
-  after_sampled-fits chain zero h = omega arith
-  after_sampled-fits chain (suc m) h = omega (arith, ap (λ run. run.after.outputs_left) (drawn-left chain m))
+  after_sampled-fits : (chain : List T) (left : ℕ) → left ≤ h.out_len
+      → (after_sampled h (record { pending = chain; outputs_left = left })).outputs_left ≤ h.out_len
+  after_sampled-fits chain zero fits = omega arith
+  after_sampled-fits chain (suc m) fits = omega (arith, ap (λ run. run.after.outputs_left) (drawn-left chain m))
 
-  call-fits : (s : HashTranscript T) → s.outputs_left ≤ n → (call : Call T) → (run_call hash n s call).after.outputs_left ≤ n
-  call-fits s h (observe x) = omega arith
-  call-fits s h observe_empty_array = omega arith
-  call-fits s h draw = after_sampled-fits s.pending s.outputs_left h
+  call-fits : (s : HashTranscript T) → s.outputs_left ≤ h.out_len → (call : Call T)
+      → (run_call h s call).after.outputs_left ≤ h.out_len
+  call-fits s fits (observe x) = omega arith
+  call-fits s fits observe_empty_array = omega arith
+  call-fits s fits draw = after_sampled-fits s.pending s.outputs_left fits
 
   -- each step of a segment does what one call does
-  pub hash_steps : StepsAgree (λ (s : HashTranscript T). s.outputs_left ≤ n) (hash_by_calls hash n) (hash_by_segments hash n)
+  pub hash_steps :
+      StepsAgree (λ (s : HashTranscript T). s.outputs_left ≤ h.out_len) (hash_by_calls h) (hash_by_segments h)
   hash_steps = record {
     no_values = λ s. refl;
     next_value = λ s _ x xs. run_values-next s x xs;

@@ -1,3 +1,4 @@
 pub mod HashChains
 pub mod HashHanded
+pub mod HashOutputs
 pub mod Observing

@@ -37,10 +37,6 @@ module _ {S U : Type 0} (step : S → U → S) where
   leaves-later s [] ys t h = h
   leaves-later s (x ∷ xs) ys t h = inr (leaves-later (step s x) xs ys t h)
 
--- a value alone is its parts
-pub leaves-one : {S T U : Type 0} (step : S → U → S) (parts : T → List U) (s : S) (x : T) (t : S) → LeavesBeginning step s (parts x) t → LeavesBeginning step s (flat_map parts (x ∷ [])) t
-leaves-one step parts s x t h = leaves-first step s (parts x) [] t h
-
 module _ {S T U : Type 0} (observed : S → T → S) (step : S → U → S) (parts : T → List U) (by_parts : (s : S) (x : T) → observed_all step s (parts x) ≡ observed s x) (start : S) (values : List T) (here : S) (i : ℕ) (x : T) (in_range : i < length values) (is : x ≡ get_or values i x) (on : LeadsThrough observed step parts start values here (drop i values)) where
   -- what is left is x, and what follows it
   rest-is : drop i values ≡ x ∷ drop (i + 1) values

@@ -1,8 +1,8 @@
 -- The hash chain: what a hash challenger draws, and what it hands to its hash function, as a function of
 -- whole segments of calls.
-use Rattle.std.specs.Prelude.{ℕ, zero, suc, ◌+◌, ◌-◌, ◌/◌, ◌%◌, List, [], ◌∷◌, ◌++◌, Option, slice_get}
+use Rattle.std.specs.Prelude.{ℕ, zero, suc, ◌+◌, ◌-◌, ◌/◌, ◌%◌, List, [], ◌∷◌, ◌++◌, slice_index_or}
 use Rattle.p3_challenger_core.specs.Segments.{stays, BySegments}
-use Rattle.p3_hash_challenger.specs.HashTranscript.{HashTranscript, HashRun, absorbing}
+use Rattle.p3_hash_challenger.specs.HashTranscript.{HashFunction, HashTranscript, HashRun, absorbing}
 
 -- ---- what is observed
 
@@ -26,46 +26,49 @@ handed_in_turn hash (suc n) chain = chain ∷ handed_in_turn hash n (hash chain)
 -- The outputs of a chain stand in a row: those of each h(n), from its last place to its first. The
 -- output at a place of that row is in h(place / out_len), and draw k of a segment that begins anew is
 -- at the place out_len + k: it is the place out_len - 1 - k % out_len of h(1 + k / out_len).
-abbrev pub output_at : {T : Type 0} → (List T → List T) → ℕ → List T → ℕ → Option T
-output_at hash out_len chain place = slice_get (hashed hash (place / out_len) chain) (out_len - 1 - place % out_len)
+abbrev pub output_at : {T : Type 0} → HashFunction T → List T → ℕ → T
+output_at h chain place =
+    slice_index_or (hashed h.digest (place / h.out_len) chain) (h.out_len - 1 - place % h.out_len) h.filler
 
 -- once that output is drawn: the h that it was in is pending, and its places before it are left
-abbrev pub left_behind : {T : Type 0} → (List T → List T) → ℕ → List T → ℕ → HashTranscript T
-left_behind hash out_len chain place =
-    record { pending = hashed hash (place / out_len) chain; outputs_left = out_len - 1 - place % out_len }
+abbrev pub left_behind : {T : Type 0} → HashFunction T → List T → ℕ → HashTranscript T
+left_behind h chain place =
+    record {
+      pending = hashed h.digest (place / h.out_len) chain;
+      outputs_left = h.out_len - 1 - place % h.out_len;
+    }
 
 -- the outputs of n draws from a place on
-unfoldable pub outputs_from : {T : Type 0} → (List T → List T) → ℕ → List T → ℕ → ℕ → List (Option T)
-outputs_from hash out_len chain place zero = []
-outputs_from hash out_len chain place (suc n) =
-    output_at hash out_len chain place ∷ outputs_from hash out_len chain (suc place) n
+unfoldable pub outputs_from : {T : Type 0} → HashFunction T → List T → ℕ → ℕ → List T
+outputs_from h chain place zero = []
+outputs_from h chain place (suc n) = output_at h chain place ∷ outputs_from h chain (suc place) n
 
 -- a draw and n more, from a place on: the chain is hashed as often as the last of them asks
-abbrev pub draws_from : {T : Type 0} → (List T → List T) → ℕ → List T → ℕ → ℕ → HashRun T
-draws_from hash out_len chain place n =
+abbrev pub draws_from : {T : Type 0} → HashFunction T → List T → ℕ → ℕ → HashRun T
+draws_from h chain place n =
     record {
-      answers = outputs_from hash out_len chain place (suc n);
-      handed = handed_in_turn hash ((place + n) / out_len) chain;
-      after = left_behind hash out_len chain (place + n);
+      answers = outputs_from h chain place (suc n);
+      handed = handed_in_turn h.digest ((place + n) / h.out_len) chain;
+      after = left_behind h chain (place + n);
     }
 
 -- with outputs left draws go on where those before them stopped, and else they begin anew
-abbrev pub run_draws : {T : Type 0} → (List T → List T) → ℕ → HashTranscript T → ℕ → HashRun T
-run_draws hash out_len start zero = stays start
-run_draws hash out_len start (suc n) = draws_from hash out_len start.pending (out_len - start.outputs_left) n
+abbrev pub run_draws : {T : Type 0} → HashFunction T → HashTranscript T → ℕ → HashRun T
+run_draws h start zero = stays start
+run_draws h start (suc n) = draws_from h start.pending (h.out_len - start.outputs_left) n
 
 -- ---- segments
 
 abbrev pub HashSegments : Type 0 → Type 0
-HashSegments T = BySegments T (Option T) (List T) (List T) (HashTranscript T)
+HashSegments T = BySegments T T (List T) (List T) (HashTranscript T)
 
 -- The chain of the next segment is what the one before left pending, and no output is left. The digest
 -- behind the last one is the hash of the chain that a next one would have.
-abbrev pub hash_by_segments : {T : Type 0} → (List T → List T) → ℕ → HashSegments T
-hash_by_segments hash out_len =
+abbrev pub hash_by_segments : {T : Type 0} → HashFunction T → HashSegments T
+hash_by_segments h =
     record {
       values = run_values;
-      draws = run_draws hash out_len;
+      draws = run_draws h;
       ended = λ s. absorbing s.pending;
-      digest = λ s. record { answers = []; handed = s.pending ∷ []; after = hash s.pending };
+      digest = λ s. record { answers = []; handed = s.pending ∷ []; after = h.digest s.pending };
     }

@@ -1,7 +1,15 @@
 -- A hash challenger as contracts see it.
-use Rattle.std.specs.Prelude.{ℕ, List, Option, Some, None}
+use Rattle.std.specs.Prelude.{◌≡◌, ℕ, ◌<◌, ◌≤◌, List, length, Option, Some, None, IfSome}
+use Rattle.std.specs.Option.{ForNone}
 use Rattle.p3_hash_challenger.specs.HashTranscript as transcript
-use Rattle.p3_hash_challenger.specs.HashTranscript.{HashTranscript}
+use Rattle.p3_hash_challenger.specs.HashTranscript.{HashFunction, HashTranscript}
+
+-- what a challenger of digests of out_len places keeps: of its digest, how many outputs are left
+pub record KeepsOutputs {T : Type 0} (out_len : ℕ) (digest : Option (List T)) (outputs_left : ℕ) : Type 0 where
+  pub positive : 0 < out_len
+  pub left : outputs_left ≤ out_len
+  pub none_left : ForNone digest (outputs_left ≡ 0)
+  pub whole : IfSome digest (λ places. length places ≡ out_len)
 
 -- what is pending: the digest of the last flush, or what is in the buffer
 abbrev pub pending_of : {T : Type 0} → Option (List T) → List T → List T
@@ -22,15 +30,19 @@ observed s x = record s { transcript = transcript.observed s.transcript x }
 abbrev pub array_observed : {T H : Type 0} → HashState T H → List T → HashState T H
 array_observed s xs = record s { transcript = transcript.array_observed s.transcript xs }
 
+-- the hash function that a hasher is
+abbrev pub function_of : {T H : Type 0} → (H → List T → List T) → ℕ → T → H → HashFunction T
+function_of hash out_len filler hasher = record { digest = hash hasher; out_len = out_len; filler = filler }
+
 -- a draw, under the function that each hasher is
-abbrev pub sampled : {T H : Type 0} → (H → List T → List T) → ℕ → HashState T H → Option T
-sampled hash out_len s = transcript.sampled (hash s.hasher) out_len s.transcript
+abbrev pub sampled : {T H : Type 0} → (H → HashFunction T) → HashState T H → T
+sampled function s = transcript.sampled (function s.hasher) s.transcript
 
-abbrev pub after_sampled : {T H : Type 0} → (H → List T → List T) → ℕ → HashState T H → HashState T H
-after_sampled hash out_len s = record s { transcript = transcript.after_sampled (hash s.hasher) out_len s.transcript }
+abbrev pub after_sampled : {T H : Type 0} → (H → HashFunction T) → HashState T H → HashState T H
+after_sampled function s = record s { transcript = transcript.after_sampled (function s.hasher) s.transcript }
 
-abbrev pub flushed : {T H : Type 0} → (H → List T → List T) → ℕ → HashState T H → HashState T H
-flushed hash out_len s = record s { transcript = transcript.flushed (hash s.hasher) out_len s.transcript }
+abbrev pub flushed : {T H : Type 0} → (H → HashFunction T) → HashState T H → HashState T H
+flushed function s = record s { transcript = transcript.flushed (function s.hasher) s.transcript }
 
-abbrev pub digest : {T H : Type 0} → (H → List T → List T) → HashState T H → List T
-digest hash s = transcript.digest (hash s.hasher) s.transcript
+abbrev pub digest : {T H : Type 0} → (H → HashFunction T) → HashState T H → List T
+digest function s = transcript.digest (function s.hasher) s.transcript

@@ -1,11 +1,13 @@
 -- Laws of a hash challenger call by call.
-use Rattle.std.proofs.Common.{◌≡◌, ℕ, List, [], ◌∷◌, ◌++◌, ◌⊎◌, inl, inr, length, take, ◌==◌, false, refl, sym, ap, subst, ◌∙◌, append_assoc, append-nil}
+use Rattle.std.proofs.Common.{◌≡◌, ℕ, Some, List, [], ◌∷◌, ◌++◌, ◌⊎◌, inl, inr, length, take, ◌==◌, false, refl, sym, ap, subst, ◌∙◌, append_assoc, append-nil}
 use Rattle.std.specs.List.{flat_map}
 use Rattle.p3_challenger_core.specs.Sponge.{IsNonEmpty}
 use Rattle.p3_challenger_core.specs.Observation.{Observation, IsObservation, LeavesFed, LeavesBehind, LeavesBeginning, LeavesInCalls, observed_all}
 use Rattle.p3_challenger_core.specs.ObservationLaws.{nothing-fed, exact-observation, unchanged-front, behind_append}
-use Rattle.p3_hash_challenger.specs.HashTranscript.{absorbing}
-use Rattle.p3_hash_challenger.specs.HashState.{HashState, observed, fed, array_observed}
+use Rattle.p3_challenger_core.specs.Sampling.{IsSampling, unrefused_draw}
+use Rattle.p3_challenger_core.specs.SamplingLaws.{unrefused_draw-is_sampling, one_step}
+use Rattle.p3_hash_challenger.specs.HashTranscript.{HashFunction, absorbing}
+use Rattle.p3_hash_challenger.specs.HashState.{HashState, observed, fed, array_observed, sampled, after_sampled}
 
 -- feeding a list and then another is feeding both
 pub fed-append : {T H : Type 0} (s : HashState T H) (xs ys : List T) → fed (fed s xs) ys ≡ fed s (xs ++ ys)
@@ -80,14 +82,14 @@ arrays-observed =
       leaves_behind = λ s y ys xs t is. unchanged-behind s (y ∷ ys) t xs is;
     }
 
--- a digest
-abbrev pub of_digest : {T H : Type 0} → Observation (HashState T H) T (List T)
-of_digest = record { symbols = λ xs. xs; observed = λ s xs. fed s xs; may_leave = λ s _ t. t ≡ s }
+-- a value that is fed as one list
+abbrev pub of_list : {T H X : Type 0} → (X → List T) → Observation (HashState T H) T X
+of_list values = record { symbols = values; observed = λ s x. fed s (values x); may_leave = λ s _ t. t ≡ s }
 
-pub digests-observed : {T H : Type 0} → IsObservation fed (of_digest {T = T} {H = H})
-digests-observed =
-    exact-observation fed (λ _. refl) fed-append of_digest (λ _ _. refl)
-    (λ s xs t is. unchanged-front fed (λ _. refl) fed-append s t xs is)
+pub lists-observed : {T H X : Type 0} (values : X → List T) → IsObservation fed (of_list {H = H} values)
+lists-observed values =
+    exact-observation fed (λ _. refl) fed-append (of_list values) (λ _ _. refl)
+    (λ s x t is. unchanged-front fed (λ _. refl) fed-append s t (values x) is)
 
 -- a value of parts that are fed one after another
 module _ {T H X U : Type 0} (parts : X → List U) (items : U → List T) where
@@ -132,3 +134,12 @@ module _ {T H X U : Type 0} (parts : X → List U) (items : U → List T) where
         let moved = subst (λ u. LeavesBeginning part_fed u (flat_map parts xs) t) (all_fed items s (parts x)) behind in
         inr (parts-front (fed s (flat_map items (parts x))) xs t moved)
   ]
+
+-- ---- draws
+
+-- each draw is the smallest there is
+pub values-sampled : {T H : Type 0} (function : H → HashFunction T) →
+    IsSampling (after_sampled function) (unrefused_draw (λ s. Some (sampled function s)) (after_sampled function))
+values-sampled function =
+    unrefused_draw-is_sampling (after_sampled function) (λ s. Some (sampled function s)) (after_sampled function)
+    (one_step (after_sampled function))

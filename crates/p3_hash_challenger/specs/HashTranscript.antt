@@ -1,6 +1,13 @@
 -- A hash challenger call by call.
-use Rattle.std.specs.Prelude.{ℕ, ◌==◌, ◌-◌, List, [], ◌∷◌, ◌++◌, Option, take, slice_get, if◌then◌else◌}
+use Rattle.std.specs.Prelude.{ℕ, ◌==◌, ◌-◌, List, [], ◌∷◌, ◌++◌, take, slice_index_or, if◌then◌else◌}
 use Rattle.p3_challenger_core.specs.Segments.{Call, observe, observe_empty_array, draw, Run, stays, ByCalls}
+
+-- a hash function of lists: the digest of a list, how many places each digest has, and a value that stands for
+-- a place that a list does not have, which no draw takes
+pub record HashFunction (T : Type 0) : Type 0 where
+  pub digest : List T → List T
+  pub out_len : ℕ
+  pub filler : T
 
 -- what a hash challenger has: what the next flush hashes, and how many outputs of the last flush are
 -- left, which are the first places of its digest
@@ -28,34 +35,34 @@ abbrev pub array_observed : {T : Type 0} → HashTranscript T → List T → Has
 array_observed s xs = absorbing (s.pending ++ xs)
 
 -- after a flush: the digest of all that was pending is pending, and each of its places is left
-abbrev pub flushed : {T : Type 0} → (List T → List T) → ℕ → HashTranscript T → HashTranscript T
-flushed hash out_len s = record { pending = hash s.pending; outputs_left = out_len }
+abbrev pub flushed : {T : Type 0} → HashFunction T → HashTranscript T → HashTranscript T
+flushed h s = record { pending = h.digest s.pending; outputs_left = h.out_len }
 
 -- where a draw takes its output from: with none left it flushes first
-abbrev pub ready : {T : Type 0} → (List T → List T) → ℕ → HashTranscript T → HashTranscript T
-ready hash out_len s = if s.outputs_left == 0 then flushed hash out_len s else s
+abbrev pub ready : {T : Type 0} → HashFunction T → HashTranscript T → HashTranscript T
+ready h s = if s.outputs_left == 0 then flushed h s else s
 
 -- the outputs left, the last of which is drawn next
 abbrev pub outputs : {T : Type 0} → HashTranscript T → List T
 outputs s = take s.outputs_left s.pending
 
 -- what a draw gives: the last output left
-abbrev pub last_output : {T : Type 0} → HashTranscript T → Option T
-last_output s = slice_get s.pending (s.outputs_left - 1)
+abbrev pub last_output : {T : Type 0} → HashFunction T → HashTranscript T → T
+last_output h s = slice_index_or s.pending (s.outputs_left - 1) h.filler
 
 -- without that output
 abbrev pub one_taken : {T : Type 0} → HashTranscript T → HashTranscript T
 one_taken s = record s { outputs_left = s.outputs_left - 1 }
 
-abbrev pub sampled : {T : Type 0} → (List T → List T) → ℕ → HashTranscript T → Option T
-sampled hash out_len s = last_output (ready hash out_len s)
+abbrev pub sampled : {T : Type 0} → HashFunction T → HashTranscript T → T
+sampled h s = last_output h (ready h s)
 
-abbrev pub after_sampled : {T : Type 0} → (List T → List T) → ℕ → HashTranscript T → HashTranscript T
-after_sampled hash out_len s = one_taken (ready hash out_len s)
+abbrev pub after_sampled : {T : Type 0} → HashFunction T → HashTranscript T → HashTranscript T
+after_sampled h s = one_taken (ready h s)
 
 -- the digest: one more hash of all that is pending, whatever outputs are left
-abbrev pub digest : {T : Type 0} → (List T → List T) → HashTranscript T → List T
-digest hash s = hash s.pending
+abbrev pub digest : {T : Type 0} → HashFunction T → HashTranscript T → List T
+digest h s = h.digest s.pending
 
 -- ---- what is handed to the hash function
 
@@ -70,24 +77,24 @@ handed_by_digest s = s.pending ∷ []
 -- ---- what a call does
 
 abbrev pub HashRun : Type 0 → Type 0
-HashRun T = Run (Option T) (List T) (HashTranscript T)
+HashRun T = Run T (List T) (HashTranscript T)
 
-abbrev pub run_call : {T : Type 0} → (List T → List T) → ℕ → HashTranscript T → Call T → HashRun T
-run_call hash out_len s (observe x) = stays (observed s x)
-run_call hash out_len s observe_empty_array = stays (array_observed s [])
-run_call hash out_len s draw =
+abbrev pub run_call : {T : Type 0} → HashFunction T → HashTranscript T → Call T → HashRun T
+run_call h s (observe x) = stays (observed s x)
+run_call h s observe_empty_array = stays (array_observed s [])
+run_call h s draw =
     record {
-      answers = sampled hash out_len s ∷ [];
+      answers = sampled h s ∷ [];
       handed = handed_by_draw s;
-      after = after_sampled hash out_len s;
+      after = after_sampled h s;
     }
 
-abbrev pub run_digest : {T : Type 0} → (List T → List T) → HashTranscript T → Run (Option T) (List T) (List T)
-run_digest hash s = record { answers = []; handed = handed_by_digest s; after = digest hash s }
+abbrev pub run_digest : {T : Type 0} → HashFunction T → HashTranscript T → Run T (List T) (List T)
+run_digest h s = record { answers = []; handed = handed_by_digest s; after = digest h s }
 
 -- a hash challenger call by call
 abbrev pub HashCalls : Type 0 → Type 0
-HashCalls T = ByCalls T (Option T) (List T) (List T) (HashTranscript T)
+HashCalls T = ByCalls T T (List T) (List T) (HashTranscript T)
 
-abbrev pub hash_by_calls : {T : Type 0} → (List T → List T) → ℕ → HashCalls T
-hash_by_calls hash out_len = record { call = run_call hash out_len; digest = run_digest hash }
+abbrev pub hash_by_calls : {T : Type 0} → HashFunction T → HashCalls T
+hash_by_calls h = record { call = run_call h; digest = run_digest h }

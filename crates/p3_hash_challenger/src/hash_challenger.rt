@@ -1,9 +1,9 @@
-ghost use Rattle.std.specs.Prelude.{◌≡◌, ◌<◌, ℕ, List, OnOk, OnErr, IfOk, IfErr};
+ghost use Rattle.std.specs.Prelude.{◌≡◌, ◌<◌, ℕ, List, Some, OnOk, OnErr, IfOk, IfErr};
 ghost use Rattle.std.specs.List.{All};
 ghost use Rattle.p3_challenger_core.specs.Segments.{Call, segments, run_calls, run_calls_to_digest};
 ghost use Rattle.p3_challenger_core.specs.Segments.{run_segments, run_segments_to_digest};
 ghost use Rattle.p3_hash_challenger.specs.HashChain.{hash_by_segments};
-ghost use Rattle.p3_hash_challenger.specs.HashState.{pending_of};
+ghost use Rattle.p3_hash_challenger.specs.HashState.{function_of, pending_of};
 ghost use Rattle.p3_hash_challenger.specs.HashTranscript.{absorbing, outputs, hash_by_calls};
 ghost use Rattle.p3_challenger_core.specs.Observation.{RefusesObserve};
 ghost use Rattle.p3_challenger_core.specs.Sponge.{IsNonEmpty};
@@ -34,9 +34,7 @@ pub struct HashChallenger<T, H, const OUT_LEN: usize> {
 }
 
 impl<T, H, const OUT_LEN: usize> Model for HashChallenger<T, H, OUT_LEN> {
-    ghost use Rattle.std.specs.Prelude.{◌≡◌, ◌<◌, ◌≤◌};
-    ghost use Rattle.std.specs.Option.{ForNone};
-    ghost use Rattle.p3_hash_challenger.specs.HashState.{HashState, pending_of};
+    ghost use Rattle.p3_hash_challenger.specs.HashState.{HashState, KeepsOutputs, pending_of};
 
     ghost Value = { HashState T H };
 
@@ -45,8 +43,7 @@ impl<T, H, const OUT_LEN: usize> Model for HashChallenger<T, H, OUT_LEN> {
       hasher = c.hasher;
     } };
 
-    ghost invariant = { λ c.
-        (0 < OUT_LEN) × ((c.outputs_left ≤ OUT_LEN) × ForNone c.digest (c.outputs_left ≡ 0)) };
+    ghost invariant = { λ c. KeepsOutputs OUT_LEN c.digest c.outputs_left };
 }
 
 impl<T: Copy, H: CryptographicHasher<T, [T; OUT_LEN]>, const OUT_LEN: usize> HashChallenger<
@@ -97,23 +94,36 @@ impl<T: Copy, H: CryptographicHasher<T, [T; OUT_LEN]>, const OUT_LEN: usize> Has
     /// A law: the body is empty, and a caller cites the clauses.
     pub fn follows_hash_chain(&self)
         ensures calls { (calls : List (Call T)) →
-            let hash = H.hash self.now.hasher in
-            run_calls (hash_by_calls hash OUT_LEN) self.now.transcript calls
-            ≡ run_segments (hash_by_segments hash OUT_LEN) self.now.transcript (segments calls) }
+            let h = function_of H.hash OUT_LEN H.filler self.now.hasher in
+            run_calls (hash_by_calls h) self.now.transcript calls
+            ≡ run_segments (hash_by_segments h) self.now.transcript (segments calls) }
         ensures digest { (calls : List (Call T)) →
-            let hash = H.hash self.now.hasher in
-            run_calls_to_digest (hash_by_calls hash OUT_LEN) self.now.transcript calls
-            ≡ run_segments_to_digest (hash_by_segments hash OUT_LEN) self.now.transcript (segments calls) }
+            let h = function_of H.hash OUT_LEN H.filler self.now.hasher in
+            run_calls_to_digest (hash_by_calls h) self.now.transcript calls
+            ≡ run_segments_to_digest (hash_by_segments h) self.now.transcript (segments calls) }
         ensures handed { (calls : List (Call T)) (other : List T → List T) →
-            let hash = H.hash self.now.hasher in
-            let run = run_calls (hash_by_calls hash OUT_LEN) self.now.transcript calls in
-            All (λ message. other message ≡ hash message) run.handed
-            → run_calls (hash_by_calls other OUT_LEN) self.now.transcript calls ≡ run }
+            let h = function_of H.hash OUT_LEN H.filler self.now.hasher in
+            let run = run_calls (hash_by_calls h) self.now.transcript calls in
+            All (λ message. other message ≡ h.digest message) run.handed
+            → run_calls (hash_by_calls (record h { digest = other })) self.now.transcript calls ≡ run }
         ensures handed_to_digest { (calls : List (Call T)) (other : List T → List T) →
-            let hash = H.hash self.now.hasher in
-            let run = run_calls_to_digest (hash_by_calls hash OUT_LEN) self.now.transcript calls in
-            All (λ message. other message ≡ hash message) run.handed
-            → run_calls_to_digest (hash_by_calls other OUT_LEN) self.now.transcript calls ≡ run }
+            let h = function_of H.hash OUT_LEN H.filler self.now.hasher in
+            let run = run_calls_to_digest (hash_by_calls h) self.now.transcript calls in
+            All (λ message. other message ≡ h.digest message) run.handed
+            → run_calls_to_digest (hash_by_calls (record h { digest = other })) self.now.transcript calls ≡ run }
+    {
+        let _ = &self.outputs_left;
+    }
+
+    /// Each draw gives an output that is there, a place of a digest: whatever stood for a place that a list does
+    /// not have, every list of calls would give the same answers and leave the same challenger.
+    ///
+    /// A law: the body is empty, and a caller cites the clause.
+    pub fn draws_are_outputs(&self)
+        ensures { (calls : List (Call T)) (other : T) →
+            let h = function_of H.hash OUT_LEN H.filler self.now.hasher in
+            run_calls (hash_by_calls (record h { filler = other })) self.now.transcript calls
+            ≡ run_calls (hash_by_calls h) self.now.transcript calls }
     {
         let _ = &self.outputs_left;
     }
@@ -123,8 +133,8 @@ impl<T: Copy, H: CryptographicHasher<T, [T; OUT_LEN]>, const OUT_LEN: usize> Has
     /// A law: the body is empty, and a caller cites the clause.
     pub fn draws_are_not_refused(&self)
         ensures { (n : ℕ) (e : ChallengerError) (s t : hash_state.HashState T H) →
-            ¬ (RefusesDraws (unrefused_draw (hash_state.sampled H.hash OUT_LEN)
-            (hash_state.after_sampled H.hash OUT_LEN)) n e s t) }
+            ¬ (RefusesDraws (unrefused_draw (λ u. Some (hash_state.sampled (function_of H.hash OUT_LEN H.filler) u))
+            (hash_state.after_sampled (function_of H.hash OUT_LEN H.filler))) n e s t) }
     {
         let _ = &self.outputs_left;
     }
@@ -181,7 +191,7 @@ impl<T: Copy, H: CryptographicHasher<T, [T; OUT_LEN]>, const OUT_LEN: usize> Has
 
     // Hashes all that is pending. The digest is pending in its place, and all of it is left to draw.
     fn flush(&mut self)
-        ensures { self.new ≡ hash_state.flushed H.hash OUT_LEN self.old }
+        ensures { self.new ≡ hash_state.flushed (function_of H.hash OUT_LEN H.filler) self.old }
     {
         self.digest = Some(self.hasher.hash_slice(self.input()));
         self.outputs_left = OUT_LEN;
@@ -217,7 +227,7 @@ impl<T: Copy, H: CryptographicHasher<T, [T; OUT_LEN]>, const OUT_LEN: usize> Spo
 
     ghost fed = { λ s xs. hash_state.fed s xs };
 
-    ghost next = { λ s. hash_state.after_sampled H.hash OUT_LEN s };
+    ghost next = { λ s. hash_state.after_sampled (hash_state.function_of H.hash OUT_LEN H.filler) s };
 
     ghost fed_nothing = { λ _. refl };
 
@@ -261,17 +271,16 @@ impl<T: Copy, H: CryptographicHasher<T, [T; OUT_LEN]>, const OUT_LEN: usize> Can
 impl<T: Copy, H: CryptographicHasher<T, [T; OUT_LEN]>, const OUT_LEN: usize> CanSample<T>
     for HashChallenger<T, H, OUT_LEN> {
     ghost use Rattle.p3_challenger_core.specs.Sampling.{unrefused_draw};
-    ghost use Rattle.p3_challenger_core.specs.SamplingLaws.{unrefused_draw-is_sampling, one_step};
+    ghost use Rattle.std.specs.Prelude.{Some};
     ghost use Rattle.p3_hash_challenger.specs.HashState as hash_state;
+    ghost use Rattle.p3_hash_challenger.specs.HashStateLaws.{values-sampled};
 
-    // A draw takes no memory and has no limit: it is never refused.
+    // A draw takes no memory and has no limit: it is never refused, and it always gives a value.
     ghost sampling = { unrefused_draw
-        (λ s. hash_state.sampled H.hash OUT_LEN s) (λ s. hash_state.after_sampled H.hash OUT_LEN s) };
+        (λ s. Some (hash_state.sampled (hash_state.function_of H.hash OUT_LEN H.filler) s))
+        (λ s. hash_state.after_sampled (hash_state.function_of H.hash OUT_LEN H.filler) s) };
 
-    ghost samples = { unrefused_draw-is_sampling
-        (λ s. hash_state.after_sampled H.hash OUT_LEN s)
-        (λ s. hash_state.sampled H.hash OUT_LEN s) (λ s. hash_state.after_sampled H.hash OUT_LEN s)
-        (one_step (λ s. hash_state.after_sampled H.hash OUT_LEN s)) };
+    ghost samples = { values-sampled (hash_state.function_of H.hash OUT_LEN H.filler) };
 
     fn sample(&mut self) -> Result<T, ChallengerError> {
         if self.outputs_left == 0 {
@@ -292,7 +301,7 @@ impl<T: Copy, H: CryptographicHasher<T, [T; OUT_LEN]>, const OUT_LEN: usize> Can
     type Digest = [T; OUT_LEN];
 
     // One more hash of all that is pending, whatever outputs are left.
-    ghost digest_of = { λ s. hash_state.digest H.hash s };
+    ghost digest_of = { λ s. hash_state.digest (hash_state.function_of H.hash OUT_LEN H.filler) s };
 
     fn finalize(self) -> [T; OUT_LEN] {
         self.hasher.hash_slice(self.input())

@@ -1,9 +1,12 @@
-// What a hash challenger feeds reads one way: the premise of the laws on symbols.
-ghost use Rattle.p3_challenger_core.specs.Reading.{ReadsOneWay};
+// What a hash challenger feeds reads one way: the premises of the laws on symbols.
+ghost use Rattle.std.specs.Prelude.{◌≡◌, List, length, ◌++◌};
+ghost use Rattle.p3_challenger_core.specs.Reading.{ReadsOneWay, ReadsOneWayOn};
+ghost use Rattle.p3_symmetric.specs.declared.hash.Hash.{Hash};
+ghost use Rattle.p3_symmetric.specs.HashValues.{values_of};
 
 use crate::HashChallenger;
 use p3_challenger_core::CanObserve;
-use p3_symmetric::CryptographicHasher;
+use p3_symmetric::{CryptographicHasher, Hash};
 
 /// The values that a hash challenger observes feed symbols that read one way.
 ///
@@ -15,4 +18,25 @@ pub fn hash_values_read_one_way<
     const OUT_LEN: usize,
 >()
     ensures { ReadsOneWay ⟦<HashChallenger<T, H, OUT_LEN> as CanObserve<T>>⟧.observation.symbols }
+{}
+
+/// Arrays of `N` values and digests of `N` values feed symbols that read one way, each among themselves and both
+/// together.
+///
+/// A law: the body is empty, and a caller cites the clauses.
+pub fn hash_arrays_read_one_way<
+    F,
+    T: Copy,
+    H: CryptographicHasher<T, [T; OUT_LEN]>,
+    const N: usize,
+    const OUT_LEN: usize,
+>()
+    ensures arrays { ReadsOneWayOn (λ values. length values ≡ N)
+        ⟦<HashChallenger<T, H, OUT_LEN> as CanObserve<[T; N]>>⟧.observation.symbols }
+    ensures digests { ReadsOneWay
+        ⟦<HashChallenger<T, H, OUT_LEN> as CanObserve<Hash<F, T, N>>>⟧.observation.symbols }
+    ensures both { (digest : Hash F T N) (values a b : List T) → length values ≡ N →
+        ⟦<HashChallenger<T, H, OUT_LEN> as CanObserve<Hash<F, T, N>>>⟧.observation.symbols digest ++ a
+        ≡ ⟦<HashChallenger<T, H, OUT_LEN> as CanObserve<[T; N]>>⟧.observation.symbols values ++ b
+        → (values_of digest ≡ values) × (a ≡ b) }
 {}

@@ -1,3 +1,4 @@
 pub mod Turn
 pub mod Digests
 pub mod DigestLaws
+pub mod HashValues

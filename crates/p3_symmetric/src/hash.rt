@@ -1,32 +1,55 @@
-ghost use Rattle.std.specs.Prelude.{◌≡◌, List};
+ghost use Rattle.std.specs.Prelude.{◌≡◌, length};
 
-use std::marker::{Model, PhantomData};
+use std::alloc::AllocError;
+use std::convert::AsSlice;
+use std::marker::PhantomData;
 
 /// A digest: `N` values of `T`, of a hash function over the field `F`.
-///
-/// Contracts see the list of its values.
-#[derive_where(Clone, Copy, Debug, PartialEq, Eq; T)]
+#[derive_where(Debug, PartialEq, Eq; T)]
 pub struct Hash<F, T, const N: usize> {
     value: [T; N],
+    pub ghost full: { length value ≡ N },
     #[derive_where(skip)]
     field: PhantomData<F>,
 }
 
-impl<F, T, const N: usize> Model for Hash<F, T, N> {
-    ghost Value = { List T };
+impl<F, T: Clone, const N: usize> Clone for Hash<F, T, N> {
+    ghost use Rattle.p3_symmetric.specs.HashValues.{values_of};
 
-    ghost view = { λ h. h.value };
+    // As the array of the values is cloned.
+    ghost is_clone = { λ x y. ⟦<[T; N] as Clone>⟧.is_clone (values_of x) (values_of y) };
 
-    ghost inverse = { λ values. record { value = values; field = record {} } };
+    ghost is_infallible = { λ x. ⟦<[T; N] as Clone>⟧.is_infallible (values_of x) };
+
+    fn clone(&self) -> Result<Self, AllocError> {
+        let value = self.value.clone()?;
+        Ok(Hash {
+            value,
+            field: PhantomData,
+        })
+    }
 }
 
+impl<F, T: Copy, const N: usize> Copy for Hash<F, T, N> {}
+
 impl<F, T, const N: usize> Hash<F, T, N> {
+    ghost use Rattle.std.specs.Prelude.{◌≡◌, length};
+    ghost use Rattle.p3_symmetric.specs.HashValues.{values_of};
+
     /// The values of the digest, in order.
     pub fn as_ref(&self) -> &[T; N]
-        ensures { result.now ≡ self.now }
+        ensures { result.now ≡ values_of self.now }
     {
         &self.value
     }
+
+    /// Each digest has all its places, and digests of the same values are one.
+    ///
+    /// A law: the body is empty, and a caller cites the clauses.
+    pub fn is_its_values()
+        ensures places { (digest : Hash F T N) → length (values_of digest) ≡ N }
+        ensures same { (x y : Hash F T N) → values_of x ≡ values_of y → x ≡ y }
+    {}
 }
 
 impl<F, T: PartialEq, const N: usize> Hash<F, T, N> {
@@ -40,8 +63,21 @@ impl<F, T: PartialEq, const N: usize> Hash<F, T, N> {
     {}
 }
 
+impl<F, T, const N: usize> AsSlice<T> for Hash<F, T, N> {
+    ghost use Rattle.p3_symmetric.specs.HashValues.{values_of};
+
+    ghost items = { values_of };
+
+    fn as_slice(&self) -> &[T] {
+        &self.value[..]
+    }
+}
+
 impl<F, T, const N: usize> From<[T; N]> for Hash<F, T, N> {
-    ghost from_gives = { λ values digest. digest ≡ values };
+    ghost use Rattle.std.specs.Prelude.{◌≡◌};
+    ghost use Rattle.p3_symmetric.specs.HashValues.{values_of};
+
+    ghost from_gives = { λ values digest. values_of digest ≡ values };
 
     fn from(values: [T; N]) -> Hash<F, T, N> {
         Hash {

@@ -11,7 +11,7 @@ mod turn;
 
 pub use digest_hasher::DigestHasher;
 pub use hash::Hash;
-pub use hasher::CryptographicHasher;
+pub use hasher::{CryptographicHasher, HashOutput};
 pub use merkle_cap::MerkleCap;
 pub use permutation::CryptographicPermutation;
 pub use sha256::Sha256Hasher;

@@ -1,5 +1,6 @@
 ghost use Rattle.std.specs.Prelude.{◌≡◌, List};
 
+use std::convert::AsSlice;
 use std::marker::{Model, PhantomData};
 
 /// The top layer of a Merkle tree over the field `F`: a list of roots that are digests `D`.
@@ -34,6 +35,14 @@ impl<F, D> MerkleCap<F, D> {
         ensures { result.now ≡ self.now }
     {
         self.roots.as_slice()
+    }
+}
+
+impl<F, D> AsSlice<D> for MerkleCap<F, D> {
+    ghost items = { λ cap. cap };
+
+    fn as_slice(&self) -> &[D] {
+        self.roots()
     }
 }
 

@@ -9,7 +9,13 @@ use sha2::{Digest, Sha256};
 pub struct Sha256Hasher;
 
 impl CryptographicHasher<u8, [u8; 32]> for Sha256Hasher {
+    ghost use Rattle.p3_symmetric.specs.DigestLaws.{sha256-is_digest};
+
     ghost hash = { λ _ xs. sha256 xs };
+
+    ghost filler = { 0 };
+
+    ghost digests = { λ _ message. (sha256-is_digest message).places };
 
     fn hash_slice(&self, input: &[u8]) -> [u8; 32]
         ensures { result ≡ sha256 input.now }

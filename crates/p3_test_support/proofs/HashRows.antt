@@ -1,9 +1,9 @@
 -- Worked rows, computed on the definitions: the places of a digest are the length of the message plus 0, 1, ..
-use Rattle.std.proofs.Common.{◌≡◌, ℕ, List, [], ◌∷◌, replicate, Option, Some, refl, ap}
+use Rattle.std.proofs.Common.{◌≡◌, ℕ, List, [], ◌∷◌, replicate, refl, ap}
 use Rattle.std.specs.List.{range_with_len}
 use Rattle.p3_challenger_core.specs.Segments.{Call, observe, observe_empty_array, draw, Run, Segment, IsCutOf, segments, run_calls, run_calls_to_digest, run_segments, run_segments_to_digest}
 use Rattle.p3_challenger_core.specs.SegmentLaws.{cut-only}
-use Rattle.p3_hash_challenger.specs.HashTranscript.{HashTranscript, absorbing, hash_by_calls}
+use Rattle.p3_hash_challenger.specs.HashTranscript.{HashFunction, HashTranscript, absorbing, hash_by_calls}
 use Rattle.p3_hash_challenger.specs.HashChain.{hash_by_segments, hashed, handed_in_turn, outputs_from}
 use Rattle.p3_test_support.specs.LengthHasher.{length_digest}
 
@@ -11,32 +11,35 @@ use Rattle.p3_test_support.specs.LengthHasher.{length_digest}
 abbrev start : List ℕ
 start = 0 ∷ 1 ∷ 2 ∷ 3 ∷ []
 
-abbrev run : List (Call ℕ) → Run (Option ℕ) (List ℕ) (HashTranscript ℕ)
-run calls = run_calls (hash_by_calls length_digest 32) (absorbing start) calls
+abbrev by_length : HashFunction ℕ
+by_length = record { digest = length_digest; out_len = 32; filler = 0 }
 
-abbrev run_to_digest : List (Call ℕ) → Run (Option ℕ) (List ℕ) (List ℕ)
-run_to_digest calls = run_calls_to_digest (hash_by_calls length_digest 32) (absorbing start) calls
+abbrev run : List (Call ℕ) → Run ℕ (List ℕ) (HashTranscript ℕ)
+run calls = run_calls (hash_by_calls by_length) (absorbing start) calls
+
+abbrev run_to_digest : List (Call ℕ) → Run ℕ (List ℕ) (List ℕ)
+run_to_digest calls = run_calls_to_digest (hash_by_calls by_length) (absorbing start) calls
 
 -- the same by the definition over segments
-abbrev run_by_segments : List (Call ℕ) → Run (Option ℕ) (List ℕ) (HashTranscript ℕ)
-run_by_segments calls = run_segments (hash_by_segments length_digest 32) (absorbing start) (segments calls)
+abbrev run_by_segments : List (Call ℕ) → Run ℕ (List ℕ) (HashTranscript ℕ)
+run_by_segments calls = run_segments (hash_by_segments by_length) (absorbing start) (segments calls)
 
-abbrev run_to_digest_by_segments : List (Call ℕ) → Run (Option ℕ) (List ℕ) (List ℕ)
+abbrev run_to_digest_by_segments : List (Call ℕ) → Run ℕ (List ℕ) (List ℕ)
 run_to_digest_by_segments calls =
-    run_segments_to_digest (hash_by_segments length_digest 32) (absorbing start) (segments calls)
+    run_segments_to_digest (hash_by_segments by_length) (absorbing start) (segments calls)
 
 -- the outputs are 35, 34, 33, and after an array of no places in place of the third draw 63
-three_draws : (run (draw ∷ draw ∷ draw ∷ [])).answers ≡ Some 35 ∷ Some 34 ∷ Some 33 ∷ []
+three_draws : (run (draw ∷ draw ∷ draw ∷ [])).answers ≡ 35 ∷ 34 ∷ 33 ∷ []
 three_draws = refl
 
-empty_array : (run (draw ∷ draw ∷ observe_empty_array ∷ draw ∷ [])).answers ≡ Some 35 ∷ Some 34 ∷ Some 63 ∷ []
+empty_array : (run (draw ∷ draw ∷ observe_empty_array ∷ draw ∷ [])).answers ≡ 35 ∷ 34 ∷ 63 ∷ []
 empty_array = refl
 
-three_draws_by_segments : (run_by_segments (draw ∷ draw ∷ draw ∷ [])).answers ≡ Some 35 ∷ Some 34 ∷ Some 33 ∷ []
+three_draws_by_segments : (run_by_segments (draw ∷ draw ∷ draw ∷ [])).answers ≡ 35 ∷ 34 ∷ 33 ∷ []
 unfolding hashed handed_in_turn outputs_from
 three_draws_by_segments = refl
 
-empty_array_by_segments : (run_by_segments (draw ∷ draw ∷ observe_empty_array ∷ draw ∷ [])).answers ≡ Some 35 ∷ Some 34 ∷ Some 63 ∷ []
+empty_array_by_segments : (run_by_segments (draw ∷ draw ∷ observe_empty_array ∷ draw ∷ [])).answers ≡ 35 ∷ 34 ∷ 63 ∷ []
 unfolding hashed handed_in_turn outputs_from
 empty_array_by_segments = refl
 

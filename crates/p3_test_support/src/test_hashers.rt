@@ -1,4 +1,4 @@
-ghost use Rattle.std.specs.Prelude.{◌≡◌, ◌%◌};
+ghost use Rattle.std.specs.Prelude.{◌≡◌, ◌%◌, length};
 ghost use Rattle.std.specs.List.{sum};
 ghost use Rattle.p3_test_support.specs.LengthHasher.{digest_of_length};
 
@@ -15,9 +15,14 @@ pub struct LengthHasher;
 pub struct SumHasher;
 
 impl CryptographicHasher<u8, [u8; 32]> for LengthHasher {
+    ghost use Rattle.std.specs.Prelude.{refl};
     ghost use Rattle.p3_test_support.specs.LengthHasher.{length_digest};
 
     ghost hash = { λ _ message. length_digest message };
+
+    ghost filler = { 0 };
+
+    ghost digests = { λ _ _. refl };
 
     fn hash_slice(&self, input: &[u8]) -> [u8; 32] {
         digest_from((input.len() % 256) as u8)
@@ -25,9 +30,14 @@ impl CryptographicHasher<u8, [u8; 32]> for LengthHasher {
 }
 
 impl CryptographicHasher<u8, [u8; 32]> for SumHasher {
+    ghost use Rattle.std.specs.Prelude.{refl};
     ghost use Rattle.p3_test_support.specs.TestHashers.{sum_digest};
 
     ghost hash = { λ _ message. sum_digest message };
+
+    ghost filler = { 0 };
+
+    ghost digests = { λ _ _. refl };
 
     fn hash_slice(&self, input: &[u8]) -> [u8; 32] {
         digest_from(byte_sum(input))
@@ -61,10 +71,15 @@ fn digest_from(first: u8) -> [u8; 32]
 #[derive(Clone, Copy)]
 pub struct FixedHasher {
     digest: [u8; 24],
+    ghost full: { length digest ≡ 24 },
 }
 
 impl CryptographicHasher<u8, [u8; 24]> for FixedHasher {
-    ghost hash = { λ h _. h.digest };
+    ghost hash = { λ hasher _. hasher.digest };
+
+    ghost filler = { 0 };
+
+    ghost digests = { λ hasher _. hasher.full };
 
     fn hash_slice(&self, _input: &[u8]) -> [u8; 24] {
         self.digest

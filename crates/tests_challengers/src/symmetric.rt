@@ -1,4 +1,5 @@
 ghost use Rattle.std.specs.Prelude.{◌≡◌, ◌↔◌, IsTrue};
+ghost use Rattle.p3_symmetric.specs.HashValues.{values_of};
 
 use p3_field::{BabyBear, F257, PrimeCharacteristicRing, PrimeField64};
 use p3_symmetric::{CryptographicPermutation, Hash, MerkleCap, Turn};
@@ -15,7 +16,7 @@ fn permuted<T: Copy, P: CryptographicPermutation<T>>(permutation: P, state: T) -
 }
 
 fn digest_from<F, T, const N: usize>(values: [T; N]) -> Hash<F, T, N>
-    ensures { result ≡ values }
+    ensures { values_of result ≡ values }
 {
     Hash::from(values)
 }

@@ -1,6 +1,7 @@
 -- The first path: one scalar is sent and one is drawn.
-use Rattle.std.specs.Prelude.{◌≡◌, ℕ, ◌==◌, List, length, codes, nat_lt, Some, Result, Ok, Err, if◌then◌else◌}
+use Rattle.std.specs.Prelude.{◌≡◌, ℕ, ◌==◌, List, length, codes, nat_lt, Option, Some, Result, Ok, Err, if◌then◌else◌}
 use Rattle.transcript_program.specs.Scalar as scalar
+use Rattle.p3_challenger.specs.HashTranscript.{HashFunction}
 use Rattle.p3_challenger.specs.HashState.{HashState, observed, sampled, after_sampled}
 use Rattle.transcript_program.specs.Scalar.{width, read}
 use Rattle.p3_challenger.specs.Errors.{IsBadShape}
@@ -8,11 +9,19 @@ use Rattle.p3_challenger.specs.BabyBearResidues.{BabyBear}
 use Rattle.p3_challenger.specs.TranscriptError.{TranscriptError}
 use Rattle.p3_challenger.specs.TranscriptError.TheVariants.{OutOfMemory}
 
+-- the scalar that is drawn, and the challenger after it
+abbrev pub drawn_scalar : {H : Type 0} → (H → HashFunction ℕ) → HashState ℕ H → Option BabyBear
+drawn_scalar function s = scalar.sampled (λ u. Some (sampled function u)) (after_sampled function) s
+
+abbrev pub after_scalar : {H : Type 0} → (H → HashFunction ℕ) → HashState ℕ H → HashState ℕ H
+after_scalar function s = scalar.after_sampled (λ u. Some (sampled function u)) (after_sampled function) s
+
 -- The run of a scalar from a challenger: the scalar's bytes are observed, and then the challenge is
 -- drawn, which leaves this challenger.
-pub record IsRun {H : Type 0} (hash : H → List ℕ → List ℕ) (out_len : ℕ) (start : HashState ℕ H) (value challenge : BabyBear) (after : HashState ℕ H) : Type 0 where
-  pub drawn : scalar.sampled (sampled hash out_len) (after_sampled hash out_len) (scalar.observed observed start value) ≡ Some challenge
-  pub left : after ≡ scalar.after_sampled (sampled hash out_len) (after_sampled hash out_len) (scalar.observed observed start value)
+pub record IsRun {H : Type 0} (function : H → HashFunction ℕ) (start : HashState ℕ H)
+    (value challenge : BabyBear) (after : HashState ℕ H) : Type 0 where
+  pub drawn : drawn_scalar function (scalar.observed observed start value) ≡ Some challenge
+  pub left : after ≡ after_scalar function (scalar.observed observed start value)
 
 -- why bytes are, whole, no scalar
 abbrev pub too_short : List ℕ

@@ -1,10 +1,9 @@
 ghost use Rattle.std.specs.Prelude.{◌≡◌, Some, IfOk, IfErr, MatchResult};
-ghost use Rattle.transcript_program.specs.Scalar as scalar;
-ghost use Rattle.p3_challenger.specs.HashState.{HashState, sampled, after_sampled};
+ghost use Rattle.p3_challenger.specs.HashState.{HashState, function_of};
 ghost use Rattle.transcript_program.specs.Scalar.{wire};
 ghost use Rattle.p3_challenger.specs.BabyBearResidues.{BabyBear};
 ghost use Rattle.p3_challenger.specs.Errors.{IsBadShape};
-ghost use Rattle.transcript_program.specs.First.{IsRun, read_whole, Verifies};
+ghost use Rattle.transcript_program.specs.First.{IsRun, drawn_scalar, after_scalar, read_whole, Verifies};
 
 use p3_challenger::HashChallenger;
 use p3_challenger::fs::{BytesToFieldCodec, Codec, TranscriptError};
@@ -45,7 +44,8 @@ pub fn prove<H: CryptographicHasher<u8, [u8; OUT_LEN]>, const OUT_LEN: usize>(
     value: BabyBear,
 ) -> Result<FirstRun<H, OUT_LEN>, TranscriptError>
     ensures wire { IfOk result (λ run. run.wire.items ≡ wire value) }
-    ensures run { IfOk result (λ run. IsRun H.hash OUT_LEN challenger value run.challenge run.challenger) }
+    ensures run { IfOk result (λ run.
+        IsRun (function_of H.hash OUT_LEN H.filler) challenger value run.challenge run.challenger) }
     ensures err { IfErr result (λ e. e ≡ TranscriptError.OutOfMemory) }
 {
     ScalarCodec::observe(&mut challenger, &value)?;
@@ -69,7 +69,8 @@ pub fn verify<H: CryptographicHasher<u8, [u8; OUT_LEN]>, const OUT_LEN: usize>(
 ) -> Result<FirstRead<H, OUT_LEN>, TranscriptError>
     // Which answer it is, on every proof.
     ensures exact { Verifies (read_whole narg.now) (λ value found.
-        (found.value ≡ value) × IsRun H.hash OUT_LEN challenger value found.challenge found.challenger) result }
+        (found.value ≡ value)
+        × IsRun (function_of H.hash OUT_LEN H.filler) challenger value found.challenge found.challenger) result }
 
     // What is accepted is, whole, the spelling of the scalar that is answered.
     ensures whole { IfOk result (λ found. narg.now ≡ wire found.value) }
@@ -77,7 +78,7 @@ pub fn verify<H: CryptographicHasher<u8, [u8; OUT_LEN]>, const OUT_LEN: usize>(
     // The proof of a prover that started from an equal challenger is accepted, unless memory runs
     // out, with that prover's scalar, challenge and challenger.
     ensures accepts { (value challenge : BabyBear) (after : HashState _ _) →
-        IsRun H.hash OUT_LEN challenger value challenge after → narg.now ≡ wire value →
+        IsRun (function_of H.hash OUT_LEN H.filler) challenger value challenge after → narg.now ≡ wire value →
         MatchResult result
         (λ found. (found.value ≡ value) × ((found.challenge ≡ challenge) × (found.challenger ≡ after)))
         (λ e. e ≡ TranscriptError.OutOfMemory) }
@@ -103,8 +104,8 @@ pub fn verify<H: CryptographicHasher<u8, [u8; OUT_LEN]>, const OUT_LEN: usize>(
 fn draw<H: CryptographicHasher<u8, [u8; OUT_LEN]>, const OUT_LEN: usize>(
     challenger: &mut HashChallenger<u8, H, OUT_LEN>,
 ) -> BabyBear
-    ensures drawn { scalar.sampled (sampled H.hash OUT_LEN) (after_sampled H.hash OUT_LEN) challenger.old ≡ Some result }
-    ensures after { challenger.new ≡ scalar.after_sampled (sampled H.hash OUT_LEN) (after_sampled H.hash OUT_LEN) challenger.old }
+    ensures drawn { drawn_scalar (function_of H.hash OUT_LEN H.filler) challenger.old ≡ Some result }
+    ensures after { challenger.new ≡ after_scalar (function_of H.hash OUT_LEN H.filler) challenger.old }
 {
     match ScalarCodec::sample(challenger) {
         Ok(challenge) => challenge,

@@ -29,6 +29,8 @@ impl<
 
     ghost number = { λ n. n };
 
+    ghost number_tells = { λ _ _ same. same };
+
     ghost samples_bits = { λ bits. bits-sampled F.residues P.permutation RATE bits };
 
     ghost bits_below = { λ bits s x _ drawn. low_bits-below (F.residues.number (duplex_state.sampled F.residues P.permutation RATE s)) bits x drawn };

@@ -1,12 +1,13 @@
 // What a duplex challenger observes beside single values and arrays: digests, caps and lists of
 // lists, each value by value. None of it is ever refused.
-ghost use Rattle.std.specs.Prelude.{◌≡◌};
+ghost use Rattle.std.specs.Prelude.{◌≡◌, ◌↔◌};
 ghost use Rattle.p3_challenger_core.specs.Observation.{observed_all};
 
 use crate::DuplexChallenger;
 use p3_challenger_core::{CanObserve, ChallengerError};
 use p3_field_core::PrimeField64;
 use p3_symmetric::{CryptographicPermutation, Hash, MerkleCap};
+use std::convert::AsSlice;
 
 impl<
     F: PrimeField64,
@@ -16,21 +17,41 @@ impl<
 > DuplexChallenger<F, P, WIDTH, RATE> {
     ghost use Rattle.p3_duplex.specs.DuplexState as duplex_state;
 
-    // Makes the values of the roots pending, root by root.
-    fn push_roots<const N: usize>(&mut self, roots: &[[F; N]])
-        ensures { self.new ≡ observed_all (λ s root. duplex_state.fed F.residues P.permutation RATE s root) self.old roots.now }
+    /// A cap that is lent is observed as its contents are, the cap itself: it feeds the same symbols, and leaves
+    /// the same state.
+    ///
+    /// A law: the body is empty, and a caller cites the clauses.
+    pub fn lent_caps_are_caps<'a, M, const N: usize>()
+        ensures symbols { (cap : _) →
+            ⟦<DuplexChallenger<F, P, WIDTH, RATE> as CanObserve<&'a MerkleCap<M, [F; N]>>>⟧.observation.symbols cap
+            ≡ ⟦<DuplexChallenger<F, P, WIDTH, RATE> as CanObserve<MerkleCap<M, [F; N]>>>⟧.observation.symbols cap.now }
+        ensures observed { (s : duplex_state.Duplex F P) (cap : _) →
+            ⟦<DuplexChallenger<F, P, WIDTH, RATE> as CanObserve<&'a MerkleCap<M, [F; N]>>>⟧.observation.observed s cap
+            ≡ ⟦<DuplexChallenger<F, P, WIDTH, RATE> as CanObserve<MerkleCap<M, [F; N]>>>⟧.observation.observed s cap.now }
+        ensures left { (s : duplex_state.Duplex F P) (cap : _) (t : duplex_state.Duplex F P) →
+            ⟦<DuplexChallenger<F, P, WIDTH, RATE> as CanObserve<&'a MerkleCap<M, [F; N]>>>⟧.observation.may_leave s cap t
+            ↔ ⟦<DuplexChallenger<F, P, WIDTH, RATE> as CanObserve<MerkleCap<M, [F; N]>>>⟧.observation.may_leave s cap.now t }
+    {}
+
+    // Makes the values of parts pending, part by part.
+    pub(crate) fn push_parts<Part: AsSlice<F>>(&mut self, parts: &[Part])
+        ensures { self.new ≡ observed_all
+            (λ s part. duplex_state.fed F.residues P.permutation RATE s (Part.items part)) self.old parts.now }
     {
-        for i in 0..roots.len() {
-            self.push_all(&roots[i][..]);
+        for i in 0..parts.len() {
+            self.push_all(parts[i].as_slice());
         }
     }
 
-    // Makes the values of the lists pending, list by list.
-    fn push_lists(&mut self, lists: &[Vec<F>])
-        ensures { self.new ≡ observed_all (λ s list. duplex_state.fed F.residues P.permutation RATE s list.items) self.old lists.now }
+    // Makes the values of values of parts pending, part by part.
+    fn push_values<Part: AsSlice<F>, V: AsSlice<Part>>(&mut self, values: &[V])
+        ensures { self.new ≡ observed_all
+            (λ s value. observed_all
+            (λ u part. duplex_state.fed F.residues P.permutation RATE u (Part.items part)) s (V.items value))
+            self.old values.now }
     {
-        for i in 0..lists.len() {
-            self.push_all(lists[i].as_slice());
+        for i in 0..values.len() {
+            self.push_parts(values[i].as_slice());
         }
     }
 }
@@ -44,29 +65,27 @@ impl<
     const N: usize,
 > CanObserve<Hash<M, F, N>> for DuplexChallenger<F, P, WIDTH, RATE> {
     ghost use Rattle.std.specs.Prelude.{refl};
-    ghost use Rattle.std.specs.List.{flat_map};
+    ghost use Rattle.p3_symmetric.specs.HashValues.{values_of};
     ghost use Rattle.p3_challenger_core.specs.Observation.{unrefused_observe, observed_all};
     ghost use Rattle.p3_duplex.specs.DuplexState as duplex_state;
     ghost use Rattle.p3_duplex.specs.DuplexStateLaws.{is_observation, fed-flat_map};
 
     // An observation takes no memory: it is never refused.
-    ghost observation = { unrefused_observe (λ digest. digest) (λ s digest. duplex_state.fed F.residues P.permutation RATE s digest) };
+    ghost observation = { unrefused_observe values_of (λ s digest. duplex_state.fed F.residues P.permutation RATE s (values_of digest)) };
 
     ghost slice_may_leave = { λ _ _ _. ⊥ };
 
-    ghost observes = { is_observation F.residues P.permutation RATE (λ digest. digest) (λ s digest. duplex_state.fed F.residues P.permutation RATE s digest) (λ _ _. refl) };
+    ghost observes = { is_observation F.residues P.permutation RATE values_of (λ s digest. duplex_state.fed F.residues P.permutation RATE s (values_of digest)) (λ _ _. refl) };
 
     ghost slice_leaves = { λ _ _ _ h. absurd h };
 
     fn observe(&mut self, value: Hash<M, F, N>) -> Result<(), ChallengerError> {
-        self.push_all(&value.as_ref()[..]);
+        self.push_all(value.as_slice());
         Ok(())
     }
 
     fn observe_slice(&mut self, values: &[Hash<M, F, N>]) -> Result<(), ChallengerError> {
-        for i in 0..values.len() {
-            self.push_all(&values[i].as_ref()[..]);
-        }
+        self.push_parts(values);
         Ok(())
     }
 }
@@ -95,14 +114,12 @@ impl<
     ghost slice_leaves = { λ _ _ _ h. absurd h };
 
     fn observe(&mut self, value: MerkleCap<M, [F; N]>) -> Result<(), ChallengerError> {
-        self.push_roots(value.roots());
+        self.push_parts(value.roots());
         Ok(())
     }
 
     fn observe_slice(&mut self, values: &[MerkleCap<M, [F; N]>]) -> Result<(), ChallengerError> {
-        for i in 0..values.len() {
-            self.push_roots(values[i].roots());
-        }
+        self.push_values(values);
         Ok(())
     }
 }
@@ -131,14 +148,12 @@ impl<
     ghost slice_leaves = { λ _ _ _ h. absurd h };
 
     fn observe(&mut self, value: &MerkleCap<M, [F; N]>) -> Result<(), ChallengerError> {
-        self.push_roots(value.roots());
+        self.push_parts(value.roots());
         Ok(())
     }
 
     fn observe_slice(&mut self, values: &[&MerkleCap<M, [F; N]>]) -> Result<(), ChallengerError> {
-        for i in 0..values.len() {
-            self.push_roots(values[i].roots());
-        }
+        self.push_values(values);
         Ok(())
     }
 }
@@ -165,14 +180,12 @@ impl<
     ghost slice_leaves = { λ _ _ _ h. absurd h };
 
     fn observe(&mut self, value: Vec<Vec<F>>) -> Result<(), ChallengerError> {
-        self.push_lists(value.as_slice());
+        self.push_parts(value.as_slice());
         Ok(())
     }
 
     fn observe_slice(&mut self, values: &[Vec<Vec<F>>]) -> Result<(), ChallengerError> {
-        for i in 0..values.len() {
-            self.push_lists(values[i].as_slice());
-        }
+        self.push_values(values);
         Ok(())
     }
 }

@@ -1,12 +1,13 @@
 // What a hash challenger observes beside single values and arrays: digests, caps and lists of lists.
 // Each feeds its values in order, by one call a digest or a list.
-ghost use Rattle.std.specs.Prelude.{◌≡◌, List, OnOk, IfErr, map};
+ghost use Rattle.std.specs.Prelude.{◌≡◌, ◌↔◌, List, OnOk, IfErr, map};
 ghost use Rattle.std.specs.List.{flat_map};
-ghost use Rattle.p3_challenger_core.specs.Observation.{RefusesObserve, LeavesBeginning};
+ghost use Rattle.p3_challenger_core.specs.Observation.{RefusesObserve, LeavesBeginning, observed_all};
 
 use crate::HashChallenger;
 use p3_challenger_core::{CanObserve, ChallengerError};
 use p3_symmetric::{CryptographicHasher, Hash, MerkleCap};
+use std::convert::AsSlice;
 
 impl<T: Copy, H: CryptographicHasher<T, [T; OUT_LEN]>, const OUT_LEN: usize> HashChallenger<
     T,
@@ -15,26 +16,53 @@ impl<T: Copy, H: CryptographicHasher<T, [T; OUT_LEN]>, const OUT_LEN: usize> Has
 > {
     ghost use Rattle.p3_hash_challenger.specs.HashState as hash_state;
 
-    // Feeds the roots in order. A refused call has fed the roots before the refused one.
-    fn feed_roots<const N: usize>(&mut self, roots: &[[T; N]]) -> Result<(), ChallengerError>
-        ensures ok { OnOk result (self.new ≡ hash_state.fed self.old (flat_map (λ root. root) roots.now)) }
+    /// A cap that is lent is observed as its contents are, the cap itself: it feeds the same symbols, and leaves
+    /// the same state.
+    ///
+    /// A law: the body is empty, and a caller cites the clauses.
+    pub fn lent_caps_are_caps<'a, F, const N: usize>()
+        ensures symbols { (cap : _) →
+            ⟦<HashChallenger<T, H, OUT_LEN> as CanObserve<&'a MerkleCap<F, [T; N]>>>⟧.observation.symbols cap
+            ≡ ⟦<HashChallenger<T, H, OUT_LEN> as CanObserve<MerkleCap<F, [T; N]>>>⟧.observation.symbols cap.now }
+        ensures observed { (s : hash_state.HashState T H) (cap : _) →
+            ⟦<HashChallenger<T, H, OUT_LEN> as CanObserve<&'a MerkleCap<F, [T; N]>>>⟧.observation.observed s cap
+            ≡ ⟦<HashChallenger<T, H, OUT_LEN> as CanObserve<MerkleCap<F, [T; N]>>>⟧.observation.observed s cap.now }
+        ensures left { (s : hash_state.HashState T H) (cap : _) (t : hash_state.HashState T H) →
+            ⟦<HashChallenger<T, H, OUT_LEN> as CanObserve<&'a MerkleCap<F, [T; N]>>>⟧.observation.may_leave s cap t
+            ↔ ⟦<HashChallenger<T, H, OUT_LEN> as CanObserve<MerkleCap<F, [T; N]>>>⟧.observation.may_leave s cap.now t }
+    {}
+
+    // Feeds parts in order, each by one call. A refused call has fed the parts before the refused one.
+    pub(crate) fn feed_parts<Part: AsSlice<T>>(
+        &mut self,
+        parts: &[Part],
+    ) -> Result<(), ChallengerError>
+        ensures each { OnOk result (
+            self.new ≡ observed_all (λ s part. hash_state.fed s (Part.items part)) self.old parts.now) }
+        ensures whole { OnOk result (self.new ≡ hash_state.fed self.old (flat_map Part.items parts.now)) }
         ensures err { IfErr result (λ e.
-            RefusesObserve (LeavesBeginning hash_state.fed self.old roots.now) e self.new) }
+            RefusesObserve (LeavesBeginning (λ s part. hash_state.fed s (Part.items part)) self.old parts.now) e
+            self.new) }
     {
-        for root in roots {
-            self.feed(&root[..])?;
+        for part in parts {
+            self.feed(part.as_slice())?;
         }
         Ok(())
     }
 
-    // Feeds the lists in order. A refused call has fed the lists before the refused one.
-    fn feed_lists(&mut self, lists: &[Vec<T>]) -> Result<(), ChallengerError>
-        ensures ok { OnOk result (self.new ≡ hash_state.fed self.old (flat_map (λ list. list.items) lists.now)) }
+    // Feeds values of parts in order. A refused call has fed the parts before the refused one.
+    fn feed_values<Part: AsSlice<T>, V: AsSlice<Part>>(
+        &mut self,
+        values: &[V],
+    ) -> Result<(), ChallengerError>
+        ensures ok { OnOk result (self.new
+            ≡ observed_all (λ s value. hash_state.fed s (flat_map Part.items (V.items value))) self.old values.now) }
         ensures err { IfErr result (λ e.
-            RefusesObserve (LeavesBeginning (λ s list. hash_state.fed s list.items) self.old lists.now) e self.new) }
+            RefusesObserve (LeavesBeginning (λ s part. hash_state.fed s (Part.items part)) self.old
+            (flat_map V.items values.now)) e self.new) }
     {
-        for list in lists {
-            self.feed(list.as_slice())?;
+        for value in values {
+            self.feed_parts(value.as_slice())?;
         }
         Ok(())
     }
@@ -49,32 +77,31 @@ impl<
 > CanObserve<Hash<F, T, N>> for HashChallenger<T, H, OUT_LEN> {
     ghost use Rattle.std.specs.Prelude.{◌≡◌};
     ghost use Rattle.p3_challenger_core.specs.Observation.{LeavesBeginning};
+    ghost use Rattle.p3_symmetric.specs.HashValues.{values_of};
     ghost use Rattle.p3_hash_challenger.specs.HashState as hash_state;
-    ghost use Rattle.p3_hash_challenger.specs.HashStateLaws.{digests-observed};
+    ghost use Rattle.p3_hash_challenger.specs.HashStateLaws.{lists-observed};
 
     // A refused call changes nothing.
     ghost observation = { record {
-      symbols = λ digest. digest;
-      observed = λ s digest. hash_state.fed s digest;
+      symbols = values_of;
+      observed = λ s digest. hash_state.fed s (values_of digest);
       may_leave = λ s _ t. t ≡ s;
     } };
 
     // A refused slice has fed the digests before the refused one.
-    ghost slice_may_leave = { λ s digests t. LeavesBeginning hash_state.fed s digests t };
+    ghost slice_may_leave = { λ s digests t.
+        LeavesBeginning (λ u digest. hash_state.fed u (values_of digest)) s digests t };
 
-    ghost observes = { digests-observed };
+    ghost observes = { lists-observed values_of };
 
     ghost slice_leaves = { λ _ _ _ h. h };
 
     fn observe(&mut self, value: Hash<F, T, N>) -> Result<(), ChallengerError> {
-        self.feed(&value.as_ref()[..])
+        self.feed(value.as_slice())
     }
 
     fn observe_slice(&mut self, values: &[Hash<F, T, N>]) -> Result<(), ChallengerError> {
-        for digest in values {
-            self.feed(&digest.as_ref()[..])?;
-        }
-        Ok(())
+        self.feed_parts(values)
     }
 }
 
@@ -104,14 +131,11 @@ impl<
     ghost slice_leaves = { parts-front (λ cap. cap) (λ root. root) };
 
     fn observe(&mut self, value: MerkleCap<F, [T; N]>) -> Result<(), ChallengerError> {
-        self.feed_roots(value.roots())
+        self.feed_parts(value.roots())
     }
 
     fn observe_slice(&mut self, values: &[MerkleCap<F, [T; N]>]) -> Result<(), ChallengerError> {
-        for cap in values {
-            self.feed_roots(cap.roots())?;
-        }
-        Ok(())
+        self.feed_values(values)
     }
 }
 
@@ -141,14 +165,11 @@ impl<
     ghost slice_leaves = { parts-front (λ cap. cap.now) (λ root. root) };
 
     fn observe(&mut self, value: &MerkleCap<F, [T; N]>) -> Result<(), ChallengerError> {
-        self.feed_roots(value.roots())
+        self.feed_parts(value.roots())
     }
 
     fn observe_slice(&mut self, values: &[&MerkleCap<F, [T; N]>]) -> Result<(), ChallengerError> {
-        for cap in values {
-            self.feed_roots(cap.roots())?;
-        }
-        Ok(())
+        self.feed_values(values)
     }
 }
 
@@ -174,13 +195,10 @@ impl<T: Copy, H: CryptographicHasher<T, [T; OUT_LEN]>, const OUT_LEN: usize> Can
     ghost slice_leaves = { parts-front (λ lists. lists.items) (λ list. list.items) };
 
     fn observe(&mut self, value: Vec<Vec<T>>) -> Result<(), ChallengerError> {
-        self.feed_lists(value.as_slice())
+        self.feed_parts(value.as_slice())
     }
 
     fn observe_slice(&mut self, values: &[Vec<Vec<T>>]) -> Result<(), ChallengerError> {
-        for lists in values {
-            self.feed_lists(lists.as_slice())?;
-        }
-        Ok(())
+        self.feed_values(values)
     }
 }

@@ -1,10 +1,10 @@
 use Rattle.std.proofs.Common.{◌≡◌, [], length, drop, Option, Some, Result, Ok, arith, refl, sym, ap, ◌∙◌, length-drop}
 use Rattle.transcript_program.specs.Scalar as scalar
-use Rattle.p3_challenger.specs.HashState.{observed, sampled, after_sampled}
+use Rattle.p3_challenger.specs.HashState.{observed, function_of}
 use Rattle.transcript_program.specs.Scalar.{width}
 use Rattle.p3_challenger.specs.BabyBearResidues.{BabyBear}
 use Rattle.p3_challenger.specs.TranscriptError.{TranscriptError}
-use Rattle.transcript_program.specs.First.{read_whole}
+use Rattle.transcript_program.specs.First.{drawn_scalar, after_scalar, read_whole}
 use Rattle.transcript_program.proofs.FirstLemmas.{read_whole-decoded}
 use Rattle.transcript_program.proofs.first.verify.Goals as goal
 
@@ -27,10 +27,11 @@ pub returns-clause-accepts : goal.returns-clause-accepts
 returns-clause-accepts g c = λ value challenge after run spelled.
     let found : ◌≡◌ {A = Result BabyBear TranscriptError} (Ok c.in_ok-found.found) (Ok value) = c.in_ok-found.ensures.only value [] spelled in
     let same : c.in_ok-found.found ≡ value = cc in
-    let hash = g.H.CryptographicHasher.hash in
+    let hasher = g.H.CryptographicHasher in
+    let function = function_of hasher.hash g.row.OUT_LEN hasher.filler in
     let start = λ (v : BabyBear). scalar.observed observed c.args.challenger v in
     let seen : c.observe.new.challenger ≡ start value = c.in_ok-observe.ensures.ok ∙ ap start same in
     let drawn : ◌≡◌ {A = Option BabyBear} (Some c.draw-drawn.result) (Some challenge) =
-    sym c.draw-drawn.ensures.drawn ∙ ap (scalar.sampled (sampled hash g.row.OUT_LEN) (after_sampled hash g.row.OUT_LEN)) seen ∙ run.drawn in
+    sym c.draw-drawn.ensures.drawn ∙ ap (drawn_scalar function) seen ∙ run.drawn in
     let challenges : c.draw-drawn.result ≡ challenge = cc in
-    (same, (challenges, c.draw-drawn.ensures.after ∙ ap (scalar.after_sampled (sampled hash g.row.OUT_LEN) (after_sampled hash g.row.OUT_LEN)) seen ∙ sym run.left))
+    (same, (challenges, c.draw-drawn.ensures.after ∙ ap (after_scalar function) seen ∙ sym run.left))

@@ -1,7 +1,9 @@
 use Rattle.std.proofs.Common.{◌≤◌, ap, arith}
-use Rattle.p3_challenger_core.specs.SegmentLaws.{run_calls-segments, run_calls-segments_to_digest, run_calls-same, run_calls_to_digest-same}
+use Rattle.p3_challenger_core.specs.SegmentLaws.{run_calls-segments, run_calls-segments_to_digest}
+use Rattle.p3_challenger_core.specs.SegmentLaws.{run_calls-same, run_calls_to_digest-same}
 use Rattle.p3_hash_challenger.specs.HashTranscript.{HashTranscript, hash_by_calls}
 use Rattle.p3_hash_challenger.specs.HashChain.{hash_by_segments}
+use Rattle.p3_hash_challenger.specs.HashState.{function_of}
 use Rattle.p3_hash_challenger.proofs.HashChains.{hash_steps}
 use Rattle.p3_hash_challenger.proofs.HashHanded.{Agree, same_call, same_digest}
 use Rattle.p3_hash_challenger.proofs.hash_challenger.HashChallenger.follows_hash_chain.Goals as goal
@@ -9,17 +11,23 @@ use Rattle.p3_hash_challenger.proofs.hash_challenger.HashChallenger.follows_hash
 -- a challenger never has more outputs left than a digest has places
 pub returns : goal.returns
 returns g c =
-    let s = c.args.self.now in
+    let s = c.args.self.now.transcript in
     let len = g.row.OUT_LEN in
-    let fits : s.transcript.outputs_left ≤ len = omega (arith, ap (λ t. t.transcript.outputs_left) c.self.view_is, c.self.invariant.1.0) in
-    let hash = g.H.CryptographicHasher.hash s.hasher in
+    let fits : s.outputs_left ≤ len =
+    omega (arith, ap (λ t. t.transcript.outputs_left) c.self.view_is, c.self.invariant.left) in
+    let hasher = g.H.CryptographicHasher in
+    let h = function_of hasher.hash len hasher.filler c.args.self.now.hasher in
     let keeps = λ (t : HashTranscript g.row.T.Denot). t.outputs_left ≤ len in
-    let by_calls = hash_by_calls hash len in
-    let by_segments = hash_by_segments hash len in
-    let steps = hash_steps hash len c.self.invariant.0 in
+    let by_calls = hash_by_calls h in
+    let by_segments = hash_by_segments h in
+    let steps = hash_steps h c.self.invariant.positive in
     record {
-      calls = run_calls-segments keeps by_calls by_segments steps s.transcript fits;
-      digest = run_calls-segments_to_digest keeps by_calls by_segments steps s.transcript fits;
-      handed = λ calls other same. run_calls-same (Agree hash other len) by_calls (hash_by_calls other len) (same_call hash other len) (same_digest hash other len) s.transcript calls same;
-      handed_to_digest = λ calls other same. run_calls_to_digest-same (Agree hash other len) by_calls (hash_by_calls other len) (same_call hash other len) (same_digest hash other len) s.transcript calls same;
+      calls = run_calls-segments keeps by_calls by_segments steps s fits;
+      digest = run_calls-segments_to_digest keeps by_calls by_segments steps s fits;
+      handed = λ calls other agree.
+          run_calls-same (Agree h other) by_calls (hash_by_calls (record h { digest = other }))
+          (same_call h other) (same_digest h other) s calls agree;
+      handed_to_digest = λ calls other agree.
+          run_calls_to_digest-same (Agree h other) by_calls (hash_by_calls (record h { digest = other }))
+          (same_call h other) (same_digest h other) s calls agree;
     }

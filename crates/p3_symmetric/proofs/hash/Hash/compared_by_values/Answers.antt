@@ -1,6 +1,6 @@
-use Rattle.std.specs.Cmp.Lexicographic.{pointwise_decides}
+use Rattle.p3_symmetric.specs.HashValues.{compared-by-values}
 use Rattle.p3_symmetric.proofs.hash.Hash.compared_by_values.Goals as goal
 
--- digests are the lists of their values, and those compare exactly
+-- digests are told apart by their values, and those compare exactly
 pub returns : goal.returns
-returns g c = pointwise_decides
+returns g c = compared-by-values

@@ -1,9 +1,0 @@
-use Rattle.std.proofs.Common.{◌≡◌, drop}
-use Rattle.p3_duplex.specs.DuplexState.{fed}
-use Rattle.p3_duplex.proofs.duplex_challenger.DuplexChallenger.push_array.Given as goal
-
--- what is left to observe leads to the same end
-abbrev pub invariant-loop-i : goal.invariant-loop-i
-invariant-loop-i g l =
-    let all = fed g.F.PrimeCharacteristicRing.residues g.P.CryptographicPermutation.permutation g.row.RATE in
-    all l.self (drop l.i l.values) ≡ all l.initial.self l.values
