@@ -2,4 +2,5 @@ pub mod Digests
 pub mod DuplexRows
 pub mod FieldRows
 pub mod HashRows
+pub mod Lies
 pub mod Observed

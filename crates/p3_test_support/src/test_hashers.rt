@@ -1,4 +1,4 @@
-ghost use Rattle.std.specs.Prelude.{◌≡◌, ◌%◌, length};
+ghost use Rattle.std.specs.Prelude.{◌≡◌, ◌%◌, [], length, replicate, IfOk};
 ghost use Rattle.std.specs.List.{sum};
 ghost use Rattle.p3_test_support.specs.LengthHasher.{digest_of_length};
 
@@ -87,7 +87,10 @@ impl CryptographicHasher<u8, [u8; 24]> for FixedHasher {
 }
 
 /// A challenger that draws these bytes, the last one first.
-pub fn fixed_challenger(alloc: Global, digest: [u8; 24]) -> HashChallenger<u8, FixedHasher, 24> {
+pub fn fixed_challenger(alloc: Global, digest: [u8; 24]) -> HashChallenger<u8, FixedHasher, 24>
+    ensures pending { result.transcript.pending ≡ [] }
+    ensures digest { result.hasher.digest ≡ digest }
+{
     HashChallenger::new(Vec::new(alloc), FixedHasher { digest })
 }
 
@@ -95,7 +98,9 @@ pub fn fixed_challenger(alloc: Global, digest: [u8; 24]) -> HashChallenger<u8, F
 pub fn length_challenger(
     alloc: Global,
     pending: usize,
-) -> Result<HashChallenger<u8, LengthHasher, 32>, AllocError> {
+) -> Result<HashChallenger<u8, LengthHasher, 32>, AllocError>
+    ensures { IfOk result (λ challenger. challenger.transcript.pending ≡ replicate pending 0) }
+{
     let initial_state = vec![in alloc; 0u8; pending]?;
     Ok(HashChallenger::new(initial_state, LengthHasher))
 }

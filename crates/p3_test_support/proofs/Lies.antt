@@ -1,0 +1,121 @@
+-- Implementations that lie about themselves: the laws of the traits refuse each.
+use Rattle.std.proofs.Common.{◌≡◌, ℕ, zero, suc, ◌<◌, ◌≤◌, List, [], ◌∷◌, ◌++◌, length, replicate, Some}
+use Rattle.std.proofs.Common.{Ok, refl, lit<, inl, inr, arith}
+use Rattle.p3_symmetric.specs.Digests.{IsDigest}
+use Rattle.p3_challenger_core.specs.Reading.{IsByte, AreBytes, OneBegins}
+use Rattle.p3_challenger_core.specs.Sponge.{IsFed, after_steps}
+use Rattle.p3_challenger_core.specs.Observation.{Observation, IsObservation}
+use Rattle.p3_challenger_core.specs.Sampling.{Sampling, IsSampling}
+use Rattle.p3_fs_core.specs.Alphabet.{AreItems}
+use Rattle.p3_fs_core.specs.Encoding.{Encoding, IsEncoding}
+
+heads : (x y : ℕ) (xs ys : List ℕ) → x ∷ xs ≡ y ∷ ys → x ≡ y
+heads x y xs ys e = cc
+
+-- ---- challengers that keep the numbers that they are fed, and say something else
+
+abbrev kept : List ℕ → List ℕ → List ℕ
+kept s xs = s ++ xs
+
+-- a refused observe writes 77 into the challenger
+abbrev scribbling : Observation (List ℕ) ℕ ℕ
+scribbling = record { symbols = λ x. x ∷ []; observed = λ s x. s ++ (x ∷ []); may_leave = λ s _ t. t ≡ 77 ∷ s }
+
+scribbling-refused : IsObservation kept scribbling → ⊥
+scribbling-refused laws =
+    let left = laws.leaves_behind [] 1 [] 2 (77 ∷ 1 ∷ []) refl in
+    absurd (omega (arith, heads 77 1 (1 ∷ []) _ left.1))
+
+-- a value is kept, and is said to feed nothing
+abbrev silent : Observation (List ℕ) ℕ ℕ
+silent = record { symbols = λ _. []; observed = λ s x. s ++ (x ∷ []); may_leave = λ _ _ _. ⊥ }
+
+silent-no_feeding : IsFed kept [] [] (1 ∷ []) → ⊥
+silent-no_feeding fed = absurd (omega (arith, heads 1 2 (2 ∷ []) [] (fed.traceless 2 [])))
+
+silent-refused : IsObservation kept silent → ⊥
+silent-refused laws = silent-no_feeding (laws.observes [] 1)
+
+-- a value is said to be fed, and is dropped
+abbrev dropping : Observation (List ℕ) ℕ ℕ
+dropping = record { symbols = λ x. x ∷ []; observed = λ s _. s; may_leave = λ _ _ _. ⊥ }
+
+dropping-refused : IsObservation kept dropping → ⊥
+dropping-refused laws = let fed = (laws.observes [] 1).exactly tt in cc
+
+-- ---- draws, of a challenger whose state is the number of its smallest draws
+
+-- a draw gives a value where it met its limit
+abbrev unlimited : Sampling ℕ ℕ
+unlimited = record { sampled = λ _. Some 7; after = suc; meets_limit = λ _. Unit {0}; may_leave = λ _ _. ⊥ }
+
+unlimited-refused : IsSampling suc unlimited → ⊥
+unlimited-refused laws = let none = laws.limit_gives_none 0 tt in cc
+
+grows : (n s : ℕ) → s ≤ after_steps suc n s
+grows zero s = omega arith
+grows (suc n) s = omega (arith, grows n (suc s))
+
+-- a refused draw begins anew
+abbrev forgetful : Sampling ℕ ℕ
+forgetful = record { sampled = λ s. Some s; after = suc; meets_limit = λ _. ⊥; may_leave = λ _ t. t ≡ 0 }
+
+forgetful-refused : IsSampling suc forgetful → ⊥
+forgetful-refused laws = let left = laws.leaves 1 0 refl in absurd (omega (arith, left.1, grows left.0 1))
+
+-- and so does one that is made
+abbrev restarting : Sampling ℕ ℕ
+restarting = record { sampled = λ s. Some s; after = λ _. 0; meets_limit = λ _. ⊥; may_leave = λ _ _. ⊥ }
+
+restarting-refused : IsSampling suc restarting → ⊥
+restarting-refused laws = let left = laws.steps 1 in absurd (omega (arith, left.1, grows left.0 1))
+
+-- what draws of bits owe: a drawn value is told by its number
+abbrev NumberTells : (ℕ → ℕ) → Type 0
+NumberTells number = (x y : ℕ) → number x ≡ number y → x ≡ y
+
+-- the numbers of drawn values are all 0, and so below every power of two
+counted_0-refused : NumberTells (λ _. 0) → ⊥
+counted_0-refused number_tells = absurd (omega (arith, number_tells 0 1 refl))
+
+-- ---- spellings
+
+-- every value has one spelling
+abbrev constant : Encoding ℕ
+constant = record { width = 1; wire = λ _. 0 ∷ []; read = λ bytes. Ok (0, bytes) }
+
+constant-refused : IsEncoding constant → ⊥
+constant-refused laws = absurd (omega (arith, (laws.one_way 0 1 [] [] refl).0))
+
+-- ---- alphabets
+
+bytes-of_one : (byte : ℕ) → byte < 256 → AreBytes (byte ∷ [])
+bytes-of_one byte is zero = is
+bytes-of_one byte is (suc i) = lit< tt
+
+other_strings : OneBegins {S = ℕ} (1 ∷ []) (2 ∷ []) → ⊥
+other_strings (inl h) = absurd (omega (arith, heads 1 2 h.0 [] h.1))
+other_strings (inr h) = absurd (omega (arith, heads 2 1 h.0 [] h.1))
+
+-- what every alphabet owes of the items of byte strings that are not too long
+abbrev Begins : (List ℕ → List ℕ) → Type 0
+Begins items = (a b : List ℕ) (x y : List ℕ) → AreBytes a → AreBytes b → items a ++ x ≡ items b ++ y → OneBegins a b
+
+-- no byte string has any items
+no_items-refused : Begins (λ _. []) → ⊥
+no_items-refused begins =
+    other_strings (begins (1 ∷ []) (2 ∷ []) [] [] (bytes-of_one 1 (lit< tt)) (bytes-of_one 2 (lit< tt)) refl)
+
+-- the items of a byte string are no items
+outside-refused : ((bytes : List ℕ) → AreBytes bytes → AreItems IsByte (256 ∷ bytes)) → ⊥
+outside-refused items_are = let item = (items_are (1 ∷ []) (bytes-of_one 1 (lit< tt))).0 in absurd (omega (arith, item))
+
+-- ---- digests
+
+-- a digest is one place short
+short-refused : (digest : List ℕ) → length digest ≡ 31 → IsDigest digest → ⊥
+short-refused digest short is = absurd (omega (arith, short, is.places))
+
+-- a place of it is no byte
+above-refused : IsDigest (256 ∷ replicate 31 0) → ⊥
+above-refused is = absurd (omega (arith, is.bytes 0))

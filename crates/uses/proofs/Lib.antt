@@ -1,0 +1,3 @@
+pub mod BoundValues
+pub mod Either
+pub mod ThreeCalls

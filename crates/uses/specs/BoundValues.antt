@@ -1,0 +1,18 @@
+-- A value, a byte string and a second value, absorbed one after another.
+use Rattle.std.specs.Prelude.{ℕ, List, ◌++◌}
+use Rattle.p3_challenger.specs.Sponge.{IsFed}
+use Rattle.p3_challenger.specs.Observation.{LeavesFed}
+use Rattle.p3_challenger.specs.ChallengerError.{ChallengerError}
+use Rattle.p3_challenger.specs.ChallengerError.TheVariants.{OutOfMemory, TooLong}
+
+-- the symbols of the three
+abbrev pub in_turn : {T Symbol : Type 0} → (T → List Symbol) → (List ℕ → List Symbol) → T → List ℕ → T → List Symbol
+in_turn of_value of_bytes first message second = of_value first ++ (of_bytes message ++ of_value second)
+
+-- What an absorption that answers this error leaves: where memory is refused, a front of the symbols was fed;
+-- where the byte string is too long, those of the first value alone were.
+abbrev pub RefusesInTurn : {S Symbol : Type 0} →
+    (S → List Symbol → S) → Type 0 → List Symbol → List Symbol → ChallengerError → S → S → Type 0
+RefusesInTurn fed IsTooLong of_first symbols OutOfMemory s t = LeavesFed fed s symbols t
+RefusesInTurn fed IsTooLong of_first symbols TooLong s t = IsTooLong × IsFed fed s of_first t
+RefusesInTurn fed IsTooLong of_first symbols _ s t = ⊥

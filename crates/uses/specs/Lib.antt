@@ -1,0 +1,2 @@
+pub mod BoundValues
+pub mod ThreeCalls

@@ -1,0 +1,23 @@
+-- Values are observed in two calls, and one is drawn in a third.
+use Rattle.std.specs.Prelude.{◌≡◌, List, ◌⊎◌, Some}
+use Rattle.p3_challenger.specs.Sponge.{IsFed, IsStepsOn}
+use Rattle.p3_challenger.specs.Observation.{LeavesFed}
+use Rattle.p3_challenger.specs.Sampling.{Sampling}
+use Rattle.p3_challenger.specs.ChallengerError.{ChallengerError}
+use Rattle.p3_challenger.specs.ChallengerError.TheVariants.{OutOfMemory, DrawLimit}
+
+-- behind these symbols, the value is drawn
+abbrev pub DrawsBehind : {S Symbol X : Type 0} →
+    (S → List Symbol → S) → Sampling S X → List Symbol → X → S → S → Type 0
+DrawsBehind {S} fed d symbols x s t =
+    (here : S) × IsFed fed s symbols here × (d.sampled here ≡ Some x) × (t ≡ d.after here)
+
+-- What the calls leave where one answers this error. Where memory is refused, a front of the symbols was fed, or all
+-- of them were and then some of the smallest draws were made; where the draw meets its limit, it was made.
+abbrev pub RefusesThreeCalls : {S Symbol X : Type 0} →
+    (S → List Symbol → S) → (S → S) → Sampling S X → List Symbol → ChallengerError → S → S → Type 0
+RefusesThreeCalls {S} fed next d symbols OutOfMemory s t =
+    LeavesFed fed s symbols t ⊎ ((here : S) × IsFed fed s symbols here × IsStepsOn next here t)
+RefusesThreeCalls {S} fed next d symbols DrawLimit s t =
+    (here : S) × IsFed fed s symbols here × d.meets_limit here × (t ≡ d.after here)
+RefusesThreeCalls fed next d symbols _ s t = ⊥
