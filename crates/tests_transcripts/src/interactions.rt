@@ -1,4 +1,6 @@
 use p3_fs_core::{Hierarchy, Interaction, Kind, Length};
+use std::cmp::Ordering;
+use std::process::Abort;
 
 #[test]
 fn steps_are_ordered_part_by_part(rt: HostRuntime) {
@@ -13,9 +15,14 @@ fn steps_are_ordered_part_by_part(rt: HostRuntime) {
         Interaction::marker::<u8>(Hierarchy::Begin, Kind::Protocol, "a"),
         Interaction::marker::<()>(Hierarchy::End, Kind::Protocol, "a"),
     ];
-    for (i, x) in steps.iter().enumerate() {
-        for (j, y) in steps.iter().enumerate() {
-            assert_eq!(rt; x.cmp(y), i.cmp(&j), "{x} and {y}");
+    for i in 0..steps.len() {
+        for j in 0..steps.len() {
+            assert_placed(&rt, &steps[i], &steps[j], i.cmp(&j));
         }
     }
+}
+
+// The two steps stand in this order.
+fn assert_placed(rt: &impl Abort, step: &Interaction, other: &Interaction, order: Ordering) {
+    assert_eq!(rt; step.cmp(other), order, "{step} and {other}");
 }
