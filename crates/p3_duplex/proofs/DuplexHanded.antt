@@ -4,8 +4,8 @@ use Rattle.std.specs.List.{All}
 use Rattle.std.proofs.lemmas.List.Elements.{All-head}
 use Rattle.p3_field_core.specs.Residues.{Residues}
 use Rattle.p3_challenger_core.specs.Segments.{Call, observe, observe_empty_array, draw}
-use Rattle.p3_duplex.proofs.DuplexChains.{absorbing-snoc}
-use Rattle.p3_duplex.specs.DuplexTranscript.{DuplexSponge, absorbing, duplexed, appended, last_output, one_taken, handed_by_value, handed_by_draw, handed_by_digest, run_call, run_digest}
+use Rattle.p3_duplex.proofs.DuplexSteps.{absorbing-snoc}
+use Rattle.p3_duplex.specs.DuplexCalls.{DuplexSponge, absorbing, duplexed, appended, last_output, one_taken, handed_by_value, handed_by_draw, handed_by_digest, run_call, run_digest}
 
 module _ {F : Type 0} (r : Residues F) (permute other : List F → List F) (rate : ℕ) where
   abbrev pub Agree : List F → Type 0

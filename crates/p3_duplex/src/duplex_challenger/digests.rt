@@ -25,10 +25,10 @@ impl<
         ensures symbols { (cap : _) →
             ⟦<DuplexChallenger<F, P, WIDTH, RATE> as CanObserve<&'a MerkleCap<M, [F; N]>>>⟧.observation.symbols cap
             ≡ ⟦<DuplexChallenger<F, P, WIDTH, RATE> as CanObserve<MerkleCap<M, [F; N]>>>⟧.observation.symbols cap.now }
-        ensures observed { (s : duplex_state.Duplex F P) (cap : _) →
+        ensures observed { (s : duplex_state.DuplexState F P) (cap : _) →
             ⟦<DuplexChallenger<F, P, WIDTH, RATE> as CanObserve<&'a MerkleCap<M, [F; N]>>>⟧.observation.observed s cap
             ≡ ⟦<DuplexChallenger<F, P, WIDTH, RATE> as CanObserve<MerkleCap<M, [F; N]>>>⟧.observation.observed s cap.now }
-        ensures left { (s : duplex_state.Duplex F P) (cap : _) (t : duplex_state.Duplex F P) →
+        ensures left { (s : duplex_state.DuplexState F P) (cap : _) (t : duplex_state.DuplexState F P) →
             ⟦<DuplexChallenger<F, P, WIDTH, RATE> as CanObserve<&'a MerkleCap<M, [F; N]>>>⟧.observation.may_leave s cap t
             ↔ ⟦<DuplexChallenger<F, P, WIDTH, RATE> as CanObserve<MerkleCap<M, [F; N]>>>⟧.observation.may_leave s cap.now t }
     {}

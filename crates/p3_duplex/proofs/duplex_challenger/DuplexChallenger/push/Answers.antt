@@ -1,6 +1,6 @@
 use Rattle.std.proofs.Common.{◌≡◌, [], ◌∷◌, ◌++◌, ◌+◌, length, take, set, sym, ap, ◌∙◌}
 use Rattle.std.proofs.lemmas.List.{length-set}
-use Rattle.p3_duplex.specs.DuplexTranscript.{DuplexSponge, absorbing}
+use Rattle.p3_duplex.specs.DuplexCalls.{DuplexSponge, absorbing}
 use Rattle.p3_duplex.specs.DuplexState.{observed}
 use Rattle.p3_duplex.proofs.Pushing.{pushed, observed-full}
 use Rattle.p3_duplex.proofs.duplex_challenger.DuplexChallenger.push.Goals as goal

@@ -1,4 +1,4 @@
--- The duplex transcript over segments is what the calls give one by one.
+-- A duplex challenger does over segments what the calls do one by one.
 use Rattle.std.proofs.Common.{◌≡◌, ℕ, zero, suc, ◌<◌, ◌≤◌, ◌+◌, ◌-◌, ◌*◌, ◌/◌, ◌%◌, List, [], ◌∷◌, ◌++◌, length, take, drop, Bool, true, false, ◌==◌, if◌then◌else◌, refl, sym, ap, subst, ◌∙◌, append_assoc, append-nil, add-one, arith}
 use Rattle.std.proofs.lemmas.Bool.Decides.{nat_tests}
 use Rattle.std.proofs.lemmas.List.{length-append, take_at, drop_at, drop-drop}
@@ -6,8 +6,8 @@ use Rattle.std.proofs.Math.Nat.{add-div_left, add-mod_left, div-eq_of_lt, mod-eq
 use Rattle.p3_field_core.specs.Residues.{Residues}
 use Rattle.p3_challenger_core.specs.Segments.{Call, observe, observe_empty_array, draw, stays, run_before}
 use Rattle.p3_challenger_core.specs.SegmentLaws.{StepsAgree}
-use Rattle.p3_duplex.specs.DuplexTranscript.{DuplexSponge, DuplexRun, cell, overwritten, absorbing, duplexed, appended, observed, last_output, one_taken, after_sampled, run_call, run_digest, duplex_by_calls}
-use Rattle.p3_duplex.specs.DuplexChain.{absorbed_blocks, handed_blocks, outputs_behind, absorbed, run_values, permuted, handed_in_turn, output_at, left_behind, outputs_from, draws_from, run_draws, digest_behind, duplex_by_segments}
+use Rattle.p3_duplex.specs.DuplexCalls.{DuplexSponge, DuplexRun, cell, overwritten, absorbing, duplexed, appended, observed, last_output, one_taken, after_sampled, run_call, run_digest, duplex_by_calls}
+use Rattle.p3_duplex.specs.DuplexSegments.{absorbed_blocks, handed_blocks, outputs_behind, absorbed, run_values, permuted, handed_in_turn, output_at, left_behind, outputs_from, draws_from, run_draws, digest_behind, duplex_by_segments}
 
 -- what a challenger keeps: fewer values are pending than the rate has cells, no more outputs are left
 -- than that, and none where a value is pending
