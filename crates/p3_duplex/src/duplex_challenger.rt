@@ -286,11 +286,13 @@ impl<
     ghost use Rattle.p3_duplex.specs.DuplexState as duplex_state;
 
     // An observation takes no memory: it is never refused.
-    ghost observation = { unrefused_observe (λ x. x ∷ []) (λ s x. duplex_state.observed F.residues P.permutation RATE s x) };
+    ghost observation = { unrefused_observe (λ x. x ∷ [])
+        (λ s x. duplex_state.observed F.residues P.permutation RATE s x) };
 
     ghost slice_may_leave = { λ _ _ _. ⊥ };
 
-    ghost observes = { is_observation F.residues P.permutation RATE (λ x. x ∷ []) (λ s x. duplex_state.observed F.residues P.permutation RATE s x) (λ _ _. refl) };
+    ghost observes = { is_observation F.residues P.permutation RATE (λ x. x ∷ [])
+        (λ s x. duplex_state.observed F.residues P.permutation RATE s x) (λ _ _. refl) };
 
     ghost slice_leaves = { λ _ _ _ h. absurd h };
 
@@ -322,7 +324,8 @@ impl<
 
     ghost slice_may_leave = { λ _ _ _. ⊥ };
 
-    ghost observes = { is_observation F.residues P.permutation RATE (λ xs. xs) (λ s xs. duplex_state.fed F.residues P.permutation RATE s xs) (λ _ _. refl) };
+    ghost observes = { is_observation F.residues P.permutation RATE (λ xs. xs)
+        (λ s xs. duplex_state.fed F.residues P.permutation RATE s xs) (λ _ _. refl) };
 
     ghost slice_leaves = { λ _ _ _ h. absurd h };
 
