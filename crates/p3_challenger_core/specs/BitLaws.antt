@@ -1,5 +1,6 @@
 -- The greatest number of bits whose power of two is below an order.
-use Rattle.std.proofs.Common.{◌≡◌, ℕ, zero, suc, ◌<◌, ◌≤◌, ◌+◌, ◌-◌, ◌*◌, ◌%◌, ◌^◌, Bool, true, false, nat_lt, Some, if◌then◌else◌, refl, sym, ap, ◌∙◌, arith, add-one}
+use Rattle.std.proofs.Common.{◌≡◌, ℕ, zero, suc, ◌<◌, ◌≤◌, ◌+◌, ◌-◌, ◌*◌, ◌%◌, ◌^◌, Bool, true, false, nat_lt, Some}
+use Rattle.std.proofs.Common.{if◌then◌else◌, refl, sym, ap, ◌∙◌, arith, add-one}
 use Rattle.std.proofs.lemmas.Bool.Decides.{nat_tests}
 use Rattle.std.proofs.lemmas.Nat.{pow_below}
 use Rattle.std.proofs.Math.Nat.{mod-eq_of_lt, mod-lt}
@@ -37,7 +38,8 @@ greatest-le order (suc k) =
     at_most (nat_lt (2 ^ suc k) order) (suc k) (greatest_below order k) (suc k) (omega arith) under
 
 -- a power below the order is no greater than one that is not, so it is the last one below
-last : (order k b : ℕ) → order ≤ 2 ^ (b + 1) → b ≤ suc k → 2 ^ suc k < order → (t : Bool) → nat_lt b (suc k) ≡ t → suc k ≡ b
+last : (order k b : ℕ) → order ≤ 2 ^ (b + 1) → b ≤ suc k → 2 ^ suc k < order → (t : Bool)
+    → nat_lt b (suc k) ≡ t → suc k ≡ b
 last order k b enough bound under true e =
     let more : b + 1 ≤ suc k = omega (arith, lt-true b (suc k) e) in
     absurd (omega (arith, pow_le (b + 1) (suc k) more))
@@ -57,14 +59,16 @@ greatest-is order zero b below enough bound = omega arith
 greatest-is order (suc k) b below enough bound =
     choose (nat_lt (2 ^ suc k) order) (suc k) (greatest_below order k) b
     (λ e. last order k b enough bound (lt-true _ _ e) (nat_lt b (suc k)) (λ _. nat_lt b (suc k)))
-    (λ e. greatest-is order k b below enough (earlier order k b below bound (lt-false _ _ e) (nat_lt b (suc k)) (λ _. nat_lt b (suc k))))
+    (λ e. greatest-is order k b below enough
+    (earlier order k b below bound (lt-false _ _ e) (nat_lt b (suc k)) (λ _. nat_lt b (suc k))))
 
 under_log : (order m : ℕ) → (order ≤ 2 ^ m → suc m ≤ m) → (t : Bool) → nat_lt (2 ^ m) order ≡ t → 2 ^ m < order
 under_log order m least true e = lt-true (2 ^ m) order e
 under_log order m least false e = absurd (omega (arith, least (lt-false (2 ^ m) order e)))
 
 -- one less than the least power that the order does not pass
-pub greatest-log : (order log : ℕ) → 1 < order → order < 2 ^ 64 → order ≤ 2 ^ log → ((k : ℕ) → order ≤ 2 ^ k → log ≤ k) → log - 1 ≡ greatest_below order 63
+pub greatest-log : (order log : ℕ) → 1 < order → order < 2 ^ 64 → order ≤ 2 ^ log → ((k : ℕ) → order ≤ 2 ^ k → log ≤ k)
+    → log - 1 ≡ greatest_below order 63
 greatest-log order zero above fits enough least = absurd (omega arith)
 greatest-log order (suc m) above fits enough least =
     let below : 2 ^ m < order = under_log order m (least m) (nat_lt (2 ^ m) order) (λ _. nat_lt (2 ^ m) order) in

@@ -1,9 +1,13 @@
 -- Draws in a row, one after another.
-use Rattle.std.proofs.Common.{◌≡◌, ℕ, zero, suc, ◌+◌, ◌-◌, ◌<◌, ◌≤◌, List, [], ◌∷◌, ◌++◌, Option, Some, None, IsSome, is_some, if◌then◌else◌, option_and_then, refl, sym, ap, ◌∙◌, inl, inr, subst, append_assoc, append-nil, arith}
+use Rattle.std.proofs.Common.{◌≡◌, ℕ, zero, suc, ◌+◌, ◌-◌, ◌<◌, ◌≤◌, List, [], ◌∷◌, ◌++◌, Option, Some, None, IsSome}
+use Rattle.std.proofs.Common.{is_some, if◌then◌else◌, option_and_then, refl, sym, ap, ◌∙◌, inl, inr, subst}
+use Rattle.std.proofs.Common.{append_assoc, append-nil, arith}
 use Rattle.std.specs.Option.{option_map}
 use Rattle.p3_challenger_core.specs.declared.error.ChallengerError.{ChallengerError}
-use Rattle.p3_challenger_core.specs.declared.error.ChallengerError.TheVariants.{OutOfMemory, DrawLimit, NoWitness, TooLong}
-use Rattle.p3_challenger_core.specs.Sampling.{Sampling, IsSampling, draws, after_draws, SomeDraw, RefusesDraw, RefusesDraws, in_row, made_of}
+use Rattle.p3_challenger_core.specs.declared.error.ChallengerError.TheVariants.{OutOfMemory, DrawLimit, NoWitness}
+use Rattle.p3_challenger_core.specs.declared.error.ChallengerError.TheVariants.{TooLong}
+use Rattle.p3_challenger_core.specs.Sampling.{Sampling, IsSampling, draws, after_draws, SomeDraw, RefusesDraw}
+use Rattle.p3_challenger_core.specs.Sampling.{RefusesDraws, in_row, made_of}
 
 module _ {S T : Type 0} (d : Sampling S T) where
   -- Of n draws from a start, xs were drawn: what is left of them goes on from here.
@@ -20,7 +24,8 @@ module _ {S T : Type 0} (d : Sampling S T) where
   drew-start n start =
       record { drawn = behind_nothing (draws d n start); reached = refl; refused = λ e t h. h }
 
-  behind_one_more : (xs : List T) (x : T) (o : Option (List T)) → option_map (λ ys. xs ++ ys) (option_map (λ ys. x ∷ ys) o) ≡ option_map (λ ys. (xs ++ x ∷ []) ++ ys) o
+  behind_one_more : (xs : List T) (x : T) (o : Option (List T))
+      → option_map (λ ys. xs ++ ys) (option_map (λ ys. x ∷ ys) o) ≡ option_map (λ ys. (xs ++ x ∷ []) ++ ys) o
   behind_one_more xs x None = refl
   behind_one_more xs x (Some ys) = ap Some (sym (append_assoc xs (x ∷ []) ys))
 
@@ -28,13 +33,15 @@ module _ {S T : Type 0} (d : Sampling S T) where
   some-is o x e = ap is_some e
 
   -- one draw more
-  pub drew-next : (n : ℕ) (start : S) (xs : List T) (left : ℕ) (here : S) (x : T) → d.sampled here ≡ Some x → Drew n start xs (suc left) here → Drew n start (xs ++ x ∷ []) left (d.after here)
+  pub drew-next : (n : ℕ) (start : S) (xs : List T) (left : ℕ) (here : S) (x : T) → d.sampled here ≡ Some x
+      → Drew n start xs (suc left) here → Drew n start (xs ++ x ∷ []) left (d.after here)
   unfolding draws after_draws RefusesDraws
   drew-next n start xs left here x e so_far =
       record {
         drawn =
             so_far.drawn
-            ∙ ap (λ o. option_map (λ ys. xs ++ ys) (option_and_then (λ y. option_map (λ ys. y ∷ ys) (draws d left (d.after here))) o)) e
+            ∙ ap (λ o. option_map (λ ys. xs ++ ys)
+            (option_and_then (λ y. option_map (λ ys. y ∷ ys) (draws d left (d.after here))) o)) e
             ∙ behind_one_more xs x (draws d left (d.after here));
         reached =
             so_far.reached
@@ -52,12 +59,14 @@ module _ {S T : Type 0} (d : Sampling S T) where
   drew-to n start xs here so_far = sym so_far.reached
 
   -- the next one is refused
-  pub drew-refused : (n : ℕ) (start : S) (xs : List T) (left : ℕ) (here : S) → Drew n start xs (suc left) here → (e : ChallengerError) (t : S) → RefusesDraw d e here t → RefusesDraws d n e start t
+  pub drew-refused : (n : ℕ) (start : S) (xs : List T) (left : ℕ) (here : S) → Drew n start xs (suc left) here
+      → (e : ChallengerError) (t : S) → RefusesDraw d e here t → RefusesDraws d n e start t
   unfolding RefusesDraws
   drew-refused n start xs left here so_far e t h = so_far.refused e t (inl h)
 
   -- the same draws, where the values or the state have another name
-  pub drew-as : (n : ℕ) (start : S) (xs ys : List T) (left : ℕ) (here there : S) → ys ≡ xs → there ≡ here → Drew n start xs left here → Drew n start ys left there
+  pub drew-as : (n : ℕ) (start : S) (xs ys : List T) (left : ℕ) (here there : S) → ys ≡ xs → there ≡ here
+      → Drew n start xs left here → Drew n start ys left there
   drew-as n start xs ys left here there e f so_far =
       subst (λ zs. Drew n start zs left there) (sym e) (subst (λ s. Drew n start xs left s) (sym f) so_far)
 
@@ -68,7 +77,8 @@ module _ {S T : Type 0} (d : Sampling S T) where
       let all : n ≡ n - 0 = omega arith in
       subst (λ left. Drew n start [] left start) all (drew-start n start)
 
-  pub drew-one_more : (n : ℕ) (start : S) (xs : List T) (i : ℕ) (here : S) (x : T) → i < n → d.sampled here ≡ Some x → Drew n start xs (n - i) here → Drew n start (xs ++ x ∷ []) (n - (i + 1)) (d.after here)
+  pub drew-one_more : (n : ℕ) (start : S) (xs : List T) (i : ℕ) (here : S) (x : T) → i < n → d.sampled here ≡ Some x
+      → Drew n start xs (n - i) here → Drew n start (xs ++ x ∷ []) (n - (i + 1)) (d.after here)
   drew-one_more n start xs i here x h e so_far =
       let left : n - i ≡ suc (n - (i + 1)) = omega arith in
       drew-next n start xs (n - (i + 1)) here x e (subst (λ k. Drew n start xs k here) left so_far)
@@ -76,15 +86,18 @@ module _ {S T : Type 0} (d : Sampling S T) where
   none_left : (n i : ℕ) → n ≤ i → n - i ≡ 0
   none_left n i h = omega arith
 
-  pub drew-values : (n : ℕ) (start : S) (xs : List T) (i : ℕ) (here : S) → n ≤ i → Drew n start xs (n - i) here → draws d n start ≡ Some xs
+  pub drew-values : (n : ℕ) (start : S) (xs : List T) (i : ℕ) (here : S) → n ≤ i → Drew n start xs (n - i) here
+      → draws d n start ≡ Some xs
   drew-values n start xs i here h so_far =
       drew-all n start xs here (subst (λ k. Drew n start xs k here) (none_left n i h) so_far)
 
-  pub drew-state : (n : ℕ) (start : S) (xs : List T) (i : ℕ) (here : S) → n ≤ i → Drew n start xs (n - i) here → here ≡ after_draws d n start
+  pub drew-state : (n : ℕ) (start : S) (xs : List T) (i : ℕ) (here : S) → n ≤ i → Drew n start xs (n - i) here
+      → here ≡ after_draws d n start
   drew-state n start xs i here h so_far =
       drew-to n start xs here (subst (λ k. Drew n start xs k here) (none_left n i h) so_far)
 
-  pub drew-stops : (n : ℕ) (start : S) (xs : List T) (i : ℕ) (here : S) → i < n → Drew n start xs (n - i) here → (e : ChallengerError) (t : S) → RefusesDraw d e here t → RefusesDraws d n e start t
+  pub drew-stops : (n : ℕ) (start : S) (xs : List T) (i : ℕ) (here : S) → i < n → Drew n start xs (n - i) here
+      → (e : ChallengerError) (t : S) → RefusesDraw d e here t → RefusesDraws d n e start t
   drew-stops n start xs i here h so_far =
       let left : n - i ≡ suc (n - (i + 1)) = omega arith in
       drew-refused n start xs (n - (i + 1)) here (subst (λ k. Drew n start xs k here) left so_far)

@@ -3,7 +3,8 @@ use Rattle.std.specs.Prelude.{◌≡◌, ℕ, List, [], ◌∷◌, ◌++◌, ◌
 use Rattle.std.specs.List.{flat_map}
 use Rattle.p3_challenger_core.specs.Sponge.{IsFed}
 use Rattle.p3_challenger_core.specs.declared.error.ChallengerError.{ChallengerError}
-use Rattle.p3_challenger_core.specs.declared.error.ChallengerError.TheVariants.{OutOfMemory, DrawLimit, NoWitness, TooLong}
+use Rattle.p3_challenger_core.specs.declared.error.ChallengerError.TheVariants.{OutOfMemory, DrawLimit, NoWitness}
+use Rattle.p3_challenger_core.specs.declared.error.ChallengerError.TheVariants.{TooLong}
 
 -- what a value feeds, the state after it, and what may be left of a state where it is refused
 pub record Observation (S Symbol T : Type 0) : Type 1 where
@@ -23,9 +24,11 @@ LeavesBehind fed s before symbols t = (n : ℕ) × (t ≡ fed s (before ++ take 
 -- left that could be dropped, so there both hold exactly.
 pub record IsObservation {S Symbol T : Type 0} (fed : S → List Symbol → S) (o : Observation S Symbol T) : Type 0 where
   pub observes : (s : S) (x : T) → IsFed fed s (o.symbols x) (o.observed s x)
-  pub observes_behind : (s : S) (y : Symbol) (ys : List Symbol) (x : T) → o.observed (fed s (y ∷ ys)) x ≡ fed s ((y ∷ ys) ++ o.symbols x)
+  pub observes_behind : (s : S) (y : Symbol) (ys : List Symbol) (x : T)
+      → o.observed (fed s (y ∷ ys)) x ≡ fed s ((y ∷ ys) ++ o.symbols x)
   pub leaves : (s : S) (x : T) (t : S) → o.may_leave s x t → LeavesFed fed s (o.symbols x) t
-  pub leaves_behind : (s : S) (y : Symbol) (ys : List Symbol) (x : T) (t : S) → o.may_leave (fed s (y ∷ ys)) x t → LeavesBehind fed s (y ∷ ys) (o.symbols x) t
+  pub leaves_behind : (s : S) (y : Symbol) (ys : List Symbol) (x : T) (t : S) → o.may_leave (fed s (y ∷ ys)) x t
+      → LeavesBehind fed s (y ∷ ys) (o.symbols x) t
 
 -- an observation that is never refused
 abbrev pub unrefused_observe : {S Symbol T : Type 0} → (T → List Symbol) → (S → T → S) → Observation S Symbol T
@@ -50,7 +53,8 @@ LeavesBeginning observed s xs t = LeavesInCalls observed (λ u _ v. v ≡ u) s x
 
 -- what is left of a state where one of the values is refused: a front of the values was observed, and
 -- then a front of what the next one feeds was fed
-abbrev pub LeavesFront : {S Symbol T : Type 0} → (S → List Symbol → S) → Observation S Symbol T → S → List T → S → Type 0
+abbrev pub LeavesFront : {S Symbol T : Type 0} → (S → List Symbol → S) → Observation S Symbol T → S
+    → List T → S → Type 0
 LeavesFront fed o s xs t = LeavesInCalls o.observed (λ u x v. LeavesFed fed u (o.symbols x) v) s xs t
 
 -- what an observe that answers this error leaves: it is refused for memory alone
@@ -61,14 +65,23 @@ RefusesObserve MayLeave _ t = ⊥
 -- the values of a list, observed one after another, as one observation
 abbrev pub in_row : {S Symbol T : Type 0} → Observation S Symbol T → Observation S Symbol (List T)
 in_row o =
-    record { symbols = flat_map o.symbols; observed = observed_all o.observed; may_leave = LeavesInCalls o.observed o.may_leave }
+    record {
+      symbols = flat_map o.symbols;
+      observed = observed_all o.observed;
+      may_leave = LeavesInCalls o.observed o.may_leave;
+    }
 
 -- what is observed as another value
 abbrev pub observed_as : {S Symbol T U : Type 0} → (U → T) → Observation S Symbol T → Observation S Symbol U
 observed_as f o =
-    record { symbols = λ x. o.symbols (f x); observed = λ s x. o.observed s (f x); may_leave = λ s x t. o.may_leave s (f x) t }
+    record {
+      symbols = λ x. o.symbols (f x);
+      observed = λ s x. o.observed s (f x);
+      may_leave = λ s x t. o.may_leave s (f x) t;
+    }
 
 -- the values of a list, observed as one slice
-abbrev pub in_slice : {S Symbol T : Type 0} → Observation S Symbol T → (S → List T → S → Type 0) → Observation S Symbol (List T)
+abbrev pub in_slice : {S Symbol T : Type 0} → Observation S Symbol T → (S → List T → S → Type 0)
+    → Observation S Symbol (List T)
 in_slice o slice_may_leave =
     record { symbols = flat_map o.symbols; observed = observed_all o.observed; may_leave = slice_may_leave }

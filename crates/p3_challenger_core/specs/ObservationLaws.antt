@@ -1,11 +1,15 @@
 -- Laws of what is observed: what is fed, one value and several in a row.
-use Rattle.std.proofs.Common.{◌≡◌, ℕ, zero, suc, ◌⊎◌, inl, inr, List, [], ◌∷◌, ◌++◌, length, take, Result, Ok, Err, refl, sym, ap, ◌∙◌, append_assoc, append-nil, subst}
+use Rattle.std.proofs.Common.{◌≡◌, ℕ, zero, suc, ◌⊎◌, inl, inr, List, [], ◌∷◌, ◌++◌, length, take, Result, Ok, Err}
+use Rattle.std.proofs.Common.{refl, sym, ap, ◌∙◌, append_assoc, append-nil, subst}
 use Rattle.std.specs.List.{flat_map}
 use Rattle.std.specs.Result.{OnOk}
 use Rattle.p3_challenger_core.specs.Sponge.{IsNonEmpty, IsFed}
-use Rattle.p3_challenger_core.specs.Observation.{Observation, IsObservation, LeavesFed, LeavesBehind, LeavesInCalls, LeavesFront, RefusesObserve, observed_all, unrefused_observe, in_row, in_slice, observed_as}
+use Rattle.p3_challenger_core.specs.Observation.{Observation, IsObservation, LeavesFed, LeavesBehind, LeavesInCalls}
+use Rattle.p3_challenger_core.specs.Observation.{LeavesFront, RefusesObserve, observed_all, unrefused_observe, in_row}
+use Rattle.p3_challenger_core.specs.Observation.{in_slice, observed_as}
 use Rattle.p3_challenger_core.specs.declared.error.ChallengerError.{ChallengerError}
-use Rattle.p3_challenger_core.specs.declared.error.ChallengerError.TheVariants.{OutOfMemory, DrawLimit, NoWitness, TooLong}
+use Rattle.p3_challenger_core.specs.declared.error.ChallengerError.TheVariants.{OutOfMemory, DrawLimit, NoWitness}
+use Rattle.p3_challenger_core.specs.declared.error.ChallengerError.TheVariants.{TooLong}
 
 pub empty_or_not : {S : Type 0} (xs : List S) → (xs ≡ []) ⊎ IsNonEmpty xs
 empty_or_not [] = inl refl
@@ -27,24 +31,29 @@ behind_append n [] b = (n, refl)
 behind_append n (x ∷ a) b = let rest = behind_append n a b in (suc rest.0, ap (λ ys. x ∷ ys) rest.1)
 
 -- what a refused call leaves, seen in another way
-pub leaves-map : {S T : Type 0} {A B : S → T → S → Type 0} (step : S → T → S) → ((u : S) (x : T) (v : S) → A u x v → B u x v) → (s : S) (xs : List T) (t : S) → LeavesInCalls step A s xs t → LeavesInCalls step B s xs t
+pub leaves-map : {S T : Type 0} {A B : S → T → S → Type 0} (step : S → T → S)
+    → ((u : S) (x : T) (v : S) → A u x v → B u x v) → (s : S) (xs : List T) (t : S) → LeavesInCalls step A s xs t
+    → LeavesInCalls step B s xs t
 leaves-map step f s [] t h = absurd h
 leaves-map step f s (x ∷ xs) t (inl here) = inl (f s x t here)
 leaves-map step f s (x ∷ xs) t (inr later) = inr (leaves-map step f (step s x) xs t later)
 
 -- observations of which none is refused are not refused in a row
-no_leaving : {S T : Type 0} (step : S → T → S) (s : S) (xs : List T) (t : S) → LeavesInCalls step (λ _ _ _. ⊥) s xs t → ⊥
+no_leaving : {S T : Type 0} (step : S → T → S) (s : S) (xs : List T) (t : S)
+    → LeavesInCalls step (λ _ _ _. ⊥) s xs t → ⊥
 no_leaving step s [] t h = h
 no_leaving step s (x ∷ xs) t (inl here) = here
 no_leaving step s (x ∷ xs) t (inr later) = no_leaving step (step s x) xs t later
 
-pub row-not_refused : {S T : Type 0} (step : S → T → S) (xs : List T) (e : ChallengerError) (s t : S) → RefusesObserve (LeavesInCalls step (λ _ _ _. ⊥) s xs) e t → ⊥
+pub row-not_refused : {S T : Type 0} (step : S → T → S) (xs : List T) (e : ChallengerError) (s t : S)
+    → RefusesObserve (LeavesInCalls step (λ _ _ _. ⊥) s xs) e t → ⊥
 row-not_refused step xs OutOfMemory s t h = no_leaving step s xs t h
 row-not_refused step xs DrawLimit s t h = h
 row-not_refused step xs NoWitness s t h = h
 row-not_refused step xs TooLong s t h = h
 
-module _ {S Symbol : Type 0} (fed : S → List Symbol → S) (fed_nothing : (s : S) → fed s [] ≡ s) (fed_more : (s : S) (a b : List Symbol) → fed (fed s a) b ≡ fed s (a ++ b)) where
+module _ {S Symbol : Type 0} (fed : S → List Symbol → S) (fed_nothing : (s : S) → fed s [] ≡ s)
+    (fed_more : (s : S) (a b : List Symbol) → fed (fed s a) b ≡ fed s (a ++ b)) where
   -- what is fed exactly is fed
   pub exactly-fed : (s : S) (a : List Symbol) (t : S) → t ≡ fed s a → IsFed fed s a t
   exactly-fed s a t is =
@@ -55,20 +64,26 @@ module _ {S Symbol : Type 0} (fed : S → List Symbol → S) (fed_nothing : (s :
   nothing-fed s t is = exactly-fed s [] t (is ∙ sym (fed_nothing s))
 
   -- what is observed is fed exactly, and a refused value has fed a front of it exactly
-  pub exact-observation : {T : Type 0} (o : Observation S Symbol T) → ((s : S) (x : T) → o.observed s x ≡ fed s (o.symbols x)) → ((s : S) (x : T) (t : S) → o.may_leave s x t → (n : ℕ) × (t ≡ fed s (take n (o.symbols x)))) → IsObservation fed o
+  pub exact-observation : {T : Type 0} (o : Observation S Symbol T)
+      → ((s : S) (x : T) → o.observed s x ≡ fed s (o.symbols x))
+      → ((s : S) (x : T) (t : S) → o.may_leave s x t → (n : ℕ) × (t ≡ fed s (take n (o.symbols x))))
+      → IsObservation fed o
   exact-observation o feeds fronts =
       record {
         observes = λ s x. exactly-fed s (o.symbols x) (o.observed s x) (feeds s x);
         observes_behind = λ s y ys x. feeds (fed s (y ∷ ys)) x ∙ fed_more s (y ∷ ys) (o.symbols x);
-        leaves = λ s x t h. let front = fronts s x t h in (front.0, exactly-fed s (take front.0 (o.symbols x)) t front.1);
+        leaves = λ s x t h. let front = fronts s x t h in
+            (front.0, exactly-fed s (take front.0 (o.symbols x)) t front.1);
         leaves_behind = λ s y ys x t h.
             let front = fronts (fed s (y ∷ ys)) x t h in
             (front.0, front.1 ∙ fed_more s (y ∷ ys) (take front.0 (o.symbols x)));
       }
 
   -- what is observed is fed exactly, and no value is refused
-  pub unrefused_observe-is_observation : {T : Type 0} (symbols : T → List Symbol) (observed : S → T → S) → ((s : S) (x : T) → observed s x ≡ fed s (symbols x)) → IsObservation fed (unrefused_observe symbols observed)
-  unrefused_observe-is_observation symbols observed feeds = exact-observation (unrefused_observe symbols observed) feeds (λ s x t h. absurd h)
+  pub unrefused_observe-is_observation : {T : Type 0} (symbols : T → List Symbol) (observed : S → T → S)
+      → ((s : S) (x : T) → observed s x ≡ fed s (symbols x)) → IsObservation fed (unrefused_observe symbols observed)
+  unrefused_observe-is_observation symbols observed feeds =
+      exact-observation (unrefused_observe symbols observed) feeds (λ s x t h. absurd h)
 
   -- what a refusal leaves that changes nothing: no symbol was fed
   pub unchanged-front : (s t : S) (symbols : List Symbol) → t ≡ s → (n : ℕ) × (t ≡ fed s (take n symbols))
@@ -80,24 +95,30 @@ module _ {S Symbol : Type 0} (fed : S → List Symbol → S) (fed_nothing : (s :
   nothing_then-exactly s t u [] first second some = absurd some
   nothing_then-exactly s t u (y ∷ ys) first second some = second.exactly tt ∙ first.traceless y ys
 
-  nothing_then-traceless : (s t u : S) (b : List Symbol) → IsFed fed s [] t → IsFed fed t b u → (y : Symbol) (ys : List Symbol) → fed u (y ∷ ys) ≡ fed s (b ++ y ∷ ys)
+  nothing_then-traceless : (s t u : S) (b : List Symbol) → IsFed fed s [] t → IsFed fed t b u
+      → (y : Symbol) (ys : List Symbol) → fed u (y ∷ ys) ≡ fed s (b ++ y ∷ ys)
   nothing_then-traceless s t u [] first second y ys = second.traceless y ys ∙ first.traceless y ys
   nothing_then-traceless s t u (z ∷ zs) first second y ys = second.traceless y ys ∙ first.traceless z (zs ++ y ∷ ys)
 
   -- where nothing was fed to come here, what is fed from here is fed from there
   nothing_then : (s t u : S) (b : List Symbol) → IsFed fed s [] t → IsFed fed t b u → IsFed fed s b u
   nothing_then s t u b first second =
-      record { exactly = nothing_then-exactly s t u b first second; traceless = nothing_then-traceless s t u b first second }
+      record {
+        exactly = nothing_then-exactly s t u b first second;
+        traceless = nothing_then-traceless s t u b first second;
+      }
 
   -- two steps in a row, of which the second is exact behind a symbol
-  pub fed-then : (s t u : S) (a b : List Symbol) → IsFed fed s a t → IsFed fed t b u → ((y : Symbol) (ys : List Symbol) → t ≡ fed s (y ∷ ys) → u ≡ fed s ((y ∷ ys) ++ b)) → IsFed fed s (a ++ b) u
+  pub fed-then : (s t u : S) (a b : List Symbol) → IsFed fed s a t → IsFed fed t b u
+      → ((y : Symbol) (ys : List Symbol) → t ≡ fed s (y ∷ ys) → u ≡ fed s ((y ∷ ys) ++ b)) → IsFed fed s (a ++ b) u
   fed-then s t u [] b first second behind = nothing_then s t u b first second
   fed-then s t u (y ∷ ys) b first second behind = exactly-fed s ((y ∷ ys) ++ b) u (behind y ys (first.exactly tt))
 
   -- ---- values in a row
 
   module _ {T : Type 0} (o : Observation S Symbol T) (laws : IsObservation fed o) where
-    all-behind : (s : S) (y : Symbol) (ys : List Symbol) (xs : List T) → observed_all o.observed (fed s (y ∷ ys)) xs ≡ fed s ((y ∷ ys) ++ flat_map o.symbols xs)
+    all-behind : (s : S) (y : Symbol) (ys : List Symbol) (xs : List T)
+        → observed_all o.observed (fed s (y ∷ ys)) xs ≡ fed s ((y ∷ ys) ++ flat_map o.symbols xs)
     all-behind s y ys [] = ap (λ zs. fed s (y ∷ zs)) (sym (append-nil ys))
     all-behind s y ys (x ∷ xs) =
         ap (λ t. observed_all o.observed t xs) (laws.observes_behind s y ys x)
@@ -114,11 +135,14 @@ module _ {S Symbol : Type 0} (fed : S → List Symbol → S) (fed_nothing : (s :
         (λ y ys is. ap (λ t. observed_all o.observed t xs) is ∙ all-behind s y ys xs)
 
     -- exactly so where some value feeds something, or there is none
-    pub all-fed_exactly : (s : S) (xs : List T) → (IsNonEmpty xs → IsNonEmpty (flat_map o.symbols xs)) → observed_all o.observed s xs ≡ fed s (flat_map o.symbols xs)
+    pub all-fed_exactly : (s : S) (xs : List T) → (IsNonEmpty xs → IsNonEmpty (flat_map o.symbols xs))
+        → observed_all o.observed s xs ≡ fed s (flat_map o.symbols xs)
     all-fed_exactly s [] some = sym (fed_nothing s)
     all-fed_exactly s (x ∷ xs) some = (all-fed s (x ∷ xs)).exactly (some tt)
 
-    calls-behind : (s : S) (y : Symbol) (ys : List Symbol) (xs : List T) (t : S) → LeavesInCalls o.observed o.may_leave (fed s (y ∷ ys)) xs t → LeavesBehind fed s (y ∷ ys) (flat_map o.symbols xs) t
+    calls-behind : (s : S) (y : Symbol) (ys : List Symbol) (xs : List T) (t : S)
+        → LeavesInCalls o.observed o.may_leave (fed s (y ∷ ys)) xs t
+        → LeavesBehind fed s (y ∷ ys) (flat_map o.symbols xs) t
     calls-behind s y ys [] t h = absurd h
     calls-behind s y ys (x ∷ xs) t (inl here) =
         let left = laws.leaves_behind s y ys x t here in
@@ -134,23 +158,31 @@ module _ {S Symbol : Type 0} (fed : S → List Symbol → S) (fed_nothing : (s :
               ∙ ap (λ zs. fed s ((y ∷ ys) ++ zs)) (sym front.1),
         )
 
-    later-left : (s here t : S) (a : List Symbol) (xs : List T) → IsFed fed s a here → LeavesInCalls o.observed o.may_leave here xs t → LeavesFed fed here (flat_map o.symbols xs) t → LeavesFed fed s (a ++ flat_map o.symbols xs) t
-    later-left s here t [] xs first h left = (left.0, nothing_then s here t (take left.0 (flat_map o.symbols xs)) first left.1)
+    later-left : (s here t : S) (a : List Symbol) (xs : List T) → IsFed fed s a here
+        → LeavesInCalls o.observed o.may_leave here xs t → LeavesFed fed here (flat_map o.symbols xs) t
+        → LeavesFed fed s (a ++ flat_map o.symbols xs) t
+    later-left s here t [] xs first h left =
+        (left.0, nothing_then s here t (take left.0 (flat_map o.symbols xs)) first left.1)
     later-left s here t (y ∷ ys) xs first h left =
         let moved = subst (λ u. LeavesInCalls o.observed o.may_leave u xs t) (first.exactly tt) h in
         let exact = calls-behind s y ys xs t moved in
-        let front = behind_append exact.0 (y ∷ ys) (flat_map o.symbols xs) in
-        (front.0, exactly-fed s (take front.0 ((y ∷ ys) ++ flat_map o.symbols xs)) t (exact.1 ∙ ap (fed s) (sym front.1)))
+        let front = behind_append exact.0 (y ∷ ys) (flat_map o.symbols xs) in (
+          front.0,
+          exactly-fed s (take front.0 ((y ∷ ys) ++ flat_map o.symbols xs)) t
+              (exact.1 ∙ ap (fed s) (sym front.1)),
+        )
 
     -- where one of them is refused, a front of what they feed was fed
-    pub calls-leave : (s : S) (xs : List T) (t : S) → LeavesInCalls o.observed o.may_leave s xs t → LeavesFed fed s (flat_map o.symbols xs) t
+    pub calls-leave : (s : S) (xs : List T) (t : S) → LeavesInCalls o.observed o.may_leave s xs t
+        → LeavesFed fed s (flat_map o.symbols xs) t
     calls-leave s [] t h = absurd h
     calls-leave s (x ∷ xs) t (inl here) =
         let left = laws.leaves s x t here in
         let front = front_append left.0 (o.symbols x) (flat_map o.symbols xs) in
         (front.0, subst (λ a. IsFed fed s a t) (sym front.1) left.1)
     calls-leave s (x ∷ xs) t (inr later) =
-        later-left s (o.observed s x) t (o.symbols x) xs (laws.observes s x) later (calls-leave (o.observed s x) xs t later)
+        later-left s (o.observed s x) t (o.symbols x) xs (laws.observes s x) later
+        (calls-leave (o.observed s x) xs t later)
 
     pub in_row-is_observation : IsObservation fed (in_row o)
     in_row-is_observation =
@@ -165,7 +197,9 @@ module _ {S Symbol : Type 0} (fed : S → List Symbol → S) (fed_nothing : (s :
           leaves_behind = λ s y ys x t h. laws.leaves_behind s y ys (f x) t h;
         }
 
-    pub in_slice-is_observation : (slice_may_leave : S → List T → S → Type 0) → ((s : S) (xs : List T) (t : S) → slice_may_leave s xs t → LeavesInCalls o.observed o.may_leave s xs t) → IsObservation fed (in_slice o slice_may_leave)
+    pub in_slice-is_observation : (slice_may_leave : S → List T → S → Type 0)
+        → ((s : S) (xs : List T) (t : S) → slice_may_leave s xs t → LeavesInCalls o.observed o.may_leave s xs t)
+        → IsObservation fed (in_slice o slice_may_leave)
     in_slice-is_observation slice_may_leave slice_leaves =
         record {
           observes = all-fed;
@@ -175,5 +209,6 @@ module _ {S Symbol : Type 0} (fed : S → List Symbol → S) (fed_nothing : (s :
         }
 
     -- a front of the values was observed, and then a front of what the next one feeds was fed
-    pub calls-front : (s : S) (xs : List T) (t : S) → LeavesInCalls o.observed o.may_leave s xs t → LeavesFront fed o s xs t
+    pub calls-front : (s : S) (xs : List T) (t : S) → LeavesInCalls o.observed o.may_leave s xs t
+        → LeavesFront fed o s xs t
     calls-front s xs t h = leaves-map o.observed laws.leaves s xs t h

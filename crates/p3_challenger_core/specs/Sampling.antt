@@ -1,10 +1,12 @@
 -- Drawing values from a challenger.
-use Rattle.std.specs.Prelude.{◌≡◌, ℕ, zero, suc, List, ◌∷◌, [], ◌⊎◌, Option, Some, None, option_and_then, IsSome, is_some, if◌then◌else◌}
+use Rattle.std.specs.Prelude.{◌≡◌, ℕ, zero, suc, List, ◌∷◌, [], ◌⊎◌, Option, Some, None, option_and_then, IsSome}
+use Rattle.std.specs.Prelude.{is_some, if◌then◌else◌}
 use Rattle.std.specs.Option.{option_map}
 use Rattle.p3_challenger_core.specs.Sponge.{IsStepsOn}
 use Rattle.p3_challenger_core.specs.Observation.{RefusesObserve}
 use Rattle.p3_challenger_core.specs.declared.error.ChallengerError.{ChallengerError}
-use Rattle.p3_challenger_core.specs.declared.error.ChallengerError.TheVariants.{OutOfMemory, DrawLimit, NoWitness, TooLong}
+use Rattle.p3_challenger_core.specs.declared.error.ChallengerError.TheVariants.{OutOfMemory, DrawLimit, NoWitness}
+use Rattle.p3_challenger_core.specs.declared.error.ChallengerError.TheVariants.{TooLong}
 
 -- what a draw gives, which is none where it meets the draw limit; the state after it; the states whose draw
 -- meets the limit; and what may be left of a state where memory is refused
@@ -70,4 +72,10 @@ in_row d n =
 
 -- a draw of what is made of a drawn value
 abbrev pub made_of : {S T U : Type 0} → (T → U) → Sampling S T → Sampling S U
-made_of f d = record { sampled = λ s. option_map f (d.sampled s); after = d.after; meets_limit = d.meets_limit; may_leave = d.may_leave }
+made_of f d =
+    record {
+      sampled = λ s. option_map f (d.sampled s);
+      after = d.after;
+      meets_limit = d.meets_limit;
+      may_leave = d.may_leave;
+    }

@@ -1,12 +1,15 @@
 -- Laws of draws, one by one and in a row.
-use Rattle.std.specs.Prelude.{◌≡◌, ℕ, zero, suc, ◌+◌, List, ◌∷◌, Option, Some, None, IsSome, is_some, option_and_then, if◌then◌else◌, refl}
+use Rattle.std.specs.Prelude.{◌≡◌, ℕ, zero, suc, ◌+◌, List, ◌∷◌, Option, Some, None, IsSome, is_some, option_and_then}
+use Rattle.std.specs.Prelude.{if◌then◌else◌, refl}
 use Rattle.std.proofs.Common.{ap, sym, ◌∙◌, inl, inr}
 use Rattle.std.proofs.Math.Nat.{zero-add, suc-add}
 use Rattle.std.specs.Option.{option_map}
 use Rattle.p3_challenger_core.specs.declared.error.ChallengerError.{ChallengerError}
-use Rattle.p3_challenger_core.specs.declared.error.ChallengerError.TheVariants.{OutOfMemory, DrawLimit, NoWitness, TooLong}
+use Rattle.p3_challenger_core.specs.declared.error.ChallengerError.TheVariants.{OutOfMemory, DrawLimit, NoWitness}
+use Rattle.p3_challenger_core.specs.declared.error.ChallengerError.TheVariants.{TooLong}
 use Rattle.p3_challenger_core.specs.Sponge.{after_steps, IsStepsOn}
-use Rattle.p3_challenger_core.specs.Sampling.{Sampling, IsSampling, unrefused_draw, draws, after_draws, SomeDraw, RefusesDraw, RefusesDraws, in_row, made_of}
+use Rattle.p3_challenger_core.specs.Sampling.{Sampling, IsSampling, unrefused_draw, draws, after_draws, SomeDraw}
+use Rattle.p3_challenger_core.specs.Sampling.{RefusesDraw, RefusesDraws, in_row, made_of}
 
 -- ---- some number of the smallest draws
 
@@ -28,30 +31,39 @@ module _ {S : Type 0} (next : S → S) where
 
 -- ---- one draw
 
-pub unrefused_draw-is_sampling : {S T : Type 0} (next : S → S) (sampled : S → Option T) (after : S → S) → ((s : S) → IsStepsOn next s (after s)) → IsSampling next (unrefused_draw sampled after)
+pub unrefused_draw-is_sampling : {S T : Type 0} (next : S → S) (sampled : S → Option T) (after : S → S)
+    → ((s : S) → IsStepsOn next s (after s)) → IsSampling next (unrefused_draw sampled after)
 unrefused_draw-is_sampling next sampled after steps =
     record { limit_gives_none = λ s h. absurd h; steps = steps; leaves = λ s t h. absurd h }
 
-pub made_of-is_sampling : {S T U : Type 0} (next : S → S) (f : T → U) (d : Sampling S T) → IsSampling next d → IsSampling next (made_of f d)
+pub made_of-is_sampling : {S T U : Type 0} (next : S → S) (f : T → U) (d : Sampling S T) → IsSampling next d
+    → IsSampling next (made_of f d)
 made_of-is_sampling next f d laws =
-    record { limit_gives_none = λ s h. ap (option_map f) (laws.limit_gives_none s h); steps = laws.steps; leaves = laws.leaves }
+    record {
+      limit_gives_none = λ s h. ap (option_map f) (laws.limit_gives_none s h);
+      steps = laws.steps;
+      leaves = laws.leaves;
+    }
 
 -- what is made of a drawn value is refused as that value is
-pub made_of-refuses : {S T U : Type 0} (f : T → U) (d : Sampling S T) (e : ChallengerError) (s t : S) → RefusesDraw (made_of f d) e s t → RefusesDraw d e s t
+pub made_of-refuses : {S T U : Type 0} (f : T → U) (d : Sampling S T) (e : ChallengerError) (s t : S)
+    → RefusesDraw (made_of f d) e s t → RefusesDraw d e s t
 made_of-refuses f d OutOfMemory s t h = h
 made_of-refuses f d DrawLimit s t h = h
 made_of-refuses f d NoWitness s t h = h
 made_of-refuses f d TooLong s t h = h
 
 -- a draw that is never refused is not refused
-not_refused : {S T : Type 0} (sampled : S → Option T) (after : S → S) (e : ChallengerError) (s t : S) → RefusesDraw (unrefused_draw sampled after) e s t → ⊥
+not_refused : {S T : Type 0} (sampled : S → Option T) (after : S → S) (e : ChallengerError) (s t : S)
+    → RefusesDraw (unrefused_draw sampled after) e s t → ⊥
 not_refused sampled after OutOfMemory s t h = h
 not_refused sampled after DrawLimit s t h = h.0
 not_refused sampled after NoWitness s t h = h
 not_refused sampled after TooLong s t h = h
 
 -- nor are such draws in a row
-pub draws-not_refused : {S T : Type 0} (sampled : S → Option T) (after : S → S) (n : ℕ) (e : ChallengerError) (s t : S) → RefusesDraws (unrefused_draw sampled after) n e s t → ⊥
+pub draws-not_refused : {S T : Type 0} (sampled : S → Option T) (after : S → S) (n : ℕ) (e : ChallengerError) (s t : S)
+    → RefusesDraws (unrefused_draw sampled after) n e s t → ⊥
 unfolding RefusesDraws
 draws-not_refused sampled after zero e s t h = h
 draws-not_refused sampled after (suc n) e s t (inl here) = not_refused sampled after e s t here
@@ -65,7 +77,8 @@ no_draw d (suc n) s (inl here) = here
 no_draw d (suc n) s (inr later) = no_draw d n (d.after s) later.1
 
 -- one draw that is made of such draws is not refused either
-pub in_row-not_refused : {S T : Type 0} (sampled : S → Option T) (after : S → S) (n : ℕ) (e : ChallengerError) (s t : S) → RefusesDraw (in_row (unrefused_draw sampled after) n) e s t → ⊥
+pub in_row-not_refused : {S T : Type 0} (sampled : S → Option T) (after : S → S) (n : ℕ) (e : ChallengerError) (s t : S)
+    → RefusesDraw (in_row (unrefused_draw sampled after) n) e s t → ⊥
 in_row-not_refused sampled after n OutOfMemory s t h = no_draw (unrefused_draw sampled after) n s h
 in_row-not_refused sampled after n DrawLimit s t h = no_draw (unrefused_draw sampled after) n s h.0
 in_row-not_refused sampled after n NoWitness s t h = h
@@ -89,7 +102,8 @@ module _ {S T : Type 0} (next : S → S) (d : Sampling S T) (laws : IsSampling n
       ap (λ o. option_and_then (λ x. option_map (λ xs. x ∷ xs) o) (d.sampled s)) (limit-none n (d.after s) later.1)
       ∙ none_behind (d.sampled s)
 
-  choose-steps : (gives : Option T) (s here there : S) → IsStepsOn next s here → IsStepsOn next s there → IsStepsOn next s (if is_some gives then here else there)
+  choose-steps : (gives : Option T) (s here there : S) → IsStepsOn next s here → IsStepsOn next s there
+      → IsStepsOn next s (if is_some gives then here else there)
   choose-steps None s here there p q = q
   choose-steps (Some x) s here there p q = p
 
@@ -128,7 +142,8 @@ module _ {S T : Type 0} (next : S → S) (d : Sampling S T) (laws : IsSampling n
   here_refused n NoWitness s t h = absurd h
   here_refused n TooLong s t h = absurd h
 
-  later_refused : (n : ℕ) (e : ChallengerError) (s t : S) → IsSome (d.sampled s) → RefusesDraw (in_row d n) e (d.after s) t → RefusesDraw (in_row d (suc n)) e s t
+  later_refused : (n : ℕ) (e : ChallengerError) (s t : S) → IsSome (d.sampled s)
+      → RefusesDraw (in_row d n) e (d.after s) t → RefusesDraw (in_row d (suc n)) e s t
   unfolding SomeDraw
   later_refused n OutOfMemory s t gives h = inr (gives, h)
   later_refused n DrawLimit s t gives h = (inr (gives, h.0), goes_behind n s t gives h.1)

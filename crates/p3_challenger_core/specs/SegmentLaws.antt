@@ -1,15 +1,21 @@
 -- Laws of segments: a list of calls has one cut, and what the calls do one by one is what its segments do,
 -- wherever each step of a segment does what one call does.
-use Rattle.std.proofs.Common.{◌≡◌, ℕ, zero, suc, ◌<◌, List, [], ◌∷◌, ◌++◌, inl, inr, map, replicate, refl, sym, ap, ◌∙◌, append_assoc, append-nil, arith}
+use Rattle.std.proofs.Common.{◌≡◌, ℕ, zero, suc, ◌<◌, List, [], ◌∷◌, ◌++◌, inl, inr, map, replicate, refl, sym, ap, ◌∙◌}
+use Rattle.std.proofs.Common.{append_assoc, append-nil, arith}
 use Rattle.std.specs.List.{All}
 use Rattle.std.proofs.lemmas.List.Elements.{All-nil, All-cons, All-head, All-tail}
 use Rattle.p3_challenger_core.specs.Sponge.{IsNonEmpty}
-use Rattle.p3_challenger_core.specs.Segments.{Call, observe, observe_empty_array, draw, Segment, nothing, value_before, draw_before, segments, calls_of, AreCutInto, IsCutOf, Run, stays, run_before, ByCalls, run_calls, run_calls_to_digest, BySegments, run_segment, run_others, run_segments, run_segments_to_digest}
+use Rattle.p3_challenger_core.specs.Segments.{Call, observe, observe_empty_array, draw, Segment, nothing, value_before}
+use Rattle.p3_challenger_core.specs.Segments.{draw_before, segments, calls_of, AreCutInto, IsCutOf, Run, stays}
+use Rattle.p3_challenger_core.specs.Segments.{run_before, ByCalls, run_calls, run_calls_to_digest, BySegments}
+use Rattle.p3_challenger_core.specs.Segments.{run_segment, run_others, run_segments, run_segments_to_digest}
 
 -- ---- the cut of a list of calls is one
 
 -- a value in front of a cut
-cut-value : {T : Type 0} (x : T) (calls : List (Call T)) (first : Segment T) (others : List (Segment T)) → AreCutInto first others calls → AreCutInto (record { values = x ∷ first.values; draws = first.draws }) others (observe x ∷ calls)
+cut-value : {T : Type 0} (x : T) (calls : List (Call T)) (first : Segment T) (others : List (Segment T))
+    → AreCutInto first others calls → AreCutInto (record { values = x ∷ first.values; draws = first.draws }) others
+    (observe x ∷ calls)
 cut-value x calls first [] h = ap (λ c. observe x ∷ c) h
 cut-value x calls first (next ∷ others) h = (
   h.0,
@@ -21,7 +27,9 @@ cut-value x calls first (next ∷ others) h = (
 )
 
 -- a draw in front of one whose first segment observes nothing
-cut-draw_only : {T : Type 0} (calls : List (Call T)) (draws : ℕ) (others : List (Segment T)) → AreCutInto (record { values = []; draws = draws }) others calls → AreCutInto (record { values = []; draws = suc draws }) others (draw ∷ calls)
+cut-draw_only : {T : Type 0} (calls : List (Call T)) (draws : ℕ) (others : List (Segment T))
+    → AreCutInto (record { values = []; draws = draws }) others calls
+    → AreCutInto (record { values = []; draws = suc draws }) others (draw ∷ calls)
 cut-draw_only calls draws [] h = ap (λ c. draw ∷ c) h
 cut-draw_only calls draws (next ∷ others) h = (
   h.0,
@@ -32,7 +40,9 @@ cut-draw_only calls draws (next ∷ others) h = (
   h.2,
 )
 
-cut-draw : {T : Type 0} (calls : List (Call T)) (values : List T) (draws : ℕ) (others : List (Segment T)) → AreCutInto (record { values = values; draws = draws }) others calls → IsCutOf (draw ∷ calls) (draw_before (record { values = values; draws = draws }) others values)
+cut-draw : {T : Type 0} (calls : List (Call T)) (values : List T) (draws : ℕ) (others : List (Segment T))
+    → AreCutInto (record { values = values; draws = draws }) others calls
+    → IsCutOf (draw ∷ calls) (draw_before (record { values = values; draws = draws }) others values)
 cut-draw calls [] draws others h = cut-draw_only calls draws others h
 cut-draw calls (x ∷ xs) draws others h = (calls, inr (refl, omega arith, tt), h)
 
@@ -45,67 +55,104 @@ segments-cut (draw ∷ calls) =
     cut-draw calls first.values first.draws (segments calls).others (segments-cut calls)
 
 -- the cut of values in front of calls whose first segment observes nothing
-values-segments : {T : Type 0} (values : List T) (draws : ℕ) (others : List (Segment T)) (calls : List (Call T)) → segments calls ≡ record { first = record { values = []; draws = draws }; others = others } → segments (map observe values ++ calls) ≡ record { first = record { values = values; draws = draws }; others = others }
+values-segments : {T : Type 0} (values : List T) (draws : ℕ) (others : List (Segment T)) (calls : List (Call T))
+    → segments calls ≡ record { first = record { values = []; draws = draws }; others = others }
+    → segments (map observe values ++ calls)
+    ≡ record { first = record { values = values; draws = draws }; others = others }
 values-segments [] draws others calls h = h
 values-segments (x ∷ xs) draws others calls h = ap (value_before x) (values-segments xs draws others calls h)
 
 -- and of draws there
-draws-segments : {T : Type 0} (n : ℕ) (others : List (Segment T)) (calls : List (Call T)) → segments calls ≡ record { first = nothing; others = others } → segments (replicate n draw ++ calls) ≡ record { first = record { values = []; draws = n }; others = others }
+draws-segments : {T : Type 0} (n : ℕ) (others : List (Segment T)) (calls : List (Call T))
+    → segments calls ≡ record { first = nothing; others = others }
+    → segments (replicate n draw ++ calls) ≡ record { first = record { values = []; draws = n }; others = others }
 draws-segments zero others calls h = h
-draws-segments (suc n) others calls h = ap (λ cut. draw_before cut.first cut.others cut.first.values) (draws-segments n others calls h)
+draws-segments (suc n) others calls h =
+    ap (λ cut. draw_before cut.first cut.others cut.first.values) (draws-segments n others calls h)
 
 -- draws in front of a segment that observes something end one of their own
-draws-segments_ended : {T : Type 0} (n : ℕ) (values : List T) (draws : ℕ) (others : List (Segment T)) (calls : List (Call T)) → IsNonEmpty values → segments calls ≡ record { first = record { values = values; draws = draws }; others = others } → segments (replicate (suc n) draw ++ calls) ≡ record { first = record { values = []; draws = suc n }; others = record { values = values; draws = draws } ∷ others }
+draws-segments_ended : {T : Type 0} (n : ℕ) (values : List T) (draws : ℕ) (others : List (Segment T))
+    (calls : List (Call T)) → IsNonEmpty values
+    → segments calls ≡ record { first = record { values = values; draws = draws }; others = others }
+    → segments (replicate (suc n) draw ++ calls)
+    ≡ record {
+      first = record { values = []; draws = suc n };
+      others = record { values = values; draws = draws } ∷ others;
+    }
 draws-segments_ended n [] draws others calls some h = absurd some
-draws-segments_ended zero (x ∷ xs) draws others calls some h = ap (λ cut. draw_before cut.first cut.others cut.first.values) h
+draws-segments_ended zero (x ∷ xs) draws others calls some h =
+    ap (λ cut. draw_before cut.first cut.others cut.first.values) h
 draws-segments_ended (suc n) (x ∷ xs) draws others calls some h =
-    ap (λ cut. draw_before cut.first cut.others cut.first.values) (draws-segments_ended n (x ∷ xs) draws others calls some h)
+    ap (λ cut. draw_before cut.first cut.others cut.first.values)
+    (draws-segments_ended n (x ∷ xs) draws others calls some h)
 
 -- the calls of a segment and more, value by value and draw by draw
-calls_of-more : {T : Type 0} (segment : Segment T) (others : List (Segment T)) (calls : List (Call T)) → segments (replicate segment.draws draw ++ calls) ≡ record { first = record { values = []; draws = segment.draws }; others = others } → segments (calls_of segment ++ calls) ≡ record { first = segment; others = others }
+calls_of-more : {T : Type 0} (segment : Segment T) (others : List (Segment T)) (calls : List (Call T))
+    → segments (replicate segment.draws draw ++ calls)
+    ≡ record { first = record { values = []; draws = segment.draws }; others = others }
+    → segments (calls_of segment ++ calls) ≡ record { first = segment; others = others }
 calls_of-more segment others calls h =
     ap segments (append_assoc (map observe segment.values) (replicate segment.draws draw) calls)
     ∙ values-segments segment.values segment.draws others (replicate segment.draws draw ++ calls) h
 
-ended-by_draw : {T : Type 0} (values : List T) (draws : ℕ) (next : Segment T) (others : List (Segment T)) (rest : List (Call T)) → 0 < draws → IsNonEmpty next.values → segments rest ≡ record { first = next; others = others } → segments (calls_of (record { values = values; draws = draws }) ++ rest) ≡ record { first = record { values = values; draws = draws }; others = next ∷ others }
+ended-by_draw : {T : Type 0} (values : List T) (draws : ℕ) (next : Segment T) (others : List (Segment T))
+    (rest : List (Call T)) → 0 < draws → IsNonEmpty next.values
+    → segments rest ≡ record { first = next; others = others }
+    → segments (calls_of (record { values = values; draws = draws }) ++ rest)
+    ≡ record { first = record { values = values; draws = draws }; others = next ∷ others }
 ended-by_draw values zero next others rest draws some h = absurd (omega arith)
 ended-by_draw values (suc n) next others rest draws some h =
-    calls_of-more (record { values = values; draws = suc n }) (next ∷ others) rest (draws-segments_ended n next.values next.draws others rest some h)
+    calls_of-more (record { values = values; draws = suc n }) (next ∷ others) rest
+    (draws-segments_ended n next.values next.draws others rest some h)
 
 -- every cut of calls is theirs
-pub cut-only : {T : Type 0} (calls : List (Call T)) (first : Segment T) (others : List (Segment T)) → AreCutInto first others calls → record { first = first; others = others } ≡ segments calls
+pub cut-only : {T : Type 0} (calls : List (Call T)) (first : Segment T) (others : List (Segment T))
+    → AreCutInto first others calls → record { first = first; others = others } ≡ segments calls
 cut-only calls first [] h =
     sym (ap segments (h ∙ sym (append-nil (calls_of first)))
     ∙ calls_of-more first [] [] (draws-segments first.draws [] [] refl))
 cut-only calls first (next ∷ others) h =
     let behind = sym (cut-only h.0 next others h.2) in
     elim h.1 [
-      | inl array ↦ sym (ap segments array ∙ calls_of-more first (next ∷ others) (observe_empty_array ∷ h.0) (draws-segments first.draws (next ∷ others) (observe_empty_array ∷ h.0) (ap (λ cut. record { first = nothing; others = cut.first ∷ cut.others }) behind)))
-      | inr none ↦ sym (ap segments none.0 ∙ ended-by_draw first.values first.draws next others h.0 none.1 none.2 behind)
+      | inl array ↦ sym (ap segments array
+          ∙ calls_of-more first (next ∷ others) (observe_empty_array ∷ h.0)
+          (draws-segments first.draws (next ∷ others) (observe_empty_array ∷ h.0)
+          (ap (λ cut. record { first = nothing; others = cut.first ∷ cut.others }) behind)))
+      | inr none ↦ sym (ap segments none.0
+          ∙ ended-by_draw first.values first.draws next others h.0 none.1 none.2 behind)
     ]
 
 -- ---- runs
 
 module _ {A M S R : Type 0} where
-  run_before-assoc : {U : Type 0} (a : Run A M U) (b : Run A M S) (c : Run A M R) → run_before (run_before a b) c ≡ run_before a (run_before b c)
+  run_before-assoc : {U : Type 0} (a : Run A M U) (b : Run A M S) (c : Run A M R)
+      → run_before (run_before a b) c ≡ run_before a (run_before b c)
   run_before-assoc a b c =
-      λ i. record { answers = append_assoc a.answers b.answers c.answers i; handed = append_assoc a.handed b.handed c.handed i; after = c.after }
+      λ i. record {
+        answers = append_assoc a.answers b.answers c.answers i;
+        handed = append_assoc a.handed b.handed c.handed i;
+        after = c.after;
+      }
 
 run_before-stays : {A M S : Type 0} (a : Run A M S) → run_before a (stays a.after) ≡ a
 run_before-stays a = λ i. record { answers = append-nil a.answers i; handed = append-nil a.handed i; after = a.after }
 
 -- Each step of a segment does what one call does, of states that keep something.
-pub record StepsAgree {T A M D S : Type 0} (Keeps : S → Type 0) (calls : ByCalls T A M D S) (over : BySegments T A M D S) : Type 0 where
+pub record StepsAgree {T A M D S : Type 0} (Keeps : S → Type 0) (calls : ByCalls T A M D S)
+    (over : BySegments T A M D S) : Type 0 where
   pub no_values : (s : S) → over.values s [] ≡ stays s
-  pub next_value : (s : S) → Keeps s → (x : T) (xs : List T) → over.values s (x ∷ xs) ≡ (let run = calls.call s (observe x) in run_before run (over.values run.after xs))
+  pub next_value : (s : S) → Keeps s → (x : T) (xs : List T)
+      → over.values s (x ∷ xs) ≡ (let run = calls.call s (observe x) in run_before run (over.values run.after xs))
   pub no_draws : (s : S) → over.draws s 0 ≡ stays s
-  pub next_draw : (s : S) → Keeps s → (n : ℕ) → over.draws s (suc n) ≡ (let run = calls.call s draw in run_before run (over.draws run.after n))
+  pub next_draw : (s : S) → Keeps s → (n : ℕ)
+      → over.draws s (suc n) ≡ (let run = calls.call s draw in run_before run (over.draws run.after n))
   pub empty_array : (s : S) → calls.call s observe_empty_array ≡ stays (over.ended s)
   pub ended_values : (s : S) (x : T) (xs : List T) → over.values (over.ended s) (x ∷ xs) ≡ over.values s (x ∷ xs)
   pub digest : (s : S) → calls.digest s ≡ over.digest s
   pub keeps : (s : S) → Keeps s → (call : Call T) → Keeps (calls.call s call).after
 
-module _ {T A M D S : Type 0} (Keeps : S → Type 0) (by : ByCalls T A M D S) (over : BySegments T A M D S) (agree : StepsAgree Keeps by over) where
+module _ {T A M D S : Type 0} (Keeps : S → Type 0) (by : ByCalls T A M D S) (over : BySegments T A M D S)
+    (agree : StepsAgree Keeps by over) where
   -- a segment that does nothing
   nothing-run : (s : S) → run_segment over s nothing ≡ stays s
   nothing-run s = ap (λ run. run_before run (over.draws run.after 0)) (agree.no_values s) ∙ agree.no_draws s
@@ -115,7 +162,10 @@ module _ {T A M D S : Type 0} (Keeps : S → Type 0) (by : ByCalls T A M D S) (o
   draws-run s n = ap (λ run. run_before run (over.draws run.after n)) (agree.no_values s)
 
   -- one more value
-  value-run : (s : S) → Keeps s → (x : T) (xs : List T) (n : ℕ) → run_segment over s (record { values = x ∷ xs; draws = n }) ≡ (let run = by.call s (observe x) in run_before run (run_segment over run.after (record { values = xs; draws = n })))
+  value-run : (s : S) → Keeps s → (x : T) (xs : List T) (n : ℕ)
+      → run_segment over s (record { values = x ∷ xs; draws = n })
+      ≡ (let run = by.call s (observe x) in run_before run
+      (run_segment over run.after (record { values = xs; draws = n })))
   value-run s keeps x xs n =
       let run = by.call s (observe x) in
       let values = over.values run.after xs in
@@ -123,7 +173,9 @@ module _ {T A M D S : Type 0} (Keeps : S → Type 0) (by : ByCalls T A M D S) (o
       ∙ run_before-assoc run values (over.draws values.after n)
 
   -- one draw more
-  draw-run : (s : S) → Keeps s → (n : ℕ) → run_segment over s (record { values = []; draws = suc n }) ≡ (let run = by.call s draw in run_before run (run_segment over run.after (record { values = []; draws = n })))
+  draw-run : (s : S) → Keeps s → (n : ℕ)
+      → run_segment over s (record { values = []; draws = suc n })
+      ≡ (let run = by.call s draw in run_before run (run_segment over run.after (record { values = []; draws = n })))
   draw-run s keeps n =
       let run = by.call s draw in
       draws-run s (suc n) ∙ agree.next_draw s keeps n ∙ ap (run_before run) (sym (draws-run run.after n))
@@ -134,32 +186,42 @@ module _ {T A M D S : Type 0} (Keeps : S → Type 0) (by : ByCalls T A M D S) (o
       draw-run s keeps 0 ∙ ap (run_before run) (nothing-run run.after) ∙ run_before-stays run
 
   -- a segment that observes something begins where one ended as it does in its middle
-  ended-run : (s : S) (x : T) (xs : List T) (n : ℕ) → run_segment over (over.ended s) (record { values = x ∷ xs; draws = n }) ≡ run_segment over s (record { values = x ∷ xs; draws = n })
+  ended-run : (s : S) (x : T) (xs : List T) (n : ℕ)
+      → run_segment over (over.ended s) (record { values = x ∷ xs; draws = n }) ≡ run_segment over s
+      (record { values = x ∷ xs; draws = n })
   ended-run s x xs n = ap (λ run. run_before run (over.draws run.after n)) (agree.ended_values s x xs)
 
   -- a step in front of a segment, and those behind it
-  step-first : (step run : Run A M S) (others : List (Segment T)) → run_before step (run_before run (run_others over run.after others)) ≡ (let both = run_before step run in run_before both (run_others over both.after others))
+  step-first : (step run : Run A M S) (others : List (Segment T))
+      → run_before step (run_before run (run_others over run.after others))
+      ≡ (let both = run_before step run in run_before both (run_others over both.after others))
   step-first step run others = sym (run_before-assoc step run (run_others over run.after others))
 
-  draw-first : (s : S) → Keeps s → (values : List T) (n : ℕ) (others : List (Segment T)) → (let run = by.call s draw in run_before run (run_segments over run.after (record { first = record { values = values; draws = n }; others = others }))) ≡ run_segments over s (draw_before (record { values = values; draws = n }) others values)
+  draw-first : (s : S) → Keeps s → (values : List T) (n : ℕ) (others : List (Segment T))
+      → (let run = by.call s draw in run_before run
+      (run_segments over run.after (record { first = record { values = values; draws = n }; others = others })))
+      ≡ run_segments over s (draw_before (record { values = values; draws = n }) others values)
   draw-first s keeps [] n others =
       let run = by.call s draw in
       step-first run (run_segment over run.after (record { values = []; draws = n })) others
       ∙ sym (ap (λ r. run_before r (run_others over r.after others)) (draw-run s keeps n))
   draw-first s keeps (x ∷ xs) n others =
       let run = by.call s draw in
-      sym (ap (λ r. run_before r (run_others over r.after (record { values = x ∷ xs; draws = n } ∷ others))) (one_draw-run s keeps)
+      sym (ap (λ r. run_before r (run_others over r.after (record { values = x ∷ xs; draws = n } ∷ others)))
+      (one_draw-run s keeps)
       ∙ ap (λ r. run_before run (run_before r (run_others over r.after others))) (ended-run run.after x xs n))
 
   -- the calls one by one do what their segments do
-  pub run_calls-segments : (s : S) → Keeps s → (calls : List (Call T)) → run_calls by s calls ≡ run_segments over s (segments calls)
+  pub run_calls-segments : (s : S) → Keeps s → (calls : List (Call T))
+      → run_calls by s calls ≡ run_segments over s (segments calls)
   run_calls-segments s keeps [] = sym (ap (λ run. run_before run (stays run.after)) (nothing-run s))
   run_calls-segments s keeps (observe x ∷ calls) =
       let run = by.call s (observe x) in
       let cut = segments calls in
       ap (run_before run) (run_calls-segments run.after (agree.keeps s keeps (observe x)) calls)
       ∙ step-first run (run_segment over run.after cut.first) cut.others
-      ∙ sym (ap (λ r. run_before r (run_others over r.after cut.others)) (value-run s keeps x cut.first.values cut.first.draws))
+      ∙ sym (ap (λ r. run_before r (run_others over r.after cut.others))
+      (value-run s keeps x cut.first.values cut.first.draws))
   run_calls-segments s keeps (observe_empty_array ∷ calls) =
       let run = by.call s observe_empty_array in
       let cut = segments calls in
@@ -173,7 +235,8 @@ module _ {T A M D S : Type 0} (Keeps : S → Type 0) (by : ByCalls T A M D S) (o
       ∙ draw-first s keeps cut.first.values cut.first.draws cut.others
 
   -- so do they before a digest
-  pub run_calls-segments_to_digest : (s : S) → Keeps s → (calls : List (Call T)) → run_calls_to_digest by s calls ≡ run_segments_to_digest over s (segments calls)
+  pub run_calls-segments_to_digest : (s : S) → Keeps s → (calls : List (Call T))
+      → run_calls_to_digest by s calls ≡ run_segments_to_digest over s (segments calls)
   run_calls-segments_to_digest s keeps calls =
       let run = run_segments over s (segments calls) in
       ap (λ r. run_before r (by.digest r.after)) (run_calls-segments s keeps calls)
@@ -190,8 +253,11 @@ all-second P [] ys h = h
 all-second P (x ∷ xs) ys h = all-second P xs ys (All-tail P x (xs ++ ys) h)
 
 -- one challenger, and another that does the same wherever P holds of all that the one hands over
-module _ {T A M D S : Type 0} (P : M → Type 0) (by other : ByCalls T A M D S) (same_call : (s : S) (call : Call T) → All P (by.call s call).handed → other.call s call ≡ by.call s call) (same_digest : (s : S) → All P (by.digest s).handed → other.digest s ≡ by.digest s) where
-  pub run_calls-same : (s : S) (calls : List (Call T)) → All P (run_calls by s calls).handed → run_calls other s calls ≡ run_calls by s calls
+module _ {T A M D S : Type 0} (P : M → Type 0) (by other : ByCalls T A M D S)
+    (same_call : (s : S) (call : Call T) → All P (by.call s call).handed → other.call s call ≡ by.call s call)
+    (same_digest : (s : S) → All P (by.digest s).handed → other.digest s ≡ by.digest s) where
+  pub run_calls-same : (s : S) (calls : List (Call T)) → All P (run_calls by s calls).handed
+      → run_calls other s calls ≡ run_calls by s calls
   run_calls-same s [] h = refl
   run_calls-same s (call ∷ calls) h =
       let run = by.call s call in
@@ -199,7 +265,8 @@ module _ {T A M D S : Type 0} (P : M → Type 0) (by other : ByCalls T A M D S) 
       ap (λ r. run_before r (run_calls other r.after calls)) (same_call s call (all-first P run.handed rest.handed h))
       ∙ ap (run_before run) (run_calls-same run.after calls (all-second P run.handed rest.handed h))
 
-  pub run_calls_to_digest-same : (s : S) (calls : List (Call T)) → All P (run_calls_to_digest by s calls).handed → run_calls_to_digest other s calls ≡ run_calls_to_digest by s calls
+  pub run_calls_to_digest-same : (s : S) (calls : List (Call T)) → All P (run_calls_to_digest by s calls).handed
+      → run_calls_to_digest other s calls ≡ run_calls_to_digest by s calls
   run_calls_to_digest-same s calls h =
       let run = run_calls by s calls in
       let last = (by.digest run.after).handed in

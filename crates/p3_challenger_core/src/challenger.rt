@@ -1,6 +1,9 @@
-ghost use Rattle.std.specs.Prelude.{◌≡◌, List, [], ◌∷◌, ◌++◌, Option, Some, OnOk, IfOk, IfErr, ◌<◌, ◌≤◌, ◌^◌, ℕ, length};
-ghost use Rattle.p3_challenger_core.specs.Observation.{Observation, IsObservation, observed_all, LeavesInCalls, RefusesObserve};
-ghost use Rattle.p3_challenger_core.specs.Sampling.{Sampling, IsSampling, draws, after_draws, RefusesDraw, RefusesDraws, RefusesDrawVec};
+ghost use Rattle.std.specs.Prelude.{◌≡◌, List, [], ◌∷◌, ◌++◌, Option, Some, OnOk, IfOk, IfErr, ◌<◌, ◌≤◌, ◌^◌, ℕ};
+ghost use Rattle.std.specs.Prelude.{length};
+ghost use Rattle.p3_challenger_core.specs.Observation.{Observation, IsObservation, observed_all, LeavesInCalls};
+ghost use Rattle.p3_challenger_core.specs.Observation.{RefusesObserve};
+ghost use Rattle.p3_challenger_core.specs.Sampling.{Sampling, IsSampling, draws, after_draws, RefusesDraw};
+ghost use Rattle.p3_challenger_core.specs.Sampling.{RefusesDraws, RefusesDrawVec};
 
 use crate::ChallengerError;
 use std::alloc::Global;
@@ -48,7 +51,8 @@ pub trait CanObserve<T>: Sponge {
     ///
     /// The one error is [`ChallengerError::OutOfMemory`].
     fn observe_slice(&mut self, values: &[T]) -> Result<(), ChallengerError>
-        ensures ok { OnOk result (Self.state self.new ≡ observed_all observation.observed (Self.state self.old) values.now) }
+        ensures ok { OnOk result
+            (Self.state self.new ≡ observed_all observation.observed (Self.state self.old) values.now) }
         ensures err { IfErr result (λ e.
             RefusesObserve (slice_may_leave (Self.state self.old) values.now) e (Self.state self.new)) };
 

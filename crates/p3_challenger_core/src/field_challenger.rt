@@ -17,7 +17,8 @@ pub trait FieldChallenger<F: Field>: CanObserve<F> + CanSample<F> + CanSampleBit
         ensures ok { OnOk result (Self.state self.new
             ≡ observed_all Self.CanObserve.observation.observed (Self.state self.old) (A.coefficients element)) }
         ensures err { IfErr result (λ e.
-            RefusesObserve (Self.CanObserve.slice_may_leave (Self.state self.old) (A.coefficients element)) e (Self.state self.new)) }
+            RefusesObserve (Self.CanObserve.slice_may_leave (Self.state self.old) (A.coefficients element)) e
+            (Self.state self.new)) }
     {
         self.observe_slice(element.as_basis_coefficients_slice())
     }
@@ -32,7 +33,8 @@ pub trait FieldChallenger<F: Field>: CanObserve<F> + CanSample<F> + CanSampleBit
         elements: &[A],
     ) -> Result<(), ChallengerError>
         ensures ok { OnOk result (Self.state self.new ≡ observed_all
-            (λ s element. observed_all Self.CanObserve.observation.observed s (A.coefficients element)) (Self.state self.old) elements.now) }
+            (λ s element. observed_all Self.CanObserve.observation.observed s (A.coefficients element))
+            (Self.state self.old) elements.now) }
         ensures err { IfErr result (λ e. RefusesObserve (LeavesInCalls
             (λ s element. observed_all Self.CanObserve.observation.observed s (A.coefficients element))
             (λ s element. Self.CanObserve.slice_may_leave s (A.coefficients element))
@@ -72,7 +74,8 @@ pub trait FieldChallenger<F: Field>: CanObserve<F> + CanSample<F> + CanSampleBit
         &mut self,
         value: F,
     ) -> Result<(), ChallengerError>
-        ensures ok { OnOk result (Self.state self.new ≡ observed_all Self.CanObserve.observation.observed (Self.state self.old)
+        ensures ok { OnOk result
+            (Self.state self.new ≡ observed_all Self.CanObserve.observation.observed (Self.state self.old)
             (value ∷ replicate (A.DIMENSION - 1) (F.residues.of 0))) }
         ensures err { IfErr result (λ e. RefusesObserve (Self.CanObserve.slice_may_leave (Self.state self.old)
             (value ∷ replicate (A.DIMENSION - 1) (F.residues.of 0))) e (Self.state self.new)) }

@@ -1,5 +1,5 @@
 pub mod Drawing
-pub mod DuplexChains
 pub mod DuplexHanded
+pub mod DuplexSteps
 pub mod Overwriting
 pub mod Pushing

@@ -1,10 +1,12 @@
 -- Writing a block over the rate, as the code does it.
-use Rattle.std.proofs.Common.{◌≡◌, ℕ, suc, ◌<◌, ◌≤◌, ◌+◌, ◌-◌, List, [], ◌∷◌, ◌++◌, length, take, drop, replicate, set, refl, sym, ap, ◌∙◌, append_assoc, add-one, arith}
+use Rattle.std.proofs.Common.{◌≡◌, ℕ, suc, ◌<◌, ◌≤◌, ◌+◌, ◌-◌, List, [], ◌∷◌, ◌++◌, length, take, drop, replicate, set}
+use Rattle.std.proofs.Common.{refl, sym, ap, ◌∙◌, append_assoc, add-one, arith}
 use Rattle.std.proofs.lemmas.List.{take_at, drop_at, set_at, drop-drop, length-replicate, replicate_more, length-append}
 use Rattle.std.proofs.Math.Seq.{drop-cons}
 
 -- a loop that fills with one value, at its next place
-pub filled_more : {X : Type 0} (cells : List X) (i : ℕ) (y : X) → i < length cells → set (replicate i y ++ drop i cells) i y ≡ replicate (i + 1) y ++ drop (i + 1) cells
+pub filled_more : {X : Type 0} (cells : List X) (i : ℕ) (y : X) → i < length cells
+    → set (replicate i y ++ drop i cells) i y ≡ replicate (i + 1) y ++ drop (i + 1) cells
 filled_more cells i y below =
     ap (λ rest. set (replicate i y ++ rest) i y) (drop-cons cells i y below)
     ∙ set_at (replicate i y) _ (drop (suc i) cells) y i (length-replicate i y)
@@ -13,13 +15,18 @@ filled_more cells i y below =
     ∙ ap (λ n. replicate (i + 1) y ++ drop n cells) (sym (add-one i))
 
 -- a block over the front, zeros behind it, and one cell behind those
-pub written : {X : Type 0} (cells block zeros : List X) (rate : ℕ) (x : X) → length block ≤ rate → rate < length cells → length zeros ≡ rate - length block → set (take (length block) (block ++ drop (length block) cells) ++ (zeros ++ drop (rate - length block) (drop (length block) (block ++ drop (length block) cells)))) rate x ≡ block ++ (zeros ++ (x ∷ drop (rate + 1) cells))
+pub written : {X : Type 0} (cells block zeros : List X) (rate : ℕ) (x : X) → length block ≤ rate → rate < length cells
+    → length zeros ≡ rate - length block
+    → set (take (length block) (block ++ drop (length block) cells)
+    ++ (zeros ++ drop (rate - length block) (drop (length block) (block ++ drop (length block) cells)))) rate
+    x ≡ block ++ (zeros ++ (x ∷ drop (rate + 1) cells))
 written cells block zeros rate x fits below long =
     let n = length block in
     let front : take n (block ++ drop n cells) ≡ block = take_at block (drop n cells) n refl in
     let behind : drop n (block ++ drop n cells) ≡ drop n cells = drop_at block (drop n cells) n refl in
     let same : n + (rate - n) ≡ rate = omega arith in
-    let rest : drop (rate - n) (drop n (block ++ drop n cells)) ≡ drop rate cells = ap (drop (rate - n)) behind ∙ drop-drop (rate - n) n cells ∙ ap (λ k. drop k cells) same in
+    let rest : drop (rate - n) (drop n (block ++ drop n cells)) ≡ drop rate cells = ap (drop (rate - n)) behind
+    ∙ drop-drop (rate - n) n cells ∙ ap (λ k. drop k cells) same in
     let both : length (block ++ zeros) ≡ rate = omega (arith, length-append block zeros) in
     (λ i. set (front i ++ (zeros ++ rest i)) rate x)
     ∙ ap (λ r. set (block ++ (zeros ++ r)) rate x) (drop-cons cells rate x below)

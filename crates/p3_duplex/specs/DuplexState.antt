@@ -1,8 +1,8 @@
 -- A duplex challenger as contracts see it.
 use Rattle.std.specs.Prelude.{◌≡◌, ℕ, zero, suc, ◌<◌, ◌≤◌, List, [], ◌∷◌}
 use Rattle.p3_field_core.specs.Residues.{Residues}
-use Rattle.p3_duplex.specs.DuplexTranscript as transcript
-use Rattle.p3_duplex.specs.DuplexTranscript.{DuplexSponge}
+use Rattle.p3_duplex.specs.DuplexCalls as calls
+use Rattle.p3_duplex.specs.DuplexCalls.{DuplexSponge}
 use Rattle.p3_challenger_core.specs.Observation.{observed_all}
 
 -- what a challenger keeps of its numbers: the rate is some cells but not all of them, and their number
@@ -18,37 +18,37 @@ pub record KeepsRate (width rate inputs outputs_left draw_limit : ℕ) : Type 0 
   pub draws : 1 ≤ draw_limit
 
 -- its sponge, and the permutation and the draw limit, which stay
-pub record Duplex (F P : Type 0) : Type 0 where
+pub record DuplexState (F P : Type 0) : Type 0 where
   pub sponge : DuplexSponge F
   pub permutation : P
   pub draw_limit : ℕ
 
 -- each step, under the function that each permutation is
-abbrev pub duplexed : {F P : Type 0} → Residues F → (P → List F → List F) → ℕ → Duplex F P → Duplex F P
-duplexed r permute rate c = record c { sponge = transcript.duplexed r (permute c.permutation) rate c.sponge }
+abbrev pub duplexed : {F P : Type 0} → Residues F → (P → List F → List F) → ℕ → DuplexState F P → DuplexState F P
+duplexed r permute rate c = record c { sponge = calls.duplexed r (permute c.permutation) rate c.sponge }
 
-abbrev pub observed : {F P : Type 0} → Residues F → (P → List F → List F) → ℕ → Duplex F P → F → Duplex F P
-observed r permute rate c x = record c { sponge = transcript.observed r (permute c.permutation) rate c.sponge x }
+abbrev pub observed : {F P : Type 0} → Residues F → (P → List F → List F) → ℕ → DuplexState F P → F → DuplexState F P
+observed r permute rate c x = record c { sponge = calls.observed r (permute c.permutation) rate c.sponge x }
 
 -- what a list feeds: each value is observed, in order
-abbrev pub fed : {F P : Type 0} → Residues F → (P → List F → List F) → ℕ → Duplex F P → List F → Duplex F P
+abbrev pub fed : {F P : Type 0} → Residues F → (P → List F → List F) → ℕ → DuplexState F P → List F → DuplexState F P
 fed r permute rate c xs = observed_all (observed r permute rate) c xs
 
-abbrev pub sampled : {F P : Type 0} → Residues F → (P → List F → List F) → ℕ → Duplex F P → F
-sampled r permute rate c = transcript.sampled r (permute c.permutation) rate c.sponge
+abbrev pub sampled : {F P : Type 0} → Residues F → (P → List F → List F) → ℕ → DuplexState F P → F
+sampled r permute rate c = calls.sampled r (permute c.permutation) rate c.sponge
 
-abbrev pub after_sampled : {F P : Type 0} → Residues F → (P → List F → List F) → ℕ → Duplex F P → Duplex F P
-after_sampled r permute rate c = record c { sponge = transcript.after_sampled r (permute c.permutation) rate c.sponge }
+abbrev pub after_sampled : {F P : Type 0} → Residues F → (P → List F → List F) → ℕ → DuplexState F P → DuplexState F P
+after_sampled r permute rate c = record c { sponge = calls.after_sampled r (permute c.permutation) rate c.sponge }
 
 -- what n draws give, in order
-abbrev pub drawn : {F P : Type 0} → Residues F → (P → List F → List F) → ℕ → ℕ → Duplex F P → List F
+abbrev pub drawn : {F P : Type 0} → Residues F → (P → List F → List F) → ℕ → ℕ → DuplexState F P → List F
 drawn r permute rate zero c = []
 drawn r permute rate (suc n) c = sampled r permute rate c ∷ drawn r permute rate n (after_sampled r permute rate c)
 
 -- the challenger after n draws
-abbrev pub after_drawn : {F P : Type 0} → Residues F → (P → List F → List F) → ℕ → ℕ → Duplex F P → Duplex F P
+abbrev pub after_drawn : {F P : Type 0} → Residues F → (P → List F → List F) → ℕ → ℕ → DuplexState F P → DuplexState F P
 after_drawn r permute rate zero c = c
 after_drawn r permute rate (suc n) c = after_drawn r permute rate n (after_sampled r permute rate c)
 
-abbrev pub digest : {F P : Type 0} → Residues F → (P → List F → List F) → ℕ → Duplex F P → List F
-digest r permute rate c = transcript.digest r (permute c.permutation) rate c.sponge
+abbrev pub digest : {F P : Type 0} → Residues F → (P → List F → List F) → ℕ → DuplexState F P → List F
+digest r permute rate c = calls.digest r (permute c.permutation) rate c.sponge

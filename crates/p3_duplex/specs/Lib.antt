@@ -1,4 +1,4 @@
-pub mod DuplexChain
+pub mod DuplexCalls
+pub mod DuplexSegments
 pub mod DuplexState
 pub mod DuplexStateLaws
-pub mod DuplexTranscript

@@ -5,8 +5,8 @@ ghost use Rattle.p3_challenger_core.specs.Segments.{Call, segments, run_calls, r
 ghost use Rattle.p3_challenger_core.specs.Segments.{run_segments, run_segments_to_digest};
 ghost use Rattle.p3_challenger_core.specs.Observation.{LeavesInCalls, RefusesObserve};
 ghost use Rattle.p3_challenger_core.specs.Sampling.{RefusesDraws, unrefused_draw};
-ghost use Rattle.p3_duplex.specs.DuplexChain.{duplex_by_segments};
-ghost use Rattle.p3_duplex.specs.DuplexTranscript.{absorbing, overwritten, fresh, outputs, duplex_by_calls};
+ghost use Rattle.p3_duplex.specs.DuplexSegments.{duplex_by_segments};
+ghost use Rattle.p3_duplex.specs.DuplexCalls.{absorbing, overwritten, fresh, outputs, duplex_by_calls};
 ghost use Rattle.p3_challenger_core.specs.declared.error.ChallengerError.{ChallengerError};
 
 mod bits;
@@ -40,9 +40,9 @@ pub struct DuplexChallenger<F, P, const WIDTH: usize, const RATE: usize> {
 
 impl<F, P, const WIDTH: usize, const RATE: usize> Model for DuplexChallenger<F, P, WIDTH, RATE> {
     ghost use Rattle.std.specs.Prelude.{take};
-    ghost use Rattle.p3_duplex.specs.DuplexState.{Duplex, KeepsRate};
+    ghost use Rattle.p3_duplex.specs.DuplexState.{DuplexState, KeepsRate};
 
-    ghost Value = { Duplex F P };
+    ghost Value = { DuplexState F P };
 
     ghost view = { λ c. record {
       sponge = record {
@@ -90,13 +90,13 @@ impl<
         }
     }
 
-    /// The duplex transcript, whole: from this challenger on, every list of calls gives the answers,
+    /// The segments of calls, whole: from this challenger on, every list of calls gives the answers,
     /// hands over the states to the permutation, and leaves the sponge, that its segments name; and so
     /// do calls that end in a digest. No state is left out: a permutation that gives the same on those
     /// that are handed over makes the calls do the same.
     ///
     /// A law: the body is empty, and a caller cites the clauses.
-    pub fn follows_duplex_transcript(&self)
+    pub fn follows_segments(&self)
         ensures calls { (calls : List (Call F)) →
             let permute = P.permutation self.now.permutation in
             run_calls (duplex_by_calls F.residues permute RATE) self.now.sponge calls
@@ -124,7 +124,7 @@ impl<
     ///
     /// A law: the body is empty, and a caller cites the clause.
     pub fn draws_are_not_refused<A: BasedVectorSpace<F>>(&self)
-        ensures { (n : ℕ) (e : ChallengerError) (s t : duplex_state.Duplex F P) →
+        ensures { (n : ℕ) (e : ChallengerError) (s t : duplex_state.DuplexState F P) →
             ¬ (RefusesDraws (unrefused_draw
             (λ u. Some (A.element (duplex_state.drawn F.residues P.permutation RATE A.DIMENSION u)))
             (λ u. duplex_state.after_drawn F.residues P.permutation RATE A.DIMENSION u)) n e s t) }
@@ -137,7 +137,7 @@ impl<
     ///
     /// A law: the body is empty, and a caller cites the clause.
     pub fn observes_are_not_refused(&self)
-        ensures { (values : List F) (e : ChallengerError) (s t : duplex_state.Duplex F P) →
+        ensures { (values : List F) (e : ChallengerError) (s t : duplex_state.DuplexState F P) →
             ¬ (RefusesObserve (LeavesInCalls
             ⟦<DuplexChallenger<F, P, WIDTH, RATE> as CanObserve<F>>⟧.observation.observed
             ⟦<DuplexChallenger<F, P, WIDTH, RATE> as CanObserve<F>>⟧.observation.may_leave s values) e t) }
@@ -286,11 +286,13 @@ impl<
     ghost use Rattle.p3_duplex.specs.DuplexState as duplex_state;
 
     // An observation takes no memory: it is never refused.
-    ghost observation = { unrefused_observe (λ x. x ∷ []) (λ s x. duplex_state.observed F.residues P.permutation RATE s x) };
+    ghost observation = { unrefused_observe (λ x. x ∷ [])
+        (λ s x. duplex_state.observed F.residues P.permutation RATE s x) };
 
     ghost slice_may_leave = { λ _ _ _. ⊥ };
 
-    ghost observes = { is_observation F.residues P.permutation RATE (λ x. x ∷ []) (λ s x. duplex_state.observed F.residues P.permutation RATE s x) (λ _ _. refl) };
+    ghost observes = { is_observation F.residues P.permutation RATE (λ x. x ∷ [])
+        (λ s x. duplex_state.observed F.residues P.permutation RATE s x) (λ _ _. refl) };
 
     ghost slice_leaves = { λ _ _ _ h. absurd h };
 
@@ -322,7 +324,8 @@ impl<
 
     ghost slice_may_leave = { λ _ _ _. ⊥ };
 
-    ghost observes = { is_observation F.residues P.permutation RATE (λ xs. xs) (λ s xs. duplex_state.fed F.residues P.permutation RATE s xs) (λ _ _. refl) };
+    ghost observes = { is_observation F.residues P.permutation RATE (λ xs. xs)
+        (λ s xs. duplex_state.fed F.residues P.permutation RATE s xs) (λ _ _. refl) };
 
     ghost slice_leaves = { λ _ _ _ h. absurd h };
 

@@ -3,8 +3,8 @@ use Rattle.std.proofs.Common.{◌≡◌, ℕ, List, [], ◌∷◌, Bool, true, f
 use Rattle.std.specs.List.{All}
 use Rattle.std.proofs.lemmas.List.Elements.{All-head}
 use Rattle.p3_challenger_core.specs.Segments.{Call, observe, observe_empty_array, draw}
-use Rattle.p3_hash_challenger.specs.HashTranscript.{HashFunction, HashTranscript, flushed, last_output, one_taken}
-use Rattle.p3_hash_challenger.specs.HashTranscript.{handed_by_draw, handed_by_digest, run_call, run_digest}
+use Rattle.p3_hash_challenger.specs.HashCalls.{HashFunction, HashSponge, flushed, last_output, one_taken}
+use Rattle.p3_hash_challenger.specs.HashCalls.{handed_by_draw, handed_by_digest, run_call, run_digest}
 
 module _ {T : Type 0} (h : HashFunction T) (other : List T → List T) where
   abbrev pub Agree : List T → Type 0
@@ -14,13 +14,13 @@ module _ {T : Type 0} (h : HashFunction T) (other : List T → List T) where
   by_other = record h { digest = other }
 
   -- a flush that is made or not
-  same_step : (b : Bool) (s : HashTranscript T) → All Agree (if b then s.pending ∷ [] else [])
+  same_step : (b : Bool) (s : HashSponge T) → All Agree (if b then s.pending ∷ [] else [])
       → (if b then flushed by_other s else s) ≡ (if b then flushed h s else s)
   same_step true s agree =
       ap (λ digest. record { pending = digest; outputs_left = h.out_len }) (All-head Agree s.pending [] agree)
   same_step false s agree = refl
 
-  pub same_call : (s : HashTranscript T) (call : Call T) → All Agree (run_call h s call).handed
+  pub same_call : (s : HashSponge T) (call : Call T) → All Agree (run_call h s call).handed
       → run_call (record h { digest = other }) s call ≡ run_call h s call
   same_call s (observe x) agree = refl
   same_call s observe_empty_array agree = refl
@@ -28,7 +28,7 @@ module _ {T : Type 0} (h : HashFunction T) (other : List T → List T) where
       ap (λ t. record { answers = last_output h t ∷ []; handed = handed_by_draw s; after = one_taken t })
       (same_step (s.outputs_left == 0) s agree)
 
-  pub same_digest : (s : HashTranscript T) → All Agree (run_digest h s).handed
+  pub same_digest : (s : HashSponge T) → All Agree (run_digest h s).handed
       → run_digest (record h { digest = other }) s ≡ run_digest h s
   same_digest s agree =
       ap (λ digest. record { answers = []; handed = handed_by_digest s; after = digest })

@@ -3,15 +3,15 @@ use Rattle.std.proofs.Common.{◌≡◌, ℕ, zero, suc, ◌<◌, ◌≤◌, ◌
 use Rattle.std.proofs.Common.{slice_index_or, refl, sym, ap, subst, arith}
 use Rattle.std.proofs.lemmas.List.{get_or_default}
 use Rattle.p3_challenger_core.specs.Segments.{Call, observe, observe_empty_array, draw}
-use Rattle.p3_hash_challenger.specs.HashTranscript.{HashFunction, HashTranscript, flushed, one_taken}
-use Rattle.p3_hash_challenger.specs.HashTranscript.{sampled, handed_by_draw, after_sampled, run_call}
-use Rattle.p3_hash_challenger.proofs.HashChains.{not_zero}
+use Rattle.p3_hash_challenger.specs.HashCalls.{HashFunction, HashSponge, flushed, one_taken}
+use Rattle.p3_hash_challenger.specs.HashCalls.{sampled, handed_by_draw, after_sampled, run_call}
+use Rattle.p3_hash_challenger.proofs.HashSteps.{not_zero}
 
 -- the outputs left are places of what is pending
-abbrev pub HasOutputs : {T : Type 0} → HashTranscript T → Type 0
+abbrev pub HasOutputs : {T : Type 0} → HashSponge T → Type 0
 HasOutputs s = s.outputs_left ≤ length s.pending
 
-abbrev of : {T : Type 0} → List T → ℕ → HashTranscript T
+abbrev of : {T : Type 0} → List T → ℕ → HashSponge T
 of pending left = record { pending = pending; outputs_left = left }
 
 module _ {T : Type 0} (h : HashFunction T) (other : T) (positive : 0 < h.out_len)
@@ -20,7 +20,7 @@ module _ {T : Type 0} (h : HashFunction T) (other : T) (positive : 0 < h.out_len
   filled = record h { filler = other }
 
   -- after a flush, or as it was
-  abbrev flushed_if : HashTranscript T → Bool → HashTranscript T
+  abbrev flushed_if : HashSponge T → Bool → HashSponge T
   flushed_if s b = if b then flushed h s else s
 
   -- a draw does not take what stands for a place that is not there
@@ -30,7 +30,7 @@ module _ {T : Type 0} (h : HashFunction T) (other : T) (positive : 0 < h.out_len
       let inside : h.out_len - 1 < length (h.digest pending) = omega (arith, whole pending) in
       get_or_default (h.digest pending) (h.out_len - 1) other h.filler inside
   same_draw pending (suc m) fits =
-      let taken = λ (d : T) (t : HashTranscript T). slice_index_or t.pending (t.outputs_left - 1) d in
+      let taken = λ (d : T) (t : HashSponge T). slice_index_or t.pending (t.outputs_left - 1) d in
       let s = flushed_if (of pending (suc m)) in
       let inside : suc m - 1 < length pending = omega arith in
       subst (λ b. taken other (s b) ≡ taken h.filler (s b)) (sym (not_zero m))
@@ -43,7 +43,7 @@ module _ {T : Type 0} (h : HashFunction T) (other : T) (positive : 0 < h.out_len
       let inside : suc m - 1 ≤ length pending = omega arith in
       subst (λ b. HasOutputs (one_taken (flushed_if (of pending (suc m)) b))) (sym (not_zero m)) inside
 
-  pub filled_call : (s : HashTranscript T) → HasOutputs s → (call : Call T)
+  pub filled_call : (s : HashSponge T) → HasOutputs s → (call : Call T)
       → run_call (record h { filler = other }) s call ≡ run_call h s call
   filled_call s fits (observe x) = refl
   filled_call s fits observe_empty_array = refl
@@ -51,7 +51,7 @@ module _ {T : Type 0} (h : HashFunction T) (other : T) (positive : 0 < h.out_len
       ap (λ x. record { answers = x ∷ []; handed = handed_by_draw s; after = after_sampled h s })
       (same_draw s.pending s.outputs_left fits)
 
-  pub call_outputs : (s : HashTranscript T) → HasOutputs s → (call : Call T)
+  pub call_outputs : (s : HashSponge T) → HasOutputs s → (call : Call T)
       → HasOutputs (run_call h s call).after
   call_outputs s fits (observe x) = omega arith
   call_outputs s fits observe_empty_array = omega arith

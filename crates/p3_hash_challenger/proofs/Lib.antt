@@ -1,4 +1,4 @@
-pub mod HashChains
 pub mod HashHanded
 pub mod HashOutputs
+pub mod HashSteps
 pub mod Observing

@@ -1,8 +1,8 @@
 -- A hash challenger as contracts see it.
 use Rattle.std.specs.Prelude.{◌≡◌, ℕ, ◌<◌, ◌≤◌, List, length, Option, Some, None, IfSome}
 use Rattle.std.specs.Option.{ForNone}
-use Rattle.p3_hash_challenger.specs.HashTranscript as transcript
-use Rattle.p3_hash_challenger.specs.HashTranscript.{HashFunction, HashTranscript}
+use Rattle.p3_hash_challenger.specs.HashCalls as calls
+use Rattle.p3_hash_challenger.specs.HashCalls.{HashFunction, HashSponge}
 
 -- what a challenger of digests of out_len places keeps: of its digest, how many outputs are left
 pub record KeepsOutputs {T : Type 0} (out_len : ℕ) (digest : Option (List T)) (outputs_left : ℕ) : Type 0 where
@@ -16,19 +16,19 @@ abbrev pub pending_of : {T : Type 0} → Option (List T) → List T → List T
 pending_of None buffer = buffer
 pending_of (Some digest) buffer = digest
 
--- its transcript, and the hasher, which stays
+-- what its calls change, and the hasher, which stays
 pub record HashState (T H : Type 0) : Type 0 where
-  pub transcript : HashTranscript T
+  pub sponge : HashSponge T
   pub hasher : H
 
 abbrev pub fed : {T H : Type 0} → HashState T H → List T → HashState T H
-fed s xs = record s { transcript = transcript.fed s.transcript xs }
+fed s xs = record s { sponge = calls.fed s.sponge xs }
 
 abbrev pub observed : {T H : Type 0} → HashState T H → T → HashState T H
-observed s x = record s { transcript = transcript.observed s.transcript x }
+observed s x = record s { sponge = calls.observed s.sponge x }
 
 abbrev pub array_observed : {T H : Type 0} → HashState T H → List T → HashState T H
-array_observed s xs = record s { transcript = transcript.array_observed s.transcript xs }
+array_observed s xs = record s { sponge = calls.array_observed s.sponge xs }
 
 -- the hash function that a hasher is
 abbrev pub function_of : {T H : Type 0} → (H → List T → List T) → ℕ → T → H → HashFunction T
@@ -36,13 +36,13 @@ function_of hash out_len filler hasher = record { digest = hash hasher; out_len 
 
 -- a draw, under the function that each hasher is
 abbrev pub sampled : {T H : Type 0} → (H → HashFunction T) → HashState T H → T
-sampled function s = transcript.sampled (function s.hasher) s.transcript
+sampled function s = calls.sampled (function s.hasher) s.sponge
 
 abbrev pub after_sampled : {T H : Type 0} → (H → HashFunction T) → HashState T H → HashState T H
-after_sampled function s = record s { transcript = transcript.after_sampled (function s.hasher) s.transcript }
+after_sampled function s = record s { sponge = calls.after_sampled (function s.hasher) s.sponge }
 
 abbrev pub flushed : {T H : Type 0} → (H → HashFunction T) → HashState T H → HashState T H
-flushed function s = record s { transcript = transcript.flushed (function s.hasher) s.transcript }
+flushed function s = record s { sponge = calls.flushed (function s.hasher) s.sponge }
 
 abbrev pub digest : {T H : Type 0} → (H → HashFunction T) → HashState T H → List T
-digest function s = transcript.digest (function s.hasher) s.transcript
+digest function s = calls.digest (function s.hasher) s.sponge

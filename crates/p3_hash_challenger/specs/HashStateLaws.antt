@@ -1,21 +1,23 @@
 -- Laws of a hash challenger call by call.
-use Rattle.std.proofs.Common.{◌≡◌, ℕ, Some, List, [], ◌∷◌, ◌++◌, ◌⊎◌, inl, inr, length, take, ◌==◌, false, refl, sym, ap, subst, ◌∙◌, append_assoc, append-nil}
+use Rattle.std.proofs.Common.{◌≡◌, ℕ, Some, List, [], ◌∷◌, ◌++◌, ◌⊎◌, inl, inr, length, take, ◌==◌, false, refl, sym}
+use Rattle.std.proofs.Common.{ap, subst, ◌∙◌, append_assoc, append-nil}
 use Rattle.std.specs.List.{flat_map}
 use Rattle.p3_challenger_core.specs.Sponge.{IsNonEmpty}
-use Rattle.p3_challenger_core.specs.Observation.{Observation, IsObservation, LeavesFed, LeavesBehind, LeavesBeginning, LeavesInCalls, observed_all}
+use Rattle.p3_challenger_core.specs.Observation.{Observation, IsObservation, LeavesFed, LeavesBehind, LeavesBeginning}
+use Rattle.p3_challenger_core.specs.Observation.{LeavesInCalls, observed_all}
 use Rattle.p3_challenger_core.specs.ObservationLaws.{nothing-fed, exact-observation, unchanged-front, behind_append}
 use Rattle.p3_challenger_core.specs.Sampling.{IsSampling, unrefused_draw}
 use Rattle.p3_challenger_core.specs.SamplingLaws.{unrefused_draw-is_sampling, one_step}
-use Rattle.p3_hash_challenger.specs.HashTranscript.{HashFunction, absorbing}
+use Rattle.p3_hash_challenger.specs.HashCalls.{HashFunction, absorbing}
 use Rattle.p3_hash_challenger.specs.HashState.{HashState, observed, fed, array_observed, sampled, after_sampled}
 
 -- feeding a list and then another is feeding both
 pub fed-append : {T H : Type 0} (s : HashState T H) (xs ys : List T) → fed (fed s xs) ys ≡ fed s (xs ++ ys)
 fed-append s [] ys = refl
 fed-append s (x ∷ xs) [] =
-    ap (λ v. record { transcript = absorbing (s.transcript.pending ++ (x ∷ v)); hasher = s.hasher }) (sym (append-nil xs))
+    ap (λ v. record { sponge = absorbing (s.sponge.pending ++ (x ∷ v)); hasher = s.hasher }) (sym (append-nil xs))
 fed-append s (x ∷ xs) (y ∷ ys) =
-    ap (λ p. record { transcript = absorbing p; hasher = s.hasher }) (append_assoc s.transcript.pending (x ∷ xs) (y ∷ ys))
+    ap (λ p. record { sponge = absorbing p; hasher = s.hasher }) (append_assoc s.sponge.pending (x ∷ xs) (y ∷ ys))
 
 -- values observed in order are fed
 pub observed_all-fed : {T H : Type 0} (s : HashState T H) (xs : List T) → observed_all observed s xs ≡ fed s xs
@@ -23,17 +25,20 @@ observed_all-fed s [] = refl
 observed_all-fed s (x ∷ xs) = observed_all-fed (observed s x) xs ∙ fed-append s (x ∷ []) xs
 
 -- an array that is not empty is fed
-pub array_observed-fed : {T H : Type 0} (s : HashState T H) (xs : List T) → IsNonEmpty xs → array_observed s xs ≡ fed s xs
+pub array_observed-fed : {T H : Type 0} (s : HashState T H) (xs : List T) → IsNonEmpty xs
+    → array_observed s xs ≡ fed s xs
 array_observed-fed s [] h = absurd h
 array_observed-fed s (x ∷ xs) h = refl
 
 -- a list that is not empty is added to what is pending
-pub array_observed-is_fed : {T H : Type 0} (s : HashState T H) (xs : List T) → (length xs == 0) ≡ false → array_observed s xs ≡ fed s xs
+pub array_observed-is_fed : {T H : Type 0} (s : HashState T H) (xs : List T) → (length xs == 0) ≡ false
+    → array_observed s xs ≡ fed s xs
 array_observed-is_fed s [] h = cc
 array_observed-is_fed s (x ∷ xs) h = refl
 
 -- parts that are fed in order are fed as one list
-pub all_fed : {T H X : Type 0} (parts : X → List T) (s : HashState T H) (xs : List X) → observed_all (λ t x. fed t (parts x)) s xs ≡ fed s (flat_map parts xs)
+pub all_fed : {T H X : Type 0} (parts : X → List T) (s : HashState T H) (xs : List X)
+    → observed_all (λ t x. fed t (parts x)) s xs ≡ fed s (flat_map parts xs)
 all_fed parts s [] = refl
 all_fed parts s (x ∷ xs) = all_fed parts (fed s (parts x)) xs ∙ fed-append s (parts x) (flat_map parts xs)
 
@@ -44,7 +49,8 @@ module _ {T H : Type 0} where
   unchanged : (s t : HashState T H) (symbols : List T) → t ≡ s → LeavesFed fed s symbols t
   unchanged s t symbols is = (0, nothing-fed fed (λ _. refl) fed-append s t is)
 
-  unchanged-behind : (s : HashState T H) (before : List T) (t : HashState T H) (symbols : List T) → t ≡ fed s before → LeavesBehind fed s before symbols t
+  unchanged-behind : (s : HashState T H) (before : List T) (t : HashState T H) (symbols : List T) → t ≡ fed s before
+      → LeavesBehind fed s before symbols t
   unchanged-behind s before t symbols is = (0, is ∙ ap (fed s) (sym (append-nil before)))
 
 -- one value, or a slice of them
@@ -56,7 +62,8 @@ values-observed =
     exact-observation fed (λ _. refl) fed-append of_value (λ _ _. refl)
     (λ s x t is. unchanged-front fed (λ _. refl) fed-append s t (x ∷ []) is)
 
-pub values-front : {T H : Type 0} (s : HashState T H) (xs : List T) (t : HashState T H) → IsNonEmpty xs × (t ≡ s) → LeavesBeginning observed s xs t
+pub values-front : {T H : Type 0} (s : HashState T H) (xs : List T) (t : HashState T H) → IsNonEmpty xs × (t ≡ s)
+    → LeavesBeginning observed s xs t
 values-front s [] t left = absurd left.0
 values-front s (x ∷ xs) t left = inl left.1
 
@@ -64,14 +71,16 @@ values-front s (x ∷ xs) t left = inl left.1
 abbrev pub of_array : {T H : Type 0} → Observation (HashState T H) T (List T)
 of_array = record { symbols = λ xs. xs; observed = λ s xs. array_observed s xs; may_leave = λ s _ t. t ≡ s }
 
-array-traceless : {T H : Type 0} (s : HashState T H) (xs : List T) (y : T) (ys : List T) → fed (array_observed s xs) (y ∷ ys) ≡ fed s (xs ++ y ∷ ys)
+array-traceless : {T H : Type 0} (s : HashState T H) (xs : List T) (y : T) (ys : List T)
+    → fed (array_observed s xs) (y ∷ ys) ≡ fed s (xs ++ y ∷ ys)
 array-traceless s [] y ys =
-    ap (λ p. record { transcript = absorbing (p ++ y ∷ ys); hasher = s.hasher }) (append-nil s.transcript.pending)
+    ap (λ p. record { sponge = absorbing (p ++ y ∷ ys); hasher = s.hasher }) (append-nil s.sponge.pending)
 array-traceless s (x ∷ xs) y ys = fed-append s (x ∷ xs) (y ∷ ys)
 
-array-behind : {T H : Type 0} (s : HashState T H) (y : T) (ys xs : List T) → array_observed (fed s (y ∷ ys)) xs ≡ fed s ((y ∷ ys) ++ xs)
+array-behind : {T H : Type 0} (s : HashState T H) (y : T) (ys xs : List T)
+    → array_observed (fed s (y ∷ ys)) xs ≡ fed s ((y ∷ ys) ++ xs)
 array-behind s y ys xs =
-    ap (λ p. record { transcript = absorbing p; hasher = s.hasher }) (append_assoc s.transcript.pending (y ∷ ys) xs)
+    ap (λ p. record { sponge = absorbing p; hasher = s.hasher }) (append_assoc s.sponge.pending (y ∷ ys) xs)
 
 pub arrays-observed : {T H : Type 0} → IsObservation fed (of_array {T = T} {H = H})
 arrays-observed =
@@ -105,7 +114,8 @@ module _ {T H X U : Type 0} (parts : X → List U) (items : U → List T) where
       }
 
   -- where a part is refused, a front of what they feed was fed
-  beginning-fed : (s : HashState T H) (ps : List U) (t : HashState T H) → LeavesBeginning part_fed s ps t → (n : ℕ) × (t ≡ fed s (take n (flat_map items ps)))
+  beginning-fed : (s : HashState T H) (ps : List U) (t : HashState T H) → LeavesBeginning part_fed s ps t
+      → (n : ℕ) × (t ≡ fed s (take n (flat_map items ps)))
   beginning-fed s [] t h = absurd h
   beginning-fed s (p ∷ ps) t (inl is) = (0, is)
   beginning-fed s (p ∷ ps) t (inr later) =
@@ -118,7 +128,8 @@ module _ {T H X U : Type 0} (parts : X → List U) (items : U → List T) where
       exact-observation fed (λ _. refl) fed-append of_parts (λ _ _. refl) (λ s x t h. beginning-fed s (parts x) t h)
 
   -- the parts of the first value, or of those behind it
-  beginning-split : (s : HashState T H) (ps qs : List U) (t : HashState T H) → LeavesBeginning part_fed s (ps ++ qs) t → LeavesBeginning part_fed s ps t ⊎ LeavesBeginning part_fed (observed_all part_fed s ps) qs t
+  beginning-split : (s : HashState T H) (ps qs : List U) (t : HashState T H) → LeavesBeginning part_fed s (ps ++ qs) t
+      → LeavesBeginning part_fed s ps t ⊎ LeavesBeginning part_fed (observed_all part_fed s ps) qs t
   beginning-split s [] qs t h = inr h
   beginning-split s (p ∷ ps) qs t (inl is) = inl (inl is)
   beginning-split s (p ∷ ps) qs t (inr later) = elim (beginning-split (fed s (items p)) ps qs t later) [
@@ -126,7 +137,8 @@ module _ {T H X U : Type 0} (parts : X → List U) (items : U → List T) where
     | inr behind ↦ inr behind
   ]
 
-  pub parts-front : (s : HashState T H) (xs : List X) (t : HashState T H) → LeavesBeginning part_fed s (flat_map parts xs) t → LeavesInCalls of_parts.observed of_parts.may_leave s xs t
+  pub parts-front : (s : HashState T H) (xs : List X) (t : HashState T H)
+      → LeavesBeginning part_fed s (flat_map parts xs) t → LeavesInCalls of_parts.observed of_parts.may_leave s xs t
   parts-front s [] t h = absurd h
   parts-front s (x ∷ xs) t h = elim (beginning-split s (parts x) (flat_map parts xs) t h) [
     | inl here ↦ inl here

@@ -1,4 +1,4 @@
-pub mod HashChain
+pub mod HashCalls
+pub mod HashSegments
 pub mod HashState
 pub mod HashStateLaws
-pub mod HashTranscript

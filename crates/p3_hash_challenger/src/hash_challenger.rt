@@ -2,9 +2,9 @@ ghost use Rattle.std.specs.Prelude.{◌≡◌, ◌<◌, ℕ, List, Some, OnOk, O
 ghost use Rattle.std.specs.List.{All};
 ghost use Rattle.p3_challenger_core.specs.Segments.{Call, segments, run_calls, run_calls_to_digest};
 ghost use Rattle.p3_challenger_core.specs.Segments.{run_segments, run_segments_to_digest};
-ghost use Rattle.p3_hash_challenger.specs.HashChain.{hash_by_segments};
+ghost use Rattle.p3_hash_challenger.specs.HashSegments.{hash_by_segments};
 ghost use Rattle.p3_hash_challenger.specs.HashState.{function_of, pending_of};
-ghost use Rattle.p3_hash_challenger.specs.HashTranscript.{absorbing, outputs, hash_by_calls};
+ghost use Rattle.p3_hash_challenger.specs.HashCalls.{absorbing, outputs, hash_by_calls};
 ghost use Rattle.p3_challenger_core.specs.Observation.{RefusesObserve};
 ghost use Rattle.p3_challenger_core.specs.Sponge.{IsNonEmpty};
 ghost use Rattle.p3_challenger_core.specs.Sampling.{RefusesDraws, unrefused_draw};
@@ -39,7 +39,7 @@ impl<T, H, const OUT_LEN: usize> Model for HashChallenger<T, H, OUT_LEN> {
     ghost Value = { HashState T H };
 
     ghost view = { λ c. record {
-      transcript = record { pending = pending_of c.digest c.input_buffer.items; outputs_left = c.outputs_left };
+      sponge = record { pending = pending_of c.digest c.input_buffer.items; outputs_left = c.outputs_left };
       hasher = c.hasher;
     } };
 
@@ -56,7 +56,7 @@ impl<T: Copy, H: CryptographicHasher<T, [T; OUT_LEN]>, const OUT_LEN: usize> Has
     /// A challenger that has the initial state pending, and no output.
     pub fn new(initial_state: Vec<T>, hasher: H) -> Self
         requires { 0 < OUT_LEN }
-        ensures { result ≡ record { transcript = absorbing initial_state.items; hasher = hasher } }
+        ensures { result ≡ record { sponge = absorbing initial_state.items; hasher = hasher } }
     {
         HashChallenger {
             input_buffer: initial_state,
@@ -86,31 +86,31 @@ impl<T: Copy, H: CryptographicHasher<T, [T; OUT_LEN]>, const OUT_LEN: usize> Has
         })
     }
 
-    /// The hash chain, whole: from this challenger on, every list of calls gives the answers, hands
+    /// The segments of calls, whole: from this challenger on, every list of calls gives the answers, hands
     /// over the strings to the hash function, and leaves the challenger, that its segments name; and
     /// so do calls that end in a digest. No string is left out: a hash function that gives the same on
     /// those that are handed over makes the calls do the same.
     ///
     /// A law: the body is empty, and a caller cites the clauses.
-    pub fn follows_hash_chain(&self)
+    pub fn follows_segments(&self)
         ensures calls { (calls : List (Call T)) →
             let h = function_of H.hash OUT_LEN H.filler self.now.hasher in
-            run_calls (hash_by_calls h) self.now.transcript calls
-            ≡ run_segments (hash_by_segments h) self.now.transcript (segments calls) }
+            run_calls (hash_by_calls h) self.now.sponge calls
+            ≡ run_segments (hash_by_segments h) self.now.sponge (segments calls) }
         ensures digest { (calls : List (Call T)) →
             let h = function_of H.hash OUT_LEN H.filler self.now.hasher in
-            run_calls_to_digest (hash_by_calls h) self.now.transcript calls
-            ≡ run_segments_to_digest (hash_by_segments h) self.now.transcript (segments calls) }
+            run_calls_to_digest (hash_by_calls h) self.now.sponge calls
+            ≡ run_segments_to_digest (hash_by_segments h) self.now.sponge (segments calls) }
         ensures handed { (calls : List (Call T)) (other : List T → List T) →
             let h = function_of H.hash OUT_LEN H.filler self.now.hasher in
-            let run = run_calls (hash_by_calls h) self.now.transcript calls in
+            let run = run_calls (hash_by_calls h) self.now.sponge calls in
             All (λ message. other message ≡ h.digest message) run.handed
-            → run_calls (hash_by_calls (record h { digest = other })) self.now.transcript calls ≡ run }
+            → run_calls (hash_by_calls (record h { digest = other })) self.now.sponge calls ≡ run }
         ensures handed_to_digest { (calls : List (Call T)) (other : List T → List T) →
             let h = function_of H.hash OUT_LEN H.filler self.now.hasher in
-            let run = run_calls_to_digest (hash_by_calls h) self.now.transcript calls in
+            let run = run_calls_to_digest (hash_by_calls h) self.now.sponge calls in
             All (λ message. other message ≡ h.digest message) run.handed
-            → run_calls_to_digest (hash_by_calls (record h { digest = other })) self.now.transcript calls ≡ run }
+            → run_calls_to_digest (hash_by_calls (record h { digest = other })) self.now.sponge calls ≡ run }
     {
         let _ = &self.outputs_left;
     }
@@ -122,8 +122,8 @@ impl<T: Copy, H: CryptographicHasher<T, [T; OUT_LEN]>, const OUT_LEN: usize> Has
     pub fn draws_are_outputs(&self)
         ensures { (calls : List (Call T)) (other : T) →
             let h = function_of H.hash OUT_LEN H.filler self.now.hasher in
-            run_calls (hash_by_calls (record h { filler = other })) self.now.transcript calls
-            ≡ run_calls (hash_by_calls h) self.now.transcript calls }
+            run_calls (hash_by_calls (record h { filler = other })) self.now.sponge calls
+            ≡ run_calls (hash_by_calls h) self.now.sponge calls }
     {
         let _ = &self.outputs_left;
     }
@@ -141,7 +141,7 @@ impl<T: Copy, H: CryptographicHasher<T, [T; OUT_LEN]>, const OUT_LEN: usize> Has
 
     /// What the next hash takes: the digest of the last one, and what was observed since.
     pub fn input(&self) -> &[T]
-        ensures { result.now ≡ self.now.transcript.pending }
+        ensures { result.now ≡ self.now.sponge.pending }
     {
         match &self.digest {
             Some(digest) => &digest[..],
@@ -151,7 +151,7 @@ impl<T: Copy, H: CryptographicHasher<T, [T; OUT_LEN]>, const OUT_LEN: usize> Has
 
     /// The outputs that are left. The last one is drawn next.
     pub fn output(&self) -> &[T]
-        ensures { result.now ≡ outputs self.now.transcript }
+        ensures { result.now ≡ outputs self.now.sponge }
     {
         match &self.digest {
             Some(digest) => &digest[..self.outputs_left],

@@ -26,7 +26,9 @@ word-bytes n (suc (suc (suc (suc i)))) = lit< tt
 words-bytes : (words : List ℕ) (n : ℕ) → AllBytes (digest_bytes words n)
 unfolding digest_bytes
 words-bytes words zero = λ i. lit< tt
-words-bytes words (suc n) = bytes-append (digest_bytes words n) (to_be_bytes w32 (slice_index words n)) (words-bytes words n) (word-bytes (slice_index words n))
+words-bytes words (suc n) =
+    bytes-append (digest_bytes words n) (to_be_bytes w32 (slice_index words n)) (words-bytes words n)
+    (word-bytes (slice_index words n))
 
 sha256-bytes : (message : List ℕ) → AllBytes (sha256 message)
 unfolding sha256

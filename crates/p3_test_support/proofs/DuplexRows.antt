@@ -4,8 +4,8 @@ use Rattle.std.proofs.Common.{◌≡◌, ℕ, List, [], ◌∷◌, map, refl}
 use Rattle.p3_small_primes.specs.F257Residues.{F257, residues}
 use Rattle.p3_symmetric.specs.Turn.{turned}
 use Rattle.p3_challenger_core.specs.Segments.{Call, observe, observe_empty_array, draw, ByCalls, BySegments, segments, run_calls, run_calls_to_digest, run_segments, run_segments_to_digest}
-use Rattle.p3_duplex.specs.DuplexTranscript.{DuplexSponge, fresh, duplex_by_calls}
-use Rattle.p3_duplex.specs.DuplexChain.{duplex_by_segments, absorbed_blocks, handed_blocks, permuted, handed_in_turn, outputs_from}
+use Rattle.p3_duplex.specs.DuplexCalls.{DuplexSponge, fresh, duplex_by_calls}
+use Rattle.p3_duplex.specs.DuplexSegments.{duplex_by_segments, absorbed_blocks, handed_blocks, permuted, handed_in_turn, outputs_from}
 
 abbrev start : DuplexSponge F257
 start = fresh residues 3

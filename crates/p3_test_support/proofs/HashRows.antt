@@ -3,8 +3,8 @@ use Rattle.std.proofs.Common.{◌≡◌, ℕ, List, [], ◌∷◌, replicate, re
 use Rattle.std.specs.List.{range_with_len}
 use Rattle.p3_challenger_core.specs.Segments.{Call, observe, observe_empty_array, draw, Run, Segment, IsCutOf, segments, run_calls, run_calls_to_digest, run_segments, run_segments_to_digest}
 use Rattle.p3_challenger_core.specs.SegmentLaws.{cut-only}
-use Rattle.p3_hash_challenger.specs.HashTranscript.{HashFunction, HashTranscript, absorbing, hash_by_calls}
-use Rattle.p3_hash_challenger.specs.HashChain.{hash_by_segments, hashed, handed_in_turn, outputs_from}
+use Rattle.p3_hash_challenger.specs.HashCalls.{HashFunction, HashSponge, absorbing, hash_by_calls}
+use Rattle.p3_hash_challenger.specs.HashSegments.{hash_by_segments, hashed, handed_in_turn, outputs_from}
 use Rattle.p3_test_support.specs.LengthHasher.{length_digest}
 
 -- what is pending at the start: its hash is 4, 5, .. 35, and the hash of that is 32, 33, .. 63
@@ -14,14 +14,14 @@ start = 0 ∷ 1 ∷ 2 ∷ 3 ∷ []
 abbrev by_length : HashFunction ℕ
 by_length = record { digest = length_digest; out_len = 32; filler = 0 }
 
-abbrev run : List (Call ℕ) → Run ℕ (List ℕ) (HashTranscript ℕ)
+abbrev run : List (Call ℕ) → Run ℕ (List ℕ) (HashSponge ℕ)
 run calls = run_calls (hash_by_calls by_length) (absorbing start) calls
 
 abbrev run_to_digest : List (Call ℕ) → Run ℕ (List ℕ) (List ℕ)
 run_to_digest calls = run_calls_to_digest (hash_by_calls by_length) (absorbing start) calls
 
 -- the same by the definition over segments
-abbrev run_by_segments : List (Call ℕ) → Run ℕ (List ℕ) (HashTranscript ℕ)
+abbrev run_by_segments : List (Call ℕ) → Run ℕ (List ℕ) (HashSponge ℕ)
 run_by_segments calls = run_segments (hash_by_segments by_length) (absorbing start) (segments calls)
 
 abbrev run_to_digest_by_segments : List (Call ℕ) → Run ℕ (List ℕ) (List ℕ)

@@ -1,7 +1,7 @@
 -- The first path: one scalar is sent and one is drawn.
 use Rattle.std.specs.Prelude.{◌≡◌, ℕ, ◌==◌, List, length, codes, nat_lt, Option, Some, Result, Ok, Err, if◌then◌else◌}
 use Rattle.transcript_program.specs.Scalar as scalar
-use Rattle.p3_challenger.specs.HashTranscript.{HashFunction}
+use Rattle.p3_challenger.specs.HashCalls.{HashFunction}
 use Rattle.p3_challenger.specs.HashState.{HashState, observed, sampled, after_sampled}
 use Rattle.transcript_program.specs.Scalar.{width, read}
 use Rattle.p3_challenger.specs.Errors.{IsBadShape}

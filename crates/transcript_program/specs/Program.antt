@@ -6,7 +6,7 @@ use Rattle.std.specs.Io.KnownBytes.{Appends}
 use Rattle.hex.specs.Hex.{encode_lower}
 use Rattle.sha2.specs.Sha256.{sha256}
 use Rattle.p3_challenger.specs.HashState.{HashState, function_of}
-use Rattle.p3_challenger.specs.HashTranscript.{absorbing}
+use Rattle.p3_challenger.specs.HashCalls.{absorbing}
 use Rattle.transcript_program.specs.Scalar.{number, wire}
 use Rattle.p3_challenger.specs.BabyBearResidues.{BabyBear}
 use Rattle.p3_challenger.specs.Sha256Hasher.{Sha256Hasher}
@@ -43,7 +43,7 @@ lines proof challenge =
 pub record IsFirstText (x : BabyBear) (text : List ℕ) : Type 0 where
   pub challenge : BabyBear
   pub after : HashState ℕ Sha256Hasher
-  pub run : IsRun (function_of (λ _ message. sha256 message) 32 0) (record { transcript = absorbing []; hasher = record {} }) x challenge after
+  pub run : IsRun (function_of (λ _ message. sha256 message) 32 0) (record { sponge = absorbing []; hasher = record {} }) x challenge after
   pub text_is : text ≡ lines (wire x) challenge
 
 -- the words of a command line ask for this

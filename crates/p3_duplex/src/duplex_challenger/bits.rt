@@ -33,7 +33,8 @@ impl<
 
     ghost samples_bits = { λ bits. bits-sampled F.residues P.permutation RATE bits };
 
-    ghost bits_below = { λ bits s x _ drawn. low_bits-below (F.residues.number (duplex_state.sampled F.residues P.permutation RATE s)) bits x drawn };
+    ghost bits_below = { λ bits s x _ drawn. low_bits-below
+        (F.residues.number (duplex_state.sampled F.residues P.permutation RATE s)) bits x drawn };
 
     ghost most_bits_short = { most_bits-short F.residues.order };
 

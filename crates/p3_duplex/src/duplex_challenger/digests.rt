@@ -25,12 +25,16 @@ impl<
         ensures symbols { (cap : _) →
             ⟦<DuplexChallenger<F, P, WIDTH, RATE> as CanObserve<&'a MerkleCap<M, [F; N]>>>⟧.observation.symbols cap
             ≡ ⟦<DuplexChallenger<F, P, WIDTH, RATE> as CanObserve<MerkleCap<M, [F; N]>>>⟧.observation.symbols cap.now }
-        ensures observed { (s : duplex_state.Duplex F P) (cap : _) →
-            ⟦<DuplexChallenger<F, P, WIDTH, RATE> as CanObserve<&'a MerkleCap<M, [F; N]>>>⟧.observation.observed s cap
-            ≡ ⟦<DuplexChallenger<F, P, WIDTH, RATE> as CanObserve<MerkleCap<M, [F; N]>>>⟧.observation.observed s cap.now }
-        ensures left { (s : duplex_state.Duplex F P) (cap : _) (t : duplex_state.Duplex F P) →
-            ⟦<DuplexChallenger<F, P, WIDTH, RATE> as CanObserve<&'a MerkleCap<M, [F; N]>>>⟧.observation.may_leave s cap t
-            ↔ ⟦<DuplexChallenger<F, P, WIDTH, RATE> as CanObserve<MerkleCap<M, [F; N]>>>⟧.observation.may_leave s cap.now t }
+        ensures observed { (s : duplex_state.DuplexState F P) (cap : _) →
+            ⟦<DuplexChallenger<F, P, WIDTH, RATE> as CanObserve<&'a MerkleCap<M, [F; N]>>>⟧.observation.observed
+            s cap
+            ≡ ⟦<DuplexChallenger<F, P, WIDTH, RATE> as CanObserve<MerkleCap<M, [F; N]>>>⟧.observation.observed
+            s cap.now }
+        ensures left { (s : duplex_state.DuplexState F P) (cap : _) (t : duplex_state.DuplexState F P) →
+            ⟦<DuplexChallenger<F, P, WIDTH, RATE> as CanObserve<&'a MerkleCap<M, [F; N]>>>⟧.observation.may_leave
+            s cap t
+            ↔ ⟦<DuplexChallenger<F, P, WIDTH, RATE> as CanObserve<MerkleCap<M, [F; N]>>>⟧.observation.may_leave
+            s cap.now t }
     {}
 
     // Makes the values of parts pending, part by part.
@@ -71,11 +75,13 @@ impl<
     ghost use Rattle.p3_duplex.specs.DuplexStateLaws.{is_observation, fed-flat_map};
 
     // An observation takes no memory: it is never refused.
-    ghost observation = { unrefused_observe values_of (λ s digest. duplex_state.fed F.residues P.permutation RATE s (values_of digest)) };
+    ghost observation = { unrefused_observe values_of
+        (λ s digest. duplex_state.fed F.residues P.permutation RATE s (values_of digest)) };
 
     ghost slice_may_leave = { λ _ _ _. ⊥ };
 
-    ghost observes = { is_observation F.residues P.permutation RATE values_of (λ s digest. duplex_state.fed F.residues P.permutation RATE s (values_of digest)) (λ _ _. refl) };
+    ghost observes = { is_observation F.residues P.permutation RATE values_of
+        (λ s digest. duplex_state.fed F.residues P.permutation RATE s (values_of digest)) (λ _ _. refl) };
 
     ghost slice_leaves = { λ _ _ _ h. absurd h };
 
@@ -105,11 +111,14 @@ impl<
     ghost use Rattle.p3_duplex.specs.DuplexStateLaws.{is_observation, fed-flat_map};
 
     // An observation takes no memory: it is never refused.
-    ghost observation = { unrefused_observe (λ cap. flat_map (λ root. root) cap) (λ s cap. observed_all (λ u root. duplex_state.fed F.residues P.permutation RATE u root) s cap) };
+    ghost observation = { unrefused_observe (λ cap. flat_map (λ root. root) cap)
+        (λ s cap. observed_all (λ u root. duplex_state.fed F.residues P.permutation RATE u root) s cap) };
 
     ghost slice_may_leave = { λ _ _ _. ⊥ };
 
-    ghost observes = { is_observation F.residues P.permutation RATE (λ cap. flat_map (λ root. root) cap) (λ s cap. observed_all (λ u root. duplex_state.fed F.residues P.permutation RATE u root) s cap) (λ s cap. fed-flat_map F.residues P.permutation RATE (λ root. root) s cap) };
+    ghost observes = { is_observation F.residues P.permutation RATE (λ cap. flat_map (λ root. root) cap)
+        (λ s cap. observed_all (λ u root. duplex_state.fed F.residues P.permutation RATE u root) s cap)
+        (λ s cap. fed-flat_map F.residues P.permutation RATE (λ root. root) s cap) };
 
     ghost slice_leaves = { λ _ _ _ h. absurd h };
 
@@ -139,11 +148,14 @@ impl<
     ghost use Rattle.p3_duplex.specs.DuplexStateLaws.{is_observation, fed-flat_map};
 
     // An observation takes no memory: it is never refused.
-    ghost observation = { unrefused_observe (λ cap. flat_map (λ root. root) cap.now) (λ s cap. observed_all (λ u root. duplex_state.fed F.residues P.permutation RATE u root) s cap.now) };
+    ghost observation = { unrefused_observe (λ cap. flat_map (λ root. root) cap.now)
+        (λ s cap. observed_all (λ u root. duplex_state.fed F.residues P.permutation RATE u root) s cap.now) };
 
     ghost slice_may_leave = { λ _ _ _. ⊥ };
 
-    ghost observes = { is_observation F.residues P.permutation RATE (λ cap. flat_map (λ root. root) cap.now) (λ s cap. observed_all (λ u root. duplex_state.fed F.residues P.permutation RATE u root) s cap.now) (λ s cap. fed-flat_map F.residues P.permutation RATE (λ root. root) s cap.now) };
+    ghost observes = { is_observation F.residues P.permutation RATE (λ cap. flat_map (λ root. root) cap.now)
+        (λ s cap. observed_all (λ u root. duplex_state.fed F.residues P.permutation RATE u root) s cap.now)
+        (λ s cap. fed-flat_map F.residues P.permutation RATE (λ root. root) s cap.now) };
 
     ghost slice_leaves = { λ _ _ _ h. absurd h };
 
@@ -171,11 +183,15 @@ impl<
     ghost use Rattle.p3_duplex.specs.DuplexStateLaws.{is_observation, fed-flat_map};
 
     // An observation takes no memory: it is never refused.
-    ghost observation = { unrefused_observe (λ lists. flat_map (λ list. list.items) lists.items) (λ s lists. observed_all (λ u list. duplex_state.fed F.residues P.permutation RATE u list.items) s lists.items) };
+    ghost observation = { unrefused_observe (λ lists. flat_map (λ list. list.items) lists.items)
+        (λ s lists. observed_all (λ u list. duplex_state.fed F.residues P.permutation RATE u list.items)
+        s lists.items) };
 
     ghost slice_may_leave = { λ _ _ _. ⊥ };
 
-    ghost observes = { is_observation F.residues P.permutation RATE (λ lists. flat_map (λ list. list.items) lists.items) (λ s lists. observed_all (λ u list. duplex_state.fed F.residues P.permutation RATE u list.items) s lists.items) (λ s lists. fed-flat_map F.residues P.permutation RATE (λ list. list.items) s lists.items) };
+    ghost observes = { is_observation F.residues P.permutation RATE (λ lists. flat_map (λ list. list.items) lists.items)
+        (λ s lists. observed_all (λ u list. duplex_state.fed F.residues P.permutation RATE u list.items) s lists.items)
+        (λ s lists. fed-flat_map F.residues P.permutation RATE (λ list. list.items) s lists.items) };
 
     ghost slice_leaves = { λ _ _ _ h. absurd h };
 

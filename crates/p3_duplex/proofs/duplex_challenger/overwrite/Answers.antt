@@ -13,8 +13,12 @@ returns g c =
     let rate = c.args.rate in
     let n = length block in
     let zeros : c.fill_zeros.new.cells ≡ replicate (rate - n) (r.of 0) = search rules in
-    let cell : c.index-cells-rate.result ≡ slice_index_or cells rate (r.of 0) = c.index-cells-rate.is ∙ get_or_default cells rate _ (r.of 0) c.requires.capacity in
-    let counted : c.plus_number-counted.result ≡ plus r (slice_index_or cells rate (r.of 0)) n = c.plus_number-counted.ensures ∙ ap (λ x. plus r x n) cell in
+    let cell : c.index-cells-rate.result ≡ slice_index_or cells rate (r.of 0) =
+    c.index-cells-rate.is ∙ get_or_default cells rate _ (r.of 0) c.requires.capacity in
+    let counted : c.plus_number-counted.result ≡ plus r (slice_index_or cells rate (r.of 0)) n =
+    c.plus_number-counted.ensures ∙ ap (λ x. plus r x n) cell in
     let after : c.copy_from_slice.new.self ≡ block = c.copy_from_slice.ensures.after in
-    (λ i. set (take n (after i ++ drop n cells) ++ (zeros i ++ drop (rate - n) (drop n (after i ++ drop n cells)))) rate (counted i))
-    ∙ written cells block (replicate (rate - n) (r.of 0)) rate _ c.requires.fits c.requires.capacity (length-replicate (rate - n) (r.of 0))
+    (λ i. set (take n (after i ++ drop n cells) ++ (zeros i ++ drop (rate - n) (drop n (after i ++ drop n cells)))) rate
+    (counted i))
+    ∙ written cells block (replicate (rate - n) (r.of 0)) rate _ c.requires.fits c.requires.capacity
+    (length-replicate (rate - n) (r.of 0))

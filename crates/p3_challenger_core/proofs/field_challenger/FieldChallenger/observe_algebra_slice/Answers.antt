@@ -9,8 +9,10 @@ loop-i-preserved g c =
     let m = g.Self.CanObserve in
     let coefficients = g.A.BasedVectorSpace.coefficients in
     let state = g.Self.Sponge.state in
-    goes_on-next (λ s element. observed_all m.observation.observed s (coefficients element)) (λ s element t. m.slice_may_leave s (coefficients element) t)
-    (state c.args.self.now) c.args.elements.now (state c.loop-i.self) c.loop-i.i c.index-elements-i.result c.loop-i-test.true c.index-elements-i.is c.loop-i.invariant
+    goes_on-next (λ s element. observed_all m.observation.observed s (coefficients element))
+    (λ s element t. m.slice_may_leave s (coefficients element) t)
+    (state c.args.self.now) c.args.elements.now (state c.loop-i.self) c.loop-i.i c.index-elements-i.result
+    c.loop-i-test.true c.index-elements-i.is c.loop-i.invariant
     (state c.observe_algebra_element.new.self) c.in_ok-observe_algebra_element.ensures.ok
 
 -- the elements before the refused one are observed
@@ -20,14 +22,18 @@ returns-in_err-observe_algebra_element-clause-err g c =
     let m = g.Self.CanObserve in
     let coefficients = g.A.BasedVectorSpace.coefficients in
     let state = g.Self.Sponge.state in
-    rw (p.1, p.2) (goes_on-refused (λ s element. observed_all m.observation.observed s (coefficients element)) (λ s element t. m.slice_may_leave s (coefficients element) t)
-    (state c.args.self.now) c.args.elements.now (state c.loop-i.self) c.loop-i.i c.index-elements-i.result c.loop-i-test.true c.index-elements-i.is c.loop-i.invariant
-    c.in_err-observe_algebra_element.field-0.0 (state c.observe_algebra_element.new.self) c.in_err-observe_algebra_element.ensures.err)
+    rw (p.1, p.2) (goes_on-refused (λ s element. observed_all m.observation.observed s (coefficients element))
+    (λ s element t. m.slice_may_leave s (coefficients element) t)
+    (state c.args.self.now) c.args.elements.now (state c.loop-i.self) c.loop-i.i c.index-elements-i.result
+    c.loop-i-test.true c.index-elements-i.is c.loop-i.invariant
+    c.in_err-observe_algebra_element.field-0.0 (state c.observe_algebra_element.new.self)
+    c.in_err-observe_algebra_element.ensures.err)
 
 pub returns-clause-ok : goal.returns-clause-ok
 returns-clause-ok g c =
     let m = g.Self.CanObserve in
     let coefficients = g.A.BasedVectorSpace.coefficients in
     let state = g.Self.Sponge.state in
-    goes_on-end (λ s element. observed_all m.observation.observed s (coefficients element)) (λ s element t. m.slice_may_leave s (coefficients element) t)
+    goes_on-end (λ s element. observed_all m.observation.observed s (coefficients element))
+    (λ s element t. m.slice_may_leave s (coefficients element) t)
     (state c.args.self.now) c.args.elements.now (state c.loop-i.self) c.loop-i.i c.loop-i-test.false c.loop-i.invariant

@@ -8,5 +8,6 @@ invariant-loop-i g l =
     let m = g.Self.CanObserve in
     let coefficients = g.A.BasedVectorSpace.coefficients in
     let state = g.Self.Sponge.state in
-    GoesOn (λ s element. observed_all m.observation.observed s (coefficients element)) (λ s element t. m.slice_may_leave s (coefficients element) t)
+    GoesOn (λ s element. observed_all m.observation.observed s (coefficients element))
+    (λ s element t. m.slice_may_leave s (coefficients element) t)
     (state l.initial.self) l.elements (state l.self) (drop l.i l.elements)

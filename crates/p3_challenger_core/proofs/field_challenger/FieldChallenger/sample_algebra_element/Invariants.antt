@@ -7,4 +7,5 @@ abbrev pub invariant-loop-i : goal.invariant-loop-i
 invariant-loop-i g l =
     let m = g.Self.CanSample in
     let n = g.A.BasedVectorSpace.DIMENSION in
-    Drew m.sampling n (g.Self.Sponge.state l.initial.self) (take l.i (g.A.BasedVectorSpace.coefficients l.element)) (n - l.i) (g.Self.Sponge.state l.self)
+    Drew m.sampling n (g.Self.Sponge.state l.initial.self) (take l.i (g.A.BasedVectorSpace.coefficients l.element))
+    (n - l.i) (g.Self.Sponge.state l.self)

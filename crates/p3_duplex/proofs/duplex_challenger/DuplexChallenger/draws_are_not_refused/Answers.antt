@@ -8,4 +8,5 @@ returns g c =
     let r = g.F.PrimeCharacteristicRing.residues in
     let permute = g.P.CryptographicPermutation.permutation in
     let space = g.A.BasedVectorSpace in
-    draws-not_refused (λ u. Some (space.element (drawn r permute g.row.RATE space.DIMENSION u))) (λ u. after_drawn r permute g.row.RATE space.DIMENSION u)
+    draws-not_refused (λ u. Some (space.element (drawn r permute g.row.RATE space.DIMENSION u)))
+    (λ u. after_drawn r permute g.row.RATE space.DIMENSION u)

@@ -4,4 +4,5 @@ use Rattle.p3_duplex.proofs.duplex_challenger.DuplexChallenger.observes_are_not_
 
 pub returns : goal.returns
 returns g c =
-    row-not_refused (λ s x. observed g.F.PrimeCharacteristicRing.residues g.P.CryptographicPermutation.permutation g.row.RATE s x)
+    row-not_refused (λ s x. observed g.F.PrimeCharacteristicRing.residues
+    g.P.CryptographicPermutation.permutation g.row.RATE s x)

@@ -4,7 +4,8 @@ use Rattle.p3_duplex.proofs.duplex_challenger.DuplexChallengerCanSample.sample.G
 
 pub loop-i-init : goal.loop-i-init
 loop-i-init g c =
-    has_drawn-none g.F.PrimeCharacteristicRing.residues g.P.CryptographicPermutation.permutation g.row.RATE g.A.BasedVectorSpace.DIMENSION c.args.self.now
+    has_drawn-none g.F.PrimeCharacteristicRing.residues g.P.CryptographicPermutation.permutation g.row.RATE
+    g.A.BasedVectorSpace.DIMENSION c.args.self.now
 
 -- the next coefficient is drawn
 pub loop-i-preserved : goal.loop-i-preserved
@@ -13,9 +14,11 @@ loop-i-preserved g c =
     let i = c.loop-i.i in
     let xs = space.coefficients c.loop-i.element in
     let more : i < space.DIMENSION = omega (arith, c.loop-i-test.true, c.DIMENSION-i-end.ensures) in
-    has_drawn-next g.F.PrimeCharacteristicRing.residues g.P.CryptographicPermutation.permutation g.row.RATE space.DIMENSION c.args.self.now
+    has_drawn-next g.F.PrimeCharacteristicRing.residues g.P.CryptographicPermutation.permutation g.row.RATE
+    space.DIMENSION c.args.self.now
     xs (space.coefficients c.with_coefficient-element.result) i c.loop-i.self c.draw.new.self c.draw.result
-    more (g.met.A.BasedVectorSpace.length_coefficients c.loop-i.element) c.draw.ensures.value c.draw.ensures.after c.with_coefficient-element.ensures c.loop-i.invariant
+    more (g.met.A.BasedVectorSpace.length_coefficients c.loop-i.element) c.draw.ensures.value c.draw.ensures.after
+    c.with_coefficient-element.ensures c.loop-i.invariant
 
 -- an element is its coefficients
 pub returns-clause-drawn : goal.returns-clause-drawn
@@ -26,11 +29,15 @@ returns-clause-drawn g c =
     let xs = space.coefficients element in
     let long = laws.length_coefficients element in
     let all : space.DIMENSION ≤ c.loop-i.i = omega (arith, c.loop-i-test.false, c.DIMENSION-i-end.ensures) in
-    let values = has_drawn-values g.F.PrimeCharacteristicRing.residues g.P.CryptographicPermutation.permutation g.row.RATE space.DIMENSION c.args.self.now xs c.loop-i.i c.loop-i.self all long c.loop-i.invariant in
-    ap Some (ap space.element values ∙ laws.same_coefficients (space.element xs) element (laws.coefficients_element xs long))
+    let values = has_drawn-values g.F.PrimeCharacteristicRing.residues g.P.CryptographicPermutation.permutation
+    g.row.RATE space.DIMENSION c.args.self.now xs c.loop-i.i c.loop-i.self all long c.loop-i.invariant in
+    ap Some (ap space.element values
+    ∙ laws.same_coefficients (space.element xs) element (laws.coefficients_element xs long))
 
 pub returns-clause-after : goal.returns-clause-after
 returns-clause-after g c =
     let space = g.A.BasedVectorSpace in
     let all : space.DIMENSION ≤ c.loop-i.i = omega (arith, c.loop-i-test.false, c.DIMENSION-i-end.ensures) in
-    has_drawn-state g.F.PrimeCharacteristicRing.residues g.P.CryptographicPermutation.permutation g.row.RATE space.DIMENSION c.args.self.now (take c.loop-i.i (space.coefficients c.loop-i.element)) c.loop-i.i c.loop-i.self all c.loop-i.invariant
+    has_drawn-state g.F.PrimeCharacteristicRing.residues g.P.CryptographicPermutation.permutation g.row.RATE
+    space.DIMENSION c.args.self.now (take c.loop-i.i (space.coefficients c.loop-i.element)) c.loop-i.i c.loop-i.self
+    all c.loop-i.invariant

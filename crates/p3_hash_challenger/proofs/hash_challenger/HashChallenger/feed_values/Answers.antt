@@ -14,7 +14,8 @@ loop-value-preserved g c =
     let start = c.args.self.now in
     let values = c.args.values.now in
     let here = c.loop-value.self in
-    let whole = λ (s : HashState g.row.T.Denot g.row.H.Denot) (value : g.row.V.Denot). fed s (flat_map items (parts value)) in
+    let whole = λ (s : HashState g.row.T.Denot g.row.H.Denot) (value : g.row.V.Denot). fed s
+    (flat_map items (parts value)) in
     let step = λ (s : HashState g.row.T.Denot g.row.H.Denot) (part : g.row.Part.Denot). fed s (items part) in
     let on = leads_through-next whole step parts (λ s value. all_fed items s (parts value)) start values here
     c.loop-value.value-index c.value-item.result c.loop-value-test.true c.value-item.is c.loop-value.invariant in

@@ -6,4 +6,5 @@ use Rattle.p3_symmetric.proofs.turn.TurnCryptographicPermutationArray.permute_mu
 abbrev pub invariant-loop-i : goal.invariant-loop-i
 invariant-loop-i g l =
     let r = g.F.PrimeCharacteristicRing.residues in
-    (length l.state ≡ g.row.WIDTH) × ((j : ℕ) → j < l.i → slice_index_or l.state j (r.of 0) ≡ turned_cell r g.row.K g.row.WIDTH l.old j)
+    (length l.state ≡ g.row.WIDTH)
+    × ((j : ℕ) → j < l.i → slice_index_or l.state j (r.of 0) ≡ turned_cell r g.row.K g.row.WIDTH l.old j)

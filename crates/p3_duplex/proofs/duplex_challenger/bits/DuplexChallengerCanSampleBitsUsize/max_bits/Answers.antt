@@ -9,5 +9,6 @@ returns g c =
     let log = c.log2_ceil_u64 in
     let order_is : c.ORDER_U64.result ≡ order = c.ORDER_U64.ensures ∙ g.met.F.PrimeField64.order_u64_is in
     let enough : order ≤ 2 ^ log.result = omega (arith, log.ensures.enough, order_is) in
-    greatest-log order log.result g.met.F.PrimeCharacteristicRing.are_residues.above_one g.met.F.PrimeField64.fits_u64 enough
+    greatest-log order log.result g.met.F.PrimeCharacteristicRing.are_residues.above_one
+    g.met.F.PrimeField64.fits_u64 enough
     (λ k h. log.ensures.least k (omega (arith, h, order_is)))

@@ -1,13 +1,19 @@
--- The duplex transcript over segments is what the calls give one by one.
-use Rattle.std.proofs.Common.{◌≡◌, ℕ, zero, suc, ◌<◌, ◌≤◌, ◌+◌, ◌-◌, ◌*◌, ◌/◌, ◌%◌, List, [], ◌∷◌, ◌++◌, length, take, drop, Bool, true, false, ◌==◌, if◌then◌else◌, refl, sym, ap, subst, ◌∙◌, append_assoc, append-nil, add-one, arith}
+-- A duplex challenger does over segments what the calls do one by one.
+use Rattle.std.proofs.Common.{◌≡◌, ℕ, zero, suc, ◌<◌, ◌≤◌, ◌+◌, ◌-◌, ◌*◌, ◌/◌, ◌%◌, List, [], ◌∷◌, ◌++◌, length, take}
+use Rattle.std.proofs.Common.{drop, Bool, true, false, ◌==◌, if◌then◌else◌, refl, sym, ap, subst, ◌∙◌, append_assoc}
+use Rattle.std.proofs.Common.{append-nil, add-one, arith}
 use Rattle.std.proofs.lemmas.Bool.Decides.{nat_tests}
 use Rattle.std.proofs.lemmas.List.{length-append, take_at, drop_at, drop-drop}
 use Rattle.std.proofs.Math.Nat.{add-div_left, add-mod_left, div-eq_of_lt, mod-eq_of_lt}
 use Rattle.p3_field_core.specs.Residues.{Residues}
 use Rattle.p3_challenger_core.specs.Segments.{Call, observe, observe_empty_array, draw, stays, run_before}
 use Rattle.p3_challenger_core.specs.SegmentLaws.{StepsAgree}
-use Rattle.p3_duplex.specs.DuplexTranscript.{DuplexSponge, DuplexRun, cell, overwritten, absorbing, duplexed, appended, observed, last_output, one_taken, after_sampled, run_call, run_digest, duplex_by_calls}
-use Rattle.p3_duplex.specs.DuplexChain.{absorbed_blocks, handed_blocks, outputs_behind, absorbed, run_values, permuted, handed_in_turn, output_at, left_behind, outputs_from, draws_from, run_draws, digest_behind, duplex_by_segments}
+use Rattle.p3_duplex.specs.DuplexCalls.{DuplexSponge, DuplexRun, cell, overwritten, absorbing, duplexed, appended}
+use Rattle.p3_duplex.specs.DuplexCalls.{observed, last_output, one_taken, after_sampled, run_call, run_digest}
+use Rattle.p3_duplex.specs.DuplexCalls.{duplex_by_calls}
+use Rattle.p3_duplex.specs.DuplexSegments.{absorbed_blocks, handed_blocks, outputs_behind, absorbed, run_values}
+use Rattle.p3_duplex.specs.DuplexSegments.{permuted, handed_in_turn, output_at, left_behind, outputs_from, draws_from}
+use Rattle.p3_duplex.specs.DuplexSegments.{run_draws, digest_behind, duplex_by_segments}
 
 -- what a challenger keeps: fewer values are pending than the rate has cells, no more outputs are left
 -- than that, and none where a value is pending
@@ -24,7 +30,8 @@ not_zero : (m : ℕ) → (suc m == 0) ≡ false
 not_zero m = grind (arith, nat_tests)
 
 -- what is permuted where a value is pending
-pub absorbing-snoc : {F : Type 0} (r : Residues F) (rate : ℕ) (cells pending : List F) (x : F) → absorbing r rate cells (pending ++ x ∷ []) ≡ overwritten r rate cells (pending ++ x ∷ [])
+pub absorbing-snoc : {F : Type 0} (r : Residues F) (rate : ℕ) (cells pending : List F) (x : F)
+    → absorbing r rate cells (pending ++ x ∷ []) ≡ overwritten r rate cells (pending ++ x ∷ [])
 absorbing-snoc r rate cells [] x = refl
 absorbing-snoc r rate cells (y ∷ ys) x = refl
 
@@ -36,19 +43,29 @@ module _ {F : Type 0} (r : Residues F) (permute : List F → List F) (n : ℕ) (
   -- ---- what is absorbed
 
   -- fewer values than a block has are pending
-  absorbed-short : (cells values : List F) → length values < n → absorbed r permute n cells values ≡ stays (record { cells = cells; pending = values; outputs_left = outputs_behind n values })
+  absorbed-short : (cells values : List F) → length values < n
+      → absorbed r permute n cells values ≡ stays
+      (record { cells = cells; pending = values; outputs_left = outputs_behind n values })
   unfolding absorbed_blocks handed_blocks
   absorbed-short cells values short =
       let none : n * 0 ≡ 0 = omega arith in
       ap (λ k. record {
         answers = [];
         handed = handed_blocks r permute n k cells values;
-        after = record { cells = absorbed_blocks r permute n k cells values; pending = drop (n * k) values; outputs_left = outputs_behind n (drop (n * k) values) };
+        after =
+            record {
+              cells = absorbed_blocks r permute n k cells values;
+              pending = drop (n * k) values;
+              outputs_left = outputs_behind n (drop (n * k) values);
+            };
       }) (div-eq_of_lt short)
-      ∙ ap (λ k. stays (record { cells = cells; pending = drop k values; outputs_left = outputs_behind n (drop k values) })) none
+      ∙ ap (λ k. stays (record
+      { cells = cells; pending = drop k values; outputs_left = outputs_behind n (drop k values) })) none
 
   -- a whole block is absorbed, and then what is behind it
-  absorbed-block : (cells block more : List F) → length block ≡ n → absorbed r permute n cells (block ++ more) ≡ handed_first (overwritten r n cells block) (absorbed r permute n (permute (overwritten r n cells block)) more)
+  absorbed-block : (cells block more : List F) → length block ≡ n
+      → absorbed r permute n cells (block ++ more) ≡ handed_first (overwritten r n cells block)
+      (absorbed r permute n (permute (overwritten r n cells block)) more)
   unfolding absorbed_blocks handed_blocks
   absorbed-block cells block more whole =
       let all = block ++ more in
@@ -58,16 +75,28 @@ module _ {F : Type 0} (r : Residues F) (permute : List F → List F) (n : ℕ) (
       let front : take n all ≡ block = take_at block more n whole in
       let rest : drop n all ≡ more = drop_at block more n whole in
       let next : n * suc q ≡ n + n * q = omega arith in
-      let pending : drop (n * suc q) all ≡ drop (n * q) more = ap (λ k. drop k all) next ∙ sym (drop-drop (n * q) n all) ∙ ap (drop (n * q)) rest in
+      let pending : drop (n * suc q) all ≡ drop (n * q) more = ap (λ k. drop k all) next ∙ sym (drop-drop (n * q) n all)
+      ∙ ap (drop (n * q)) rest in
       ap (λ k. record {
         answers = [];
         handed = handed_blocks r permute n k cells all;
-        after = record { cells = absorbed_blocks r permute n k cells all; pending = drop (n * k) all; outputs_left = outputs_behind n (drop (n * k) all) };
+        after =
+            record {
+              cells = absorbed_blocks r permute n k cells all;
+              pending = drop (n * k) all;
+              outputs_left = outputs_behind n (drop (n * k) all);
+            };
       }) blocks
       ∙ (λ i. record {
         answers = [];
-        handed = overwritten r n cells (front i) ∷ handed_blocks r permute n q (permute (overwritten r n cells (front i))) (rest i);
-        after = record { cells = absorbed_blocks r permute n q (permute (overwritten r n cells (front i))) (rest i); pending = pending i; outputs_left = outputs_behind n (pending i) };
+        handed = overwritten r n cells (front i) ∷ handed_blocks r permute n q
+            (permute (overwritten r n cells (front i))) (rest i);
+        after =
+            record {
+              cells = absorbed_blocks r permute n q (permute (overwritten r n cells (front i))) (rest i);
+              pending = pending i;
+              outputs_left = outputs_behind n (pending i);
+            };
       })
 
   outputs_behind-snoc : (pending : List F) (x : F) → outputs_behind n (pending ++ x ∷ []) ≡ 0
@@ -75,17 +104,30 @@ module _ {F : Type 0} (r : Residues F) (permute : List F → List F) (n : ℕ) (
   outputs_behind-snoc (y ∷ ys) x = refl
 
   -- a value that fills a block: the block is absorbed
-  observed-full : (s : DuplexSponge F) (x : F) → (length (s.pending ++ x ∷ []) == n) ≡ true → run_call r permute n s (observe x) ≡ (let block_over = overwritten r n s.cells (s.pending ++ x ∷ []) in record { answers = []; handed = block_over ∷ []; after = record { cells = permute block_over; pending = []; outputs_left = n } })
+  observed-full : (s : DuplexSponge F) (x : F) → (length (s.pending ++ x ∷ []) == n) ≡ true
+      → run_call r permute n s
+      (observe x) ≡ (let block_over = overwritten r n s.cells (s.pending ++ x ∷ []) in
+      record {
+        answers = [];
+        handed = block_over ∷ [];
+        after = record { cells = permute block_over; pending = []; outputs_left = n };
+      })
   observed-full s x full =
       ap (λ b. record {
         answers = [];
         handed = if b then overwritten r n s.cells (s.pending ++ x ∷ []) ∷ [] else [];
         after = if b then duplexed r permute n (appended s x) else appended s x;
       }) full
-      ∙ ap (λ c. record { answers = []; handed = overwritten r n s.cells (s.pending ++ x ∷ []) ∷ []; after = record { cells = permute c; pending = []; outputs_left = n } }) (absorbing-snoc r n s.cells s.pending x)
+      ∙ ap (λ c. record {
+        answers = [];
+        handed = overwritten r n s.cells (s.pending ++ x ∷ []) ∷ [];
+        after = record { cells = permute c; pending = []; outputs_left = n };
+      })
+      (absorbing-snoc r n s.cells s.pending x)
 
   -- one that does not is pending
-  observed-short : (s : DuplexSponge F) (x : F) → (length (s.pending ++ x ∷ []) == n) ≡ false → run_call r permute n s (observe x) ≡ stays (appended s x)
+  observed-short : (s : DuplexSponge F) (x : F) → (length (s.pending ++ x ∷ []) == n) ≡ false
+      → run_call r permute n s (observe x) ≡ stays (appended s x)
   observed-short s x short =
       ap (λ b. record {
         answers = [];
@@ -93,16 +135,20 @@ module _ {F : Type 0} (r : Residues F) (permute : List F → List F) (n : ℕ) (
         after = if b then duplexed r permute n (appended s x) else appended s x;
       }) short
 
-  is_whole : (s : DuplexSponge F) (x : F) → (length (s.pending ++ x ∷ []) == n) ≡ true → length (s.pending ++ x ∷ []) ≡ n
+  is_whole : (s : DuplexSponge F) (x : F) → (length (s.pending ++ x ∷ []) == n) ≡ true
+      → length (s.pending ++ x ∷ []) ≡ n
   is_whole s x full = grind (arith, nat_tests)
 
-  is_short : (s : DuplexSponge F) (x : F) → length s.pending < n → (length (s.pending ++ x ∷ []) == n) ≡ false → length (s.pending ++ x ∷ []) < n
+  is_short : (s : DuplexSponge F) (x : F) → length s.pending < n → (length (s.pending ++ x ∷ []) == n) ≡ false
+      → length (s.pending ++ x ∷ []) < n
   is_short s x fits short =
       let one : length (s.pending ++ x ∷ []) ≡ length s.pending + 1 = length-append s.pending (x ∷ []) in
       grind (arith, nat_tests)
 
   -- a value and then a list are absorbed as one list
-  values-by : (b : Bool) (s : DuplexSponge F) (x : F) (ys : List F) → Fits n s → (length (s.pending ++ x ∷ []) == n) ≡ b → (let run = run_call r permute n s (observe x) in run_before run (run_values r permute n run.after ys)) ≡ absorbed r permute n s.cells (s.pending ++ x ∷ ys)
+  values-by : (b : Bool) (s : DuplexSponge F) (x : F) (ys : List F) → Fits n s → (length (s.pending ++ x ∷ []) == n) ≡ b
+      → (let run = run_call r permute n s (observe x) in run_before run (run_values r permute n run.after ys))
+      ≡ absorbed r permute n s.cells (s.pending ++ x ∷ ys)
   values-by true s x [] fits full =
       let block_over = overwritten r n s.cells (s.pending ++ x ∷ []) in
       ap (λ run. run_before run (run_values r permute n run.after [])) (observed-full s x full)
@@ -115,24 +161,30 @@ module _ {F : Type 0} (r : Residues F) (permute : List F → List F) (n : ℕ) (
       ∙ ap (absorbed r permute n s.cells) (append_assoc s.pending (x ∷ []) (y ∷ ys))
   values-by false s x [] fits short =
       ap (λ run. run_before run (run_values r permute n run.after [])) (observed-short s x short)
-      ∙ ap (λ k. stays (record { cells = s.cells; pending = s.pending ++ x ∷ []; outputs_left = k })) (sym (outputs_behind-snoc s.pending x))
+      ∙ ap (λ k. stays (record { cells = s.cells; pending = s.pending ++ x ∷ []; outputs_left = k }))
+      (sym (outputs_behind-snoc s.pending x))
       ∙ sym (absorbed-short s.cells (s.pending ++ x ∷ []) (is_short s x fits.short short))
   values-by false s x (y ∷ ys) fits short =
       ap (λ run. run_before run (run_values r permute n run.after (y ∷ ys))) (observed-short s x short)
       ∙ ap (absorbed r permute n s.cells) (append_assoc s.pending (x ∷ []) (y ∷ ys))
 
-  run_values-next : (s : DuplexSponge F) → Fits n s → (x : F) (ys : List F) → run_values r permute n s (x ∷ ys) ≡ (let run = run_call r permute n s (observe x) in run_before run (run_values r permute n run.after ys))
+  run_values-next : (s : DuplexSponge F) → Fits n s → (x : F) (ys : List F)
+      → run_values r permute n s
+      (x ∷ ys) ≡ (let run = run_call r permute n s (observe x) in run_before run (run_values r permute n run.after ys))
   run_values-next s fits x ys = sym (values-by (length (s.pending ++ x ∷ []) == n) s x ys fits refl)
 
   -- a challenger fits after each call
-  emptied-fits : (cells : List F) (left : ℕ) → left ≤ n → Fits n (record { cells = cells; pending = []; outputs_left = left })
+  emptied-fits : (cells : List F) (left : ℕ) → left ≤ n
+      → Fits n (record { cells = cells; pending = []; outputs_left = left })
   emptied-fits cells left h = record { short = positive; left = h; none_left = λ more. absurd (omega (arith, more)) }
 
-  observed-fits-by : (b : Bool) (s : DuplexSponge F) (x : F) → Fits n s → (length (s.pending ++ x ∷ []) == n) ≡ b → Fits n (observed r permute n s x)
+  observed-fits-by : (b : Bool) (s : DuplexSponge F) (x : F) → Fits n s → (length (s.pending ++ x ∷ []) == n) ≡ b
+      → Fits n (observed r permute n s x)
   observed-fits-by true s x fits full =
       subst (λ (run : DuplexRun F). Fits n run.after) (sym (observed-full s x full)) (emptied-fits _ n (omega arith))
   observed-fits-by false s x fits short =
-      subst (λ (run : DuplexRun F). Fits n run.after) (sym (observed-short s x short)) (record { short = is_short s x fits.short short; left = omega arith; none_left = λ _. refl })
+      subst (λ (run : DuplexRun F). Fits n run.after) (sym (observed-short s x short))
+      (record { short = is_short s x fits.short short; left = omega arith; none_left = λ _. refl })
 
   observed-fits : (s : DuplexSponge F) (x : F) → Fits n s → Fits n (observed r permute n s x)
   observed-fits s x fits = observed-fits-by (length (s.pending ++ x ∷ []) == n) s x fits refl
@@ -140,17 +192,24 @@ module _ {F : Type 0} (r : Residues F) (permute : List F → List F) (n : ℕ) (
   -- ---- what is drawn
 
   -- outputs further on in the row are those of the cells permuted once more
-  output_at-further : (cells : List F) (q : ℕ) → output_at r permute n cells (n + q) ≡ output_at r permute n (permute cells) q
+  output_at-further : (cells : List F) (q : ℕ)
+      → output_at r permute n cells (n + q) ≡ output_at r permute n (permute cells) q
   unfolding permuted
   output_at-further cells q =
       λ i. cell r (permuted permute (further-div n q positive i) cells) (n - 1 - add-mod_left n q i)
 
-  left_behind-further : (cells : List F) (q : ℕ) → left_behind permute n cells (n + q) ≡ left_behind permute n (permute cells) q
+  left_behind-further : (cells : List F) (q : ℕ)
+      → left_behind permute n cells (n + q) ≡ left_behind permute n (permute cells) q
   unfolding permuted
   left_behind-further cells q =
-      λ i. record { cells = permuted permute (further-div n q positive i) cells; pending = []; outputs_left = n - 1 - add-mod_left n q i }
+      λ i. record {
+        cells = permuted permute (further-div n q positive i) cells;
+        pending = [];
+        outputs_left = n - 1 - add-mod_left n q i;
+      }
 
-  outputs_from-further : (cells : List F) (q k : ℕ) → outputs_from r permute n cells (n + q) k ≡ outputs_from r permute n (permute cells) q k
+  outputs_from-further : (cells : List F) (q k : ℕ)
+      → outputs_from r permute n cells (n + q) k ≡ outputs_from r permute n (permute cells) q k
   unfolding outputs_from
   outputs_from-further cells q zero = refl
   outputs_from-further cells q (suc k) =
@@ -159,7 +218,8 @@ module _ {F : Type 0} (r : Residues F) (permute : List F → List F) (n : ℕ) (
       λ i. output_at-further cells q i ∷ tail i
 
   -- the cells themselves are permuted before that
-  draws_from-further : (cells : List F) (q k : ℕ) → draws_from r permute n cells (n + q) k ≡ handed_first cells (draws_from r permute n (permute cells) q k)
+  draws_from-further : (cells : List F) (q k : ℕ)
+      → draws_from r permute n cells (n + q) k ≡ handed_first cells (draws_from r permute n (permute cells) q k)
   unfolding handed_in_turn
   draws_from-further cells q k =
       let same : n + q + k ≡ n + (q + k) = omega arith in
@@ -181,18 +241,27 @@ module _ {F : Type 0} (r : Residues F) (permute : List F → List F) (n : ℕ) (
       let same : (n - left) % n ≡ n - left = mod-eq_of_lt below in
       omega (arith, same)
 
-  output_at-here : (cells : List F) (left : ℕ) → 0 < left → left ≤ n → output_at r permute n cells (n - left) ≡ cell r cells (left - 1)
+  output_at-here : (cells : List F) (left : ℕ) → 0 < left → left ≤ n
+      → output_at r permute n cells (n - left) ≡ cell r cells (left - 1)
   unfolding permuted
   output_at-here cells left more h =
       λ i. cell r (permuted permute (here-div left more h i) cells) (here-mod left more h i)
 
-  left_behind-here : (cells : List F) (left : ℕ) → 0 < left → left ≤ n → left_behind permute n cells (n - left) ≡ record { cells = cells; pending = []; outputs_left = left - 1 }
+  left_behind-here : (cells : List F) (left : ℕ) → 0 < left → left ≤ n
+      → left_behind permute n cells (n - left) ≡ record { cells = cells; pending = []; outputs_left = left - 1 }
   unfolding permuted
   left_behind-here cells left more h =
-      λ i. record { cells = permuted permute (here-div left more h i) cells; pending = []; outputs_left = here-mod left more h i }
+      λ i. record {
+        cells = permuted permute (here-div left more h i) cells;
+        pending = [];
+        outputs_left = here-mod left more h i;
+      }
 
   -- a draw that finds an output, and then k draws
-  taken-next : (cells : List F) (left k : ℕ) → 0 < left → left ≤ n → draws_from r permute n cells (n - left) k ≡ (let next = run_draws r permute n (record { cells = cells; pending = []; outputs_left = left - 1 }) k in record next { answers = cell r cells (left - 1) ∷ next.answers })
+  taken-next : (cells : List F) (left k : ℕ) → 0 < left → left ≤ n
+      → draws_from r permute n cells (n - left)
+      k ≡ (let next = run_draws r permute n (record { cells = cells; pending = []; outputs_left = left - 1 }) k in
+      record next { answers = cell r cells (left - 1) ∷ next.answers })
   unfolding outputs_from handed_in_turn
   taken-next cells left zero more h =
       let same : n - left + 0 ≡ n - left = omega arith in
@@ -213,19 +282,35 @@ module _ {F : Type 0} (r : Residues F) (permute : List F → List F) (n : ℕ) (
       }
 
   -- with outputs left nothing is permuted
-  drawn-left : (cells : List F) (m : ℕ) → run_call r permute n (record { cells = cells; pending = []; outputs_left = suc m }) draw ≡ record { answers = cell r cells (suc m - 1) ∷ []; handed = []; after = record { cells = cells; pending = []; outputs_left = suc m - 1 } }
+  drawn-left : (cells : List F) (m : ℕ)
+      → run_call r permute n (record { cells = cells; pending = []; outputs_left = suc m }) draw
+      ≡ record {
+        answers = cell r cells (suc m - 1) ∷ [];
+        handed = [];
+        after = record { cells = cells; pending = []; outputs_left = suc m - 1 };
+      }
   drawn-left cells m =
       let s : DuplexSponge F = record { cells = cells; pending = []; outputs_left = suc m } in
-      ap (λ b. let t = if b then duplexed r permute n s else s in record { answers = last_output r t ∷ []; handed = if b then cells ∷ [] else []; after = one_taken t }) (not_zero m)
+      ap (λ b. let t = if b then duplexed r permute n s
+      else s in record {
+        answers = last_output r t ∷ [];
+        handed = if b then cells ∷ [] else [];
+        after = one_taken t;
+      }) (not_zero m)
 
   -- a draw and then k draws are one draw more
-  next-by : (cells pending : List F) (left k : ℕ) → left ≤ n → (0 < length pending → left ≡ 0) → run_draws r permute n (record { cells = cells; pending = pending; outputs_left = left }) (suc k) ≡ (let run = run_call r permute n (record { cells = cells; pending = pending; outputs_left = left }) draw in run_before run (run_draws r permute n run.after k))
+  next-by : (cells pending : List F) (left k : ℕ) → left ≤ n → (0 < length pending → left ≡ 0)
+      → run_draws r permute n (record { cells = cells; pending = pending; outputs_left = left })
+      (suc k) ≡ (let run = run_call r permute n (record { cells = cells; pending = pending; outputs_left = left })
+      draw in run_before run (run_draws r permute n run.after k))
   next-by cells [] zero k h none =
       let there : n - 0 ≡ n + 0 = omega arith in
       let start : 0 ≡ n - n = omega arith in
       ap (λ p. draws_from r permute n cells p k) there
       ∙ draws_from-further cells 0 k
-      ∙ ap (handed_first cells) (ap (λ p. draws_from r permute n (permute cells) p k) start ∙ taken-next (permute cells) n k positive (omega arith))
+      ∙ ap (handed_first cells)
+      (ap (λ p. draws_from r permute n (permute cells) p k) start
+      ∙ taken-next (permute cells) n k positive (omega arith))
   next-by cells [] (suc m) k h none =
       taken-next cells (suc m) k (omega arith) h
       ∙ sym (ap (λ run. run_before run (run_draws r permute n run.after k)) (drawn-left cells m))
@@ -237,13 +322,17 @@ module _ {F : Type 0} (r : Residues F) (permute : List F → List F) (n : ℕ) (
       let no : suc m ≡ 0 = none some in
       absurd (omega (arith, no))
 
-  run_draws-next : (s : DuplexSponge F) → Fits n s → (k : ℕ) → run_draws r permute n s (suc k) ≡ (let run = run_call r permute n s draw in run_before run (run_draws r permute n run.after k))
+  run_draws-next : (s : DuplexSponge F) → Fits n s → (k : ℕ)
+      → run_draws r permute n s
+      (suc k) ≡ (let run = run_call r permute n s draw in run_before run (run_draws r permute n run.after k))
   run_draws-next s fits k = next-by s.cells s.pending s.outputs_left k fits.left fits.none_left
 
-  after-fits-by : (cells pending : List F) (left : ℕ) → left ≤ n → (0 < length pending → left ≡ 0) → Fits n (after_sampled r permute n (record { cells = cells; pending = pending; outputs_left = left }))
+  after-fits-by : (cells pending : List F) (left : ℕ) → left ≤ n → (0 < length pending → left ≡ 0)
+      → Fits n (after_sampled r permute n (record { cells = cells; pending = pending; outputs_left = left }))
   after-fits-by cells pending zero h none = emptied-fits _ (n - 1) (omega arith)
   after-fits-by cells [] (suc m) h none =
-      subst (λ (run : DuplexRun F). Fits n run.after) (sym (drawn-left cells m)) (emptied-fits cells (suc m - 1) (omega arith))
+      subst (λ (run : DuplexRun F). Fits n run.after) (sym (drawn-left cells m))
+      (emptied-fits cells (suc m - 1) (omega arith))
   after-fits-by cells (x ∷ xs) (suc m) h none =
       let some : 0 < length (x ∷ xs) = omega arith in
       let no : suc m ≡ 0 = none some in
@@ -256,7 +345,9 @@ module _ {F : Type 0} (r : Residues F) (permute : List F → List F) (n : ℕ) (
 
   -- ---- the digest
 
-  digests-agree : (cells pending : List F) (left : ℕ) → run_digest r permute n (record { cells = cells; pending = pending; outputs_left = left }) ≡ digest_behind r permute n cells pending
+  digests-agree : (cells pending : List F) (left : ℕ)
+      → run_digest r permute n (record { cells = cells; pending = pending; outputs_left = left }) ≡ digest_behind r
+      permute n cells pending
   digests-agree cells [] left = refl
   digests-agree cells (x ∷ xs) left = refl
 

@@ -1,5 +1,6 @@
 -- A duplex challenger call by call.
-use Rattle.std.specs.Prelude.{ℕ, ◌==◌, ◌+◌, ◌-◌, List, [], ◌∷◌, ◌++◌, length, take, drop, replicate, slice_index_or, if◌then◌else◌}
+use Rattle.std.specs.Prelude.{ℕ, ◌==◌, ◌+◌, ◌-◌, List, [], ◌∷◌, ◌++◌, length, take, drop, replicate, slice_index_or}
+use Rattle.std.specs.Prelude.{if◌then◌else◌}
 use Rattle.p3_field_core.specs.Residues.{Residues, plus}
 use Rattle.p3_challenger_core.specs.Segments.{Call, observe, observe_empty_array, draw, Run, stays, ByCalls}
 
@@ -23,7 +24,8 @@ cell r cells i = slice_index_or cells i (r.of 0)
 -- block has added to the cell behind the rate, and the other cells as they are
 abbrev pub overwritten : {F : Type 0} → Residues F → ℕ → List F → List F → List F
 overwritten r rate cells block =
-    block ++ (replicate (rate - length block) (r.of 0) ++ (plus r (cell r cells rate) (length block) ∷ drop (rate + 1) cells))
+    block ++ (replicate (rate - length block)
+    (r.of 0) ++ (plus r (cell r cells rate) (length block) ∷ drop (rate + 1) cells))
 
 -- what is permuted: where nothing is pending, the cells as they are
 abbrev pub absorbing : {F : Type 0} → Residues F → ℕ → List F → List F → List F
@@ -32,7 +34,12 @@ absorbing r rate cells (x ∷ xs) = overwritten r rate cells (x ∷ xs)
 
 -- after a permutation of what is pending: all outputs are left
 abbrev pub duplexed : {F : Type 0} → Residues F → (List F → List F) → ℕ → DuplexSponge F → DuplexSponge F
-duplexed r permute rate s = record { cells = permute (absorbing r rate s.cells s.pending); pending = []; outputs_left = rate }
+duplexed r permute rate s =
+    record {
+      cells = permute (absorbing r rate s.cells s.pending);
+      pending = [];
+      outputs_left = rate;
+    }
 
 -- one more value is pending, and the outputs are dropped
 abbrev pub appended : {F : Type 0} → DuplexSponge F → F → DuplexSponge F

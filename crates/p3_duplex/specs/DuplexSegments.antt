@@ -1,9 +1,9 @@
--- The duplex transcript: what a duplex challenger draws, and what it hands to its permutation, as a
--- function of whole segments of calls.
+-- A duplex challenger over segments of calls: what it draws, and what it hands to its permutation, as a function
+-- of whole segments.
 use Rattle.std.specs.Prelude.{ℕ, zero, suc, ◌+◌, ◌-◌, ◌*◌, ◌/◌, ◌%◌, List, [], ◌∷◌, ◌++◌, length, take, drop}
 use Rattle.p3_field_core.specs.Residues.{Residues}
 use Rattle.p3_challenger_core.specs.Segments.{Run, stays, run_before, BySegments}
-use Rattle.p3_duplex.specs.DuplexTranscript.{DuplexSponge, DuplexRun, cell, overwritten}
+use Rattle.p3_duplex.specs.DuplexCalls.{DuplexSponge, DuplexRun, cell, overwritten}
 
 -- ---- what is absorbed
 

@@ -1,13 +1,13 @@
--- The hash chain: what a hash challenger draws, and what it hands to its hash function, as a function of
--- whole segments of calls.
+-- A hash challenger over segments of calls: what it draws, and what it hands to its hash function, as a function
+-- of whole segments.
 use Rattle.std.specs.Prelude.{ℕ, zero, suc, ◌+◌, ◌-◌, ◌/◌, ◌%◌, List, [], ◌∷◌, ◌++◌, slice_index_or}
 use Rattle.p3_challenger_core.specs.Segments.{stays, BySegments}
-use Rattle.p3_hash_challenger.specs.HashTranscript.{HashFunction, HashTranscript, HashRun, absorbing}
+use Rattle.p3_hash_challenger.specs.HashCalls.{HashFunction, HashSponge, HashRun, absorbing}
 
 -- ---- what is observed
 
 -- a segment's values follow the chain; with none nothing changes, and nothing is hashed
-abbrev pub run_values : {T : Type 0} → HashTranscript T → List T → HashRun T
+abbrev pub run_values : {T : Type 0} → HashSponge T → List T → HashRun T
 run_values start [] = stays start
 run_values start (x ∷ xs) = stays (absorbing (start.pending ++ x ∷ xs))
 
@@ -31,7 +31,7 @@ output_at h chain place =
     slice_index_or (hashed h.digest (place / h.out_len) chain) (h.out_len - 1 - place % h.out_len) h.filler
 
 -- once that output is drawn: the h that it was in is pending, and its places before it are left
-abbrev pub left_behind : {T : Type 0} → HashFunction T → List T → ℕ → HashTranscript T
+abbrev pub left_behind : {T : Type 0} → HashFunction T → List T → ℕ → HashSponge T
 left_behind h chain place =
     record {
       pending = hashed h.digest (place / h.out_len) chain;
@@ -53,14 +53,14 @@ draws_from h chain place n =
     }
 
 -- with outputs left draws go on where those before them stopped, and else they begin anew
-abbrev pub run_draws : {T : Type 0} → HashFunction T → HashTranscript T → ℕ → HashRun T
+abbrev pub run_draws : {T : Type 0} → HashFunction T → HashSponge T → ℕ → HashRun T
 run_draws h start zero = stays start
 run_draws h start (suc n) = draws_from h start.pending (h.out_len - start.outputs_left) n
 
 -- ---- segments
 
 abbrev pub HashSegments : Type 0 → Type 0
-HashSegments T = BySegments T T (List T) (List T) (HashTranscript T)
+HashSegments T = BySegments T T (List T) (List T) (HashSponge T)
 
 -- The chain of the next segment is what the one before left pending, and no output is left. The digest
 -- behind the last one is the hash of the chain that a next one would have.

@@ -11,75 +11,75 @@ pub record HashFunction (T : Type 0) : Type 0 where
 
 -- what a hash challenger has: what the next flush hashes, and how many outputs of the last flush are
 -- left, which are the first places of its digest
-pub record HashTranscript (T : Type 0) : Type 0 where
+pub record HashSponge (T : Type 0) : Type 0 where
   pub pending : List T
   pub outputs_left : ℕ
 
 -- a challenger that has pending values and no output
-abbrev pub absorbing : {T : Type 0} → List T → HashTranscript T
+abbrev pub absorbing : {T : Type 0} → List T → HashSponge T
 absorbing values = record { pending = values; outputs_left = 0 }
 
 -- what a list feeds: it is added to what is pending, and the outputs are dropped; nothing changes
 -- where there is nothing to feed
-abbrev pub fed : {T : Type 0} → HashTranscript T → List T → HashTranscript T
+abbrev pub fed : {T : Type 0} → HashSponge T → List T → HashSponge T
 fed s [] = s
 fed s (x ∷ xs) = absorbing (s.pending ++ x ∷ xs)
 
 -- after one value
-abbrev pub observed : {T : Type 0} → HashTranscript T → T → HashTranscript T
+abbrev pub observed : {T : Type 0} → HashSponge T → T → HashSponge T
 observed s x = fed s (x ∷ [])
 
 -- after an array: its values are added to what is pending, and the outputs are dropped, by an array
 -- of no values too
-abbrev pub array_observed : {T : Type 0} → HashTranscript T → List T → HashTranscript T
+abbrev pub array_observed : {T : Type 0} → HashSponge T → List T → HashSponge T
 array_observed s xs = absorbing (s.pending ++ xs)
 
 -- after a flush: the digest of all that was pending is pending, and each of its places is left
-abbrev pub flushed : {T : Type 0} → HashFunction T → HashTranscript T → HashTranscript T
+abbrev pub flushed : {T : Type 0} → HashFunction T → HashSponge T → HashSponge T
 flushed h s = record { pending = h.digest s.pending; outputs_left = h.out_len }
 
 -- where a draw takes its output from: with none left it flushes first
-abbrev pub ready : {T : Type 0} → HashFunction T → HashTranscript T → HashTranscript T
+abbrev pub ready : {T : Type 0} → HashFunction T → HashSponge T → HashSponge T
 ready h s = if s.outputs_left == 0 then flushed h s else s
 
 -- the outputs left, the last of which is drawn next
-abbrev pub outputs : {T : Type 0} → HashTranscript T → List T
+abbrev pub outputs : {T : Type 0} → HashSponge T → List T
 outputs s = take s.outputs_left s.pending
 
 -- what a draw gives: the last output left
-abbrev pub last_output : {T : Type 0} → HashFunction T → HashTranscript T → T
+abbrev pub last_output : {T : Type 0} → HashFunction T → HashSponge T → T
 last_output h s = slice_index_or s.pending (s.outputs_left - 1) h.filler
 
 -- without that output
-abbrev pub one_taken : {T : Type 0} → HashTranscript T → HashTranscript T
+abbrev pub one_taken : {T : Type 0} → HashSponge T → HashSponge T
 one_taken s = record s { outputs_left = s.outputs_left - 1 }
 
-abbrev pub sampled : {T : Type 0} → HashFunction T → HashTranscript T → T
+abbrev pub sampled : {T : Type 0} → HashFunction T → HashSponge T → T
 sampled h s = last_output h (ready h s)
 
-abbrev pub after_sampled : {T : Type 0} → HashFunction T → HashTranscript T → HashTranscript T
+abbrev pub after_sampled : {T : Type 0} → HashFunction T → HashSponge T → HashSponge T
 after_sampled h s = one_taken (ready h s)
 
 -- the digest: one more hash of all that is pending, whatever outputs are left
-abbrev pub digest : {T : Type 0} → HashFunction T → HashTranscript T → List T
+abbrev pub digest : {T : Type 0} → HashFunction T → HashSponge T → List T
 digest h s = h.digest s.pending
 
 -- ---- what is handed to the hash function
 
 -- a draw that finds no output hands over all that is pending
-abbrev pub handed_by_draw : {T : Type 0} → HashTranscript T → List (List T)
+abbrev pub handed_by_draw : {T : Type 0} → HashSponge T → List (List T)
 handed_by_draw s = if s.outputs_left == 0 then s.pending ∷ [] else []
 
 -- so does a digest, whatever outputs are left
-abbrev pub handed_by_digest : {T : Type 0} → HashTranscript T → List (List T)
+abbrev pub handed_by_digest : {T : Type 0} → HashSponge T → List (List T)
 handed_by_digest s = s.pending ∷ []
 
 -- ---- what a call does
 
 abbrev pub HashRun : Type 0 → Type 0
-HashRun T = Run T (List T) (HashTranscript T)
+HashRun T = Run T (List T) (HashSponge T)
 
-abbrev pub run_call : {T : Type 0} → HashFunction T → HashTranscript T → Call T → HashRun T
+abbrev pub run_call : {T : Type 0} → HashFunction T → HashSponge T → Call T → HashRun T
 run_call h s (observe x) = stays (observed s x)
 run_call h s observe_empty_array = stays (array_observed s [])
 run_call h s draw =
@@ -89,12 +89,12 @@ run_call h s draw =
       after = after_sampled h s;
     }
 
-abbrev pub run_digest : {T : Type 0} → HashFunction T → HashTranscript T → Run T (List T) (List T)
+abbrev pub run_digest : {T : Type 0} → HashFunction T → HashSponge T → Run T (List T) (List T)
 run_digest h s = record { answers = []; handed = handed_by_digest s; after = digest h s }
 
 -- a hash challenger call by call
 abbrev pub HashCalls : Type 0 → Type 0
-HashCalls T = ByCalls T T (List T) (List T) (HashTranscript T)
+HashCalls T = ByCalls T T (List T) (List T) (HashSponge T)
 
 abbrev pub hash_by_calls : {T : Type 0} → HashFunction T → HashCalls T
 hash_by_calls h = record { call = run_call h; digest = run_digest h }

@@ -1,14 +1,14 @@
--- The hash chain over segments is what the calls do one by one.
+-- A hash challenger does over segments what the calls do one by one.
 use Rattle.std.proofs.Common.{◌≡◌, ℕ, zero, suc, ◌<◌, ◌≤◌, ◌+◌, ◌-◌, ◌/◌, ◌%◌, List, [], ◌∷◌, slice_index_or, ◌==◌}
 use Rattle.std.proofs.Common.{false, if◌then◌else◌, refl, sym, ap, ◌∙◌, append_assoc, append-nil, add-one, arith}
 use Rattle.std.proofs.lemmas.Bool.Decides.{nat_tests}
 use Rattle.std.proofs.Math.Nat.{add-div_left, add-mod_left, div-eq_of_lt, mod-eq_of_lt}
 use Rattle.p3_challenger_core.specs.Segments.{Call, observe, observe_empty_array, draw, stays, run_before}
 use Rattle.p3_challenger_core.specs.SegmentLaws.{StepsAgree}
-use Rattle.p3_hash_challenger.specs.HashTranscript.{HashFunction, HashTranscript, HashRun, absorbing, observed, flushed}
-use Rattle.p3_hash_challenger.specs.HashTranscript.{last_output, one_taken, after_sampled, run_call, hash_by_calls}
-use Rattle.p3_hash_challenger.specs.HashChain.{run_values, hashed, handed_in_turn, output_at, left_behind}
-use Rattle.p3_hash_challenger.specs.HashChain.{outputs_from, draws_from, run_draws, hash_by_segments}
+use Rattle.p3_hash_challenger.specs.HashCalls.{HashFunction, HashSponge, HashRun, absorbing, observed, flushed}
+use Rattle.p3_hash_challenger.specs.HashCalls.{last_output, one_taken, after_sampled, run_call, hash_by_calls}
+use Rattle.p3_hash_challenger.specs.HashSegments.{run_values, hashed, handed_in_turn, output_at, left_behind}
+use Rattle.p3_hash_challenger.specs.HashSegments.{outputs_from, draws_from, run_draws, hash_by_segments}
 
 -- a digest further on in the row is one hash more, at the same place
 further-div : (n q : ℕ) → 0 < n → (n + q) / n ≡ suc (q / n)
@@ -32,7 +32,7 @@ abbrev handed_first : {T : Type 0} → List T → HashRun T → HashRun T
 handed_first message run = record run { handed = message ∷ run.handed }
 
 -- a value and then a list are fed as one list
-run_values-next : {T : Type 0} (s : HashTranscript T) (x : T) (xs : List T)
+run_values-next : {T : Type 0} (s : HashSponge T) (x : T) (xs : List T)
     → run_values s (x ∷ xs) ≡ run_before (stays (observed s x)) (run_values (observed s x) xs)
 run_values-next s x [] = refl
 run_values-next s x (y ∷ ys) = ap (λ p. stays (absorbing p)) (sym (append_assoc s.pending (x ∷ []) (y ∷ ys)))
@@ -131,7 +131,7 @@ module _ {T : Type 0} (h : HashFunction T) (positive : 0 < h.out_len) where
         after = record { pending = chain; outputs_left = suc m - 1 };
       }
   drawn-left chain m =
-      let s : HashTranscript T = record { pending = chain; outputs_left = suc m } in
+      let s : HashSponge T = record { pending = chain; outputs_left = suc m } in
       ap (λ b. let t = if b then flushed h s else s in record {
         answers = last_output h t ∷ [];
         handed = if b then chain ∷ [] else [];
@@ -139,7 +139,7 @@ module _ {T : Type 0} (h : HashFunction T) (positive : 0 < h.out_len) where
       }) (not_zero m)
 
   -- a draw and then k draws
-  abbrev draw_then : HashTranscript T → ℕ → HashRun T
+  abbrev draw_then : HashSponge T → ℕ → HashRun T
   draw_then s k = let run = run_call h s draw in run_before run (run_draws h run.after k)
 
   -- are one draw more
@@ -163,7 +163,7 @@ module _ {T : Type 0} (h : HashFunction T) (positive : 0 < h.out_len) where
   after_sampled-fits chain zero fits = omega arith
   after_sampled-fits chain (suc m) fits = omega (arith, ap (λ run. run.after.outputs_left) (drawn-left chain m))
 
-  call-fits : (s : HashTranscript T) → s.outputs_left ≤ h.out_len → (call : Call T)
+  call-fits : (s : HashSponge T) → s.outputs_left ≤ h.out_len → (call : Call T)
       → (run_call h s call).after.outputs_left ≤ h.out_len
   call-fits s fits (observe x) = omega arith
   call-fits s fits observe_empty_array = omega arith
@@ -171,7 +171,7 @@ module _ {T : Type 0} (h : HashFunction T) (positive : 0 < h.out_len) where
 
   -- each step of a segment does what one call does
   pub hash_steps :
-      StepsAgree (λ (s : HashTranscript T). s.outputs_left ≤ h.out_len) (hash_by_calls h) (hash_by_segments h)
+      StepsAgree (λ (s : HashSponge T). s.outputs_left ≤ h.out_len) (hash_by_calls h) (hash_by_segments h)
   hash_steps = record {
     no_values = λ s. refl;
     next_value = λ s _ x xs. run_values-next s x xs;

@@ -1,23 +1,23 @@
 use Rattle.std.proofs.Common.{◌≤◌, ap, arith}
 use Rattle.p3_challenger_core.specs.SegmentLaws.{run_calls-segments, run_calls-segments_to_digest}
 use Rattle.p3_challenger_core.specs.SegmentLaws.{run_calls-same, run_calls_to_digest-same}
-use Rattle.p3_hash_challenger.specs.HashTranscript.{HashTranscript, hash_by_calls}
-use Rattle.p3_hash_challenger.specs.HashChain.{hash_by_segments}
+use Rattle.p3_hash_challenger.specs.HashCalls.{HashSponge, hash_by_calls}
+use Rattle.p3_hash_challenger.specs.HashSegments.{hash_by_segments}
 use Rattle.p3_hash_challenger.specs.HashState.{function_of}
-use Rattle.p3_hash_challenger.proofs.HashChains.{hash_steps}
+use Rattle.p3_hash_challenger.proofs.HashSteps.{hash_steps}
 use Rattle.p3_hash_challenger.proofs.HashHanded.{Agree, same_call, same_digest}
-use Rattle.p3_hash_challenger.proofs.hash_challenger.HashChallenger.follows_hash_chain.Goals as goal
+use Rattle.p3_hash_challenger.proofs.hash_challenger.HashChallenger.follows_segments.Goals as goal
 
 -- a challenger never has more outputs left than a digest has places
 pub returns : goal.returns
 returns g c =
-    let s = c.args.self.now.transcript in
+    let s = c.args.self.now.sponge in
     let len = g.row.OUT_LEN in
     let fits : s.outputs_left ≤ len =
-    omega (arith, ap (λ t. t.transcript.outputs_left) c.self.view_is, c.self.invariant.left) in
+    omega (arith, ap (λ t. t.sponge.outputs_left) c.self.view_is, c.self.invariant.left) in
     let hasher = g.H.CryptographicHasher in
     let h = function_of hasher.hash len hasher.filler c.args.self.now.hasher in
-    let keeps = λ (t : HashTranscript g.row.T.Denot). t.outputs_left ≤ len in
+    let keeps = λ (t : HashSponge g.row.T.Denot). t.outputs_left ≤ len in
     let by_calls = hash_by_calls h in
     let by_segments = hash_by_segments h in
     let steps = hash_steps h c.self.invariant.positive in
