@@ -58,13 +58,16 @@ impl InteractionPattern {
 }
 
 /// Two lists of steps have one alternate rendering exactly if they are the same but for the names of their types,
-/// whatever bytes their labels have.
+/// whatever bytes their labels have. Of patterns that is so with no condition.
 ///
-/// A law: the body is empty, and a caller cites the clause.
+/// A law: the body is empty, and a caller cites a clause.
 #[tactic(auto, using(crate::specs::RenderingLaws::rendering_one_way))]
 pub fn renderings_read_one_way()
-    ensures { (x y : List Step) → AllFitTypes x → AllFitTypes y → length x < 2 ^ 64 → length y < 2 ^ 64
+    ensures steps { (x y : List Step) → AllFitTypes x → AllFitTypes y → length x < 2 ^ 64 → length y < 2 ^ 64
         → (rendering alternate_text x ≡ rendering alternate_text y ↔ SameButTypeNames x y) }
+    ensures patterns { (x y : InteractionPattern) →
+        (rendering alternate_text (steps_of x) ≡ rendering alternate_text (steps_of y)
+        ↔ SameButTypeNames (steps_of x) (steps_of y)) }
 {}
 
 // Steps that print below a header, a line each.
