@@ -37,27 +37,34 @@ Opens (opener ∷ below) steps =
 -- the steps close these containers, and are a pattern behind what opened them
 pub data Finishes : List Step → List Step → Type 0 where
   done : Finishes [] []
-  after_leaf : (stack : List Step) (s : Step) (rest : List Step) → s.hierarchy ≡ Atomic → Allows (kind_of stack) s → Finishes stack rest → Finishes stack (s ∷ rest)
-  after_opener : (stack : List Step) (s : Step) (rest : List Step) → s.hierarchy ≡ Begin → Allows (kind_of stack) s → Finishes (s ∷ stack) rest → Finishes stack (s ∷ rest)
-  after_closer : (opener : Step) (below : List Step) (s : Step) (rest : List Step) → Closes s opener → Finishes below rest → Finishes (opener ∷ below) (s ∷ rest)
+  after_leaf : (stack : List Step) (s : Step) (rest : List Step) → s.hierarchy ≡ Atomic → Allows (kind_of stack) s →
+      Finishes stack rest → Finishes stack (s ∷ rest)
+  after_opener : (stack : List Step) (s : Step) (rest : List Step) → s.hierarchy ≡ Begin → Allows (kind_of stack) s →
+      Finishes (s ∷ stack) rest → Finishes stack (s ∷ rest)
+  after_closer : (opener : Step) (below : List Step) (s : Step) (rest : List Step) → Closes s opener →
+      Finishes below rest → Finishes (opener ∷ below) (s ∷ rest)
 
 -- a pattern leaves open what was open
-pattern-finishes : (kind : Kind) (steps stack rest : List Step) → IsPattern kind steps → kind ≡ kind_of stack → Finishes stack rest → Finishes stack (steps ++ rest)
+pattern-finishes : (kind : Kind) (steps stack rest : List Step) → IsPattern kind steps → kind ≡ kind_of stack →
+    Finishes stack rest → Finishes stack (steps ++ rest)
 pattern-finishes _ _ stack rest (nothing kind) same h = h
 pattern-finishes _ _ stack rest (leaf kind s more atomic allowed pattern) same h =
     after_leaf stack s (more ++ rest) atomic (subst (λ (k : Kind). Allows k s) same allowed)
     (pattern-finishes kind more stack rest pattern same h)
 pattern-finishes _ _ stack rest (container kind opener closer inside more allowed inner closes pattern) same h =
     let behind : Finishes stack (more ++ rest) = pattern-finishes kind more stack rest pattern same h in
-    let closed : Finishes (opener ∷ stack) (closer ∷ (more ++ rest)) = after_closer opener stack closer (more ++ rest) closes behind in
+    let closed : Finishes (opener ∷ stack) (closer ∷ (more ++ rest)) =
+    after_closer opener stack closer (more ++ rest) closes behind in
     let opened : Finishes (opener ∷ stack) (inside ++ (closer ∷ (more ++ rest))) =
     pattern-finishes opener.kind inside (opener ∷ stack) (closer ∷ (more ++ rest)) inner refl closed in
     subst (λ (w : List Step). Finishes stack (opener ∷ w)) (sym (append_assoc inside (closer ∷ more) rest))
-    (after_opener stack opener (inside ++ (closer ∷ (more ++ rest))) closes.begins (subst (λ (k : Kind). Allows k opener) same allowed) opened)
+    (after_opener stack opener (inside ++ (closer ∷ (more ++ rest))) closes.begins
+    (subst (λ (k : Kind). Allows k opener) same allowed) opened)
 
 -- ---- one step more
 
-opens-leaf : (stack steps : List Step) (s : Step) → Opens stack steps → s.hierarchy ≡ Atomic → Allows (kind_of stack) s → Opens stack (steps ++ (s ∷ []))
+opens-leaf : (stack steps : List Step) (s : Step) → Opens stack steps → s.hierarchy ≡ Atomic →
+    Allows (kind_of stack) s → Opens stack (steps ++ (s ∷ []))
 opens-leaf [] steps s h atomic allowed = pattern-append Protocol steps (s ∷ []) h (one_leaf Protocol s atomic allowed)
 opens-leaf (opener ∷ below) steps s h atomic allowed = (
   h.0,
@@ -69,11 +76,13 @@ opens-leaf (opener ∷ below) steps s h atomic allowed = (
   h.6,
 )
 
-opens-opener : (stack steps : List Step) (s : Step) → Opens stack steps → s.hierarchy ≡ Begin → Allows (kind_of stack) s → Opens (s ∷ stack) (steps ++ (s ∷ []))
+opens-opener : (stack steps : List Step) (s : Step) → Opens stack steps → s.hierarchy ≡ Begin →
+    Allows (kind_of stack) s → Opens (s ∷ stack) (steps ++ (s ∷ []))
 opens-opener stack steps s h begins allowed = (steps, [], refl, begins, allowed, nothing s.kind, h)
 
 -- a whole pattern more
-opens-pattern : (stack steps more : List Step) → Opens stack steps → IsPattern (kind_of stack) more → Opens stack (steps ++ more)
+opens-pattern : (stack steps more : List Step) → Opens stack steps → IsPattern (kind_of stack) more →
+    Opens stack (steps ++ more)
 opens-pattern [] steps more h pattern = pattern-append Protocol steps more h pattern
 opens-pattern (opener ∷ below) steps more h pattern = (
   h.0,
@@ -85,7 +94,8 @@ opens-pattern (opener ∷ below) steps more h pattern = (
   h.6,
 )
 
-opens-closer : (opener : Step) (below steps : List Step) (s : Step) → Opens (opener ∷ below) steps → Closes s opener → Opens below (steps ++ (s ∷ []))
+opens-closer : (opener : Step) (below steps : List Step) (s : Step) → Opens (opener ∷ below) steps → Closes s opener →
+    Opens below (steps ++ (s ∷ []))
 opens-closer opener below steps s h closes =
     let whole : IsPattern (kind_of below) (opener ∷ (h.1 ++ (s ∷ []))) =
     container (kind_of below) opener s h.1 [] h.4 h.5 closes (nothing (kind_of below)) in
@@ -98,7 +108,8 @@ one_behind : (w : List Step) (s : Step) (a : List Step) → (w ++ (s ∷ [])) ++
 one_behind w s a = append_assoc w (s ∷ []) a
 
 -- each front of what closes them has containers open, which the rest closes
-fronts : (a b stack steps : List Step) → Opens stack steps → Finishes stack (a ++ b) → (still : List Step) × Opens still (steps ++ a) × Finishes still b
+fronts : (a b stack steps : List Step) → Opens stack steps → Finishes stack (a ++ b) →
+    (still : List Step) × Opens still (steps ++ a) × Finishes still b
 fronts [] b stack steps h finishes = (stack, subst (Opens stack) (sym (append-nil steps)) h, finishes)
 fronts (s ∷ a) b stack steps h (after_leaf _ _ _ atomic allowed finishes) =
     let r = fronts a b stack (steps ++ (s ∷ [])) (opens-leaf stack steps s h atomic allowed) finishes in
@@ -111,10 +122,12 @@ fronts (s ∷ a) b _ steps h (after_closer opener below _ _ closes finishes) =
     (r.0, subst (Opens r.0) (one_behind steps s a) r.1, r.2)
 
 -- behind a front of a pattern containers are open, which the rest of the pattern closes
-pub opens-viable : (steps more : List Step) → IsPattern Protocol (steps ++ more) → (stack : List Step) × Opens stack steps × Finishes stack more
+pub opens-viable : (steps more : List Step) → IsPattern Protocol (steps ++ more) →
+    (stack : List Step) × Opens stack steps × Finishes stack more
 opens-viable steps more pattern =
     let finishes : Finishes [] (steps ++ more) =
-    subst (Finishes []) (append-nil (steps ++ more)) (pattern-finishes Protocol (steps ++ more) [] [] pattern refl done) in
+    subst (Finishes []) (append-nil (steps ++ more))
+    (pattern-finishes Protocol (steps ++ more) [] [] pattern refl done) in
     fronts steps more [] [] (nothing Protocol) finishes
 
 -- ---- what closes the containers that are open
@@ -156,11 +169,13 @@ opened (suc n) here further = further
 abbrev pub seek : ℕ → List Step → Option (ℕ × Step)
 seek closers [] = None
 seek closers (s ∷ before) =
-    by_hierarchy s.hierarchy (seek closers before) (opened closers (length before, s) (seek (pred closers) before)) (seek (suc closers) before)
+    by_hierarchy s.hierarchy (seek closers before) (opened closers (length before, s) (seek (pred closers) before))
+    (seek (suc closers) before)
 
 abbrev seek_by : ℕ → Step → List Step → Hierarchy → Option (ℕ × Step)
 seek_by closers s before h =
-    by_hierarchy h (seek closers before) (opened closers (length before, s) (seek (pred closers) before)) (seek (suc closers) before)
+    by_hierarchy h (seek closers before) (opened closers (length before, s) (seek (pred closers) before))
+    (seek (suc closers) before)
 
 pub seek-atomic : (n : ℕ) (s : Step) (before : List Step) → s.hierarchy ≡ Atomic → seek n (s ∷ before) ≡ seek n before
 seek-atomic n s before is = ap (seek_by n s before) is
@@ -168,24 +183,28 @@ seek-atomic n s before is = ap (seek_by n s before) is
 pub seek-end : (n : ℕ) (s : Step) (before : List Step) → s.hierarchy ≡ End → seek n (s ∷ before) ≡ seek (suc n) before
 seek-end n s before is = ap (seek_by n s before) is
 
-pub seek-begin : (n : ℕ) (s : Step) (before : List Step) → s.hierarchy ≡ Begin → seek (suc n) (s ∷ before) ≡ seek n before
+pub seek-begin : (n : ℕ) (s : Step) (before : List Step) → s.hierarchy ≡ Begin →
+    seek (suc n) (s ∷ before) ≡ seek n before
 seek-begin n s before is = ap (seek_by (suc n) s before) is
 
 pub seek-found : (s : Step) (before : List Step) → s.hierarchy ≡ Begin → seek 0 (s ∷ before) ≡ Some (length before, s)
 seek-found s before is = ap (seek_by 0 s before) is
 
-pub reversed-append : (a b others : List Step) → reversed_onto (a ++ b) others ≡ reversed_onto b (reversed_onto a others)
+pub reversed-append : (a b others : List Step) →
+    reversed_onto (a ++ b) others ≡ reversed_onto b (reversed_onto a others)
 reversed-append [] b others = refl
 reversed-append (s ∷ a) b others = reversed-append a b (s ∷ others)
 
 length-reversed : (a others : List Step) → length (reversed_onto a others) ≡ length a + length others
 length-reversed [] others = omega arith
 length-reversed (s ∷ a) others =
-    let more : length (reversed_onto a (s ∷ others)) ≡ length a + suc (length others) = length-reversed a (s ∷ others) in
+    let more : length (reversed_onto a (s ∷ others)) ≡ length a + suc (length others) =
+    length-reversed a (s ∷ others) in
     omega arith
 
 -- in a pattern each closer has its opener
-seek-pattern : (kind : Kind) (steps : List Step) → IsPattern kind steps → (n : ℕ) (before : List Step) → seek n (reversed_onto steps before) ≡ seek n before
+seek-pattern : (kind : Kind) (steps : List Step) → IsPattern kind steps → (n : ℕ) (before : List Step) →
+    seek n (reversed_onto steps before) ≡ seek n before
 seek-pattern _ _ (nothing kind) n before = refl
 seek-pattern _ _ (leaf kind s rest atomic allowed pattern) n before =
     seek-pattern kind rest pattern n (s ∷ before) ∙ seek-atomic n s before atomic
@@ -200,7 +219,8 @@ pub length-before : (before : List Step) → length (reversed_onto before []) �
 length-before before = let h = length-reversed before [] in omega arith
 
 -- the innermost opener is found, so it is the only one
-pub seek-innermost : (steps : List Step) (position : ℕ) (opener : Step) → IsInnermost steps position opener → seek 0 (reversed_onto steps []) ≡ Some (position, opener)
+pub seek-innermost : (steps : List Step) (position : ℕ) (opener : Step) → IsInnermost steps position opener →
+    seek 0 (reversed_onto steps []) ≡ Some (position, opener)
 seek-innermost steps position opener h =
     let front = reversed_onto h.before [] in
     let there : length front ≡ position = length-before h.before ∙ h.place in
@@ -210,7 +230,8 @@ seek-innermost steps position opener h =
     ∙ seek-found opener front h.begins
     ∙ ap (λ n. Some (n, opener)) there
 
-pub only-innermost : (steps : List Step) (p q : ℕ) (a b : Step) → IsInnermost steps p a → IsInnermost steps q b → (p ≡ q) × (a ≡ b)
+pub only-innermost : (steps : List Step) (p q : ℕ) (a b : Step) → IsInnermost steps p a → IsInnermost steps q b →
+    (p ≡ q) × (a ≡ b)
 only-innermost steps p q a b one other =
     let found = seek-innermost steps p a one in
     let again = seek-innermost steps q b other in
@@ -223,12 +244,14 @@ pattern-none_open steps pattern position opener h =
     let none : seek 0 (reversed_onto steps []) ≡ None = seek-pattern Protocol steps pattern 0 [] in
     cc
 
-opens-innermost : (opener : Step) (below steps : List Step) → (h : Opens (opener ∷ below) steps) → IsInnermost steps (length h.0) opener
+opens-innermost : (opener : Step) (below steps : List Step) → (h : Opens (opener ∷ below) steps) →
+    IsInnermost steps (length h.0) opener
 opens-innermost opener below steps h =
     record { before = h.0; inside = h.1; split = h.2; place = refl; begins = h.3; pattern = h.5 }
 
 -- where no opener is found the steps are a pattern
-none_found : (stack steps : List Step) → Opens stack steps → seek 0 (reversed_onto steps []) ≡ None → IsPattern Protocol steps
+none_found : (stack steps : List Step) → Opens stack steps → seek 0 (reversed_onto steps []) ≡ None →
+    IsPattern Protocol steps
 none_found [] steps h none = h
 none_found (opener ∷ below) steps h none =
     let found = seek-innermost steps (length h.0) opener (opens-innermost opener below steps h) in
@@ -239,7 +262,8 @@ seek-none steps viable none =
     let r = opens-viable steps viable.0 viable.1 in
     none_found r.0 steps r.1 none
 
-one_found : (stack steps : List Step) (position : ℕ) (opener : Step) → Opens stack steps → seek 0 (reversed_onto steps []) ≡ Some (position, opener) → IsInnermost steps position opener
+one_found : (stack steps : List Step) (position : ℕ) (opener : Step) → Opens stack steps →
+    seek 0 (reversed_onto steps []) ≡ Some (position, opener) → IsInnermost steps position opener
 one_found [] steps position opener h found =
     let none : seek 0 (reversed_onto steps []) ≡ None = seek-pattern Protocol steps h 0 [] in
     absurd (cc)
@@ -249,7 +273,8 @@ one_found (other ∷ below) steps position opener h found =
     let same : ◌≡◌ {A = ℕ × Step} (length h.0, other) (position, opener) = cc in
     subst (λ (x : ℕ × Step). IsInnermost steps x.0 x.1) same is
 
-pub seek-some : (steps : List Step) (position : ℕ) (opener : Step) → IsViable steps → seek 0 (reversed_onto steps []) ≡ Some (position, opener) → IsInnermost steps position opener
+pub seek-some : (steps : List Step) (position : ℕ) (opener : Step) → IsViable steps →
+    seek 0 (reversed_onto steps []) ≡ Some (position, opener) → IsInnermost steps position opener
 seek-some steps position opener viable found =
     let r = opens-viable steps viable.0 viable.1 in
     one_found r.0 steps position opener r.1 found
@@ -271,23 +296,28 @@ finishes-fits stack s rest (after_opener _ _ _ begins allowed more) = inl ((λ e
 finishes-fits _ s rest (after_closer opener below _ _ closes more) = inr closes
 
 -- a step with which the steps go on fits the containers that they leave open
-next-fits : (steps : List Step) (s : Step) → IsViable (steps ++ (s ∷ [])) → (stack : List Step) × Opens stack steps × Fits stack s
+next-fits : (steps : List Step) (s : Step) → IsViable (steps ++ (s ∷ [])) →
+    (stack : List Step) × Opens stack steps × Fits stack s
 next-fits steps s viable =
     let r = opens-viable steps (s ∷ viable.0) (subst (IsPattern Protocol) (one_behind steps s viable.0) viable.1) in
     (r.0, r.1, finishes-fits r.0 s viable.0 r.2)
 
 -- with no opener left open a closer does not fit
-no_closer : (stack steps : List Step) (s : Step) → Opens stack steps → IsNoneOpen steps → s.hierarchy ≡ End → Fits stack s → ⊥
+no_closer : (stack steps : List Step) (s : Step) → Opens stack steps → IsNoneOpen steps → s.hierarchy ≡ End →
+    Fits stack s → ⊥
 no_closer [] steps s h none ends (inl fits) = fits.0 ends
 no_closer [] steps s h none ends (inr closes) = closes
 no_closer (opener ∷ below) steps s h none ends fits = none (length h.0) opener (opens-innermost opener below steps h)
 
-pub closer-with_none_open : (steps : List Step) (s : Step) → IsNoneOpen steps → s.hierarchy ≡ End → IsViable (steps ++ (s ∷ [])) → ⊥
+pub closer-with_none_open : (steps : List Step) (s : Step) → IsNoneOpen steps → s.hierarchy ≡ End →
+    IsViable (steps ++ (s ∷ [])) → ⊥
 closer-with_none_open steps s none ends viable =
     let r = next-fits steps s viable in
     no_closer r.0 steps s r.1 none ends r.2
 
-fits-innermost : (stack steps : List Step) (s : Step) (position : ℕ) (opener : Step) → Opens stack steps → IsInnermost steps position opener → Fits stack s → ((s.hierarchy ≡ End → ⊥) × Allows opener.kind s) ⊎ Closes s opener
+fits-innermost : (stack steps : List Step) (s : Step) (position : ℕ) (opener : Step) → Opens stack steps →
+    IsInnermost steps position opener → Fits stack s →
+    ((s.hierarchy ≡ End → ⊥) × Allows opener.kind s) ⊎ Closes s opener
 fits-innermost [] steps s position opener h is fits = absurd (pattern-none_open steps h position opener is)
 fits-innermost (other ∷ below) steps s position opener h is fits =
     let same = only-innermost steps (length h.0) position other opener (opens-innermost other below steps h) is in
@@ -295,48 +325,58 @@ fits-innermost (other ∷ below) steps s position opener h is fits =
 
 -- A step with which the steps go on closes the innermost opener, or it is no closer and of a kind that the
 -- innermost opener allows.
-pub next-innermost : (steps : List Step) (s : Step) (position : ℕ) (opener : Step) → IsInnermost steps position opener → IsViable (steps ++ (s ∷ [])) → ((s.hierarchy ≡ End → ⊥) × Allows opener.kind s) ⊎ Closes s opener
+pub next-innermost : (steps : List Step) (s : Step) (position : ℕ) (opener : Step) →
+    IsInnermost steps position opener → IsViable (steps ++ (s ∷ [])) →
+    ((s.hierarchy ≡ End → ⊥) × Allows opener.kind s) ⊎ Closes s opener
 next-innermost steps s position opener is viable =
     let r = next-fits steps s viable in
     fits-innermost r.0 steps s position opener r.1 is r.2
 
-pub closer-mismatched : (steps : List Step) (s : Step) (position : ℕ) (opener : Step) → IsInnermost steps position opener → s.hierarchy ≡ End → (Closes s opener → ⊥) → IsViable (steps ++ (s ∷ [])) → ⊥
+pub closer-mismatched : (steps : List Step) (s : Step) (position : ℕ) (opener : Step) →
+    IsInnermost steps position opener → s.hierarchy ≡ End → (Closes s opener → ⊥) → IsViable (steps ++ (s ∷ [])) → ⊥
 closer-mismatched steps s position opener is ends mismatched viable =
     ⊎_elim (λ fits. fits.0 ends) mismatched (next-innermost steps s position opener is viable)
 
-pub kind-invalid : (steps : List Step) (s : Step) (position : ℕ) (opener : Step) → IsInnermost steps position opener → (s.hierarchy ≡ End → ⊥) → (Allows opener.kind s → ⊥) → IsViable (steps ++ (s ∷ [])) → ⊥
+pub kind-invalid : (steps : List Step) (s : Step) (position : ℕ) (opener : Step) → IsInnermost steps position opener →
+    (s.hierarchy ≡ End → ⊥) → (Allows opener.kind s → ⊥) → IsViable (steps ++ (s ∷ [])) → ⊥
 kind-invalid steps s position opener is goes_on invalid viable =
     ⊎_elim (λ fits. invalid fits.1) (λ closes. goes_on closes.ends) (next-innermost steps s position opener is viable)
 
 -- a step that is no closer goes on where it is allowed
-opens-next : (stack steps : List Step) (s : Step) (h : Hierarchy) → s.hierarchy ≡ h → Opens stack steps → (s.hierarchy ≡ End → ⊥) → Allows (kind_of stack) s → IsViable (steps ++ (s ∷ []))
+opens-next : (stack steps : List Step) (s : Step) (h : Hierarchy) → s.hierarchy ≡ h → Opens stack steps →
+    (s.hierarchy ≡ End → ⊥) → Allows (kind_of stack) s → IsViable (steps ++ (s ∷ []))
 opens-next stack steps s Atomic is opens goes_on allowed =
     viable-opens stack (steps ++ (s ∷ [])) (opens-leaf stack steps s opens is allowed)
 opens-next stack steps s Begin is opens goes_on allowed =
     viable-opens (s ∷ stack) (steps ++ (s ∷ [])) (opens-opener stack steps s opens is allowed)
 opens-next stack steps s End is opens goes_on allowed = absurd (goes_on is)
 
-pub viable-top : (steps : List Step) (s : Step) → IsPattern Protocol steps → (s.hierarchy ≡ End → ⊥) → IsViable (steps ++ (s ∷ []))
+pub viable-top : (steps : List Step) (s : Step) → IsPattern Protocol steps → (s.hierarchy ≡ End → ⊥) →
+    IsViable (steps ++ (s ∷ []))
 viable-top steps s pattern goes_on = opens-next [] steps s s.hierarchy refl pattern goes_on (inl refl)
 
-allowed-next : (stack steps : List Step) (s : Step) (position : ℕ) (opener : Step) → Opens stack steps → IsInnermost steps position opener → (s.hierarchy ≡ End → ⊥) → Allows opener.kind s → IsViable (steps ++ (s ∷ []))
+allowed-next : (stack steps : List Step) (s : Step) (position : ℕ) (opener : Step) → Opens stack steps →
+    IsInnermost steps position opener → (s.hierarchy ≡ End → ⊥) → Allows opener.kind s → IsViable (steps ++ (s ∷ []))
 allowed-next [] steps s position opener h is goes_on allowed = absurd (pattern-none_open steps h position opener is)
 allowed-next (other ∷ below) steps s position opener h is goes_on allowed =
     let same = only-innermost steps position (length h.0) opener other is (opens-innermost other below steps h) in
     opens-next (other ∷ below) steps s s.hierarchy refl h goes_on (subst (λ (o : Step). Allows o.kind s) same.1 allowed)
 
-pub viable-allowed : (steps : List Step) (s : Step) (position : ℕ) (opener : Step) → IsViable steps → IsInnermost steps position opener → (s.hierarchy ≡ End → ⊥) → Allows opener.kind s → IsViable (steps ++ (s ∷ []))
+pub viable-allowed : (steps : List Step) (s : Step) (position : ℕ) (opener : Step) → IsViable steps →
+    IsInnermost steps position opener → (s.hierarchy ≡ End → ⊥) → Allows opener.kind s → IsViable (steps ++ (s ∷ []))
 viable-allowed steps s position opener viable is goes_on allowed =
     let r = opens-viable steps viable.0 viable.1 in
     allowed-next r.0 steps s position opener r.1 is goes_on allowed
 
-closed-next : (stack steps : List Step) (s : Step) (position : ℕ) (opener : Step) → Opens stack steps → IsInnermost steps position opener → Closes s opener → IsViable (steps ++ (s ∷ []))
+closed-next : (stack steps : List Step) (s : Step) (position : ℕ) (opener : Step) → Opens stack steps →
+    IsInnermost steps position opener → Closes s opener → IsViable (steps ++ (s ∷ []))
 closed-next [] steps s position opener h is closes = absurd (pattern-none_open steps h position opener is)
 closed-next (other ∷ below) steps s position opener h is closes =
     let same = only-innermost steps position (length h.0) opener other is (opens-innermost other below steps h) in
     viable-opens below (steps ++ (s ∷ [])) (opens-closer other below steps s h (subst (Closes s) same.1 closes))
 
-pub viable-closed : (steps : List Step) (s : Step) (position : ℕ) (opener : Step) → IsViable steps → IsInnermost steps position opener → Closes s opener → IsViable (steps ++ (s ∷ []))
+pub viable-closed : (steps : List Step) (s : Step) (position : ℕ) (opener : Step) → IsViable steps →
+    IsInnermost steps position opener → Closes s opener → IsViable (steps ++ (s ∷ []))
 viable-closed steps s position opener viable is closes =
     let r = opens-viable steps viable.0 viable.1 in
     closed-next r.0 steps s position opener r.1 is closes

@@ -11,23 +11,32 @@ use Rattle.p3_patterns.proofs.PatternGrammarLaws.{seek, reversed_onto, reversed-
 abbrev pub front : List Interaction → ℕ → List Step
 front steps p = reversed_onto (map step_of (take p steps)) []
 
-pub front-next : (steps : List Interaction) (p i : ℕ) (d : Interaction) → p + 1 ≡ i → p < length steps → front steps i ≡ step_of (slice_index_or steps p d) ∷ front steps p
+pub front-next : (steps : List Interaction) (p i : ℕ) (d : Interaction) → p + 1 ≡ i → p < length steps →
+    front steps i ≡ step_of (slice_index_or steps p d) ∷ front steps p
 front-next steps p i d next within =
     ap (front steps) (sym next)
     ∙ ap (λ xs. reversed_onto (map step_of xs) []) (take_more steps p d within)
     ∙ ap (λ xs. reversed_onto xs []) (map-append step_of (take p steps) (slice_index_or steps p d ∷ []))
     ∙ reversed-append (map step_of (take p steps)) (step_of (slice_index_or steps p d) ∷ []) []
 
-pub past-atomic : (steps : List Interaction) (p i n : ℕ) (d : Interaction) (found : Option (ℕ × Step)) → p + 1 ≡ i → p < length steps → (step_of (slice_index_or steps p d)).hierarchy ≡ Atomic → seek n (front steps i) ≡ found → seek n (front steps p) ≡ found
+pub past-atomic : (steps : List Interaction) (p i n : ℕ) (d : Interaction) (found : Option (ℕ × Step)) → p + 1 ≡ i →
+    p < length steps → (step_of (slice_index_or steps p d)).hierarchy ≡ Atomic → seek n (front steps i) ≡ found →
+    seek n (front steps p) ≡ found
 past-atomic steps p i n d found next within atomic so_far =
-    sym (seek-atomic n (step_of (slice_index_or steps p d)) (front steps p) atomic) ∙ ap (seek n) (sym (front-next steps p i d next within)) ∙ so_far
+    sym (seek-atomic n (step_of (slice_index_or steps p d)) (front steps p) atomic)
+    ∙ ap (seek n) (sym (front-next steps p i d next within)) ∙ so_far
 
-pub past-end : (steps : List Interaction) (p i n : ℕ) (d : Interaction) (found : Option (ℕ × Step)) → p + 1 ≡ i → p < length steps → (step_of (slice_index_or steps p d)).hierarchy ≡ End → seek n (front steps i) ≡ found → seek (n + 1) (front steps p) ≡ found
+pub past-end : (steps : List Interaction) (p i n : ℕ) (d : Interaction) (found : Option (ℕ × Step)) → p + 1 ≡ i →
+    p < length steps → (step_of (slice_index_or steps p d)).hierarchy ≡ End → seek n (front steps i) ≡ found →
+    seek (n + 1) (front steps p) ≡ found
 past-end steps p i n d found next within ends so_far =
     ap (λ m. seek m (front steps p)) (add-one n)
-    ∙ sym (seek-end n (step_of (slice_index_or steps p d)) (front steps p) ends) ∙ ap (seek n) (sym (front-next steps p i d next within)) ∙ so_far
+    ∙ sym (seek-end n (step_of (slice_index_or steps p d)) (front steps p) ends)
+    ∙ ap (seek n) (sym (front-next steps p i d next within)) ∙ so_far
 
-pub past-begin : (steps : List Interaction) (p i n m : ℕ) (d : Interaction) (found : Option (ℕ × Step)) → p + 1 ≡ i → p < length steps → (step_of (slice_index_or steps p d)).hierarchy ≡ Begin → m + 1 ≡ n → seek n (front steps i) ≡ found → seek m (front steps p) ≡ found
+pub past-begin : (steps : List Interaction) (p i n m : ℕ) (d : Interaction) (found : Option (ℕ × Step)) → p + 1 ≡ i →
+    p < length steps → (step_of (slice_index_or steps p d)).hierarchy ≡ Begin → m + 1 ≡ n →
+    seek n (front steps i) ≡ found → seek m (front steps p) ≡ found
 past-begin steps p i n m d found next within begins one_less so_far =
     sym (seek-begin m (step_of (slice_index_or steps p d)) (front steps p) begins)
     ∙ ap (λ k. seek k (step_of (slice_index_or steps p d) ∷ front steps p)) (sym (add-one m) ∙ one_less)
@@ -40,7 +49,9 @@ length-front steps p within =
     let g : length (take p steps) ≡ p = length-take-le p steps (omega (arith, within)) in
     e ∙ f ∙ g
 
-pub at-opener : (steps : List Interaction) (p i : ℕ) (d : Interaction) (found : Option (ℕ × Step)) → p + 1 ≡ i → p < length steps → (step_of (slice_index_or steps p d)).hierarchy ≡ Begin → seek 0 (front steps i) ≡ found → found ≡ Some (p, step_of (slice_index_or steps p d))
+pub at-opener : (steps : List Interaction) (p i : ℕ) (d : Interaction) (found : Option (ℕ × Step)) → p + 1 ≡ i →
+    p < length steps → (step_of (slice_index_or steps p d)).hierarchy ≡ Begin → seek 0 (front steps i) ≡ found →
+    found ≡ Some (p, step_of (slice_index_or steps p d))
 at-opener steps p i d found next within begins so_far =
     sym so_far
     ∙ ap (seek 0) (front-next steps p i d next within)

@@ -78,7 +78,8 @@ struct Rendering<'a> {
 }
 
 impl fmt::Display for Rendering<'_> {
-    ghost output = { λ all. Some (rendering (λ s. if all.alternate then alternate_text s else plain_text s) (map step_of all.steps.now)) };
+    ghost output = { λ all. Some (rendering (λ s. if all.alternate then alternate_text s else plain_text s)
+        (map step_of all.steps.now)) };
 
     fn fmt<W: fmt::Write>(&self, f: &mut fmt::Formatter<W>) -> fmt::Result {
         let count = self.steps.len();
@@ -148,7 +149,8 @@ struct Line<'a> {
 impl fmt::Display for Line<'_> {
     ghost output = { λ line. Some (
         padded line.digits line.position ++ (codes " " ++ (replicate (2 * line.indentation) 32 ++
-        ((if line.alternate then alternate_text (step_of line.step.now) else plain_text (step_of line.step.now)) ++ codes "\n")))
+        ((if line.alternate then alternate_text (step_of line.step.now) else plain_text (step_of line.step.now))
+        ++ codes "\n")))
         ) };
 
     fn fmt<W: fmt::Write>(&self, f: &mut fmt::Formatter<W>) -> fmt::Result {

@@ -10,9 +10,12 @@ use Rattle.p3_challenger.specs.TranscriptError.TheVariants.{OutOfMemory}
 
 -- The run of a scalar from a challenger: the scalar's bytes are observed, and then the challenge is
 -- drawn, which leaves this challenger.
-pub record IsRun {H : Type 0} (hash : H → List ℕ → List ℕ) (out_len : ℕ) (start : HashState ℕ H) (value challenge : BabyBear) (after : HashState ℕ H) : Type 0 where
-  pub drawn : scalar.sampled (sampled hash out_len) (after_sampled hash out_len) (scalar.observed observed start value) ≡ Some challenge
-  pub left : after ≡ scalar.after_sampled (sampled hash out_len) (after_sampled hash out_len) (scalar.observed observed start value)
+pub record IsRun {H : Type 0} (hash : H → List ℕ → List ℕ) (out_len : ℕ) (start : HashState ℕ H)
+    (value challenge : BabyBear) (after : HashState ℕ H) : Type 0 where
+  pub drawn : scalar.sampled (sampled hash out_len) (after_sampled hash out_len) (scalar.observed observed start value)
+      ≡ Some challenge
+  pub left : after ≡ scalar.after_sampled (sampled hash out_len) (after_sampled hash out_len)
+      (scalar.observed observed start value)
 
 -- why bytes are, whole, no scalar
 abbrev pub too_short : List ℕ
@@ -31,7 +34,8 @@ read_whole narg = if nat_lt (length narg) width then Err too_short else nothing_
 
 -- what a verifier may answer on a proof: it accepts exactly what is, whole, a scalar, by that
 -- scalar's run, and else tells why it is none; want of memory comes in place of an acceptance alone
-abbrev pub Verifies : {R : Type 0} → Result BabyBear (List ℕ) → (BabyBear → R → Type 0) → Result R TranscriptError → Type 0
+abbrev pub Verifies : {R : Type 0} → Result BabyBear (List ℕ) → (BabyBear → R → Type 0) → Result R TranscriptError →
+    Type 0
 Verifies (Ok value) Accepts (Ok found) = Accepts value found
 Verifies (Ok value) Accepts (Err e) = e ≡ OutOfMemory
 Verifies (Err reason) Accepts (Ok found) = ⊥

@@ -43,7 +43,8 @@ lines proof challenge =
 pub record IsFirstText (x : BabyBear) (text : List ℕ) : Type 0 where
   pub challenge : BabyBear
   pub after : HashState ℕ Sha256Hasher
-  pub run : IsRun (λ _ message. sha256 message) 32 (record { transcript = absorbing []; hasher = record {} }) x challenge after
+  pub run : IsRun (λ _ message. sha256 message) 32 (record { transcript = absorbing []; hasher = record {} }) x
+      challenge after
   pub text_is : text ≡ lines (wire x) challenge
 
 -- the words of a command line ask for this

@@ -103,8 +103,10 @@ pub fn verify<H: CryptographicHasher<u8, [u8; OUT_LEN]>, const OUT_LEN: usize>(
 fn draw<H: CryptographicHasher<u8, [u8; OUT_LEN]>, const OUT_LEN: usize>(
     challenger: &mut HashChallenger<u8, H, OUT_LEN>,
 ) -> BabyBear
-    ensures drawn { scalar.sampled (sampled H.hash OUT_LEN) (after_sampled H.hash OUT_LEN) challenger.old ≡ Some result }
-    ensures after { challenger.new ≡ scalar.after_sampled (sampled H.hash OUT_LEN) (after_sampled H.hash OUT_LEN) challenger.old }
+    ensures drawn { scalar.sampled (sampled H.hash OUT_LEN) (after_sampled H.hash OUT_LEN) challenger.old
+        ≡ Some result }
+    ensures after { challenger.new ≡ scalar.after_sampled (sampled H.hash OUT_LEN) (after_sampled H.hash OUT_LEN)
+        challenger.old }
 {
     match ScalarCodec::sample(challenger) {
         Ok(challenge) => challenge,

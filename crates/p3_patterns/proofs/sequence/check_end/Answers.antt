@@ -5,4 +5,5 @@ use Rattle.p3_patterns.proofs.sequence.check_end.Goals as goal
 
 pub returns-in-Some-clause-err : goal.returns-in-Some-clause-err
 returns-in-Some-clause-err c =
-    first-missing_end (map step_of c.args.steps.now) c.in-Some.position (step_of c.in-Some.begin) c.requires c.in-Some.ensures.some
+    first-missing_end (map step_of c.args.steps.now) c.in-Some.position (step_of c.in-Some.begin) c.requires
+    c.in-Some.ensures.some

@@ -8,7 +8,8 @@ abbrev pub invariant-loop-position : goal.invariant-loop-position
 invariant-loop-position l =
     record {
       within : l.closers + l.position ≤ length l.steps;
-      same : seek l.closers (reversed_onto (map step_of (take l.position l.steps)) []) ≡ seek 0 (reversed_onto (map step_of l.steps) []);
+      same : seek l.closers (reversed_onto (map step_of (take l.position l.steps)) [])
+          ≡ seek 0 (reversed_onto (map step_of l.steps) []);
     }
 
 abbrev pub decreases-loop-position : goal.decreases-loop-position

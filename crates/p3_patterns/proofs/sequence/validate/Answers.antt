@@ -19,7 +19,8 @@ returns-in_err-check_next-clause-err c =
     let position = c.loop-position.position in
     let e = c.in_err-check_next.field-0.0 in
     let named =
-    subst (λ (s : Interaction). (rest : List Step) → NamesFirstFault (map step_of (take position steps) ++ (step_of s ∷ rest)) e)
+    subst (λ (s : Interaction). (rest : List Step) →
+    NamesFirstFault (map step_of (take position steps) ++ (step_of s ∷ rest)) e)
     c.index-steps-position.is c.in_err-check_next.ensures.err.1 in
     rw (p.1, p.2) (names-whole steps position _ e (omega arith) named)
 

@@ -12,6 +12,7 @@ returns-in_err-check_next-clause-err c =
     let s = step_of c.args.next in
     let fault = c.in_err-check_next.ensures.err in
     let named =
-    subst (λ (xs : List Interaction). (IsViable (map step_of xs ++ (s ∷ [])) → ⊥) × NamesFirstFault (map step_of xs ++ (s ∷ [])) c.in_err-check_next.field-0.0) c.deref.ensures.value
+    subst (λ (xs : List Interaction). (IsViable (map step_of xs ++ (s ∷ [])) → ⊥)
+    × NamesFirstFault (map step_of xs ++ (s ∷ [])) c.in_err-check_next.field-0.0) c.deref.ensures.value
     (fault.0, fault.1 []) in
     rw (p.1, p.2) (inl named, refl)

@@ -8,4 +8,5 @@ use Rattle.transcript_program.proofs.demo.pattern.Goals as goal
 -- the steps are a pattern, so they are not refused
 pub returns-clause-err : goal.returns-clause-err
 returns-clause-err c =
-    not_refused c.new.result _ (c.new.ensures.only (subst (IsPattern Protocol) (sym c.in_ok-steps.ensures) demo_is_pattern))
+    not_refused c.new.result _
+    (c.new.ensures.only (subst (IsPattern Protocol) (sym c.in_ok-steps.ensures) demo_is_pattern))

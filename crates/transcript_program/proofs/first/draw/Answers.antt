@@ -11,5 +11,7 @@ unreachable-requires g c =
     let hash = g.H.CryptographicHasher.hash in
     let before = c.args.challenger.now in
     let byte = unrefused_draw (sampled hash g.row.OUT_LEN) (after_sampled hash g.row.OUT_LEN) in
-    in_row-not_refused (sampled hash g.row.OUT_LEN) (after_sampled hash g.row.OUT_LEN) (draw_bytes width) c.in-Err.field-0 before c.sample.new.challenger
-    (made_of-refuses (challenge_of residues) (in_row byte (draw_bytes width)) c.in-Err.field-0 before c.sample.new.challenger c.in-Err.ensures.err)
+    in_row-not_refused (sampled hash g.row.OUT_LEN) (after_sampled hash g.row.OUT_LEN) (draw_bytes width)
+    c.in-Err.field-0 before c.sample.new.challenger
+    (made_of-refuses (challenge_of residues) (in_row byte (draw_bytes width)) c.in-Err.field-0 before
+    c.sample.new.challenger c.in-Err.ensures.err)
