@@ -68,7 +68,10 @@ misfits-seen :
         λ a b. interactions.ghosts.eq a.0 b.0,
         (
           λ a b. interactions.ghosts.eq a.0 b.0 && interactions.ghosts.eq a.1.0 b.1.0,
-          (λ a b. interactions.ghosts.eq a.0 b.0, (λ a b. numbers.ghosts.eq a.0 b.0 && numbers.ghosts.eq a.1.0 b.1.0, tt)),
+          (
+            λ a b. interactions.ghosts.eq a.0 b.0,
+            (λ a b. numbers.ghosts.eq a.0 b.0 && numbers.ghosts.eq a.1.0 b.1.0, tt),
+          ),
         ),
       ),
     ) misfit_seen
@@ -95,13 +98,16 @@ misfits-seen = (
   ),
 )
 
-pub equal_misfits : (a b : PatternError Interaction) → ((pattern_errors_compared.ghosts interaction_type.the_row interactions.ghosts interactions.dict).eq a b ≡ true ↔ misfit_of a ≡ misfit_of b)
+pub equal_misfits : (a b : PatternError Interaction) →
+    ((pattern_errors_compared.ghosts interaction_type.the_row interactions.ghosts interactions.dict).eq a b ≡ true
+    ↔ misfit_of a ≡ misfit_of b)
 unfolding misfit_seen
 equal_misfits a b =
     let row = interaction_type.the_row in
     let first = ap misfit_of (misfits.the_eta row a) in
     let second = ap misfit_of (misfits.the_eta row b) in
-    seen_by (compared_as_seen misfit_place 0 (misfits.the_parts row) _ misfit_seen misfits-seen (misfits.as_values row a) (misfits.as_values row b))
+    seen_by (compared_as_seen misfit_place 0 (misfits.the_parts row) _ misfit_seen misfits-seen
+    (misfits.as_values row a) (misfits.as_values row b))
     (λ e. sym first ∙ e ∙ second)
     (λ e. first ∙ e ∙ sym second)
 
@@ -118,25 +124,39 @@ place (challenger_refused e) = 6
 place label_too_long = 7
 place out_of_memory = 8
 
-missing_begin-equal : (x y : MissingBeginInfo) → (missing_begins.ghosts.eq x y ≡ true ↔ fault (missing_begin x.position (step_of x.end)) ≡ fault (missing_begin y.position (step_of y.end)))
+missing_begin-equal : (x y : MissingBeginInfo) →
+    (missing_begins.ghosts.eq x y ≡ true ↔ fault (missing_begin x.position (step_of x.end))
+    ≡ fault (missing_begin y.position (step_of y.end)))
 missing_begin-equal x y =
     seen_by (pairs (numbers-equal x.position y.position) (equal_steps x.end y.end)) (λ e. cc) (λ e. (cc, cc))
 
-missing_end-equal : (x y : MissingEndInfo) → (missing_ends.ghosts.eq x y ≡ true ↔ fault (missing_end x.position (step_of x.begin)) ≡ fault (missing_end y.position (step_of y.begin)))
+missing_end-equal : (x y : MissingEndInfo) →
+    (missing_ends.ghosts.eq x y ≡ true ↔ fault (missing_end x.position (step_of x.begin))
+    ≡ fault (missing_end y.position (step_of y.begin)))
 missing_end-equal x y =
     seen_by (pairs (numbers-equal x.position y.position) (equal_steps x.begin y.begin)) (λ e. cc) (λ e. (cc, cc))
 
-invalid_kind-equal : (x y : InvalidKindInfo) → (invalid_kinds.ghosts.eq x y ≡ true ↔ fault (invalid_kind x.begin_position (step_of x.begin) x.interaction_position (step_of x.interaction)) ≡ fault (invalid_kind y.begin_position (step_of y.begin) y.interaction_position (step_of y.interaction)))
+invalid_kind-equal : (x y : InvalidKindInfo) →
+    (invalid_kinds.ghosts.eq x y ≡ true
+    ↔ fault (invalid_kind x.begin_position (step_of x.begin) x.interaction_position (step_of x.interaction))
+    ≡ fault (invalid_kind y.begin_position (step_of y.begin) y.interaction_position (step_of y.interaction)))
 invalid_kind-equal x y =
     seen_by
-    (pairs (numbers-equal x.begin_position y.begin_position) (pairs (equal_steps x.begin y.begin) (pairs (numbers-equal x.interaction_position y.interaction_position) (equal_steps x.interaction y.interaction))))
+    (pairs (numbers-equal x.begin_position y.begin_position)
+    (pairs (equal_steps x.begin y.begin)
+    (pairs (numbers-equal x.interaction_position y.interaction_position) (equal_steps x.interaction y.interaction))))
     (λ e. let p = e.0 in let q = e.1.0 in let r = e.1.1.0 in let s = e.1.1.1 in cc)
     (λ e. (cc, (cc, (cc, cc))))
 
-mismatched-equal : (x y : MismatchedBeginEndInfo) → (mismatches.ghosts.eq x y ≡ true ↔ fault (mismatched_begin_end x.begin_position (step_of x.begin) x.end_position (step_of x.end)) ≡ fault (mismatched_begin_end y.begin_position (step_of y.begin) y.end_position (step_of y.end)))
+mismatched-equal : (x y : MismatchedBeginEndInfo) →
+    (mismatches.ghosts.eq x y ≡ true
+    ↔ fault (mismatched_begin_end x.begin_position (step_of x.begin) x.end_position (step_of x.end))
+    ≡ fault (mismatched_begin_end y.begin_position (step_of y.begin) y.end_position (step_of y.end)))
 mismatched-equal x y =
     seen_by
-    (pairs (numbers-equal x.begin_position y.begin_position) (pairs (equal_steps x.begin y.begin) (pairs (numbers-equal x.end_position y.end_position) (equal_steps x.end y.end))))
+    (pairs (numbers-equal x.begin_position y.begin_position)
+    (pairs (equal_steps x.begin y.begin)
+    (pairs (numbers-equal x.end_position y.end_position) (equal_steps x.end y.end))))
     (λ e. let p = e.0 in let q = e.1.0 in let r = e.1.1.0 in let s = e.1.1.1 in cc)
     (λ e. (cc, (cc, (cc, cc))))
 
@@ -161,7 +181,8 @@ refusals-seen :
             (
               λ a b. texts.ghosts.eq a.0 b.0,
               (
-                λ a b. (pattern_errors_compared.ghosts interaction_type.the_row interactions.ghosts interactions.dict).eq a.0 b.0,
+                λ a b. (pattern_errors_compared.ghosts interaction_type.the_row interactions.ghosts
+                    interactions.dict).eq a.0 b.0,
                 (λ a b. challengers.ghosts.eq a.0 b.0, (λ a b. true, (λ a b. true, tt))),
               ),
             ),
@@ -200,11 +221,13 @@ refusals-seen = (
   ),
 )
 
-pub equal_refusals : (a b : TranscriptError) → (transcript_errors_compared.ghosts.eq a b ≡ true ↔ refusal_of a ≡ refusal_of b)
+pub equal_refusals : (a b : TranscriptError) →
+    (transcript_errors_compared.ghosts.eq a b ≡ true ↔ refusal_of a ≡ refusal_of b)
 unfolding refusal_seen
 equal_refusals a b =
     let first = ap refusal_of (refusals.the_eta a) in
     let second = ap refusal_of (refusals.the_eta b) in
-    seen_by (compared_as_seen place 0 refusals.the_parts _ refusal_seen refusals-seen (refusals.as_values a) (refusals.as_values b))
+    seen_by (compared_as_seen place 0 refusals.the_parts _ refusal_seen refusals-seen (refusals.as_values a)
+    (refusals.as_values b))
     (λ e. sym first ∙ e ∙ second)
     (λ e. first ∙ e ∙ sym second)

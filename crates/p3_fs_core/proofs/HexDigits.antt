@@ -98,7 +98,8 @@ low_digits-zero zero acc = refl
 low_digits-zero (suc k) acc = low_digits-zero k (48 ∷ acc) ∙ zeros-push k acc
 
 -- a number's digits, with zeros in front up to a width, are its last digits
-filled : (k j n : ℕ) → 0 < k → k ≤ j → n < 16 ^ k → replicate (k - length (onto j n [])) 48 ++ onto j n [] ≡ low_digits k n []
+filled : (k j n : ℕ) → 0 < k → k ≤ j → n < 16 ^ k → replicate (k - length (onto j n [])) 48 ++ onto j n []
+    ≡ low_digits k n []
 filled zero j n some room fits = absurd (omega (arith, some))
 filled (suc k) zero n some room fits = absurd (omega (arith, room))
 filled (suc k) (suc j) n some room fits = elim (cases_lt n 16) [
@@ -115,8 +116,10 @@ filled (suc k) (suc j) n some room fits = elim (cases_lt n 16) [
       let digit = glyph (n % 16) in
       let front = onto j (n / 16) [] in
       let left : n / 16 < 16 ^ k = omega (arith, fits, sixteen_times k) in
-      let parts : onto (suc j) n [] ≡ front ++ digit ∷ [] = onto-more j n [] many ∙ onto-append j (n / 16) (digit ∷ []) in
-      let missing : suc k - length (front ++ digit ∷ []) ≡ k - length front = omega (arith, length-append front (digit ∷ [])) in
+      let parts : onto (suc j) n [] ≡ front ++ digit ∷ [] = onto-more j n [] many
+      ∙ onto-append j (n / 16) (digit ∷ []) in
+      let missing : suc k - length (front ++ digit ∷ []) ≡ k - length front =
+      omega (arith, length-append front (digit ∷ [])) in
       ap (λ ds. replicate (suc k - length ds) 48 ++ ds) parts
       ∙ ap (λ m. replicate m 48 ++ (front ++ digit ∷ [])) missing
       ∙ sym (append_assoc (replicate (k - length front) 48) front (digit ∷ []))
@@ -127,7 +130,8 @@ filled (suc k) (suc j) n some room fits = elim (cases_lt n 16) [
 -- ---- both parts
 
 -- the digits of a number with a high part are those of the high part, and then the low ones
-joined : (k j high low : ℕ) (acc : List ℕ) → 0 < high → low < 16 ^ k → onto (k + j) (high * 16 ^ k + low) acc ≡ onto j high (low_digits k low acc)
+joined : (k j high low : ℕ) (acc : List ℕ) → 0 < high → low < 16 ^ k →
+    onto (k + j) (high * 16 ^ k + low) acc ≡ onto j high (low_digits k low acc)
 joined zero j high low acc some fits =
     let room : 0 + j ≡ j = omega arith in
     let number : high * 16 ^ 0 + low ≡ high = omega (arith, fits) in
@@ -135,7 +139,8 @@ joined zero j high low acc some fits =
 joined (suc k) j high low acc some fits =
     let power = sixteen_times k in
     let n = high * 16 ^ suc k + low in
-    let whole : n ≡ 16 * (high * 16 ^ k) + low = ap (λ m. m + low) (ap (λ m. high * m) power ∙ mul_left_comm high 16 (16 ^ k)) in
+    let whole : n ≡ 16 * (high * 16 ^ k) + low = ap (λ m. m + low) (ap (λ m. high * m) power
+    ∙ mul_left_comm high 16 (16 ^ k)) in
     let front : n / 16 ≡ high * 16 ^ k + low / 16 = omega (arith, whole) in
     let last : n % 16 ≡ low % 16 = omega (arith, whole) in
     let above : 0 < high * 16 ^ k = mul-pos some (sixteen_positive k) in
@@ -152,23 +157,27 @@ abbrev pub sixteen_wide : ℕ → List ℕ
 sixteen_wide n = padded_integral (format_spec 32 0 4 16 (2 ^ 64 - 1)) false [] (digits 16 false n)
 
 -- zeros in front of digits up to a width, as a hole writes them
-zeros_filled : (width : ℕ) (ds : List ℕ) → padded_integral (format_spec 32 0 4 width (2 ^ 64 - 1)) false [] ds ≡ replicate (width - length ds) 48 ++ ds
+zeros_filled : (width : ℕ) (ds : List ℕ) → padded_integral (format_spec 32 0 4 width (2 ^ 64 - 1)) false [] ds
+    ≡ replicate (width - length ds) 48 ++ ds
 unfolding padded_integral char_count
 zeros_filled width ds =
     let missing : width - length ds - 0 - 0 ≡ width - length ds = omega arith in
-    ap (λ m. replicate m 48 ++ (ds ++ [])) missing ∙ ap (λ back. replicate (width - length ds) 48 ++ back) (append-nil ds)
+    ap (λ m. replicate m 48 ++ (ds ++ [])) missing
+    ∙ ap (λ back. replicate (width - length ds) 48 ++ back) (append-nil ds)
 
 sixteen_wide-is : (n : ℕ) → n < 2 ^ 64 → sixteen_wide n ≡ low_digits 16 n []
 unfolding digits
 sixteen_wide-is n fits = zeros_filled 16 (onto 64 n []) ∙ filled 16 64 n (lit< tt) (lit< tt) (omega (arith, fits))
 
 -- 128 bits are written as two parts of 64, where the high part is not 0
-pub hex_number-parts : (high low : ℕ) → 0 < high → high < 2 ^ 64 → low < 2 ^ 64 → hex_number (high * 2 ^ 64 + low) ≡ hex_number high ++ sixteen_wide low
+pub hex_number-parts : (high low : ℕ) → 0 < high → high < 2 ^ 64 → low < 2 ^ 64 →
+    hex_number (high * 2 ^ 64 + low) ≡ hex_number high ++ sixteen_wide low
 unfolding digits
 hex_number-parts high low some fits small =
     joined 16 48 high low [] some (omega (arith, small))
     ∙ onto-append 48 high (low_digits 16 low [])
-    ∙ ap (λ ds. ds ++ low_digits 16 low []) (onto-room 48 64 high [] (omega arith) (omega (arith, fits)) (omega arith) (omega (arith, fits)))
+    ∙ ap (λ ds. ds ++ low_digits 16 low []) (onto-room 48 64 high [] (omega arith) (omega (arith, fits)) (omega arith)
+    (omega (arith, fits)))
     ∙ ap (λ ds. onto 64 high [] ++ ds) (sym (sixteen_wide-is low small))
 
 -- ---- the digits of bytes
@@ -190,8 +199,10 @@ glyph-of_table (suc (suc (suc (suc (suc (suc (suc (suc (suc (suc (suc zero))))))
 glyph-of_table (suc (suc (suc (suc (suc (suc (suc (suc (suc (suc (suc (suc zero)))))))))))) fits = refl
 glyph-of_table (suc (suc (suc (suc (suc (suc (suc (suc (suc (suc (suc (suc (suc zero))))))))))))) fits = refl
 glyph-of_table (suc (suc (suc (suc (suc (suc (suc (suc (suc (suc (suc (suc (suc (suc zero)))))))))))))) fits = refl
-glyph-of_table (suc (suc (suc (suc (suc (suc (suc (suc (suc (suc (suc (suc (suc (suc (suc zero))))))))))))))) fits = refl
-glyph-of_table (suc (suc (suc (suc (suc (suc (suc (suc (suc (suc (suc (suc (suc (suc (suc (suc d)))))))))))))))) fits = absurd (omega (arith, fits))
+glyph-of_table (suc (suc (suc (suc (suc (suc (suc (suc (suc (suc (suc (suc (suc (suc (suc zero))))))))))))))) fits =
+    refl
+glyph-of_table (suc (suc (suc (suc (suc (suc (suc (suc (suc (suc (suc (suc (suc (suc (suc (suc d)))))))))))))))) fits =
+    absurd (omega (arith, fits))
 
 -- a byte's digits in the table are those of its text
 pub hex_text-of_table : (bytes : List ℕ) → AreBytes bytes → encode_lower bytes ≡ hex_text bytes
@@ -199,7 +210,8 @@ unfolding encode_with
 hex_text-of_table [] are = refl
 hex_text-of_table (byte ∷ bytes) are =
     let fits : byte < 256 = are zero in
-    ap (λ d. d ∷ slice_index lower_digits (byte % 16) ∷ encode_lower bytes) (glyph-of_table (byte / 16) (omega (arith, fits)))
+    ap (λ d. d ∷ slice_index lower_digits (byte % 16) ∷ encode_lower bytes)
+    (glyph-of_table (byte / 16) (omega (arith, fits)))
     ∙ ap (λ d. glyph (byte / 16) ∷ d ∷ encode_lower bytes) (glyph-of_table (byte % 16) (omega arith))
     ∙ ap (λ ds. glyph (byte / 16) ∷ glyph (byte % 16) ∷ ds) (hex_text-of_table bytes (λ i. are (suc i)))
 
@@ -208,6 +220,7 @@ glyph-ascii d fits = grind (arith, nat_tests)
 
 pub hex_text-ascii : (bytes : List ℕ) → AreBytes bytes → IsAscii (hex_text bytes)
 hex_text-ascii [] are i = lit< tt
-hex_text-ascii (byte ∷ bytes) are zero = glyph-ascii (byte / 16) (let fits : byte < 256 = are zero in omega (arith, fits))
+hex_text-ascii (byte ∷ bytes) are zero = glyph-ascii (byte / 16) (let fits : byte < 256 = are zero in
+    omega (arith, fits))
 hex_text-ascii (byte ∷ bytes) are (suc zero) = glyph-ascii (byte % 16) (omega arith)
 hex_text-ascii (byte ∷ bytes) are (suc (suc i)) = hex_text-ascii bytes (λ j. are (suc j)) i

@@ -16,12 +16,14 @@ module _ {V : Type 0} (place : V → ℕ) where
       × ((x : Values Fs) → place (view (inl x)) ≡ n)
       × SeenFrom (suc n) Fss es.1 (λ c. view (inr c))
 
-  later : (n : ℕ) (Fss : List (List Field)) (es : Each Bool Fss) (view : Choice Fss → V) → SeenFrom n Fss es view → (c : Choice Fss) → n ≤ place (view c)
+  later : (n : ℕ) (Fss : List (List Field)) (es : Each Bool Fss) (view : Choice Fss → V) → SeenFrom n Fss es view →
+      (c : Choice Fss) → n ≤ place (view c)
   later n [] es view seen c = absurd c
   later n (Fs ∷ Fss) es view seen (inl x) = omega (arith, seen.1 x)
   later n (Fs ∷ Fss) es view seen (inr c) = omega (arith, later (suc n) Fss es.1 (λ d. view (inr d)) seen.2 c)
 
-  pub compared_as_seen : (n : ℕ) (Fss : List (List Field)) (es : Each Bool Fss) (view : Choice Fss → V) → SeenFrom n Fss es view → (c d : Choice Fss) → (by false false Fss es c d ≡ true ↔ view c ≡ view d)
+  pub compared_as_seen : (n : ℕ) (Fss : List (List Field)) (es : Each Bool Fss) (view : Choice Fss → V) →
+      SeenFrom n Fss es view → (c d : Choice Fss) → (by false false Fss es c d ≡ true ↔ view c ≡ view d)
   compared_as_seen n [] es view seen c d = absurd c
   compared_as_seen n (Fs ∷ Fss) es view seen (inl x) (inl y) = seen.0 x y
   compared_as_seen n (Fs ∷ Fss) es view seen (inl x) (inr d) = (
@@ -32,4 +34,5 @@ module _ {V : Type 0} (place : V → ℕ) where
     λ e. absurd (cc),
     λ same. absurd (omega (arith, seen.1 y, ap place same, later (suc n) Fss es.1 (λ c. view (inr c)) seen.2 c)),
   )
-  compared_as_seen n (Fs ∷ Fss) es view seen (inr c) (inr d) = compared_as_seen (suc n) Fss es.1 (λ k. view (inr k)) seen.2 c d
+  compared_as_seen n (Fs ∷ Fss) es view seen (inr c) (inr d) =
+      compared_as_seen (suc n) Fss es.1 (λ k. view (inr k)) seen.2 c d

@@ -30,9 +30,11 @@ outer hierarchy = marker_of hierarchy Protocol (codes "outer") (codes "()")
 abbrev commit : Step
 commit = step_with Atomic Message (codes "commit") Opaque (codes "opaque") Scalar
 
-plain_texts : (plain_text (outer Begin) ≡ codes "Begin Protocol outer None ()") × (plain_text commit ≡ codes "Atomic Message commit Scalar opaque")
+plain_texts : (plain_text (outer Begin) ≡ codes "Begin Protocol outer None ()")
+    × (plain_text commit ≡ codes "Atomic Message commit Scalar opaque")
 plain_texts = (refl, refl)
 
-alternate_texts : (alternate_text (outer End) ≡ codes "End Protocol 5 outer None Marker") × (alternate_text commit ≡ codes "Atomic Message 6 commit Scalar Opaque")
+alternate_texts : (alternate_text (outer End) ≡ codes "End Protocol 5 outer None Marker")
+    × (alternate_text commit ≡ codes "Atomic Message 6 commit Scalar Opaque")
 unfolding digits
 alternate_texts = (refl, refl)

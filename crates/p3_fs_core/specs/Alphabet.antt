@@ -12,7 +12,8 @@ RefusesBytes IsTooLong MayLeave before TooLong after = IsTooLong × (after ≡ b
 RefusesBytes IsTooLong MayLeave before _ after = ⊥
 
 -- what is left of a state where items, observed as one slice or one by one, are refused
-abbrev pub LeavesItems : {S Symbol T : Type 0} → Observation S Symbol T → (S → List T → S → Type 0) → S → List T → S → Type 0
+abbrev pub LeavesItems : {S Symbol T : Type 0} → Observation S Symbol T → (S → List T → S → Type 0) → S → List T → S →
+    Type 0
 LeavesItems o slice_may_leave s items t = slice_may_leave s items t ⊎ LeavesInCalls o.observed o.may_leave s items t
 
 -- each of a list is an item

@@ -22,7 +22,9 @@ one_begins {S} (c ∷ a) (d ∷ b) x y e =
     behind c d a b (ap (λ p. p.0) same) (one_begins a b x y (ap (λ p. p.1) same))
 
 -- lists of items whose symbols, with anything behind them, are equal: one list begins the other
-pub row-begins : {T S : Type 0} (IsItem : T → Type 0) (symbols : T → List S) → ReadsOneWayOn IsItem symbols → (xs ys : List T) (a b : List S) → AreItems IsItem xs → AreItems IsItem ys → flat_map symbols xs ++ a ≡ flat_map symbols ys ++ b → OneBegins xs ys
+pub row-begins : {T S : Type 0} (IsItem : T → Type 0) (symbols : T → List S) → ReadsOneWayOn IsItem symbols →
+    (xs ys : List T) (a b : List S) → AreItems IsItem xs → AreItems IsItem ys →
+    flat_map symbols xs ++ a ≡ flat_map symbols ys ++ b → OneBegins xs ys
 row-begins IsItem symbols one_way [] ys a b x_are y_are e = inl (ys, refl)
 row-begins IsItem symbols one_way (x ∷ xs) [] a b x_are y_are e = inr (x ∷ xs, refl)
 row-begins IsItem symbols one_way (x ∷ xs) (y ∷ ys) a b x_are y_are e =
@@ -42,15 +44,22 @@ all-are_items (x ∷ xs) = (tt, all-are_items xs)
 
 -- An alphabet tells byte strings apart by their symbols: where those of two, with anything behind them, are
 -- equal, one string begins the other, and behind equal strings stands the same.
-module _ {T S : Type 0} (IsItem : T → Type 0) (items : List ℕ → List T) (symbols : T → List S) (one_way : ReadsOneWayOn IsItem symbols) (items_are : (bytes : List ℕ) → AreBytes bytes → AreItems IsItem (items bytes)) where
-  begins_by : (a b : List ℕ) → ((x y : List T) → items a ++ x ≡ items b ++ y → OneBegins a b) → OneBegins (items a) (items b) → OneBegins a b
+module _ {T S : Type 0} (IsItem : T → Type 0) (items : List ℕ → List T) (symbols : T →
+    List S) (one_way : ReadsOneWayOn IsItem symbols) (items_are : (bytes : List ℕ) → AreBytes bytes →
+    AreItems IsItem (items bytes)) where
+  begins_by : (a b : List ℕ) → ((x y : List T) → items a ++ x ≡ items b ++ y → OneBegins a b) →
+      OneBegins (items a) (items b) → OneBegins a b
   begins_by a b begins (inl h) = begins h.0 [] (h.1 ∙ sym (append-nil (items b)))
   begins_by a b begins (inr h) = begins [] h.0 (append-nil (items a) ∙ sym h.1)
 
-  pub symbols-begin : (a b : List ℕ) (x y : List S) → AreBytes a → AreBytes b → ((r s : List T) → items a ++ r ≡ items b ++ s → OneBegins a b) → flat_map symbols (items a) ++ x ≡ flat_map symbols (items b) ++ y → OneBegins a b
+  pub symbols-begin : (a b : List ℕ) (x y : List S) → AreBytes a → AreBytes b →
+      ((r s : List T) → items a ++ r ≡ items b ++ s → OneBegins a b) →
+      flat_map symbols (items a) ++ x ≡ flat_map symbols (items b) ++ y → OneBegins a b
   symbols-begin a b x y a_are b_are begins e =
-      begins_by a b begins (row-begins IsItem symbols one_way (items a) (items b) x y (items_are a a_are) (items_are b b_are) e)
+      begins_by a b begins (row-begins IsItem symbols one_way (items a) (items b) x y (items_are a a_are)
+      (items_are b b_are) e)
 
-pub behind_equal : {T S : Type 0} (items : List ℕ → List T) (symbols : T → List S) (a b : List ℕ) (x y : List S) → flat_map symbols (items a) ++ x ≡ flat_map symbols (items b) ++ y → a ≡ b → x ≡ y
+pub behind_equal : {T S : Type 0} (items : List ℕ → List T) (symbols : T → List S) (a b : List ℕ) (x y : List S) →
+    flat_map symbols (items a) ++ x ≡ flat_map symbols (items b) ++ y → a ≡ b → x ≡ y
 behind_equal items symbols a b x y e same =
     append_cancel_left (flat_map symbols (items a)) x y (e ∙ ap (λ c. flat_map symbols (items c) ++ y) (sym same))

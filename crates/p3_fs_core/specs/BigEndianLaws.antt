@@ -108,8 +108,10 @@ in_bytes-after a (byte ∷ bytes) h =
     ap (λ b. b ∷ in_bytes (length bytes) n) first
     ∙ ap (λ bs. byte ∷ bs) (in_bytes-after (256 * a + byte) bytes (λ j. h (suc j)))
 
-pub in_bytes-big_endian : (k : ℕ) (bytes : List ℕ) → length bytes ≡ k → AreBytes bytes → in_bytes k (big_endian bytes) ≡ bytes
-in_bytes-big_endian k bytes is h = subst (λ (n : ℕ). in_bytes n (big_endian bytes) ≡ bytes) is (in_bytes-after 0 bytes h)
+pub in_bytes-big_endian : (k : ℕ) (bytes : List ℕ) → length bytes ≡ k → AreBytes bytes →
+    in_bytes k (big_endian bytes) ≡ bytes
+in_bytes-big_endian k bytes is h =
+    subst (λ (n : ℕ). in_bytes n (big_endian bytes) ≡ bytes) is (in_bytes-after 0 bytes h)
 
 eight_more : (k : ℕ) → 8 * k + 8 ≡ 8 * suc k
 eight_more k = omega arith
@@ -176,16 +178,19 @@ AreBytes-zeros (suc k) bytes h zero = lit< tt
 AreBytes-zeros (suc k) bytes h (suc i) = AreBytes-zeros k bytes h i
 
 -- eight bytes, of which the first are zeros, as a machine reads them
-pub number_of_padded : (bytes padded : List ℕ) (n : ℕ) → length bytes ≤ 8 → AreBytes bytes → padded ≡ replicate (8 - length bytes) 0 ++ bytes → n < 2 ^ 64 → n ≡ from_be_bytes w64 padded → n ≡ big_endian bytes
+pub number_of_padded : (bytes padded : List ℕ) (n : ℕ) → length bytes ≤ 8 → AreBytes bytes →
+    padded ≡ replicate (8 - length bytes) 0 ++ bytes → n < 2 ^ 64 → n ≡ from_be_bytes w64 padded → n ≡ big_endian bytes
 number_of_padded bytes padded n short are_bytes is fits read =
     let k = 8 - length bytes in
     let zeros = replicate k 0 ++ bytes in
     let eight : length zeros ≡ 8 = omega (arith, length-append (replicate k 0) bytes, length-replicate {A = ℕ} k 0) in
-    let spelled : in_bytes 8 n ≡ zeros = be_bytes_8 zeros n eight (AreBytes-zeros k bytes are_bytes) (read ∙ ap (from_be_bytes w64) is) in
+    let spelled : in_bytes 8 n ≡ zeros = be_bytes_8 zeros n eight (AreBytes-zeros k bytes are_bytes) (read
+    ∙ ap (from_be_bytes w64) is) in
     sym (big_endian-in_bytes 8 n fits) ∙ ap big_endian spelled ∙ big_endian-zeros k bytes
 
 -- what a machine word of zeros is, whose end bytes are written over
-pub written_behind : (k : ℕ) (back bytes : List ℕ) → k ≤ 8 → back ≡ bytes → take k (replicate 8 0) ++ (back ++ drop (8 - k) (drop k (replicate 8 0))) ≡ replicate k 0 ++ bytes
+pub written_behind : (k : ℕ) (back bytes : List ℕ) → k ≤ 8 → back ≡ bytes →
+    take k (replicate 8 0) ++ (back ++ drop (8 - k) (drop k (replicate 8 0))) ≡ replicate k 0 ++ bytes
 written_behind k back bytes small is =
     let zeros : List ℕ = replicate 8 0 in
     let rest : List ℕ = drop k zeros in
@@ -201,7 +206,8 @@ drop-word width n small =
     ap (λ k. drop (8 - width) (in_bytes k n)) split ∙ drop-in_bytes (8 - width) width n
 
 -- the end of a machine word that has a number of fewer bytes
-pub word_end : (width k n m : ℕ) (word : List ℕ) → k ≡ width → k ≤ 8 → m ≡ n → word ≡ in_bytes 8 m → take (8 - (8 - k)) (drop (8 - k) word) ≡ in_bytes width n
+pub word_end : (width k n m : ℕ) (word : List ℕ) → k ≡ width → k ≤ 8 → m ≡ n → word ≡ in_bytes 8 m →
+    take (8 - (8 - k)) (drop (8 - k) word) ≡ in_bytes width n
 word_end width k n m word same small number is =
     let end : drop (8 - k) word ≡ in_bytes k m = ap (drop (8 - k)) is ∙ drop-word k m small in
     let whole : length (in_bytes k m) ≤ 8 - (8 - k) = omega (arith, length-in_bytes k m) in

@@ -5,8 +5,10 @@ use Rattle.p3_fs_core.specs.Errors.{Decodes, IsBadShape}
 use Rattle.p3_fs_core.specs.declared.error.TranscriptError.{TranscriptError}
 
 module _ {T : Type 0} (spelling : T → List ℕ) (reading : List ℕ → Result (T × List ℕ) (List ℕ)) where
-  module _ (width : ℕ) (bytes : List ℕ) (reads_only : (x : T) (rest : List ℕ) → reading bytes ≡ Ok (x, rest) → bytes ≡ spelling x ++ rest) (behind : (x : T) (rest : List ℕ) → drop width (spelling x ++ rest) ≡ rest) where
-    found_in : (o : Result (T × List ℕ) (List ℕ)) (r : Result T TranscriptError) → reading bytes ≡ o → Decodes o r → IfOk r (λ x. bytes ≡ spelling x ++ drop width bytes)
+  module _ (width : ℕ) (bytes : List ℕ) (reads_only : (x : T) (rest : List ℕ) → reading bytes ≡ Ok (x, rest) →
+      bytes ≡ spelling x ++ rest) (behind : (x : T) (rest : List ℕ) → drop width (spelling x ++ rest) ≡ rest) where
+    found_in : (o : Result (T × List ℕ) (List ℕ)) (r : Result T TranscriptError) → reading bytes ≡ o → Decodes o r →
+        IfOk r (λ x. bytes ≡ spelling x ++ drop width bytes)
     found_in (Ok found) (Ok x) is decodes =
         let spelled = reads_only found.0 found.1 is in
         let rest : drop width bytes ≡ found.1 = ap (drop width) spelled ∙ behind found.0 found.1 in
@@ -16,7 +18,8 @@ module _ {T : Type 0} (spelling : T → List ℕ) (reading : List ℕ → Result
     found_in (Err reason) (Err e) is decodes = tt
 
     -- what is decoded is spelled at the head of the bytes
-    pub decoded-found : (r : Result T TranscriptError) → Decodes (reading bytes) r → IfOk r (λ x. bytes ≡ spelling x ++ drop width bytes)
+    pub decoded-found : (r : Result T TranscriptError) → Decodes (reading bytes) r →
+        IfOk r (λ x. bytes ≡ spelling x ++ drop width bytes)
     decoded-found r decodes = found_in (reading bytes) r (λ _. reading bytes) decodes
 
   decodes-ok : (found : T × List ℕ) (r : Result T TranscriptError) → Decodes (Ok found) r → r ≡ Ok found.0
@@ -24,15 +27,20 @@ module _ {T : Type 0} (spelling : T → List ℕ) (reading : List ℕ → Result
   decodes-ok found (Err e) decodes = absurd decodes
 
   -- what is spelled at the head of the bytes is decoded
-  pub decoded-only : ((x : T) (rest : List ℕ) → reading (spelling x ++ rest) ≡ Ok (x, rest)) → (bytes : List ℕ) (r : Result T TranscriptError) → Decodes (reading bytes) r → (x : T) (rest : List ℕ) → bytes ≡ spelling x ++ rest → r ≡ Ok x
+  pub decoded-only : ((x : T) (rest : List ℕ) → reading (spelling x ++ rest) ≡ Ok (x, rest)) →
+      (bytes : List ℕ) (r : Result T TranscriptError) → Decodes (reading bytes) r → (x : T) (rest : List ℕ) →
+      bytes ≡ spelling x ++ rest → r ≡ Ok x
   decoded-only reads_back bytes r decodes x rest spelled =
-      decodes-ok (x, rest) r (subst (λ (o : Result (T × List ℕ) (List ℕ)). Decodes o r) (ap reading spelled ∙ reads_back x rest) decodes)
+      decodes-ok (x, rest) r (subst (λ (o : Result (T × List ℕ) (List ℕ)). Decodes o r) (ap reading spelled
+      ∙ reads_back x rest) decodes)
 
 -- what a decoder's answer says of reading
-pub decoded-ok : {T : Type 0} (o : Result (T × List ℕ) (List ℕ)) (x : T) → Decodes o (Ok x) → (rest : List ℕ) × (o ≡ Ok (x, rest))
+pub decoded-ok : {T : Type 0} (o : Result (T × List ℕ) (List ℕ)) (x : T) → Decodes o (Ok x) →
+    (rest : List ℕ) × (o ≡ Ok (x, rest))
 decoded-ok (Ok found) x decodes = (found.1, ap (λ y. Ok (y, found.1)) (sym decodes))
 decoded-ok (Err reason) x decodes = absurd decodes
 
-pub decoded-err : {T : Type 0} (o : Result (T × List ℕ) (List ℕ)) (e : TranscriptError) → Decodes o (Err e) → (reason : List ℕ) × (o ≡ Err reason) × IsBadShape reason e
+pub decoded-err : {T : Type 0} (o : Result (T × List ℕ) (List ℕ)) (e : TranscriptError) → Decodes o (Err e) →
+    (reason : List ℕ) × (o ≡ Err reason) × IsBadShape reason e
 decoded-err (Ok found) e decodes = absurd decodes
 decoded-err (Err reason) e decodes = (reason, refl, decodes)

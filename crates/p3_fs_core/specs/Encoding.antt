@@ -15,4 +15,5 @@ pub record IsEncoding {T : Type 0} (e : Encoding T) : Type 0 where
   pub fixed_width : (x : T) → length (e.wire x) ≡ e.width
   pub one_way : ReadsOneWay e.wire
   pub reads_back : (x : T) (rest : List ℕ) → e.read (e.wire x ++ rest) ≡ Ok (x, rest)
-  pub only_reads : (bytes : List ℕ) (x : T) (rest : List ℕ) → AreBytes bytes → e.read bytes ≡ Ok (x, rest) → bytes ≡ e.wire x ++ rest
+  pub only_reads : (bytes : List ℕ) (x : T) (rest : List ℕ) → AreBytes bytes → e.read bytes ≡ Ok (x, rest) →
+      bytes ≡ e.wire x ++ rest

@@ -12,6 +12,7 @@ each-fits [] = tt
 each-fits (i ∷ interactions) = (i.fits, each-fits interactions)
 
 -- interactions that are the steps are so
-pub steps-of_interactions : (steps : List Step) (fit : AreProgramSteps steps) → map step_of (interactions_of steps fit) ≡ steps
+pub steps-of_interactions : (steps : List Step) (fit : AreProgramSteps steps) →
+    map step_of (interactions_of steps fit) ≡ steps
 steps-of_interactions [] fit = refl
 steps-of_interactions (s ∷ steps) fit = ap (λ rest. s ∷ rest) (steps-of_interactions steps fit.1)

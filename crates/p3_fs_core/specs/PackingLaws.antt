@@ -22,7 +22,8 @@ pub little_endian-below : (bytes : List ℕ) → AreBytes bytes → little_endia
 little_endian-below [] h = lit< tt
 little_endian-below (byte ∷ bytes) h =
     subst (λ (m : ℕ). byte + 256 * little_endian bytes < m) (sym (pow-suc 256 (length bytes)))
-    (one_more-below byte (little_endian bytes) (256 ^ length bytes) (h zero) (little_endian-below bytes (λ i. h (suc i))))
+    (one_more-below byte (little_endian bytes) (256 ^ length bytes) (h zero)
+    (little_endian-below bytes (λ i. h (suc i))))
 
 same_byte : (a b x y : ℕ) → a < 256 → b < 256 → a + 256 * x ≡ b + 256 * y → (a ≡ b) × (x ≡ y)
 same_byte a b x y a_small b_small same =
@@ -31,7 +32,8 @@ same_byte a b x y a_small b_small same =
     (byte, rest)
 
 -- as many bytes of one number are the same
-pub little_endian-injective : (a b : List ℕ) → AreBytes a → AreBytes b → length a ≡ length b → little_endian a ≡ little_endian b → a ≡ b
+pub little_endian-injective : (a b : List ℕ) → AreBytes a → AreBytes b → length a ≡ length b →
+    little_endian a ≡ little_endian b → a ≡ b
 little_endian-injective [] [] a_are b_are same e = refl
 little_endian-injective [] (y ∷ b) a_are b_are same e = absurd (omega (arith, same))
 little_endian-injective (x ∷ a) [] a_are b_are same e = absurd (omega (arith, same))
@@ -51,7 +53,8 @@ gathered byte rest high = omega arith
 
 regrouped : (byte rest power high : ℕ) → byte + 256 * rest + power * 256 * high ≡ 256 * (rest + power * high) + byte
 regrouped byte rest power high =
-    let product : power * 256 * high ≡ 256 * (power * high) = ap (λ p. p * high) (mul_comm power 256) ∙ mul_assoc 256 power high in
+    let product : power * 256 * high ≡ 256 * (power * high) = ap (λ p. p * high) (mul_comm power 256)
+    ∙ mul_assoc 256 power high in
     ap (λ m. byte + 256 * rest + m) product ∙ gathered byte rest (power * high)
 
 low_first : (i k n : ℕ) → little_endian (bytes_low_first i k n) + 256 ^ k * (n / 256 ^ (i + k)) ≡ n / 256 ^ i
@@ -94,18 +97,23 @@ AreBytes-padded (byte ∷ bytes) k h zero = h zero
 AreBytes-padded (byte ∷ bytes) k h (suc i) = AreBytes-padded bytes k (λ j. h (suc j)) i
 
 -- eight bytes, of which the last are zeros, as a machine reads them
-pub number_of_filled : (bytes filled : List ℕ) (n : ℕ) → length bytes ≤ 8 → AreBytes bytes → filled ≡ bytes ++ replicate (8 - length bytes) 0 → n < 2 ^ 64 → n ≡ from_le_bytes w64 filled → n ≡ little_endian bytes
+pub number_of_filled : (bytes filled : List ℕ) (n : ℕ) → length bytes ≤ 8 → AreBytes bytes →
+    filled ≡ bytes ++ replicate (8 - length bytes) 0 → n < 2 ^ 64 → n ≡ from_le_bytes w64 filled →
+    n ≡ little_endian bytes
 number_of_filled bytes filled n short are_bytes is fits read =
     let k = 8 - length bytes in
     let zeros = bytes ++ replicate k 0 in
     let eight : length zeros ≡ 8 = omega (arith, length-append bytes (replicate k 0), length-replicate {A = ℕ} k 0) in
-    let spelled : bytes_low_first 0 8 n ≡ zeros = le_bytes_8 zeros n eight (AreBytes-padded bytes k are_bytes) (read ∙ ap (from_le_bytes w64) is) in
+    let spelled : bytes_low_first 0 8 n ≡ zeros = le_bytes_8 zeros n eight (AreBytes-padded bytes k are_bytes) (read
+    ∙ ap (from_le_bytes w64) is) in
     sym (little_endian-word n fits) ∙ ap little_endian spelled ∙ little_endian-padded bytes k
 
 -- what a machine word of zeros is, whose front bytes are written over
-pub written_before : (front bytes : List ℕ) → front ≡ bytes → front ++ drop (length bytes) (replicate 8 0) ≡ bytes ++ replicate (8 - length bytes) 0
+pub written_before : (front bytes : List ℕ) → front ≡ bytes → front ++ drop (length bytes) (replicate 8 0)
+    ≡ bytes ++ replicate (8 - length bytes) 0
 written_before front bytes is =
-    ap (λ l. l ++ drop (length bytes) (replicate 8 0)) is ∙ ap (λ l. bytes ++ l) (drop-replicate {X = ℕ} (length bytes) 8 0)
+    ap (λ l. l ++ drop (length bytes) (replicate 8 0)) is
+    ∙ ap (λ l. bytes ++ l) (drop-replicate {X = ℕ} (length bytes) 8 0)
 
 -- a chunk is shorter than the order of the field: its numbers are below it
 pub chunk-below : (bits order size : ℕ) → 2 ^ bits ≤ 2 * order → 0 < bits → size ≤ chunk_bytes bits → 256 ^ size ≤ order
@@ -129,7 +137,8 @@ chunk_bytes-positive bits order above fits = elim (cases_lt 8 bits) [
 count-more : (size len : ℕ) → 0 < size → 0 < len → chunk_count size len ≡ suc (chunk_count size (len - size))
 count-more size len positive some = elim (cases_lt len size) [
   | inl short ↦
-      let one : chunk_count size len ≡ 1 = div-eq_of_lt-le size (omega (arith, positive, some)) (omega (arith, short, positive)) in
+      let one : chunk_count size len ≡ 1 =
+      div-eq_of_lt-le size (omega (arith, positive, some)) (omega (arith, short, positive)) in
       let rest : len - size + (size - 1) < size = omega (arith, short, positive) in
       one ∙ sym (ap suc (div-eq_of_lt rest))
   | inr long ↦
@@ -140,7 +149,8 @@ count-more size len positive some = elim (cases_lt len size) [
 ]
 
 -- a chunk is as long as the size, or it is the last
-front_of : (size : ℕ) (chunk rest all : List ℕ) → length chunk ≡ min size (length all) → all ≡ chunk ++ rest → take size (chunk ++ rest) ≡ chunk
+front_of : (size : ℕ) (chunk rest all : List ℕ) → length chunk ≡ min size (length all) → all ≡ chunk ++ rest →
+    take size (chunk ++ rest) ≡ chunk
 front_of size chunk rest all short parts = elim (cases_lt (length all) size) [
   | inl last ↦
       let none : length rest ≡ 0 = omega (arith, short, last, ap length parts, length-append chunk rest) in
@@ -150,7 +160,8 @@ front_of size chunk rest all short parts = elim (cases_lt (length all) size) [
   | inr full ↦ take-front size chunk rest (omega (arith, short, full))
 ]
 
-end_of : (size : ℕ) (chunk rest all : List ℕ) → length chunk ≡ min size (length all) → all ≡ chunk ++ rest → drop size (chunk ++ rest) ≡ rest
+end_of : (size : ℕ) (chunk rest all : List ℕ) → length chunk ≡ min size (length all) → all ≡ chunk ++ rest →
+    drop size (chunk ++ rest) ≡ rest
 end_of size chunk rest all short parts = elim (cases_lt (length all) size) [
   | inl last ↦
       let none : length rest ≡ 0 = omega (arith, short, last, ap length parts, length-append chunk rest) in
@@ -160,7 +171,8 @@ end_of size chunk rest all short parts = elim (cases_lt (length all) size) [
 ]
 
 -- the first chunk, and the chunks of what is behind it
-pub chunks-step : (size : ℕ) (all chunk rest : List ℕ) → 0 < size → 0 < length all → all ≡ chunk ++ rest → length chunk ≡ min size (length all) → chunks size all ≡ chunk ∷ chunks size rest
+pub chunks-step : (size : ℕ) (all chunk rest : List ℕ) → 0 < size → 0 < length all → all ≡ chunk ++ rest →
+    length chunk ≡ min size (length all) → chunks size all ≡ chunk ∷ chunks size rest
 unfolding first_chunks
 chunks-step size all chunk rest positive some parts short =
     let behind : length rest ≡ length all - size = omega (arith, short, ap length parts, length-append chunk rest) in
@@ -204,40 +216,60 @@ module _ {F : Type 0} (r : Residues F) (laws : IsResidues r) (size : ℕ) (fits 
       let grown : 256 ^ length chunk ≤ 256 ^ size = power_grows (length chunk) size short in
       omega (arith, below, grown, fits)
 
-  same_chunk : (a b : List ℕ) → AreBytes a → AreBytes b → length a ≡ length b → length a ≤ size → element_of_chunk a ≡ element_of_chunk b → a ≡ b
+  same_chunk : (a b : List ℕ) → AreBytes a → AreBytes b → length a ≡ length b → length a ≤ size →
+      element_of_chunk a ≡ element_of_chunk b → a ≡ b
   same_chunk a b a_are b_are same short e =
       let b_short : length b ≤ size = omega (arith, same, short) in
       little_endian-injective a b a_are b_are same
-      (of-injective r laws (little_endian a) (little_endian b) (chunk-fits a a_are short) (chunk-fits b b_are b_short) e)
+      (of-injective r laws (little_endian a) (little_endian b) (chunk-fits a a_are short) (chunk-fits b b_are b_short)
+      e)
 
   -- as many chunks of equally many bytes read one way
-  pub chunks-one_way : (n : ℕ) (a b : List ℕ) (x y : List F) → AreBytes a → AreBytes b → length a ≡ length b → length a ≤ n * size → map element_of_chunk (first_chunks size n a) ++ x ≡ map element_of_chunk (first_chunks size n b) ++ y → (a ≡ b) × (x ≡ y)
+  pub chunks-one_way : (n : ℕ) (a b : List ℕ) (x y : List F) → AreBytes a → AreBytes b → length a ≡ length b →
+      length a ≤ n * size → map element_of_chunk (first_chunks size n a) ++ x
+      ≡ map element_of_chunk (first_chunks size n b) ++ y → (a ≡ b) × (x ≡ y)
   unfolding first_chunks
   chunks-one_way zero a b x y a_are b_are same all e =
       let a_none : a ≡ [] = nil_from_length a (omega (arith, all)) in
       let b_none : b ≡ [] = nil_from_length b (omega (arith, all, same)) in
       (a_none ∙ sym b_none, e)
   chunks-one_way (suc n) a b x y a_are b_are same all e =
-      let front : ◌≡◌ {A = F × List F} (element_of_chunk (take size a), map element_of_chunk (first_chunks size n (drop size a)) ++ x) (element_of_chunk (take size b), map element_of_chunk (first_chunks size n (drop size b)) ++ y) = cc in
+      let front : ◌≡◌ {A = F × List F} (
+        element_of_chunk (take size a),
+        map element_of_chunk (first_chunks size n (drop size a)) ++ x,
+      ) (
+        element_of_chunk (take size b),
+        map element_of_chunk (first_chunks size n (drop size b)) ++ y,
+      ) = cc in
       let short : length (take size a) ≤ size = omega (arith, length-take size a) in
-      let as_long : length (take size a) ≡ length (take size b) = length-take size a ∙ ap (min size) same ∙ sym (length-take size b) in
-      let first = same_chunk (take size a) (take size b) (AreBytes-take size a a_are) (AreBytes-take size b b_are) as_long short (ap (λ p. p.0) front) in
-      let others_same : length (drop size a) ≡ length (drop size b) = length-drop size a ∙ ap (λ k. k - size) same ∙ sym (length-drop size b) in
+      let as_long : length (take size a) ≡ length (take size b) = length-take size a ∙ ap (min size) same
+      ∙ sym (length-take size b) in
+      let first = same_chunk (take size a) (take size b) (AreBytes-take size a a_are) (AreBytes-take size b b_are)
+      as_long short (ap (λ p. p.0) front) in
+      let others_same : length (drop size a) ≡ length (drop size b) = length-drop size a ∙ ap (λ k. k - size) same
+      ∙ sym (length-drop size b) in
       let product : suc n * size ≡ n * size + size = omega arith in
       let others_all : length (drop size a) ≤ n * size = omega (arith, length-drop size a, all, product) in
-      let others = chunks-one_way n (drop size a) (drop size b) x y (AreBytes-drop size a a_are) (AreBytes-drop size b b_are) others_same others_all (ap (λ p. p.1) front) in (
-        sym (take-append-drop size a) ∙ ap (λ c. c ++ drop size a) first ∙ ap (λ c. take size b ++ c) others.0 ∙ take-append-drop size b,
+      let others = chunks-one_way n (drop size a) (drop size b) x y (AreBytes-drop size a a_are)
+      (AreBytes-drop size b b_are) others_same others_all (ap (λ p. p.1) front) in (
+        sym (take-append-drop size a) ∙ ap (λ c. c ++ drop size a) first ∙ ap (λ c. take size b ++ c) others.0
+            ∙ take-append-drop size b,
         others.1,
       )
 
   -- whatever follows, packed byte strings read one way
   pub packed-one_way : 0 < size → ReadsOneWayOn (IsPackable r) (packed r size)
   packed-one_way positive a b x y a_is b_is e =
-      let front : ◌≡◌ {A = F × List F} (r.of (length a), map element_of_chunk (chunks size a) ++ x) (r.of (length b), map element_of_chunk (chunks size b) ++ y) = cc in
+      let front : ◌≡◌ {A = F × List F} (r.of (length a), map element_of_chunk (chunks size a) ++ x) (
+        r.of (length b),
+        map element_of_chunk (chunks size b) ++ y,
+      ) = cc in
       let same : length a ≡ length b = of-injective r laws (length a) (length b) a_is.1 b_is.1 (ap (λ p. p.0) front) in
-      let as_many : map element_of_chunk (first_chunks size (chunk_count size (length a)) a) ++ x ≡ map element_of_chunk (first_chunks size (chunk_count size (length a)) b) ++ y =
+      let as_many : map element_of_chunk (first_chunks size (chunk_count size (length a)) a) ++ x
+      ≡ map element_of_chunk (first_chunks size (chunk_count size (length a)) b) ++ y =
       ap (λ p. p.1) front ∙ ap (λ k. map element_of_chunk (first_chunks size (chunk_count size k) b) ++ y) (sym same) in
-      chunks-one_way (chunk_count size (length a)) a b x y a_is.0 b_is.0 same (chunks-enough size (length a) positive) as_many
+      chunks-one_way (chunk_count size (length a)) a b x y a_is.0 b_is.0 same (chunks-enough size (length a) positive)
+      as_many
 
 -- ---- a field's own chunks
 
@@ -247,16 +279,25 @@ is_below n m short = elim (cases_lt n m) [
   | inr more ↦ absurd (short more)
 ]
 
-module _ {F : Type 0} (r : Residues F) (laws : IsResidues r) (bits : ℕ) (below : r.order < 2 ^ bits) (least : 2 ^ bits ≤ 2 * r.order) (large : 256 < r.order) where
+module _ {F : Type 0} (r : Residues F) (laws : IsResidues r) (bits : ℕ) (below : r.order < 2 ^ bits)
+    (least : 2 ^ bits ≤ 2 * r.order) (large : 256 < r.order) where
   pub field_packed-one_way : ReadsOneWayOn (IsPackable r) (packed r (chunk_bytes bits))
   field_packed-one_way =
       let positive = chunk_bytes-positive bits r.order large below in
-      packed-one_way r laws (chunk_bytes bits) (chunk-below bits r.order (chunk_bytes bits) least (omega (arith, positive)) (omega arith)) positive
+      packed-one_way r laws (chunk_bytes bits)
+      (chunk-below bits r.order (chunk_bytes bits) least (omega (arith, positive)) (omega arith)) positive
 
 -- byte strings that begin one list of elements are one
-pub packed-begins : {F : Type 0} (r : Residues F) (laws : IsResidues r) (bits : ℕ) (below : r.order < 2 ^ bits) (least : 2 ^ bits ≤ 2 * r.order) → 256 < r.order → (a b : List ℕ) (x y : List F) → AreBytes a → AreBytes b → (r.order ≤ length a → ⊥) → (r.order ≤ length b → ⊥) → packed r (chunk_bytes bits) a ++ x ≡ packed r (chunk_bytes bits) b ++ y → OneBegins a b
+pub packed-begins : {F : Type 0} (r : Residues F) (laws : IsResidues r) (bits : ℕ) (below : r.order < 2 ^ bits)
+    (least : 2 ^ bits ≤ 2 * r.order) → 256 < r.order → (a b : List ℕ) (x y : List F) → AreBytes a → AreBytes b →
+    (r.order ≤ length a → ⊥) → (r.order ≤ length b → ⊥) →
+    packed r (chunk_bytes bits) a ++ x ≡ packed r (chunk_bytes bits) b ++ y → OneBegins a b
 packed-begins r laws bits below least large a b x y a_are b_are a_short b_short e =
-    begins_itself a b ((field_packed-one_way r laws bits below least large a b x y (a_are, is_below (length a) r.order a_short) (b_are, is_below (length b) r.order b_short) e).0)
+    begins_itself a b
+    ((field_packed-one_way r laws bits below least large a b x y (a_are, is_below (length a) r.order a_short) (
+      b_are,
+      is_below (length b) r.order b_short,
+    ) e).0)
 
 -- a byte string of at most 255 bytes is not too long for a field of more elements
 pub short-packable : (order : ℕ) → 256 < order → (len : ℕ) → len ≤ 255 → order ≤ len → ⊥

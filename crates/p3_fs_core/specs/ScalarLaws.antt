@@ -12,7 +12,8 @@ use Rattle.p3_fs_core.specs.Scalar.{wire, read, element_of, encoding, not_enough
 use Rattle.p3_fs_core.specs.Encoding.{IsEncoding}
 
 -- a choice of two results: which one it is, and how the test went
-pub chosen : {A E : Type 0} (b : Bool) (e : E) (r : Result A E) (x : A) → (if b then Err e else r) ≡ Ok x → (b ≡ false) × (r ≡ Ok x)
+pub chosen : {A E : Type 0} (b : Bool) (e : E) (r : Result A E) (x : A) → (if b then Err e else r) ≡ Ok x →
+    (b ≡ false) × (r ≡ Ok x)
 chosen true e r x h = cc
 chosen false e r x h = (refl, h)
 
@@ -33,9 +34,11 @@ is_below : (n m : ℕ) → nat_lt n m ≡ true → n < m
 is_below n m h = grind (arith, nat_tests)
 
 -- what is read reads one way, whatever is read and however it is spelled
-pub read-one_way : {T : Type 0} (spelling : T → List ℕ) (reading : List ℕ → Result (T × List ℕ) (List ℕ)) → ((x : T) (rest : List ℕ) → reading (spelling x ++ rest) ≡ Ok (x, rest)) → ReadsOneWay spelling
+pub read-one_way : {T : Type 0} (spelling : T → List ℕ) (reading : List ℕ → Result (T × List ℕ) (List ℕ)) →
+    ((x : T) (rest : List ℕ) → reading (spelling x ++ rest) ≡ Ok (x, rest)) → ReadsOneWay spelling
 read-one_way {T} spelling reading reads x y a b h =
-    let both : ◌≡◌ {A = Result (T × List ℕ) (List ℕ)} (Ok (x, a)) (Ok (y, b)) = sym (reads x a) ∙ ap reading h ∙ reads y b in
+    let both : ◌≡◌ {A = Result (T × List ℕ) (List ℕ)} (Ok (x, a)) (Ok (y, b)) = sym (reads x a) ∙ ap reading h
+    ∙ reads y b in
     let same : ◌≡◌ {A = T × List ℕ} (x, a) (y, b) = cc in
     (ap (λ p. p.0) same, ap (λ p. p.1) same)
 
@@ -50,7 +53,8 @@ module _ {F : Type 0} (r : Residues F) (laws : IsResidues r) (width : ℕ) (fits
   -- an element's number is an element
   element_of-number : (x : F) (rest : List ℕ) → element_of r (r.number x) rest ≡ Ok (x, rest)
   element_of-number x rest =
-      ap (λ b. if b then Ok (r.of (r.number x), rest) else Err outside_range) (below (r.number x) r.order (laws.below x))
+      ap (λ b. if b then Ok (r.of (r.number x), rest) else Err outside_range)
+      (below (r.number x) r.order (laws.below x))
       ∙ ap (λ y. Ok (y, rest)) (laws.of_number x)
 
   -- what is spelled is read, whatever follows
@@ -58,25 +62,30 @@ module _ {F : Type 0} (r : Residues F) (laws : IsResidues r) (width : ℕ) (fits
   read-wire x rest =
       let spelled = wire r width x in
       let long : width ≤ length (spelled ++ rest) = omega (arith, length-append spelled rest, length-wire x) in
-      ap (λ b. if b then Err not_enough_bytes else element_of r (big_endian (take width (spelled ++ rest))) (drop width (spelled ++ rest))) (not_below (length (spelled ++ rest)) width long)
-      ∙ ap (λ bytes. element_of r (big_endian bytes) (drop width (spelled ++ rest))) (take-front width spelled rest (length-wire x))
+      ap (λ b. if b then Err not_enough_bytes else element_of r (big_endian (take width (spelled ++ rest)))
+      (drop width (spelled ++ rest))) (not_below (length (spelled ++ rest)) width long)
+      ∙ ap (λ bytes. element_of r (big_endian bytes) (drop width (spelled ++ rest)))
+      (take-front width spelled rest (length-wire x))
       ∙ ap (λ behind. element_of r (big_endian spelled) behind) (drop-front width spelled rest (length-wire x))
       ∙ ap (λ n. element_of r n rest) (number-wire x)
       ∙ element_of-number x rest
 
   -- what is read is spelled so
-  pub read-only : (bytes : List ℕ) (x : F) (rest : List ℕ) → AreBytes bytes → read r width bytes ≡ Ok (x, rest) → bytes ≡ wire r width x ++ rest
+  pub read-only : (bytes : List ℕ) (x : F) (rest : List ℕ) → AreBytes bytes → read r width bytes ≡ Ok (x, rest) →
+      bytes ≡ wire r width x ++ rest
   read-only bytes x rest are_bytes h =
       let front = take width bytes in
       let n = big_endian front in
-      let long = chosen (nat_lt (length bytes) width) not_enough_bytes (element_of r n (drop width bytes)) (x, rest) h in
+      let long = chosen (nat_lt (length bytes) width) not_enough_bytes (element_of r n (drop width bytes)) (x, rest) h
+      in
       let found = accepted (nat_lt n r.order) outside_range (r.of n, drop width bytes) (x, rest) long.1 in
       let value : r.of n ≡ x = ap (λ p. p.0) found.1 in
       let behind : drop width bytes ≡ rest = ap (λ p. p.1) found.1 in
       let same : r.number x ≡ n = sym (ap r.number value) ∙ number_of-below r laws n (is_below n r.order found.0) in
       let spelled : wire r width x ≡ front =
       ap (in_bytes width) same
-      ∙ in_bytes-big_endian width front (length-take-le width bytes (at_least (length bytes) width long.0)) (AreBytes-take width bytes are_bytes) in
+      ∙ in_bytes-big_endian width front (length-take-le width bytes (at_least (length bytes) width long.0))
+      (AreBytes-take width bytes are_bytes) in
       sym (ap (λ a. a ++ rest) spelled ∙ ap (λ b. front ++ b) (sym behind) ∙ take-append-drop width bytes)
 
   -- a spelling reads one way
@@ -102,7 +111,8 @@ pub width-short : (bits order : ℕ) → 2 ^ bits ≤ 2 * order → order < 2 ^ 
 width-short bits order least fits = omega (arith, width-most bits order least fits)
 
 -- an element of a field is encoded
-pub is_encoding : {F : Type 0} (r : Residues F) → IsResidues r → (bits : ℕ) → r.order < 2 ^ bits → IsEncoding (encoding r bits)
+pub is_encoding : {F : Type 0} (r : Residues F) → IsResidues r → (bits : ℕ) → r.order < 2 ^ bits →
+    IsEncoding (encoding r bits)
 is_encoding r laws bits below =
     let width = bytes_for bits in
     let fits = order-fits bits r.order below in
@@ -119,12 +129,15 @@ width-positive r laws zero below = absurd (omega (arith, laws.above_one, below))
 width-positive r laws (suc bits) below = omega arith
 
 -- where the bytes are enough, the one reason for none is that the number is not below the order
-one_reason-of : {A : Type 0} (canonical : Bool) (found : A) (reason : List ℕ) → (if canonical then Ok found else Err outside_range) ≡ Err reason → reason ≡ outside_range
+one_reason-of : {A : Type 0} (canonical : Bool) (found : A) (reason : List ℕ) →
+    (if canonical then Ok found else Err outside_range) ≡ Err reason → reason ≡ outside_range
 one_reason-of true found reason e = cc
 one_reason-of false found reason e = cc
 
-pub one_reason : {F : Type 0} (r : Residues F) (width : ℕ) (bytes reason : List ℕ) → width ≤ length bytes → read r width bytes ≡ Err reason → reason ≡ outside_range
+pub one_reason : {F : Type 0} (r : Residues F) (width : ℕ) (bytes reason : List ℕ) → width ≤ length bytes →
+    read r width bytes ≡ Err reason → reason ≡ outside_range
 one_reason r width bytes reason enough e =
     let n = big_endian (take width bytes) in
-    let here = ap (λ b. if b then Err not_enough_bytes else element_of r n (drop width bytes)) (not_below (length bytes) width enough) in
+    let here = ap (λ b. if b then Err not_enough_bytes else element_of r n (drop width bytes))
+    (not_below (length bytes) width enough) in
     one_reason-of (nat_lt n r.order) (r.of n, drop width bytes) reason (sym here ∙ e)

@@ -27,7 +27,8 @@ EndsDigits base [] = Unit {0}
 EndsDigits base (c ∷ cs) = base ≤ digit_value c
 
 -- digits end where no more follow
-digits-one_way : (base : ℕ) (xs ys a b : List ℕ) → AllDigits base xs → AllDigits base ys → EndsDigits base a → EndsDigits base b → xs ++ a ≡ ys ++ b → (xs ≡ ys) × (a ≡ b)
+digits-one_way : (base : ℕ) (xs ys a b : List ℕ) → AllDigits base xs → AllDigits base ys → EndsDigits base a →
+    EndsDigits base b → xs ++ a ≡ ys ++ b → (xs ≡ ys) × (a ≡ b)
 digits-one_way base [] [] a b x_are y_are a_ends b_ends e = (refl, e)
 digits-one_way base [] (y ∷ ys) [] b x_are y_are a_ends b_ends e = absurd (cc)
 digits-one_way base [] (y ∷ ys) (c ∷ a) b x_are y_are a_ends b_ends e =
@@ -42,20 +43,24 @@ digits-one_way base (x ∷ xs) (y ∷ ys) a b x_are y_are a_ends b_ends e =
     let others = digits-one_way base xs ys a b x_are.1 y_are.1 a_ends b_ends (cc) in
     (ap (λ z. z ∷ xs) first ∙ ap (λ zs. y ∷ zs) others.0, others.1)
 
-number-one_way : (base m n : ℕ) (a b : List ℕ) → 2 ≤ base → base ≤ 16 → m < base ^ 64 → n < base ^ 64 → EndsDigits base a → EndsDigits base b → digits base false m ++ a ≡ digits base false n ++ b → (m ≡ n) × (a ≡ b)
+number-one_way : (base m n : ℕ) (a b : List ℕ) → 2 ≤ base → base ≤ 16 → m < base ^ 64 → n < base ^ 64 →
+    EndsDigits base a → EndsDigits base b → digits base false m ++ a ≡ digits base false n ++ b → (m ≡ n) × (a ≡ b)
 number-one_way base m n a b low high m_fits n_fits a_ends b_ends e =
     let first = digits_is_IsNumeral base false low high m m_fits in
     let second = digits_is_IsNumeral base false low high n n_fits in
-    let parts = digits-one_way base (digits base false m) (digits base false n) a b first.0.1 second.0.1 a_ends b_ends e in
+    let parts = digits-one_way base (digits base false m) (digits base false n) a b first.0.1 second.0.1 a_ends b_ends
+    e in
     (sym first.1 ∙ ap (digits_value base) parts.0 ∙ second.1, parts.1)
 
 -- a number in decimal is read back, where no digit follows
-pub decimal-one_way : (m n : ℕ) (a b : List ℕ) → m < 2 ^ 128 → n < 2 ^ 128 → EndsDigits 10 a → EndsDigits 10 b → decimal m ++ a ≡ decimal n ++ b → (m ≡ n) × (a ≡ b)
+pub decimal-one_way : (m n : ℕ) (a b : List ℕ) → m < 2 ^ 128 → n < 2 ^ 128 → EndsDigits 10 a → EndsDigits 10 b →
+    decimal m ++ a ≡ decimal n ++ b → (m ≡ n) × (a ≡ b)
 decimal-one_way m n a b m_fits n_fits a_ends b_ends e =
     number-one_way 10 m n a b (lit< tt) (lit< tt) (omega (arith, m_fits)) (omega (arith, n_fits)) a_ends b_ends e
 
 -- so is one in base 16
-pub hex_number-one_way : (m n : ℕ) (a b : List ℕ) → m < 2 ^ 128 → n < 2 ^ 128 → EndsDigits 16 a → EndsDigits 16 b → hex_number m ++ a ≡ hex_number n ++ b → (m ≡ n) × (a ≡ b)
+pub hex_number-one_way : (m n : ℕ) (a b : List ℕ) → m < 2 ^ 128 → n < 2 ^ 128 → EndsDigits 16 a → EndsDigits 16 b →
+    hex_number m ++ a ≡ hex_number n ++ b → (m ≡ n) × (a ≡ b)
 hex_number-one_way m n a b m_fits n_fits a_ends b_ends e =
     number-one_way 16 m n a b (lit< tt) (lit< tt) (omega (arith, m_fits)) (omega (arith, n_fits)) a_ends b_ends e
 
@@ -71,13 +76,15 @@ hex_byte-one_way x y a b x_is y_is e =
     (omega (arith, high, low), cc)
 
 -- as many bytes are read back
-pub hex_text-one_way : (xs ys a b : List ℕ) → AreBytes xs → AreBytes ys → length xs ≡ length ys → hex_text xs ++ a ≡ hex_text ys ++ b → (xs ≡ ys) × (a ≡ b)
+pub hex_text-one_way : (xs ys a b : List ℕ) → AreBytes xs → AreBytes ys → length xs ≡ length ys →
+    hex_text xs ++ a ≡ hex_text ys ++ b → (xs ≡ ys) × (a ≡ b)
 hex_text-one_way = bytes-one_way hex_byte_text hex_byte-one_way
 
 -- ---- words
 
 -- a word that tells its value is read back, whatever follows
-word-one_way : {T : Type 0} (text : T → List ℕ) (value_of : List ℕ → T) → ((x : T) (rest : List ℕ) → value_of (text x ++ rest) ≡ x) → ReadsOneWay text
+word-one_way : {T : Type 0} (text : T → List ℕ) (value_of : List ℕ → T) →
+    ((x : T) (rest : List ℕ) → value_of (text x ++ rest) ≡ x) → ReadsOneWay text
 word-one_way text value_of tells x y a b e =
     let same : x ≡ y = sym (tells x a) ∙ ap value_of e ∙ tells y b in
     let words : text x ++ a ≡ text x ++ b = e ∙ ap (λ z. text z ++ b) (sym same) in
@@ -124,18 +131,24 @@ kind-one_way = word-one_way kind_text kind_of kind-told
 -- ---- texts with numbers
 
 -- a number in decimal, and what is behind it
-decimal_part : (m n : ℕ) (x y a b : List ℕ) → m < 2 ^ 128 → n < 2 ^ 128 → EndsDigits 10 (x ++ a) → EndsDigits 10 (y ++ b) → (decimal m ++ x) ++ a ≡ (decimal n ++ y) ++ b → (m ≡ n) × (x ++ a ≡ y ++ b)
+decimal_part : (m n : ℕ) (x y a b : List ℕ) → m < 2 ^ 128 → n < 2 ^ 128 → EndsDigits 10 (x ++ a) →
+    EndsDigits 10 (y ++ b) → (decimal m ++ x) ++ a ≡ (decimal n ++ y) ++ b → (m ≡ n) × (x ++ a ≡ y ++ b)
 decimal_part m n x y a b m_fits n_fits a_ends b_ends e =
-    decimal-one_way m n (x ++ a) (y ++ b) m_fits n_fits a_ends b_ends (sym (append_assoc (decimal m) x a) ∙ e ∙ append_assoc (decimal n) y b)
+    decimal-one_way m n (x ++ a) (y ++ b) m_fits n_fits a_ends b_ends (sym (append_assoc (decimal m) x a) ∙ e
+    ∙ append_assoc (decimal n) y b)
 
-hex_part : (m n : ℕ) (x y a b : List ℕ) → m < 2 ^ 128 → n < 2 ^ 128 → EndsDigits 16 (x ++ a) → EndsDigits 16 (y ++ b) → (hex_number m ++ x) ++ a ≡ (hex_number n ++ y) ++ b → (m ≡ n) × (x ++ a ≡ y ++ b)
+hex_part : (m n : ℕ) (x y a b : List ℕ) → m < 2 ^ 128 → n < 2 ^ 128 → EndsDigits 16 (x ++ a) → EndsDigits 16 (y ++ b) →
+    (hex_number m ++ x) ++ a ≡ (hex_number n ++ y) ++ b → (m ≡ n) × (x ++ a ≡ y ++ b)
 hex_part m n x y a b m_fits n_fits a_ends b_ends e =
-    hex_number-one_way m n (x ++ a) (y ++ b) m_fits n_fits a_ends b_ends (sym (append_assoc (hex_number m) x a) ∙ e ∙ append_assoc (hex_number n) y b)
+    hex_number-one_way m n (x ++ a) (y ++ b) m_fits n_fits a_ends b_ends (sym (append_assoc (hex_number m) x a) ∙ e
+    ∙ append_assoc (hex_number n) y b)
 
 -- a number in decimal, and the end of its parentheses
-closed-one_way : (m n : ℕ) (a b : List ℕ) → m < 2 ^ 64 → n < 2 ^ 64 → (decimal m ++ codes ")") ++ a ≡ (decimal n ++ codes ")") ++ b → (m ≡ n) × (a ≡ b)
+closed-one_way : (m n : ℕ) (a b : List ℕ) → m < 2 ^ 64 → n < 2 ^ 64 →
+    (decimal m ++ codes ")") ++ a ≡ (decimal n ++ codes ")") ++ b → (m ≡ n) × (a ≡ b)
 closed-one_way m n a b m_fits n_fits e =
-    let parts = decimal_part m n (codes ")") (codes ")") a b (omega (arith, m_fits)) (omega (arith, n_fits)) (lit< tt) (lit< tt) e in
+    let parts = decimal_part m n (codes ")") (codes ")") a b (omega (arith, m_fits)) (omega (arith, n_fits)) (lit< tt)
+    (lit< tt) e in
     (parts.0, ap (drop 1) parts.1)
 
 -- ---- lengths
@@ -173,7 +186,9 @@ counted-own Scalar = refl
 counted-own (Fixed _) = refl
 counted-own (Bounded _) = refl
 
-counted-one_way : (variant : Length) (m n : ℕ) (a b : List ℕ) → FitsLength (counted variant m) → FitsLength (counted variant n) → length_text (counted variant m) ++ a ≡ length_text (counted variant n) ++ b → (counted variant m ≡ counted variant n) × (a ≡ b)
+counted-one_way : (variant : Length) (m n : ℕ) (a b : List ℕ) → FitsLength (counted variant m) →
+    FitsLength (counted variant n) → length_text (counted variant m) ++ a ≡ length_text (counted variant n) ++ b →
+    (counted variant m ≡ counted variant n) × (a ≡ b)
 counted-one_way None m n a b m_fits n_fits e = (refl, ap (drop 4) e)
 counted-one_way Scalar m n a b m_fits n_fits e = (refl, ap (drop 6) e)
 counted-one_way (Fixed _) m n a b m_fits n_fits e =
@@ -275,30 +290,39 @@ refilled-own Opaque = refl
 refilled-own (Bits _) = refl
 refilled-own (UniformBits _) = refl
 
-end-one_way : (d k : ℕ) (xs ys a b : List ℕ) → IsEnd d xs → IsEnd k ys → algebra_end d xs ++ a ≡ algebra_end k ys ++ b → (d ≡ k) × (xs ≡ ys) × (a ≡ b)
+end-one_way : (d k : ℕ) (xs ys a b : List ℕ) → IsEnd d xs → IsEnd k ys →
+    algebra_end d xs ++ a ≡ algebra_end k ys ++ b → (d ≡ k) × (xs ≡ ys) × (a ≡ b)
 end-one_way d k xs ys a b x_is y_is e =
     let behind : List ℕ → List ℕ = λ zs. codes ";" ++ (hex_text zs ++ codes ")") in
-    let degrees = decimal_part d k (behind xs) (behind ys) a b (omega (arith, x_is.0)) (omega (arith, y_is.0)) (lit< tt) (lit< tt) (ap (drop 1) e) in
+    let degrees = decimal_part d k (behind xs) (behind ys) a b (omega (arith, x_is.0)) (omega (arith, y_is.0))
+    (lit< tt) (lit< tt) (ap (drop 1) e) in
     let bases : hex_text xs ++ (codes ")" ++ a) ≡ hex_text ys ++ (codes ")" ++ b) =
     sym (append_assoc (hex_text xs) (codes ")") a) ∙ ap (drop 1) degrees.1 ∙ append_assoc (hex_text ys) (codes ")") b in
     let same = hex_text-one_way xs ys (codes ")" ++ a) (codes ")" ++ b) x_is.2 y_is.2 (x_is.1 ∙ sym y_is.1) bases in
     (degrees.0, same.0, ap (drop 1) same.1)
 
-refill-one_way : (variant : TypeTag) (j k m n d c : ℕ) (xs ys a b : List ℕ) → FitsTag (refill variant j m d xs) → FitsTag (refill variant k n c ys) → type_tag_text (refill variant j m d xs) ++ a ≡ type_tag_text (refill variant k n c ys) ++ b → (refill variant j m d xs ≡ refill variant k n c ys) × (a ≡ b)
+refill-one_way : (variant : TypeTag) (j k m n d c : ℕ) (xs ys a b : List ℕ) → FitsTag (refill variant j m d xs) →
+    FitsTag (refill variant k n c ys) → type_tag_text (refill variant j m d xs) ++ a
+    ≡ type_tag_text (refill variant k n c ys) ++ b → (refill variant j m d xs ≡ refill variant k n c ys) × (a ≡ b)
 refill-one_way Marker j k m n d c xs ys a b x_fits y_fits e = (refl, ap (drop 6) e)
 refill-one_way Bytes j k m n d c xs ys a b x_fits y_fits e = (refl, ap (drop 5) e)
 refill-one_way (Algebra _ _ _) j k m n d c xs ys a b x_fits y_fits e =
-    let moduli = decimal_part m n (algebra_end d xs) (algebra_end c ys) a b (omega (arith, x_fits.0)) (omega (arith, y_fits.0)) (lit< tt) (lit< tt) (ap (drop 8) e) in
+    let moduli = decimal_part m n (algebra_end d xs) (algebra_end c ys) a b (omega (arith, x_fits.0))
+    (omega (arith, y_fits.0)) (lit< tt) (lit< tt) (ap (drop 8) e) in
     let ends = end-one_way d c xs ys a b x_fits.1 y_fits.1 moduli.1 in
     ((λ i. Algebra (moduli.0 i) (ends.0 i) (ends.1 i)), ends.2)
 refill-one_way (BinaryTower _ _ _) j k m n d c xs ys a b x_fits y_fits e =
-    let bits = decimal_part j k (algebra_end d xs) (algebra_end c ys) a b (omega (arith, x_fits.0)) (omega (arith, y_fits.0)) (lit< tt) (lit< tt) (ap (drop 12) e) in
+    let bits = decimal_part j k (algebra_end d xs) (algebra_end c ys) a b (omega (arith, x_fits.0))
+    (omega (arith, y_fits.0)) (lit< tt) (lit< tt) (ap (drop 12) e) in
     let ends = end-one_way d c xs ys a b x_fits.1 y_fits.1 bits.1 in
     ((λ i. BinaryTower (bits.0 i) (ends.0 i) (ends.1 i)), ends.2)
 refill-one_way (BinaryPolynomial _ _ _ _) j k m n d c xs ys a b x_fits y_fits e =
-    let behind : ℕ → ℕ → List ℕ → List ℕ = λ modulus degree basis. codes ",0x" ++ (hex_number modulus ++ algebra_end degree basis) in
-    let bits = decimal_part j k (behind m d xs) (behind n c ys) a b (omega (arith, x_fits.0)) (omega (arith, y_fits.0)) (lit< tt) (lit< tt) (ap (drop 17) e) in
-    let moduli = hex_part m n (algebra_end d xs) (algebra_end c ys) a b x_fits.1 y_fits.1 (lit< tt) (lit< tt) (ap (drop 3) bits.1) in
+    let behind : ℕ → ℕ → List ℕ →
+    List ℕ = λ modulus degree basis. codes ",0x" ++ (hex_number modulus ++ algebra_end degree basis) in
+    let bits = decimal_part j k (behind m d xs) (behind n c ys) a b (omega (arith, x_fits.0)) (omega (arith, y_fits.0))
+    (lit< tt) (lit< tt) (ap (drop 17) e) in
+    let moduli = hex_part m n (algebra_end d xs) (algebra_end c ys) a b x_fits.1 y_fits.1 (lit< tt) (lit< tt)
+    (ap (drop 3) bits.1) in
     let ends = end-one_way d c xs ys a b x_fits.2 y_fits.2 moduli.1 in
     ((λ i. BinaryPolynomial (bits.0 i) (moduli.0 i) (ends.0 i) (ends.1 i)), ends.2)
 refill-one_way Opaque j k m n d c xs ys a b x_fits y_fits e = (refl, ap (drop 6) e)
@@ -316,7 +340,8 @@ type_tag-one_way x y a b x_fits y_fits e =
     let own = refilled-own x in
     let other : refilled (shape x) y ≡ y = ap (λ t. refilled t y) same ∙ refilled-own y in
     let parts =
-    refill-one_way (shape x) (bits_of x) (bits_of y) (modulus_of x) (modulus_of y) (degree_of x) (degree_of y) (basis_of x) (basis_of y) a b
+    refill-one_way (shape x) (bits_of x) (bits_of y) (modulus_of x) (modulus_of y) (degree_of x) (degree_of y)
+    (basis_of x) (basis_of y) a b
     (subst FitsTag (sym own) x_fits)
     (subst FitsTag (sym other) y_fits)
     (ap (λ t. type_tag_text t ++ a) own ∙ e ∙ sym (ap (λ t. type_tag_text t ++ b) other)) in

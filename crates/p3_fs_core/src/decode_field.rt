@@ -23,7 +23,8 @@ pub(crate) fn encode_field_be<F: PrimeField64>(
 ) -> Result<(), TranscriptError>
     ensures ok { OnOk result (out.new.items ≡ out.old.items ++ wire F.residues (bytes_for F.bit_length) value.now) }
     ensures err { IfErr result (λ e. e ≡ TranscriptError.OutOfMemory) }
-    ensures left { OnErr result ((n : ℕ) × (out.new.items ≡ out.old.items ++ take n (wire F.residues (bytes_for F.bit_length) value.now))) }
+    ensures left { OnErr result
+        ((n : ℕ) × (out.new.items ≡ out.old.items ++ take n (wire F.residues (bytes_for F.bit_length) value.now))) }
 {
     let number = value.as_canonical_u64().to_be_bytes();
     out.extend_from_slice(&number[8 - field_byte_size::<F>()..])?;

@@ -176,7 +176,8 @@ impl PatternError {
     /// A law: the body is empty, and a caller cites the clause.
     #[tactic(auto, using(crate::proofs::ErrorEquality::equal_misfits))]
     pub fn compared_by_parts()
-        ensures { (a b : PatternError Interaction) → (⟦<PatternError as PartialEq>⟧.eq a b ≡ true ↔ misfit_of a ≡ misfit_of b) }
+        ensures { (a b : PatternError Interaction) →
+            (⟦<PatternError as PartialEq>⟧.eq a b ≡ true ↔ misfit_of a ≡ misfit_of b) }
     {}
 }
 
@@ -190,6 +191,7 @@ impl TranscriptError {
     /// A law: the body is empty, and a caller cites the clause.
     #[tactic(auto, using(crate::proofs::ErrorEquality::equal_refusals))]
     pub fn compared_by_parts()
-        ensures { (a b : TranscriptError) → (⟦<TranscriptError as PartialEq>⟧.eq a b ≡ true ↔ refusal_of a ≡ refusal_of b) }
+        ensures { (a b : TranscriptError) →
+            (⟦<TranscriptError as PartialEq>⟧.eq a b ≡ true ↔ refusal_of a ≡ refusal_of b) }
     {}
 }

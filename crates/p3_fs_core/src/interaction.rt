@@ -24,7 +24,8 @@ pub struct Interaction {
     type_name: &'static str,
     length: Length,
     /// Its numbers fit their types, and its texts are bytes.
-    pub ghost fits: { IsProgramStep (step_with hierarchy kind label.now type_tag type_name.now length) } by { IsProgramStep-prop (step_with hierarchy kind label.now type_tag type_name.now length) },
+    pub ghost fits: { IsProgramStep
+        (step_with hierarchy kind label.now type_tag type_name.now length) } by { IsProgramStep-prop _ },
 }
 
 impl Interaction {

@@ -25,7 +25,8 @@ pub(crate) fn observe_packed<F: PrimeField64, C: CanObserve<F>>(
 ) -> Result<(), ChallengerError>
     requires { 256 < F.residues.order }
     ensures ok { OnOk result (C.state challenger.new
-        ≡ observed_all C.observation.observed (C.state challenger.old) (packed F.residues (chunk_bytes F.bit_length) bytes.now)) }
+        ≡ observed_all C.observation.observed (C.state challenger.old)
+        (packed F.residues (chunk_bytes F.bit_length) bytes.now)) }
     ensures err { IfErr result (λ e. RefusesObserve (LeavesInCalls C.observation.observed C.observation.may_leave
         (C.state challenger.old) (packed F.residues (chunk_bytes F.bit_length) bytes.now)) e (C.state challenger.new)) }
 {

@@ -11,13 +11,15 @@ use Rattle.p3_patterns.proofs.FirstFaults.{viable-front}
 -- steps that begin a pattern begin one up to each of them
 front-viable : (before rest : List Step) (s : Step) → IsViable (before ++ (s ∷ rest)) → IsViable (before ++ (s ∷ []))
 front-viable before rest s viable =
-    viable-front before (rest ++ viable.0) s (subst (IsPattern Protocol) (append_assoc before (s ∷ rest) viable.0) viable.1)
+    viable-front before (rest ++ viable.0) s
+    (subst (IsPattern Protocol) (append_assoc before (s ∷ rest) viable.0) viable.1)
 
 -- of two steps of a list one is the other, or stands before it
 abbrev Apart : List Step → Step → List Step → Type 0
 Apart front s before = (between : List Step) × (before ≡ front ++ (s ∷ between))
 
-splits : (a b : List Step) (s t : Step) (x y : List Step) → a ++ (s ∷ x) ≡ b ++ (t ∷ y) → ((a ≡ b) × (s ≡ t)) ⊎ Apart a s b ⊎ Apart b t a
+splits : (a b : List Step) (s t : Step) (x y : List Step) → a ++ (s ∷ x) ≡ b ++ (t ∷ y) →
+    ((a ≡ b) × (s ≡ t)) ⊎ Apart a s b ⊎ Apart b t a
 splits [] [] s t x y e = inl (refl, cc)
 splits [] (c ∷ b) s t x y e =
     let first : c ≡ s = cc in
@@ -29,16 +31,20 @@ splits (c ∷ a) (d ∷ b) s t x y e =
     let first : c ≡ d = cc in
     elim (splits a b s t x y (cc)) [
       | inl same ↦ inl (ap (λ z. z ∷ a) first ∙ ap (λ zs. d ∷ zs) same.0, same.1)
-      | inr (inl apart) ↦ inr (inl (apart.0, ap (λ zs. d ∷ zs) apart.1 ∙ ap (λ z. z ∷ (a ++ (s ∷ apart.0))) (sym first)))
+      | inr (inl apart) ↦ inr
+          (inl (apart.0, ap (λ zs. d ∷ zs) apart.1 ∙ ap (λ z. z ∷ (a ++ (s ∷ apart.0))) (sym first)))
       | inr (inr apart) ↦ inr (inr (apart.0, ap (λ zs. c ∷ zs) apart.1 ∙ ap (λ z. z ∷ (b ++ (t ∷ apart.0))) first))
     ]
 
 module _ (steps : List Step) where
   -- no viable steps go past a stop
-  not-past : (p : ℕ) (s : Step) (stop : StopsAt steps p s) (before : List Step) → IsViable before → Apart stop.before s before → ⊥
-  not-past p s stop before viable apart = stop.stuck (front-viable stop.before apart.0 s (subst IsViable apart.1 viable))
+  not-past : (p : ℕ) (s : Step) (stop : StopsAt steps p s) (before : List Step) → IsViable before →
+      Apart stop.before s before → ⊥
+  not-past p s stop before viable apart =
+      stop.stuck (front-viable stop.before apart.0 s (subst IsViable apart.1 viable))
 
-  one_stop : (p q : ℕ) (s t : Step) (first : StopsAt steps p s) (second : StopsAt steps q t) → (first.before ≡ second.before) × (p ≡ q) × (s ≡ t)
+  one_stop : (p q : ℕ) (s t : Step) (first : StopsAt steps p s) (second : StopsAt steps q t) →
+      (first.before ≡ second.before) × (p ≡ q) × (s ≡ t)
   one_stop p q s t first second =
       elim (splits first.before second.before s t first.rest second.rest (sym first.split ∙ second.split)) [
         | inl same ↦ (same.0, sym first.place ∙ ap length same.0 ∙ second.place, same.1)
@@ -51,18 +57,21 @@ module _ (steps : List Step) where
   no-stop p s stop viable = stop.stuck (front-viable stop.before stop.rest s (subst IsViable stop.split viable))
 
   -- the innermost openers before one stop
-  one_opener : (p q m n : ℕ) (s t a b : Step) (first : StopsAt steps p s) (second : StopsAt steps q t) → IsInnermost first.before m a → IsInnermost second.before n b → (m ≡ n) × (a ≡ b)
+  one_opener : (p q m n : ℕ) (s t a b : Step) (first : StopsAt steps p s) (second : StopsAt steps q t) →
+      IsInnermost first.before m a → IsInnermost second.before n b → (m ≡ n) × (a ≡ b)
   one_opener p q m n s t a b first second is other =
       let stop = one_stop p q s t first second in
       only-innermost second.before m n a b (subst (λ (w : List Step). IsInnermost w m a) stop.0 is) other
 
-  none-and-one : (p q n : ℕ) (s t b : Step) (first : StopsAt steps p s) (second : StopsAt steps q t) → IsNoneOpen first.before → IsInnermost second.before n b → ⊥
+  none-and-one : (p q n : ℕ) (s t b : Step) (first : StopsAt steps p s) (second : StopsAt steps q t) →
+      IsNoneOpen first.before → IsInnermost second.before n b → ⊥
   none-and-one p q n s t b first second none is =
       let stop = one_stop p q s t first second in
       none n b (subst (λ (w : List Step). IsInnermost w n b) (sym stop.0) is)
 
   -- a closer and a step that is none
-  closes-and-not : (p q : ℕ) (s t : Step) (first : StopsAt steps p s) (second : StopsAt steps q t) → s.hierarchy ≡ End → (t.hierarchy ≡ End → ⊥) → ⊥
+  closes-and-not : (p q : ℕ) (s t : Step) (first : StopsAt steps p s) (second : StopsAt steps q t) →
+      s.hierarchy ≡ End → (t.hierarchy ≡ End → ⊥) → ⊥
   closes-and-not p q s t first second ends goes_on =
       let stop = one_stop p q s t first second in
       goes_on (ap (λ z. z.hierarchy) (sym stop.2) ∙ ends)

@@ -18,19 +18,24 @@ use Rattle.p3_patterns.specs.contracts.comparison.InteractionPatternPartialEq.Th
 abbrev pub placed : Interaction → Interaction
 placed i = interaction_of (step_of i) i.fits
 
-all-placed : (xs : List Interaction) (fit : AreProgramSteps (map step_of xs)) → interactions_of (map step_of xs) fit ≡ map placed xs
+all-placed : (xs : List Interaction) (fit : AreProgramSteps (map step_of xs)) →
+    interactions_of (map step_of xs) fit ≡ map placed xs
 all-placed [] fit = refl
 all-placed (x ∷ xs) fit =
     λ i. interaction_of (step_of x) (IsProgramStep-prop (step_of x) fit.0 x.fits i) ∷ all-placed xs fit.1 i
 
 -- a pattern's interactions are those that have its steps, but for the places of the texts
-pub pattern-placed : (xs : List Interaction) (pattern : PatternSteps) → map step_of xs ≡ pattern.steps → interactions_of_pattern pattern ≡ map placed xs
+pub pattern-placed : (xs : List Interaction) (pattern : PatternSteps) → map step_of xs ≡ pattern.steps →
+    interactions_of_pattern pattern ≡ map placed xs
 pattern-placed xs pattern same =
-    let IsPlaced : List Step → Type 0 = λ (steps : List Step). (fit : AreProgramSteps steps) → interactions_of steps fit ≡ map placed xs in
+    let IsPlaced : List Step → Type 0 = λ (steps : List Step). (fit : AreProgramSteps steps) →
+    interactions_of steps fit ≡ map placed xs in
     subst IsPlaced same (all-placed xs) pattern.fit
 
 -- so what is made of both lists is made of both patterns
-pub as_patterns : {A : Type 0} (F : List Interaction → List Interaction → A) (xs ys : List Interaction) (a b : PatternSteps) → map step_of xs ≡ a.steps → map step_of ys ≡ b.steps → F (map placed xs) (map placed ys) ≡ F (interactions_of_pattern a) (interactions_of_pattern b)
+pub as_patterns : {A : Type 0} (F : List Interaction → List Interaction → A) (xs ys : List Interaction)
+    (a b : PatternSteps) → map step_of xs ≡ a.steps → map step_of ys ≡ b.steps →
+    F (map placed xs) (map placed ys) ≡ F (interactions_of_pattern a) (interactions_of_pattern b)
 as_patterns F xs ys a b first second =
     λ i. F (sym (pattern-placed xs a first) i) (sym (pattern-placed ys b second) i)
 
@@ -46,7 +51,8 @@ and a b e f = cc
 
 -- where interactions compare equal exactly if they are one step
 module _ (compared : (a b : Interaction) → (interactions.ghosts.eq a b ≡ true ↔ step_of a ≡ step_of b)) where
-  same-items : (xs ys : List Interaction) → pointwise interactions.ghosts.eq xs ys ≡ true → map step_of xs ≡ map step_of ys
+  same-items : (xs ys : List Interaction) → pointwise interactions.ghosts.eq xs ys ≡ true →
+      map step_of xs ≡ map step_of ys
   same-items [] [] e = refl
   same-items [] (y ∷ ys) e = absurd (cc)
   same-items (x ∷ xs) [] e = absurd (cc)
@@ -54,7 +60,8 @@ module _ (compared : (a b : Interaction) → (interactions.ghosts.eq a b ≡ tru
       let p = both _ _ e in
       ap (λ s. s ∷ map step_of xs) ((compared x y).0 p.0) ∙ ap (λ rest. step_of y ∷ rest) (same-items xs ys p.1)
 
-  items-same : (xs ys : List Interaction) → map step_of xs ≡ map step_of ys → pointwise interactions.ghosts.eq xs ys ≡ true
+  items-same : (xs ys : List Interaction) → map step_of xs ≡ map step_of ys →
+      pointwise interactions.ghosts.eq xs ys ≡ true
   items-same [] [] e = refl
   items-same [] (y ∷ ys) e = absurd (cc)
   items-same (x ∷ xs) [] e = absurd (cc)
@@ -66,6 +73,8 @@ module _ (compared : (a b : Interaction) → (interactions.ghosts.eq a b ≡ tru
   equal_patterns a b =
       let first = steps-of_interactions a.steps a.fit in
       let second = steps-of_interactions b.steps b.fit in (
-        λ e. PatternSteps-same a b (sym first ∙ same-items (interactions_of_pattern a) (interactions_of_pattern b) e ∙ second),
-        λ e. items-same (interactions_of_pattern a) (interactions_of_pattern b) (first ∙ ap (λ p. p.steps) e ∙ sym second),
+        λ e. PatternSteps-same a b (sym first ∙ same-items (interactions_of_pattern a) (interactions_of_pattern b) e
+            ∙ second),
+        λ e. items-same (interactions_of_pattern a) (interactions_of_pattern b) (first ∙ ap (λ p. p.steps) e
+            ∙ sym second),
       )

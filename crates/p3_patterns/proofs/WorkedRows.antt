@@ -1,5 +1,5 @@
 -- Worked rows, computed on the definitions.
-use Rattle.std.proofs.Common.{◌≡◌, List, [], ◌∷◌, ℕ, codes, get_or, refl, ap, inl, inr, arith}
+use Rattle.std.proofs.Common.{◌≡◌, List, [], ◌∷◌, ◌++◌, ℕ, codes, get_or, refl, ap, inl, inr, arith}
 use Rattle.std.specs.Fmt.{digits}
 use Rattle.p3_fs_core.specs.Steps.{Step, step_with, marker_of, Closes, plain_text, alternate_text}
 use Rattle.p3_patterns.specs.Rendering.{rendering}
@@ -22,11 +22,15 @@ commit = step_with Atomic Message (codes "commit") Opaque (codes "opaque") Scala
 
 -- ---- the text of a pattern
 
-three : rendering alternate_text (outer Begin ∷ commit ∷ outer End ∷ []) ≡ codes "Plonky3 Fiat-Shamir Transcript (3 interactions)\n0 Begin Protocol 5 outer None Marker\n1   Atomic Message 6 commit Scalar Opaque\n2 End Protocol 5 outer None Marker\n"
+three : rendering alternate_text (outer Begin ∷ commit ∷ outer End ∷ [])
+    ≡ codes "Plonky3 Fiat-Shamir Transcript (3 interactions)\n0 Begin Protocol 5 outer None Marker\n"
+    ++ codes "1   Atomic Message 6 commit Scalar Opaque\n2 End Protocol 5 outer None Marker\n"
 unfolding digits
 three = refl
 
-three_plain : rendering plain_text (outer Begin ∷ commit ∷ outer End ∷ []) ≡ codes "Plonky3 Fiat-Shamir Transcript (3 interactions)\n0 Begin Protocol outer None ()\n1   Atomic Message commit Scalar opaque\n2 End Protocol outer None ()\n"
+three_plain : rendering plain_text (outer Begin ∷ commit ∷ outer End ∷ [])
+    ≡ codes "Plonky3 Fiat-Shamir Transcript (3 interactions)\n0 Begin Protocol outer None ()\n"
+    ++ codes "1   Atomic Message commit Scalar opaque\n2 End Protocol outer None ()\n"
 unfolding digits
 three_plain = refl
 
@@ -34,7 +38,8 @@ three_plain = refl
 two_lines : Step
 two_lines = record commit { label = codes "a\nb" }
 
-newline : rendering alternate_text (two_lines ∷ []) ≡ codes "Plonky3 Fiat-Shamir Transcript (1 interactions)\n0 Atomic Message 3 a\nb Scalar Opaque\n"
+newline : rendering alternate_text (two_lines ∷ [])
+    ≡ codes "Plonky3 Fiat-Shamir Transcript (1 interactions)\n0 Atomic Message 3 a\nb Scalar Opaque\n"
 unfolding digits two_lines
 newline = refl
 
@@ -60,8 +65,11 @@ closed kind =
     record { ends = refl; begins = refl; kind = refl; label = refl; type_tag = refl; type_name = refl; length = refl }
 
 one_open : (kind : Kind) → IsViable (record (outer Begin) { kind = kind } ∷ [])
-one_open kind =
-    (record (outer End) { kind = kind } ∷ [], container Protocol _ _ [] [] (inl refl) (nothing kind) (closed kind) (nothing Protocol))
+one_open kind = (
+  record (outer End) { kind = kind } ∷ [],
+  container Protocol _ _ [] [] (inl refl) (nothing kind) (closed kind)
+      (nothing Protocol),
+)
 
 -- in a container of messages the opener of one of challenges, at position 1
 foreign : IsFirstFault (messages Begin ∷ challenge ∷ []) (invalid_kind 0 (messages Begin) 1 challenge)
@@ -75,9 +83,20 @@ foreign =
 -- two openers, of which the second is named
 two_open : IsFirstFault (outer Begin ∷ outer Begin ∷ []) (missing_end 1 (outer Begin))
 two_open =
-    first-missing_end (outer Begin ∷ outer Begin ∷ []) 1 (outer Begin)
-    (outer End ∷ outer End ∷ [], container Protocol _ (outer End) (outer Begin ∷ outer End ∷ []) [] (inl refl) (container Protocol _ (outer End) [] [] (inl refl) (nothing Protocol) (closed Protocol) (nothing Protocol)) (closed Protocol) (nothing Protocol))
-    (record { before = outer Begin ∷ []; inside = []; split = refl; place = refl; begins = refl; pattern = nothing Protocol })
+    first-missing_end (outer Begin ∷ outer Begin ∷ []) 1 (outer Begin) (
+      outer End ∷ outer End ∷ [],
+      container Protocol _ (outer End) (outer Begin ∷ outer End ∷ []) [] (inl refl)
+          (container Protocol _ (outer End) [] [] (inl refl) (nothing Protocol) (closed Protocol) (nothing Protocol))
+          (closed Protocol) (nothing Protocol),
+    )
+    (record {
+      before = outer Begin ∷ [];
+      inside = [];
+      split = refl;
+      place = refl;
+      begins = refl;
+      pattern = nothing Protocol;
+    })
 
 -- under two openers the inner one is named: a closer of another label, at position 2
 inner : Step
@@ -85,13 +104,33 @@ inner = record (outer Begin) { label = codes "inner" }
 
 under_two : IsViable (outer Begin ∷ inner ∷ [])
 unfolding inner
-under_two =
-    (record (outer End) { label = codes "inner" } ∷ outer End ∷ [], container Protocol _ (outer End) (inner ∷ record (outer End) { label = codes "inner" } ∷ []) [] (inl refl) (container Protocol _ (record (outer End) { label = codes "inner" }) [] [] (inl refl) (nothing Protocol) (record { ends = refl; begins = refl; kind = refl; label = refl; type_tag = refl; type_name = refl; length = refl }) (nothing Protocol)) (closed Protocol) (nothing Protocol))
+under_two = (
+  record (outer End) { label = codes "inner" } ∷ outer End ∷ [],
+  container Protocol _ (outer End) (inner ∷ record (outer End) { label = codes "inner" } ∷ []) [] (inl refl)
+      (container Protocol _ (record (outer End) { label = codes "inner" }) [] [] (inl refl) (nothing Protocol)
+      (record {
+        ends = refl;
+        begins = refl;
+        kind = refl;
+        label = refl;
+        type_tag = refl;
+        type_name = refl;
+        length = refl;
+      }) (nothing Protocol)) (closed Protocol) (nothing Protocol),
+)
 
 mismatched : IsFirstFault (outer Begin ∷ inner ∷ outer End ∷ []) (mismatched_begin_end 1 inner 2 (outer End))
 unfolding inner
 mismatched =
     first-mismatched (outer Begin ∷ inner ∷ []) [] (outer End) 2 1 inner refl under_two
-    (record { before = outer Begin ∷ []; inside = []; split = refl; place = refl; begins = refl; pattern = nothing Protocol })
+    (record {
+      before = outer Begin ∷ [];
+      inside = [];
+      split = refl;
+      place = refl;
+      begins = refl;
+      pattern = nothing Protocol;
+    })
     refl
-    (λ closes. let first : 111 ≡ 105 = ap (λ (label : List ℕ). get_or label 0 0) closes.label in absurd (omega (arith, first)))
+    (λ closes. let first : 111 ≡ 105 = ap (λ (label : List ℕ). get_or label 0 0) closes.label in
+    absurd (omega (arith, first)))

@@ -14,8 +14,11 @@ Allows kind s = (kind ≡ Protocol) ⊎ (s.kind ≡ kind)
 -- which stand a pattern of the opener's own kind and a closer that closes it.
 pub data IsPattern : Kind → List Step → Type 0 where
   nothing : (kind : Kind) → IsPattern kind []
-  leaf : (kind : Kind) (s : Step) (rest : List Step) → s.hierarchy ≡ Atomic → Allows kind s → IsPattern kind rest → IsPattern kind (s ∷ rest)
-  container : (kind : Kind) (opener closer : Step) (inside rest : List Step) → Allows kind opener → IsPattern opener.kind inside → Closes closer opener → IsPattern kind rest → IsPattern kind (opener ∷ (inside ++ (closer ∷ rest)))
+  leaf : (kind : Kind) (s : Step) (rest : List Step) → s.hierarchy ≡ Atomic → Allows kind s → IsPattern kind rest →
+      IsPattern kind (s ∷ rest)
+  container : (kind : Kind) (opener closer : Step) (inside rest : List Step) → Allows kind opener →
+      IsPattern opener.kind inside → Closes closer opener → IsPattern kind rest →
+      IsPattern kind (opener ∷ (inside ++ (closer ∷ rest)))
 
 -- some pattern begins with the steps
 abbrev pub IsViable : List Step → Type 0

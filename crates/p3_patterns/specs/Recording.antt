@@ -24,7 +24,8 @@ pub record Records (before : Recording) (s : Step) (after : Recording) : Type 0 
 -- fault; or some pattern does, and memory was refused
 abbrev pub FaultOfNext : List Step → Step → TranscriptError → Type 0
 FaultOfNext steps s e =
-    ((IsViable (steps ++ (s ∷ [])) → ⊥) × NamesFirstFault (steps ++ (s ∷ [])) e) ⊎ (IsViable (steps ++ (s ∷ [])) × (e ≡ OutOfMemory))
+    ((IsViable (steps ++ (s ∷ [])) → ⊥) × NamesFirstFault (steps ++ (s ∷ [])) e)
+    ⊎ (IsViable (steps ++ (s ∷ [])) × (e ≡ OutOfMemory))
 
 -- why the step is refused: one was refused before, or this one may not come next
 abbrev pub FaultOfStep : Recording → Step → TranscriptError → Type 0

@@ -25,7 +25,8 @@ padded digits n = replicate (digits - length (decimal n)) 48 ++ decimal n
 -- The line of a step: its position, a space, two spaces for each container that is open there, and its text.
 abbrev pub line : (Step → List ℕ) → ℕ → ℕ → ℕ → Step → List ℕ
 line text digits position depth s =
-    padded digits position ++ (codes " " ++ (replicate (2 * indentation s.hierarchy depth) 32 ++ (text s ++ codes "\n")))
+    padded digits position
+    ++ (codes " " ++ (replicate (2 * indentation s.hierarchy depth) 32 ++ (text s ++ codes "\n")))
 
 -- the lines of the steps from a position on, where so many containers are open
 abbrev pub lines : (Step → List ℕ) → ℕ → ℕ → ℕ → List Step → List ℕ
@@ -40,7 +41,8 @@ position_digits count = length (decimal (count - 1))
 -- the text of the steps, each printed in the same way
 abbrev pub rendering : (Step → List ℕ) → List Step → List ℕ
 rendering text steps =
-    codes "Plonky3 Fiat-Shamir Transcript (" ++ (decimal (length steps) ++ (codes " interactions)\n" ++ lines text (position_digits (length steps)) 0 0 steps))
+    codes "Plonky3 Fiat-Shamir Transcript ("
+    ++ (decimal (length steps) ++ (codes " interactions)\n" ++ lines text (position_digits (length steps)) 0 0 steps))
 
 -- ---- what the text tells apart
 

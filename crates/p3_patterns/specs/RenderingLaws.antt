@@ -26,7 +26,8 @@ BeginsWord [] = ⊥
 BeginsWord (c ∷ cs) = 65 ≤ c
 
 -- spaces end where a word begins
-spaces-one_way : (m n : ℕ) (a b : List ℕ) → BeginsWord a → BeginsWord b → replicate m 32 ++ a ≡ replicate n 32 ++ b → a ≡ b
+spaces-one_way : (m n : ℕ) (a b : List ℕ) → BeginsWord a → BeginsWord b → replicate m 32 ++ a ≡ replicate n 32 ++ b →
+    a ≡ b
 spaces-one_way zero zero a b a_begins b_begins e = e
 spaces-one_way zero (suc n) [] b a_begins b_begins e = absurd a_begins
 spaces-one_way zero (suc n) (c ∷ a) b a_begins b_begins e =
@@ -38,7 +39,8 @@ spaces-one_way (suc m) zero a (c ∷ b) a_begins b_begins e =
     absurd (omega (arith, b_begins, space))
 spaces-one_way (suc m) (suc n) a b a_begins b_begins e = spaces-one_way m n a b a_begins b_begins (cc)
 
-hierarchy-begins : (hierarchy : Hierarchy) (p q rest : List ℕ) → BeginsWord (((hierarchy_text hierarchy ++ p) ++ q) ++ rest)
+hierarchy-begins : (hierarchy : Hierarchy) (p q rest : List ℕ) →
+    BeginsWord (((hierarchy_text hierarchy ++ p) ++ q) ++ rest)
 hierarchy-begins Atomic p q rest = lit≤ tt
 hierarchy-begins Begin p q rest = lit≤ tt
 hierarchy-begins End p q rest = lit≤ tt
@@ -51,7 +53,8 @@ AllFitTypes-program [] fit = tt
 AllFitTypes-program (s ∷ steps) fit = (fit.0.fits, AllFitTypes-program steps fit.1)
 
 -- a step is read back from what is hashed of it, but for the name of its type
-pub alternate-one_way : (x y : Step) (a b : List ℕ) → FitsTypes x → FitsTypes y → alternate_text x ++ a ≡ alternate_text y ++ b → (without_type_name x ≡ without_type_name y) × (a ≡ b)
+pub alternate-one_way : (x y : Step) (a b : List ℕ) → FitsTypes x → FitsTypes y →
+    alternate_text x ++ a ≡ alternate_text y ++ b → (without_type_name x ≡ without_type_name y) × (a ≡ b)
 alternate-one_way x y a b x_fits y_fits e =
     let carried : Step → List ℕ = λ s. length_text s.length ++ (codes " " ++ type_tag_text s.type_tag) in
     let labelled : Step → List ℕ = λ s. s.label ++ (codes " " ++ carried s) in
@@ -62,11 +65,13 @@ alternate-one_way x y a b x_fits y_fits e =
     (regrouped (hierarchy_text x.hierarchy) (hierarchy_text y.hierarchy) (behind x) (behind y) a b e) in
     let kinds =
     kind-one_way x.kind y.kind ((codes " " ++ counted x) ++ a) ((codes " " ++ counted y) ++ b)
-    (regrouped (kind_text x.kind) (kind_text y.kind) (codes " " ++ counted x) (codes " " ++ counted y) a b (ap (drop 1) hierarchies.1)) in
+    (regrouped (kind_text x.kind) (kind_text y.kind) (codes " " ++ counted x) (codes " " ++ counted y) a b
+    (ap (drop 1) hierarchies.1)) in
     let counts =
     decimal-one_way (length x.label) (length y.label) ((codes " " ++ labelled x) ++ a) ((codes " " ++ labelled y) ++ b)
     (omega (arith, x_fits.label)) (omega (arith, y_fits.label)) (lit< tt) (lit< tt)
-    (regrouped (decimal (length x.label)) (decimal (length y.label)) (codes " " ++ labelled x) (codes " " ++ labelled y) a b (ap (drop 1) kinds.1)) in
+    (regrouped (decimal (length x.label)) (decimal (length y.label)) (codes " " ++ labelled x)
+    (codes " " ++ labelled y) a b (ap (drop 1) kinds.1)) in
     let labels =
     front-one_way x.label y.label ((codes " " ++ carried x) ++ a) ((codes " " ++ carried y) ++ b) counts.0
     (regrouped x.label y.label (codes " " ++ carried x) (codes " " ++ carried y) a b (ap (drop 1) counts.1)) in
@@ -75,20 +80,30 @@ alternate-one_way x y a b x_fits y_fits e =
     length-one_way x.length y.length (tag x ++ a) (tag y ++ b) x_fits.carried y_fits.carried
     (regrouped (length_text x.length) (length_text y.length) (tag x) (tag y) a b (ap (drop 1) labels.1)) in
     let tags = type_tag-one_way x.type_tag y.type_tag a b x_fits.tag y_fits.tag (ap (drop 1) lengths.1) in (
-      (λ i. record { hierarchy = hierarchies.0 i; kind = kinds.0 i; label = labels.0 i; type_tag = tags.0 i; type_name = []; length = lengths.0 i }),
+      (λ i. record {
+        hierarchy = hierarchies.0 i;
+        kind = kinds.0 i;
+        label = labels.0 i;
+        type_tag = tags.0 i;
+        type_name = [];
+        length = lengths.0 i;
+      }),
       tags.1,
     )
 
 -- ---- lines
 
 -- so is a line, at one position and with as many containers open
-line-one_way : (digits position depth : ℕ) (x y : Step) (a b : List ℕ) → FitsTypes x → FitsTypes y → line alternate_text digits position depth x ++ a ≡ line alternate_text digits position depth y ++ b → (without_type_name x ≡ without_type_name y) × (a ≡ b)
+line-one_way : (digits position depth : ℕ) (x y : Step) (a b : List ℕ) → FitsTypes x → FitsTypes y →
+    line alternate_text digits position depth x ++ a ≡ line alternate_text digits position depth y ++ b →
+    (without_type_name x ≡ without_type_name y) × (a ≡ b)
 line-one_way digits position depth x y a b x_fits y_fits e =
     let spaces : Step → List ℕ = λ s. replicate (2 * indentation s.hierarchy depth) 32 in
     let words : Step → List ℕ = λ s. alternate_text s ++ codes "\n" in
     let behind : Step → List ℕ = λ s. codes " " ++ (spaces s ++ words s) in
     let number = padded digits position in
-    let indented = rest-one_way number (behind x ++ a) (behind y ++ b) (regrouped number number (behind x) (behind y) a b e) in
+    let indented =
+    rest-one_way number (behind x ++ a) (behind y ++ b) (regrouped number number (behind x) (behind y) a b e) in
     let texts =
     spaces-one_way (2 * indentation x.hierarchy depth) (2 * indentation y.hierarchy depth) (words x ++ a) (words y ++ b)
     (hierarchy-begins x.hierarchy _ (codes "\n") a)
@@ -99,48 +114,63 @@ line-one_way digits position depth x y a b x_fits y_fits e =
     (regrouped (alternate_text x) (alternate_text y) (codes "\n") (codes "\n") a b texts) in
     (steps.0, ap (drop 1) steps.1)
 
-lines-one_way : (digits position depth : ℕ) (xs ys : List Step) → AllFitTypes xs → AllFitTypes ys → length xs ≡ length ys → lines alternate_text digits position depth xs ≡ lines alternate_text digits position depth ys → SameButTypeNames xs ys
+lines-one_way : (digits position depth : ℕ) (xs ys : List Step) → AllFitTypes xs → AllFitTypes ys →
+    length xs ≡ length ys → lines alternate_text digits position depth xs
+    ≡ lines alternate_text digits position depth ys → SameButTypeNames xs ys
 lines-one_way digits position depth [] [] x_fit y_fit same e = refl
 lines-one_way digits position depth [] (y ∷ ys) x_fit y_fit same e = absurd (omega (arith, same))
 lines-one_way digits position depth (x ∷ xs) [] x_fit y_fit same e = absurd (omega (arith, same))
 lines-one_way digits position depth (x ∷ xs) (y ∷ ys) x_fit y_fit same e =
-    let behind : Step → List Step → List ℕ = λ s rest. lines alternate_text digits (position + 1) (depth_behind s.hierarchy depth) rest in
+    let behind : Step → List Step →
+    List ℕ = λ s rest. lines alternate_text digits (position + 1) (depth_behind s.hierarchy depth) rest in
     let first = line-one_way digits position depth x y (behind x xs) (behind y ys) x_fit.0 y_fit.0 e in
     let as_deep : behind y ys ≡ behind x ys = ap (λ s. behind s ys) (sym first.0) in
-    let others = lines-one_way digits (position + 1) (depth_behind x.hierarchy depth) xs ys x_fit.1 y_fit.1 (omega (arith, same)) (first.1 ∙ as_deep) in
+    let others = lines-one_way digits (position + 1) (depth_behind x.hierarchy depth) xs ys x_fit.1 y_fit.1
+    (omega (arith, same)) (first.1 ∙ as_deep) in
     ap (λ s. s ∷ map without_type_name xs) first.0 ∙ ap (λ rest. without_type_name y ∷ rest) others
 
 -- ---- all of the text
 
-told_apart : (xs ys : List Step) → AllFitTypes xs → AllFitTypes ys → length xs < 2 ^ 64 → length ys < 2 ^ 64 → rendering alternate_text xs ≡ rendering alternate_text ys → SameButTypeNames xs ys
+told_apart : (xs ys : List Step) → AllFitTypes xs → AllFitTypes ys → length xs < 2 ^ 64 → length ys < 2 ^ 64 →
+    rendering alternate_text xs ≡ rendering alternate_text ys → SameButTypeNames xs ys
 told_apart xs ys x_fit y_fit x_few y_few e =
     let digits : List Step → ℕ = λ steps. position_digits (length steps) in
-    let behind : List Step → List ℕ = λ steps. codes " interactions)\n" ++ lines alternate_text (digits steps) 0 0 steps in
+    let behind : List Step →
+    List ℕ = λ steps. codes " interactions)\n" ++ lines alternate_text (digits steps) 0 0 steps in
     let counts =
-    decimal-one_way (length xs) (length ys) (behind xs) (behind ys) (omega (arith, x_few)) (omega (arith, y_few)) (lit< tt) (lit< tt) (ap (drop 32) e) in
+    decimal-one_way (length xs) (length ys) (behind xs) (behind ys) (omega (arith, x_few)) (omega (arith, y_few))
+    (lit< tt) (lit< tt) (ap (drop 32) e) in
     let as_wide : lines alternate_text (digits ys) 0 0 ys ≡ lines alternate_text (digits xs) 0 0 ys =
     ap (λ count. lines alternate_text (position_digits count) 0 0 ys) (sym counts.0) in
     lines-one_way (digits xs) 0 0 xs ys x_fit y_fit counts.0 (ap (drop 15) counts.1 ∙ as_wide)
 
 -- names of types make no difference
-lines-without : (digits position depth : ℕ) (steps : List Step) → lines alternate_text digits position depth (map without_type_name steps) ≡ lines alternate_text digits position depth steps
+lines-without : (digits position depth : ℕ) (steps : List Step) →
+    lines alternate_text digits position depth (map without_type_name steps)
+    ≡ lines alternate_text digits position depth steps
 lines-without digits position depth [] = refl
 lines-without digits position depth (s ∷ rest) =
-    ap (λ behind. line alternate_text digits position depth s ++ behind) (lines-without digits (position + 1) (depth_behind s.hierarchy depth) rest)
+    ap (λ behind. line alternate_text digits position depth s ++ behind)
+    (lines-without digits (position + 1) (depth_behind s.hierarchy depth) rest)
 
 count-without : (steps : List Step) → length (map without_type_name steps) ≡ length steps
 count-without [] = refl
 count-without (s ∷ rest) = ap suc (count-without rest)
 
-rendering-without : (steps : List Step) → rendering alternate_text (map without_type_name steps) ≡ rendering alternate_text steps
+rendering-without : (steps : List Step) → rendering alternate_text (map without_type_name steps)
+    ≡ rendering alternate_text steps
 rendering-without steps =
-    let header : ℕ → List ℕ → List ℕ = λ count text. codes "Plonky3 Fiat-Shamir Transcript (" ++ (decimal count ++ (codes " interactions)\n" ++ text)) in
-    ap (λ count. header count (lines alternate_text (position_digits count) 0 0 (map without_type_name steps))) (count-without steps)
+    let header : ℕ → List ℕ →
+    List ℕ = λ count text. codes "Plonky3 Fiat-Shamir Transcript ("
+    ++ (decimal count ++ (codes " interactions)\n" ++ text)) in
+    ap (λ count. header count (lines alternate_text (position_digits count) 0 0 (map without_type_name steps)))
+    (count-without steps)
     ∙ ap (header (length steps)) (lines-without (position_digits (length steps)) 0 0 steps)
 
 -- the alternate texts of two lists of steps are one where the steps are the same but for the names of their
 -- types, and only there
-pub rendering_one_way : (xs ys : List Step) → AllFitTypes xs → AllFitTypes ys → length xs < 2 ^ 64 → length ys < 2 ^ 64 → (rendering alternate_text xs ≡ rendering alternate_text ys ↔ SameButTypeNames xs ys)
+pub rendering_one_way : (xs ys : List Step) → AllFitTypes xs → AllFitTypes ys → length xs < 2 ^ 64 →
+    length ys < 2 ^ 64 → (rendering alternate_text xs ≡ rendering alternate_text ys ↔ SameButTypeNames xs ys)
 rendering_one_way xs ys x_fit y_fit x_few y_few = (
   told_apart xs ys x_fit y_fit x_few y_few,
   λ same. sym (rendering-without xs) ∙ ap (rendering alternate_text) same ∙ rendering-without ys,

@@ -61,7 +61,8 @@ impl Ord for InteractionPattern {
 impl Hash for InteractionPattern {
     ghost hash_input = { λ a. fed.slice ⟦<Interaction as Hash>⟧.hash_input (interactions_of_pattern a) };
 
-    ghost respects_eq = { (on_Alike interactions_of_pattern (items_Alike (record { fed = hashes.respects_eq-law }))).fed };
+    ghost respects_eq = { (on_Alike interactions_of_pattern
+        (items_Alike (record { fed = hashes.respects_eq-law }))).fed };
 
     fn hash<H: Hasher>(&self, state: &mut H) {
         self.interactions().hash(state);

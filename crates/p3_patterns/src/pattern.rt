@@ -35,32 +35,40 @@ pub trait Pattern {
 
     /// Takes the opener of a container of the kind. `T` names the container for those who read its steps.
     fn begin<T: Named>(&mut self, label: Label, kind: Kind) -> Result<(), TranscriptError>
-        ensures ok { OnOk result (takes self.old (marker_of Hierarchy.Begin kind label.now T.name_bytes) self.new) }
-        ensures err { IfErr result (λ e. refuses self.old (marker_of Hierarchy.Begin kind label.now T.name_bytes) e self.new) }
+        ensures ok { OnOk result
+            (takes self.old (marker_of Hierarchy.Begin kind label.now T.name_bytes) self.new) }
+        ensures err { IfErr result
+            (λ e. refuses self.old (marker_of Hierarchy.Begin kind label.now T.name_bytes) e self.new) }
     {
         self.interact(Interaction::marker::<T>(Hierarchy::Begin, kind, label))
     }
 
     /// Takes the closer of a container of the kind, with the label and the `T` of its opener.
     fn end<T: Named>(&mut self, label: Label, kind: Kind) -> Result<(), TranscriptError>
-        ensures ok { OnOk result (takes self.old (marker_of Hierarchy.End kind label.now T.name_bytes) self.new) }
-        ensures err { IfErr result (λ e. refuses self.old (marker_of Hierarchy.End kind label.now T.name_bytes) e self.new) }
+        ensures ok { OnOk result
+            (takes self.old (marker_of Hierarchy.End kind label.now T.name_bytes) self.new) }
+        ensures err { IfErr result
+            (λ e. refuses self.old (marker_of Hierarchy.End kind label.now T.name_bytes) e self.new) }
     {
         self.interact(Interaction::marker::<T>(Hierarchy::End, kind, label))
     }
 
     /// Takes the opener of a container that may hold steps of any kind.
     fn begin_protocol<T: Named>(&mut self, label: Label) -> Result<(), TranscriptError>
-        ensures ok { OnOk result (takes self.old (marker_of Hierarchy.Begin Kind.Protocol label.now T.name_bytes) self.new) }
-        ensures err { IfErr result (λ e. refuses self.old (marker_of Hierarchy.Begin Kind.Protocol label.now T.name_bytes) e self.new) }
+        ensures ok { OnOk result
+            (takes self.old (marker_of Hierarchy.Begin Kind.Protocol label.now T.name_bytes) self.new) }
+        ensures err { IfErr result
+            (λ e. refuses self.old (marker_of Hierarchy.Begin Kind.Protocol label.now T.name_bytes) e self.new) }
     {
         self.begin::<T>(label, Kind::Protocol)
     }
 
     /// Takes the closer of a container that may hold steps of any kind.
     fn end_protocol<T: Named>(&mut self, label: Label) -> Result<(), TranscriptError>
-        ensures ok { OnOk result (takes self.old (marker_of Hierarchy.End Kind.Protocol label.now T.name_bytes) self.new) }
-        ensures err { IfErr result (λ e. refuses self.old (marker_of Hierarchy.End Kind.Protocol label.now T.name_bytes) e self.new) }
+        ensures ok { OnOk result
+            (takes self.old (marker_of Hierarchy.End Kind.Protocol label.now T.name_bytes) self.new) }
+        ensures err { IfErr result
+            (λ e. refuses self.old (marker_of Hierarchy.End Kind.Protocol label.now T.name_bytes) e self.new) }
     {
         self.end::<T>(label, Kind::Protocol)
     }

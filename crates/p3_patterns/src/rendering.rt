@@ -58,13 +58,16 @@ impl InteractionPattern {
 }
 
 /// Two lists of steps have one alternate rendering exactly if they are the same but for the names of their types,
-/// whatever bytes their labels have.
+/// whatever bytes their labels have. Of patterns that is so with no condition.
 ///
-/// A law: the body is empty, and a caller cites the clause.
+/// A law: the body is empty, and a caller cites a clause.
 #[tactic(auto, using(crate::specs::RenderingLaws::rendering_one_way))]
 pub fn renderings_read_one_way()
-    ensures { (x y : List Step) → AllFitTypes x → AllFitTypes y → length x < 2 ^ 64 → length y < 2 ^ 64
+    ensures steps { (x y : List Step) → AllFitTypes x → AllFitTypes y → length x < 2 ^ 64 → length y < 2 ^ 64
         → (rendering alternate_text x ≡ rendering alternate_text y ↔ SameButTypeNames x y) }
+    ensures patterns { (x y : InteractionPattern) →
+        (rendering alternate_text (steps_of x) ≡ rendering alternate_text (steps_of y)
+        ↔ SameButTypeNames (steps_of x) (steps_of y)) }
 {}
 
 // Steps that print below a header, a line each.
@@ -75,7 +78,8 @@ struct Rendering<'a> {
 }
 
 impl fmt::Display for Rendering<'_> {
-    ghost output = { λ all. Some (rendering (λ s. if all.alternate then alternate_text s else plain_text s) (map step_of all.steps.now)) };
+    ghost output = { λ all. Some (rendering (λ s. if all.alternate then alternate_text s else plain_text s)
+        (map step_of all.steps.now)) };
 
     fn fmt<W: fmt::Write>(&self, f: &mut fmt::Formatter<W>) -> fmt::Result {
         let count = self.steps.len();
@@ -145,7 +149,8 @@ struct Line<'a> {
 impl fmt::Display for Line<'_> {
     ghost output = { λ line. Some (
         padded line.digits line.position ++ (codes " " ++ (replicate (2 * line.indentation) 32 ++
-        ((if line.alternate then alternate_text (step_of line.step.now) else plain_text (step_of line.step.now)) ++ codes "\n")))
+        ((if line.alternate then alternate_text (step_of line.step.now) else plain_text (step_of line.step.now))
+        ++ codes "\n")))
         ) };
 
     fn fmt<W: fmt::Write>(&self, f: &mut fmt::Formatter<W>) -> fmt::Result {

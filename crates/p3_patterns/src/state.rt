@@ -58,7 +58,8 @@ impl<U> PatternState<U> {
     /// Else the error is [`PatternError::Finished`] where a step was refused, and
     /// [`TranscriptError::MissingEnd`] with the innermost opener that is still open. It takes no memory.
     pub fn finalize(self) -> Result<InteractionPattern, TranscriptError>
-        ensures ok { IfOk result (λ pattern. (self.finished ≡ false) × (steps_of pattern ≡ self.steps) × IsPattern Kind.Protocol (steps_of pattern)) }
+        ensures ok { IfOk result (λ pattern. (self.finished ≡ false) × (steps_of pattern ≡ self.steps)
+            × IsPattern Kind.Protocol (steps_of pattern)) }
         ensures err { IfErr result (λ e. FaultOfEnd self e) }
         ensures only { self.finished ≡ false → IsPattern Kind.Protocol self.steps → IsOk result }
     {

@@ -54,7 +54,11 @@ seed_of_parts parts = seed_bytes parts.protocol_id parts.digest parts.label
 -- what the seed of a protocol's identifier and pattern, and an instance's label, is made of
 abbrev pub parts_of : (List ℕ → List ℕ) → List ℕ → InteractionPattern → List ℕ → SeedParts
 parts_of digest_of protocol_id pattern label =
-    record { protocol_id = protocol_id; digest = digest_of (rendering alternate_text (steps_of pattern)); label = label }
+    record {
+      protocol_id = protocol_id;
+      digest = digest_of (rendering alternate_text (steps_of pattern));
+      label = label;
+    }
 
 abbrev pub seed_of : (List ℕ → List ℕ) → List ℕ → InteractionPattern → List ℕ → List ℕ
 seed_of digest_of protocol_id pattern label = seed_of_parts (parts_of digest_of protocol_id pattern label)

@@ -14,7 +14,8 @@ use Rattle.p3_turn.specs.Seed.{identifier, counted, label_of, FitsCount, SeedPar
 pub counted_one_way : ReadsOneWayOn FitsCount counted
 counted_one_way x y a b x_fits y_fits e =
     let count = λ (bytes : List ℕ). in_bytes 4 (length bytes) in
-    let counts = front-one_way (count x) (count y) (x ++ a) (y ++ b) (length-in_bytes 4 (length x) ∙ sym (length-in_bytes 4 (length y))) (sym (append_assoc (count x) x a) ∙ e ∙ append_assoc (count y) y b) in
+    let counts = front-one_way (count x) (count y) (x ++ a) (y ++ b) (length-in_bytes 4 (length x)
+    ∙ sym (length-in_bytes 4 (length y))) (sym (append_assoc (count x) x a) ∙ e ∙ append_assoc (count y) y b) in
     let as_long : length x ≡ length y =
     sym (big_endian-in_bytes 4 (length x) x_fits) ∙ ap big_endian counts.0 ∙ big_endian-in_bytes 4 (length y) y_fits in
     front-one_way x y a b as_long counts.1
@@ -33,16 +34,20 @@ label_one_way [] [] x_fit y_fit e = refl
 label_one_way [] (y ∷ ys) x_fit y_fit e = cc
 label_one_way (x ∷ xs) [] x_fit y_fit e = cc
 label_one_way (x ∷ xs) (y ∷ ys) x_fit y_fit e =
-    let first = counted_one_way x y (label_of xs) (label_of ys) (x_fit zero x (first_below (length xs))) (y_fit zero y (first_below (length ys))) e in
-    let others = label_one_way xs ys (λ k d less. x_fit (suc k) d (next_below k (length xs) less)) (λ k d less. y_fit (suc k) d (next_below k (length ys) less)) first.1 in
+    let first = counted_one_way x y (label_of xs) (label_of ys) (x_fit zero x (first_below (length xs)))
+    (y_fit zero y (first_below (length ys))) e in
+    let others = label_one_way xs ys (λ k d less. x_fit (suc k) d (next_below k (length xs) less))
+    (λ k d less. y_fit (suc k) d (next_below k (length ys) less)) first.1 in
     ap (λ z. z ∷ xs) first.0 ∙ ap (λ zs. y ∷ zs) others
 
 -- a chunk more stands at the end of the label
-pub label_more : (chunks : List (List ℕ)) (chunk : List ℕ) → label_of (chunks ++ (chunk ∷ [])) ≡ label_of chunks ++ counted chunk
+pub label_more : (chunks : List (List ℕ)) (chunk : List ℕ) →
+    label_of (chunks ++ (chunk ∷ [])) ≡ label_of chunks ++ counted chunk
 label_more chunks chunk =
     flat_map-append counted chunks (chunk ∷ []) ∙ ap (λ end. label_of chunks ++ end) (append-nil (counted chunk))
 
-pub chunk_added : (chunk label grown : List ℕ) → grown ≡ label ++ counted chunk → (chunks : List (List ℕ)) → label ≡ label_of chunks → grown ≡ label_of (chunks ++ (chunk ∷ []))
+pub chunk_added : (chunk label grown : List ℕ) → grown ≡ label ++ counted chunk → (chunks : List (List ℕ)) →
+    label ≡ label_of chunks → grown ≡ label_of (chunks ++ (chunk ∷ []))
 chunk_added chunk label grown is chunks spelled =
     is ∙ ap (λ front. front ++ counted chunk) spelled ∙ sym (label_more chunks chunk)
 
@@ -62,24 +67,30 @@ same_parts x y ids digests labels =
 pub seed_one_way : ReadsOneWayOn AreSeedParts seed_of_parts
 seed_one_way x y a b x_are y_are e =
     let end : List ℕ = 0x80 ∷ [] in
-    let whole = sym (regroup x.protocol_id x.digest (counted x.label) end a) ∙ e ∙ regroup y.protocol_id y.digest (counted y.label) end b in
-    let ids = front-one_way x.protocol_id y.protocol_id (x.digest ++ (counted x.label ++ (end ++ a))) (y.digest ++ (counted y.label ++ (end ++ b))) (x_are.0 ∙ sym y_are.0) whole in
-    let digests = front-one_way x.digest y.digest (counted x.label ++ (end ++ a)) (counted y.label ++ (end ++ b)) (x_are.1 ∙ sym y_are.1) ids.1 in
+    let whole = sym (regroup x.protocol_id x.digest (counted x.label) end a) ∙ e
+    ∙ regroup y.protocol_id y.digest (counted y.label) end b in
+    let ids = front-one_way x.protocol_id y.protocol_id (x.digest ++ (counted x.label ++ (end ++ a)))
+    (y.digest ++ (counted y.label ++ (end ++ b))) (x_are.0 ∙ sym y_are.0) whole in
+    let digests = front-one_way x.digest y.digest (counted x.label ++ (end ++ a)) (counted y.label ++ (end ++ b))
+    (x_are.1 ∙ sym y_are.1) ids.1 in
     let labels = counted_one_way x.label y.label (end ++ a) (end ++ b) x_are.2 y_are.2 digests.1 in
     (same_parts x y ids.0 digests.0 labels.0, ap (drop 1) labels.1)
 
 -- ---- identifiers
 
 -- the length of a name stands in the last place
-last_of : (name : List ℕ) → length name ≤ 62 → drop 62 (name ++ (replicate (62 - length name) 0 ++ (length name ∷ []))) ≡ length name ∷ []
+last_of : (name : List ℕ) → length name ≤ 62 → drop 62 (name ++ (replicate (62 - length name) 0 ++ (length name ∷ [])))
+    ≡ length name ∷ []
 last_of name short =
     let zeros : List ℕ = replicate (62 - length name) 0 in
-    let as_long : length (name ++ zeros) ≡ 62 = omega (arith, short, length-append name zeros, length-replicate {A = ℕ} (62 - length name) 0) in
+    let as_long : length (name ++ zeros) ≡ 62 =
+    omega (arith, short, length-append name zeros, length-replicate {A = ℕ} (62 - length name) 0) in
     ap (drop 62) (sym (append_assoc name zeros (length name ∷ [])))
     ∙ drop-front 62 (name ++ zeros) (length name ∷ []) as_long
 
 -- an identifier comes from one version and one name
-pub identifier_one_way : (v w : ℕ) (a b : List ℕ) → length a ≤ 62 → length b ≤ 62 → identifier v a ≡ identifier w b → (v ≡ w) × (a ≡ b)
+pub identifier_one_way : (v w : ℕ) (a b : List ℕ) → length a ≤ 62 → length b ≤ 62 → identifier v a ≡ identifier w b →
+    (v ≡ w) × (a ≡ b)
 identifier_one_way v w a b a_short b_short e =
     let rest = ap (drop 1) e in
     let lasts : length a ∷ [] ≡ length b ∷ [] = sym (last_of a a_short) ∙ ap (drop 62) rest ∙ last_of b b_short in

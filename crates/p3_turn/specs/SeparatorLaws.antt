@@ -29,8 +29,17 @@ pub IsIdentifier-prop : (protocol_id : List ℕ) → IsProp (IsIdentifier protoc
 IsIdentifier-prop protocol_id x y =
     let parts = identifier_one_way x.version y.version x.name y.name x.short y.short (sym x.spelled ∙ y.spelled) in
     let Same : ℕ × List ℕ → Type 0 = λ (p : ℕ × List ℕ).
-    (spelled : protocol_id ≡ identifier p.0 p.1) (version_fits : p.0 < 256) (named : 1 ≤ length p.1) (short : length p.1 ≤ 62) (bytes : AreBytes p.1)
-    → x ≡ record { version = p.0; name = p.1; spelled = spelled; version_fits = version_fits; named = named; short = short; bytes = bytes } in
+    (spelled : protocol_id ≡ identifier p.0 p.1) (version_fits : p.0 < 256) (named : 1 ≤ length p.1)
+    (short : length p.1 ≤ 62) (bytes : AreBytes p.1)
+    → x ≡ record {
+      version = p.0;
+      name = p.1;
+      spelled = spelled;
+      version_fits = version_fits;
+      named = named;
+      short = short;
+      bytes = bytes;
+    } in
     let own : Same (x.version, x.name) = λ spelled version_fits named short bytes i. record {
       version = x.version;
       name = x.name;
@@ -45,7 +54,8 @@ IsIdentifier-prop protocol_id x y =
 -- ---- labels
 
 -- a label is that of its chunks alone
-pub only_chunks : (label : List ℕ) (is : IsLabel label) (chunks : List (List ℕ)) → All FitsCount chunks → label ≡ label_of chunks → is.chunks ≡ chunks
+pub only_chunks : (label : List ℕ) (is : IsLabel label) (chunks : List (List ℕ)) → All FitsCount chunks →
+    label ≡ label_of chunks → is.chunks ≡ chunks
 only_chunks label is chunks fit spelled = label_one_way is.chunks chunks is.counted fit (sym is.spelled ∙ spelled)
 
 -- bytes are a label in one way
@@ -65,10 +75,16 @@ IsLabel-prop label x y =
 -- the label of no chunks
 pub IsLabel-none : IsLabel []
 IsLabel-none =
-    record { chunks = []; spelled = refl; counted = λ k d within. absurd (omega (arith, within)); bytes = λ k d within. absurd (omega (arith, within)) }
+    record {
+      chunks = [];
+      spelled = refl;
+      counted = λ k d within. absurd (omega (arith, within));
+      bytes = λ k d within. absurd (omega (arith, within));
+    }
 
 -- a label with a chunk more
-pub IsLabel-more : (label chunk grown : List ℕ) → IsLabel label → FitsCount chunk → AreBytes chunk → grown ≡ label ++ counted chunk → IsLabel grown
+pub IsLabel-more : (label chunk grown : List ℕ) → IsLabel label → FitsCount chunk → AreBytes chunk →
+    grown ≡ label ++ counted chunk → IsLabel grown
 IsLabel-more label chunk grown is fits bytes more =
     record {
       chunks = is.chunks ++ (chunk ∷ []);
@@ -78,7 +94,8 @@ IsLabel-more label chunk grown is fits bytes more =
     }
 
 -- its chunks are those of the label, and that one
-pub chunks-more : (label chunk grown : List ℕ) (is : IsLabel label) (is_grown : IsLabel grown) → FitsCount chunk → grown ≡ label ++ counted chunk → is_grown.chunks ≡ is.chunks ++ (chunk ∷ [])
+pub chunks-more : (label chunk grown : List ℕ) (is : IsLabel label) (is_grown : IsLabel grown) → FitsCount chunk →
+    grown ≡ label ++ counted chunk → is_grown.chunks ≡ is.chunks ++ (chunk ∷ [])
 chunks-more label chunk grown is is_grown fits more =
     only_chunks grown is_grown (is.chunks ++ (chunk ∷ []))
     (All-push FitsCount is.chunks chunk is.counted fits)

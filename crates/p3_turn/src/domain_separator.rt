@@ -170,18 +170,22 @@ impl<U: Unit, D: DigestHasher> DomainSeparator<U, D> {
     /// leaves the challenger as it is, or as [`Unit::observe_bytes`] leaves it.
     pub fn seed<C: CanObserve<U::Item>>(&self, challenger: &mut C) -> Result<(), TranscriptError>
         requires { U.is_alphabet }
-        ensures ok { let seed = seed_of D.digest_of self.now.protocol_id self.now.pattern.value self.now.instance_label.items in
+        ensures ok { let seed = seed_of D.digest_of self.now.protocol_id self.now.pattern.value
+            self.now.instance_label.items in
             OnOk result ((U.is_too_long (length seed) → ⊥)
             × (C.state challenger.new ≡ observed_all C.observation.observed (C.state challenger.old) (U.items seed))) }
-        ensures err { let seed = seed_of D.digest_of self.now.protocol_id self.now.pattern.value self.now.instance_label.items in
+        ensures err { let seed = seed_of D.digest_of self.now.protocol_id self.now.pattern.value
+            self.now.instance_label.items in
             IfErr result (λ e. RefusesSeed (U.is_too_long (length seed))
             (LeavesItems C.observation C.slice_may_leave (C.state challenger.old) (U.items seed))
             (C.state challenger.old) e (C.state challenger.new)) }
         // What is observed is what the items feed; exactly so, where the challenger feeds each in one way.
-        ensures fed { let seed = seed_of D.digest_of self.now.protocol_id self.now.pattern.value self.now.instance_label.items in
+        ensures fed { let seed = seed_of D.digest_of self.now.protocol_id self.now.pattern.value
+            self.now.instance_label.items in
             OnOk result (IsFed C.fed (C.state challenger.old)
             (flat_map C.observation.symbols (U.items seed)) (C.state challenger.new)) }
-        ensures fed_exactly { let seed = seed_of D.digest_of self.now.protocol_id self.now.pattern.value self.now.instance_label.items in
+        ensures fed_exactly { let seed = seed_of D.digest_of self.now.protocol_id self.now.pattern.value
+            self.now.instance_label.items in
             ReadsOneWayOn U.is_item C.observation.symbols → OnOk result (C.state challenger.new
             ≡ C.fed (C.state challenger.old) (flat_map C.observation.symbols (U.items seed))) }
         // The seed is that of an identifier, a digest and a label.

@@ -7,7 +7,15 @@ use Rattle.p3_challenger.specs.PatternGrammar.{IsPattern, nothing, leaf, contain
 use Rattle.transcript_program.specs.Demo as demo
 
 closes : Closes (demo.container End) (demo.container Begin)
-closes = record { ends = refl; begins = refl; kind = refl; label = refl; type_tag = refl; type_name = refl; length = refl }
+closes = record {
+  ends = refl;
+  begins = refl;
+  kind = refl;
+  label = refl;
+  type_tag = refl;
+  type_name = refl;
+  length = refl;
+}
 
 pub demo_is_pattern : IsPattern Protocol demo.demo_steps
 demo_is_pattern =

@@ -9,14 +9,16 @@ use Rattle.transcript_program.specs.First.{read_whole, nothing_behind, too_short
 
 whole_by : (short canonical : Bool) (y : BabyBear) (rest : List ℕ) (value : BabyBear) → length rest ≡ 0 →
     Decodes (if short then Err not_enough_bytes else if canonical then Ok (y, rest) else Err outside_range) (Ok value) →
-    (if short then Err too_short else nothing_behind (if short then Err not_enough_bytes else if canonical then Ok (y, rest) else Err outside_range)) ≡ Ok value
+    (if short then Err too_short else nothing_behind
+    (if short then Err not_enough_bytes else if canonical then Ok (y, rest) else Err outside_range)) ≡ Ok value
 whole_by true canonical y rest value none decodes = absurd decodes
 whole_by false true y rest value none decodes =
     ap (λ n. if n == 0 then Ok y else Err trailing_bytes) none ∙ ap Ok (sym decodes)
 whole_by false false y rest value none decodes = absurd decodes
 
 -- four bytes from which a scalar is decoded are, whole, that scalar
-pub read_whole-decoded : (narg : List ℕ) (value : BabyBear) → length (drop width narg) ≡ 0 → Decodes (read narg) (Ok value) → read_whole narg ≡ Ok value
+pub read_whole-decoded : (narg : List ℕ) (value : BabyBear) → length (drop width narg) ≡ 0 →
+    Decodes (read narg) (Ok value) → read_whole narg ≡ Ok value
 read_whole-decoded narg value none decodes =
     let n = big_endian (take width narg) in
     whole_by (nat_lt (length narg) width) (nat_lt n order) (residues.of n) (drop width narg) value none decodes

@@ -45,4 +45,5 @@ demo_steps =
 -- what the program prints of it: the text that is hashed, and a line with its digest
 abbrev pub demo_text : List ℕ
 demo_text =
-    rendering alternate_text demo_steps ++ (codes "digest " ++ (encode_lower (sha256 (rendering alternate_text demo_steps)) ++ 10 ∷ []))
+    rendering alternate_text demo_steps
+    ++ (codes "digest " ++ (encode_lower (sha256 (rendering alternate_text demo_steps)) ++ 10 ∷ []))

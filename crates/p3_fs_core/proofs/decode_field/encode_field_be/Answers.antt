@@ -8,5 +8,8 @@ returns-clause-ok g c =
     let r = g.F.PrimeCharacteristicRing.residues in
     let width = bytes_for g.F.Field.bit_length in
     c.in_ok-extend_from_slice.ensures.items
-    ∙ ap (λ bytes. c.args.out.now.items ++ bytes) (word_end width c.field_byte_size.result (r.number c.args.value.now) c.as_canonical_u64.result c.to_be_bytes-number.result
-    c.field_byte_size.ensures.width c.field_byte_size.ensures.most c.as_canonical_u64.ensures c.to_be_bytes-number.ensures)
+    ∙ ap (λ bytes. c.args.out.now.items ++ bytes)
+    (word_end width c.field_byte_size.result (r.number c.args.value.now) c.as_canonical_u64.result
+    c.to_be_bytes-number.result
+    c.field_byte_size.ensures.width c.field_byte_size.ensures.most c.as_canonical_u64.ensures
+    c.to_be_bytes-number.ensures)

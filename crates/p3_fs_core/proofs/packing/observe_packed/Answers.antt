@@ -20,18 +20,22 @@ loop-chunk-preserved g c =
     let steps = c.in-Some.ensures.steps in
     let kept = c.loop-chunk.invariant in
     let positive : 0 < size = subst (λ (k : ℕ). 0 < k) kept.2 kept.0 in
-    let split = chunks-step size all chunk rest positive steps.1.2 steps.1.0 (steps.1.1 ∙ ap (λ k. min k (length all)) kept.2) in
+    let split = chunks-step size all chunk rest positive steps.1.2 steps.1.0 (steps.1.1
+    ∙ ap (λ k. min k (length all)) kept.2) in
     let element = λ (bytes : List ℕ). r.of (little_endian bytes) in
     let start = state c.args.challenger.now in
     let values = packed r size c.args.bytes.now in
     let here = state c.loop-chunk.challenger in
-    let on = subst (λ (l : List (List ℕ)). GoesOn m.observation.observed m.observation.may_leave start values here (map element l)) split kept.3 in
+    let on =
+    subst (λ (l : List (List ℕ)). GoesOn m.observation.observed m.observation.may_leave start values here
+    (map element l)) split kept.3 in
     let value = c.from_u64-in-loop-chunk.ensures ∙ ap r.of c.number_of_chunk.ensures in
     let moved = c.in_ok-observe-2.ensures.ok ∙ ap (m.observation.observed here) value in (
       subst (λ (k : ℕ). 0 < k) (sym steps.0) kept.0,
       tt,
       steps.0 ∙ kept.2,
-      call-made m.observation.observed m.observation.may_leave start values here (state c.observe-in-loop-chunk.new.self) (element chunk) (map element (chunks size rest)) moved on,
+      call-made m.observation.observed m.observation.may_leave start values here
+          (state c.observe-in-loop-chunk.new.self) (element chunk) (map element (chunks size rest)) moved on,
     )
 
 -- a chunk is refused: those before it are observed
@@ -48,17 +52,22 @@ returns-in_err-observe-2-clause-err g c =
     let steps = c.in-Some.ensures.steps in
     let kept = c.loop-chunk.invariant in
     let positive : 0 < size = subst (λ (k : ℕ). 0 < k) kept.2 kept.0 in
-    let split = chunks-step size all chunk rest positive steps.1.2 steps.1.0 (steps.1.1 ∙ ap (λ k. min k (length all)) kept.2) in
+    let split = chunks-step size all chunk rest positive steps.1.2 steps.1.0 (steps.1.1
+    ∙ ap (λ k. min k (length all)) kept.2) in
     let element = λ (bytes : List ℕ). r.of (little_endian bytes) in
     let start = state c.args.challenger.now in
     let values = packed r size c.args.bytes.now in
     let here = state c.loop-chunk.challenger in
     let end = state c.observe-in-loop-chunk.new.self in
     let e = c.in_err-observe-2.field-0.0 in
-    let on = subst (λ (l : List (List ℕ)). GoesOn m.observation.observed m.observation.may_leave start values here (map element l)) split kept.3 in
+    let on =
+    subst (λ (l : List (List ℕ)). GoesOn m.observation.observed m.observation.may_leave start values here
+    (map element l)) split kept.3 in
     let value = c.from_u64-in-loop-chunk.ensures ∙ ap r.of c.number_of_chunk.ensures in
-    let refused = subst (λ x. RefusesObserve (m.observation.may_leave here x) e end) value c.in_err-observe-2.ensures.err in
-    rw (p.1, p.2) (call-refused m.observation.observed m.observation.may_leave start values here end (element chunk) (map element (chunks size rest)) e refused on)
+    let refused = subst (λ x. RefusesObserve (m.observation.may_leave here x) e end) value
+    c.in_err-observe-2.ensures.err in
+    rw (p.1, p.2) (call-refused m.observation.observed m.observation.may_leave start values here end (element chunk)
+    (map element (chunks size rest)) e refused on)
 
 pub returns-clause-ok : goal.returns-clause-ok
 returns-clause-ok g c =
@@ -75,4 +84,5 @@ returns-clause-ok g c =
     let values = packed r size c.args.bytes.now in
     let here = state c.loop-chunk.challenger in
     calls-done m.observation.observed m.observation.may_leave start values here
-    (subst (λ (l : List (List ℕ)). GoesOn m.observation.observed m.observation.may_leave start values here (map element l)) none kept.3)
+    (subst (λ (l : List (List ℕ)). GoesOn m.observation.observed m.observation.may_leave start values here
+    (map element l)) none kept.3)

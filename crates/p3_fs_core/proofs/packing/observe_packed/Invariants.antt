@@ -13,5 +13,6 @@ invariant-loop-chunk g l =
     (goal.iterator-loop-chunk g).can_next l.chunk-iterator
     × (goal.iterator-loop-chunk g).is_finite l.chunk-iterator
     × (chunks_size l.chunk-iterator ≡ size)
-    × GoesOn g.C.CanObserve.observation.observed g.C.CanObserve.observation.may_leave (state l.fn.challenger) (packed r size l.fn.bytes) (state l.challenger)
+    × GoesOn g.C.CanObserve.observation.observed g.C.CanObserve.observation.may_leave (state l.fn.challenger)
+    (packed r size l.fn.bytes) (state l.challenger)
     (map (λ chunk. r.of (little_endian chunk)) (chunks size (chunks_rest l.chunk-iterator)))

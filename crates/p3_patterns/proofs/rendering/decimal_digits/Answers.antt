@@ -19,10 +19,12 @@ loop-rest-preserved c =
     let rest = c.loop-rest.rest in
     let fits : rest < 2 ^ 64 = omega (arith, c.ranges.n, c.loop-rest.invariant.1) in
     let last : length (decimal rest) ≡ length (decimal (rest / 10)) + 1 =
-    ap length (decimal_step rest c.loop-rest-test.true fits) ∙ length-append (decimal (rest / 10)) ((48 + rest % 10) ∷ []) in
+    ap length (decimal_step rest c.loop-rest-test.true fits)
+    ∙ length-append (decimal (rest / 10)) ((48 + rest % 10) ∷ []) in
     (omega (arith, last, c.loop-rest.invariant.0), omega (arith, c.loop-rest.invariant.1))
 
 pub returns : goal.returns
 returns c =
-    let one : length (decimal c.loop-rest.rest) ≡ 1 = ap length (decimal_digit c.loop-rest.rest c.loop-rest-test.false) in
+    let one : length (decimal c.loop-rest.rest) ≡ 1 =
+    ap length (decimal_digit c.loop-rest.rest c.loop-rest-test.false) in
     omega (arith, one, c.loop-rest.invariant.0)

@@ -9,6 +9,7 @@ returns-else-high-eq0-clause-writes g c plain ok =
     let n = c.args.self.now.0 in
     let high = n / 2 ^ 64 in
     let low = n % 2 ^ 64 in
-    let parts : hex_number (high * 2 ^ 64 + low) ≡ hex_number high ++ sixteen_wide low = hex_number-parts high low (omega arith) (omega arith) (omega arith) in
+    let parts : hex_number (high * 2 ^ 64 + low) ≡ hex_number high ++ sixteen_wide low =
+    hex_number-parts high low (omega arith) (omega arith) (omega arith) in
     let whole : high * 2 ^ 64 + low ≡ n = omega arith in
     has_written_of_eq _ _ _ _ _ (sym parts ∙ ap hex_number whole) (search rules)

@@ -12,9 +12,11 @@ returns-clause-fed g c =
     let o = g.C.CanObserve.observation in
     let sponge = g.C.Sponge in
     let old = sponge.state c.args.challenger.now in
-    let values = packed g.Self.PrimeCharacteristicRing.residues (chunk_bytes g.Self.Field.bit_length) c.args.bytes.now in
+    let values = packed g.Self.PrimeCharacteristicRing.residues (chunk_bytes g.Self.Field.bit_length) c.args.bytes.now
+    in
     let fed = all-fed sponge.fed sponge.fed_nothing sponge.fed_more o g.met.C.CanObserve.observes old values in
-    on_ok c.observe_packed.result (λ is. subst (λ s. IsFed sponge.fed old (flat_map o.symbols values) s) (sym is) fed) c.observe_packed.ensures.ok
+    on_ok c.observe_packed.result (λ is. subst (λ s. IsFed sponge.fed old (flat_map o.symbols values) s) (sym is) fed)
+    c.observe_packed.ensures.ok
 
 pub returns-clause-fed_exactly : goal.returns-clause-fed_exactly
 returns-clause-fed_exactly g c = λ one_way.
@@ -24,5 +26,7 @@ returns-clause-fed_exactly g c = λ one_way.
     let each = element-feeds r g.met.Self.PrimeCharacteristicRing.are_residues o.symbols one_way in
     let old = sponge.state c.args.challenger.now in
     let values = packed r (chunk_bytes g.Self.Field.bit_length) c.args.bytes.now in
-    let fed = all-fed_exactly sponge.fed sponge.fed_nothing sponge.fed_more o g.met.C.CanObserve.observes old values (row-feeds o.symbols each values) in
-    subst (λ s. OnOk c.observe_packed.result (sponge.state c.observe_packed.new.challenger ≡ s)) fed c.observe_packed.ensures.ok
+    let fed = all-fed_exactly sponge.fed sponge.fed_nothing sponge.fed_more o g.met.C.CanObserve.observes old values
+    (row-feeds o.symbols each values) in
+    subst (λ s. OnOk c.observe_packed.result (sponge.state c.observe_packed.new.challenger ≡ s)) fed
+    c.observe_packed.ensures.ok

@@ -11,4 +11,5 @@ returns g c =
     let xs = c.interactions.result.now in
     let input = interactions.ghosts.hash_input in
     c.hash.ensures
-    ∙ ap (fold g.H.Hasher.write c.args.state.now) (sym (items_map placed input xs) ∙ ap (fed.slice input) (sym (pattern-placed xs c.args.self.now c.interactions.ensures)))
+    ∙ ap (fold g.H.Hasher.write c.args.state.now) (sym (items_map placed input xs)
+    ∙ ap (fed.slice input) (sym (pattern-placed xs c.args.self.now c.interactions.ensures)))

@@ -11,4 +11,5 @@ returns c =
     let ys = c.interactions-2.result.now in
     c.cmp.ensures
     ∙ sym (lex_map placed interactions.ghosts.cmp xs ys)
-    ∙ as_patterns (slice_cmp interactions.ghosts.cmp) xs ys c.args.self.now c.args.other.now c.interactions.ensures c.interactions-2.ensures
+    ∙ as_patterns (slice_cmp interactions.ghosts.cmp) xs ys c.args.self.now c.args.other.now c.interactions.ensures
+    c.interactions-2.ensures

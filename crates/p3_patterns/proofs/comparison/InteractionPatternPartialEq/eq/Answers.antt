@@ -11,4 +11,5 @@ returns c =
     let ys = c.interactions-2.result.now in
     c.eq.ensures
     ∙ sym (pointwise-map placed interactions.ghosts.eq xs ys)
-    ∙ as_patterns (pointwise interactions.ghosts.eq) xs ys c.args.self.now c.args.other.now c.interactions.ensures c.interactions-2.ensures
+    ∙ as_patterns (pointwise interactions.ghosts.eq) xs ys c.args.self.now c.args.other.now c.interactions.ensures
+    c.interactions-2.ensures

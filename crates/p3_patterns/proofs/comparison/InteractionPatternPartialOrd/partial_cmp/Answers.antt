@@ -11,4 +11,5 @@ returns c =
     let ys = c.interactions-2.result.now in
     c.partial_cmp.ensures
     ∙ sym (slice_partial_cmp-map placed interactions.ghosts.partial_cmp xs ys)
-    ∙ as_patterns (slice_partial_cmp interactions.ghosts.partial_cmp) xs ys c.args.self.now c.args.other.now c.interactions.ensures c.interactions-2.ensures
+    ∙ as_patterns (slice_partial_cmp interactions.ghosts.partial_cmp) xs ys c.args.self.now c.args.other.now
+    c.interactions.ensures c.interactions-2.ensures

@@ -11,4 +11,5 @@ invariant-loop-position g l =
     let text : Step → List ℕ = λ s. if l.self.alternate then alternate_text s else plain_text s in
     let steps = map step_of l.self.steps.now in
     (l.depth ≤ l.position) ×
-    (IsPlainFormatter l.initial.f → (written : List ℕ) × HasWritten g.W.Write.write_str_gives l.initial.f written l.f × (written ++ lines text l.digits l.position l.depth (drop l.position steps) ≡ lines text l.digits 0 0 steps))
+    (IsPlainFormatter l.initial.f → (written : List ℕ) × HasWritten g.W.Write.write_str_gives l.initial.f written l.f
+    × (written ++ lines text l.digits l.position l.depth (drop l.position steps) ≡ lines text l.digits 0 0 steps))

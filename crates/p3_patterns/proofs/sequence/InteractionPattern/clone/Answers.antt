@@ -8,4 +8,5 @@ pub returns : goal.returns
 returns c =
     let cloned = c.in_ok-clone.ensures.cases in
     PatternSteps-same _ _
-    (ap (map step_of) (each_same c.self.inside.interactions.items c.in_ok-clone.field-0.items cloned.0) ∙ ap (λ pattern. pattern.steps) c.self.view_is)
+    (ap (map step_of) (each_same c.self.inside.interactions.items c.in_ok-clone.field-0.items cloned.0)
+    ∙ ap (λ pattern. pattern.steps) c.self.view_is)

@@ -13,7 +13,8 @@ invariant_of-self-clause-is_label g c =
     let chunk = c.args.chunk.now in
     let fits : FitsCount chunk = search rules in
     let bytes : AreBytes chunk = search rules in
-    pushed-is_label c.args.self.now.instance_label.items chunk _ c.push_counted.result c.args.self.now.is_label fits bytes c.push_counted.ensures.ok c.push_counted.ensures.err
+    pushed-is_label c.args.self.now.instance_label.items chunk _ c.push_counted.result c.args.self.now.is_label fits
+    bytes c.push_counted.ensures.ok c.push_counted.ensures.err
 
 pub invariant_of-self-clause-label_fits : goal.invariant_of-self-clause-label_fits
 invariant_of-self-clause-label_fits g c =
@@ -42,5 +43,6 @@ returns-clause-chunks g c =
     let counts : FitsCount chunk = search rules in
     let fit : All FitsCount (is.chunks ++ (chunk ∷ [])) = All-push FitsCount is.chunks chunk is.counted counts in
     let label : c.push_counted.new.bytes.items ≡ label_of (is.chunks ++ (chunk ∷ [])) =
-    c.in_ok-push_counted.ensures.ok ∙ ap (λ front. front ++ counted chunk) is.spelled ∙ sym (label_more is.chunks chunk) in
+    c.in_ok-push_counted.ensures.ok ∙ ap (λ front. front ++ counted chunk) is.spelled
+    ∙ sym (label_more is.chunks chunk) in
     search made_of
