@@ -3,9 +3,11 @@
 use Rattle.std.proofs.Common.{◌≡◌, ℕ, List, [], ◌∷◌, map, refl}
 use Rattle.p3_small_primes.specs.F257Residues.{F257, residues}
 use Rattle.p3_symmetric.specs.Turn.{turned}
-use Rattle.p3_challenger_core.specs.Segments.{Call, observe, observe_empty_array, draw, ByCalls, BySegments, segments, run_calls, run_calls_to_digest, run_segments, run_segments_to_digest}
+use Rattle.p3_challenger_core.specs.Segments.{Call, observe, observe_empty_array, draw, ByCalls, BySegments, segments}
+use Rattle.p3_challenger_core.specs.Segments.{run_calls, run_calls_to_digest, run_segments, run_segments_to_digest}
 use Rattle.p3_duplex.specs.DuplexTranscript.{DuplexSponge, fresh, duplex_by_calls}
-use Rattle.p3_duplex.specs.DuplexChain.{duplex_by_segments, absorbed_blocks, handed_blocks, permuted, handed_in_turn, outputs_from}
+use Rattle.p3_duplex.specs.DuplexChain.{duplex_by_segments, absorbed_blocks, handed_blocks, permuted, handed_in_turn}
+use Rattle.p3_duplex.specs.DuplexChain.{outputs_from}
 
 abbrev start : DuplexSponge F257
 start = fresh residues 3
@@ -100,7 +102,8 @@ full_block_draw_by_segments : drawn_by_segments (five ∷ nought ∷ draw ∷ []
 unfolding absorbed_blocks handed_blocks permuted handed_in_turn outputs_from
 full_block_draw_by_segments = refl
 
-two_segments : drawn_by_segments (five ∷ draw ∷ draw ∷ five ∷ draw ∷ draw ∷ []) ≡ drawn (five ∷ draw ∷ draw ∷ five ∷ draw ∷ draw ∷ [])
+two_segments : drawn_by_segments (five ∷ draw ∷ draw ∷ five ∷ draw ∷ draw ∷ [])
+    ≡ drawn (five ∷ draw ∷ draw ∷ five ∷ draw ∷ draw ∷ [])
 unfolding absorbed_blocks handed_blocks permuted handed_in_turn outputs_from
 two_segments = refl
 
@@ -111,7 +114,8 @@ fresh_draws_handed : handed (draw ∷ draw ∷ draw ∷ draw ∷ []) ≡ state 0
 fresh_draws_handed = refl
 
 -- and a digest behind them once more
-fresh_draws_digest_handed : handed_to_digest (draw ∷ draw ∷ draw ∷ draw ∷ []) ≡ state 0 0 0 ∷ state 1 2 3 ∷ state 3 5 4 ∷ []
+fresh_draws_digest_handed : handed_to_digest (draw ∷ draw ∷ draw ∷ draw ∷ [])
+    ≡ state 0 0 0 ∷ state 1 2 3 ∷ state 3 5 4 ∷ []
 fresh_draws_digest_handed = refl
 
 -- a digest of a fresh sponge permutes the zeros
@@ -155,7 +159,8 @@ fresh_draws_handed_by_segments : handed_by_segments (draw ∷ draw ∷ draw ∷ 
 unfolding absorbed_blocks handed_blocks permuted handed_in_turn outputs_from
 fresh_draws_handed_by_segments = refl
 
-fresh_draws_digest_handed_by_segments : handed_to_digest_by_segments (draw ∷ draw ∷ draw ∷ draw ∷ []) ≡ state 0 0 0 ∷ state 1 2 3 ∷ state 3 5 4 ∷ []
+fresh_draws_digest_handed_by_segments : handed_to_digest_by_segments (draw ∷ draw ∷ draw ∷ draw ∷ [])
+    ≡ state 0 0 0 ∷ state 1 2 3 ∷ state 3 5 4 ∷ []
 unfolding absorbed_blocks handed_blocks permuted handed_in_turn outputs_from
 fresh_draws_digest_handed_by_segments = refl
 
@@ -179,15 +184,18 @@ full_block_handed_by_segments : handed_by_segments (five ∷ nought ∷ draw ∷
 unfolding absorbed_blocks handed_blocks permuted handed_in_turn outputs_from
 full_block_handed_by_segments = refl
 
-full_block_digest_handed_by_segments : handed_to_digest_by_segments (five ∷ nought ∷ []) ≡ state 5 0 2 ∷ state 1 4 8 ∷ []
+full_block_digest_handed_by_segments : handed_to_digest_by_segments (five ∷ nought ∷ [])
+    ≡ state 5 0 2 ∷ state 1 4 8 ∷ []
 unfolding absorbed_blocks handed_blocks permuted handed_in_turn outputs_from
 full_block_digest_handed_by_segments = refl
 
-two_segments_handed_by_segments : handed_by_segments (five ∷ draw ∷ draw ∷ five ∷ draw ∷ []) ≡ state 5 0 1 ∷ state 5 0 9 ∷ []
+two_segments_handed_by_segments : handed_by_segments (five ∷ draw ∷ draw ∷ five ∷ draw ∷ [])
+    ≡ state 5 0 1 ∷ state 5 0 9 ∷ []
 unfolding absorbed_blocks handed_blocks permuted handed_in_turn outputs_from
 two_segments_handed_by_segments = refl
 
-three_values_digest_handed_by_segments : handed_to_digest_by_segments (five ∷ nought ∷ five ∷ []) ≡ state 5 0 2 ∷ state 5 0 9 ∷ []
+three_values_digest_handed_by_segments : handed_to_digest_by_segments (five ∷ nought ∷ five ∷ [])
+    ≡ state 5 0 2 ∷ state 5 0 9 ∷ []
 unfolding absorbed_blocks handed_blocks permuted handed_in_turn outputs_from
 three_values_digest_handed_by_segments = refl
 
