@@ -1,13 +1,12 @@
 // Codecs and alphabets, through their bounds.
 ghost use Rattle.std.specs.Prelude.{◌<◌, ◌≤◌};
 
-use crate::answer;
 use crate::names::{ALGEBRAS, AlgebraName, FIELDS, FieldName};
-use crate::replay::Replayed;
-use crate::subject::observe_bytes;
-use crate::symbol::{Symbol, coefficients_of, element_of, numbers_of};
-use crate::words::{look_up, split_name};
 use anyhow::{Context, Result, bail};
+use conformance_calls::answer;
+use conformance_calls::replay::Replayed;
+use conformance_calls::symbol::{Symbol, coefficients_of, element_of, numbers_of};
+use conformance_calls::words::{look_up, split_name};
 use p3_challenger::fs::{
     BytesToFieldCodec, Codec, ExtensionFieldCodec, FieldToFieldCodec, FieldUnit, Unit,
 };
@@ -22,9 +21,6 @@ use std::alloc::Global;
 pub enum CodecCall {
     /// A call on the codec of an algebra.
     OfAlgebra(AlgebraName, ElementCall),
-    /// `draw A HEX`: the coefficients of the element that a codec of bytes draws from these, and how many are
-    /// left.
-    Draw(AlgebraName, Vec<u8>),
     /// `unit F HEX`: the elements that a byte string is, or why it is none.
     Spell(FieldName, Vec<u8>),
     /// `unit u8 HEX`: the bytes that a byte string is.
@@ -42,6 +38,9 @@ pub enum ElementCall {
     Encode(Vec<u8>),
     /// `dec A HEX`: the coefficients of the element that bytes begin with, or why they begin with none.
     Decode(Vec<u8>),
+    /// `draw A HEX`: the coefficients of the element that a codec of bytes draws from these, and how many are
+    /// left.
+    Draw(Vec<u8>),
 }
 
 /// The codecs and the alphabets: no challenger is kept from call to call.
@@ -74,7 +73,7 @@ impl CodecCall {
         }
         let algebra = look_up(&ALGEBRAS, values)?;
         match name {
-            "draw" => Ok(CodecCall::Draw(algebra, bytes)),
+            "draw" => Ok(CodecCall::OfAlgebra(algebra, ElementCall::Draw(bytes))),
             "enc" => Ok(CodecCall::OfAlgebra(algebra, ElementCall::Encode(bytes))),
             "dec" => Ok(CodecCall::OfAlgebra(algebra, ElementCall::Decode(bytes))),
             "wire-len" => Ok(CodecCall::OfAlgebra(algebra, ElementCall::WireLen)),
@@ -91,7 +90,6 @@ impl Replayed for Codecs {
                 Codecs::OfBytes => through_bytes(alloc, algebra, &call),
                 Codecs::OfElements => through_elements(alloc, algebra, &call),
             },
-            CodecCall::Draw(algebra, bytes) => drawn(alloc, algebra, bytes.as_slice()),
             CodecCall::SpellBytes(bytes) => spelled::<u8, u8>(alloc, bytes.as_slice()),
             CodecCall::Spell(field, bytes) => match field {
                 FieldName::BabyBear => {
@@ -109,18 +107,32 @@ impl Replayed for Codecs {
 fn through_bytes(alloc: Global, algebra: AlgebraName, call: &ElementCall) -> Result<String> {
     match algebra {
         AlgebraName::Scalars(FieldName::BabyBear) => {
-            through::<BabyBear, BabyBear, BytesToFieldCodec<BabyBear>, Supply<'_>>(alloc, call)
+            drawn_or_through::<BabyBear, BabyBear, BytesToFieldCodec<BabyBear>>(alloc, call)
         }
         AlgebraName::Scalars(FieldName::Goldilocks) => {
-            through::<Goldilocks, Goldilocks, BytesToFieldCodec<Goldilocks>, Supply<'_>>(
-                alloc, call,
-            )
+            drawn_or_through::<Goldilocks, Goldilocks, BytesToFieldCodec<Goldilocks>>(alloc, call)
         }
         AlgebraName::Scalars(FieldName::F257) => {
-            through::<F257, F257, BytesToFieldCodec<F257>, Supply<'_>>(alloc, call)
+            drawn_or_through::<F257, F257, BytesToFieldCodec<F257>>(alloc, call)
         }
-        AlgebraName::Four => through::<BabyBear, Four, FourOfBytes, Supply<'_>>(alloc, call),
+        AlgebraName::Four => drawn_or_through::<BabyBear, Four, FourOfBytes>(alloc, call),
     }
+}
+
+// What a codec of bytes answers. It draws from bytes that are given.
+fn drawn_or_through<'a, F: PrimeField64 + Symbol, A: BasedVectorSpace<F>, K: Codec<Supply<'a>, A>>(
+    alloc: Global,
+    call: &'a ElementCall,
+) -> Result<String>
+    requires { 128 ≤ K.SECURITY_BITS }
+{
+    let ElementCall::Draw(bytes) = call else {
+        return through::<F, A, K, Supply<'a>>(alloc, call);
+    };
+    let mut supply = Supply::new(bytes.as_slice());
+    let element = K::sample(&mut supply)?;
+    let numbers = answer::numbers(alloc, coefficients_of(alloc, &element)?.as_slice())?;
+    Ok(format!(in alloc; "{numbers} left {}", supply.left().len())?)
 }
 
 fn through_elements(alloc: Global, algebra: AlgebraName, call: &ElementCall) -> Result<String> {
@@ -161,6 +173,7 @@ fn through<F: PrimeField64 + Symbol, A: BasedVectorSpace<F>, K: Codec<C, A>, C: 
             Ok(element) => answer::numbers(alloc, coefficients_of(alloc, &element)?.as_slice()),
             Err(error) => Ok(error.to_string(alloc)?),
         },
+        ElementCall::Draw(_) => bail!("no bytes to draw from"),
     }
 }
 
@@ -175,34 +188,6 @@ fn coefficients<F: PrimeField64>(alloc: Global, numbers: &[u8]) -> Result<Vec<F>
         found.push(element.context("a value that is no canonical number")?)?;
     }
     Ok(found)
-}
-
-fn drawn(alloc: Global, algebra: AlgebraName, bytes: &[u8]) -> Result<String> {
-    match algebra {
-        AlgebraName::Scalars(FieldName::BabyBear) => {
-            drawn_by::<BabyBear, BabyBear, BytesToFieldCodec<BabyBear>>(alloc, bytes)
-        }
-        AlgebraName::Scalars(FieldName::Goldilocks) => {
-            drawn_by::<Goldilocks, Goldilocks, BytesToFieldCodec<Goldilocks>>(alloc, bytes)
-        }
-        AlgebraName::Scalars(FieldName::F257) => {
-            drawn_by::<F257, F257, BytesToFieldCodec<F257>>(alloc, bytes)
-        }
-        AlgebraName::Four => drawn_by::<BabyBear, Four, FourOfBytes>(alloc, bytes),
-    }
-}
-
-// The coefficients of the element drawn from bytes, and how many of them are left.
-fn drawn_by<'a, F: PrimeField64 + Symbol, A: BasedVectorSpace<F>, K: Codec<Supply<'a>, A>>(
-    alloc: Global,
-    bytes: &'a [u8],
-) -> Result<String>
-    requires { 128 ≤ K.SECURITY_BITS }
-{
-    let mut supply = Supply::new(bytes);
-    let element = K::sample(&mut supply)?;
-    let numbers = answer::numbers(alloc, coefficients_of(alloc, &element)?.as_slice())?;
-    Ok(format!(in alloc; "{numbers} left {}", supply.left().len())?)
 }
 
 // The symbols that a byte string is, or why it is none.

@@ -1,9 +1,9 @@
 // Counts of lists, and how many bits a number takes.
 ghost use Rattle.std.specs.Prelude.{◌≤◌};
 
-use crate::replay::Replayed;
-use crate::words::{split_first, split_name};
 use anyhow::{Result, bail};
+use conformance_calls::replay::Replayed;
+use conformance_calls::words::{split_first, split_name};
 use p3_challenger::fs::{bound_byte_width, decode_len_be, encode_len_be};
 use p3_field::log2_ceil_u64;
 use std::alloc::Global;

@@ -14,7 +14,7 @@
 //! | `algebra A` | [`fields::AlgebraCall`], on a field or on `bb4`, its elements of four coefficients |
 //! | `type T` | `name`, and `constant`, the same as the constant has it; T is `u8`, `usize`, `()`, a field, `bb4` or `f257_3` |
 //! | `turn K` | `v..`: what the permutation by K places makes of these cells of F257 |
-//! | `duplex F K W R` | [`challenger_call::ChallengerCall`], on a new challenger of W cells, R of them the rate |
+//! | `duplex F K W R` | [`conformance_calls::challenger_call::ChallengerCall`], on a new challenger of W cells, R of them the rate |
 //! | `hash H [HEX]` | the same, on a new challenger with these bytes pending; H is `len`, `sum` or `sha256` |
 //! | `by-reference duplex ..`, `by-reference hash ..` | the same, each made on a reference to the challenger |
 //! | `codec`, `codec elements` | [`codecs::CodecCall`], through challengers of bytes, or of elements |
@@ -25,84 +25,28 @@
 //! | `program` | [`program::ProgramCall`] |
 #![tactic(auto)]
 
-// An expression of the values as an array, whose length is part of its type.
-macro_rules! with_array {
-    ($values:expr, $array:ident => $result:expr) => {
-        match $values {
-            [] => {
-                let $array = [];
-                $result
-            }
-            [a] => {
-                let $array = [*a];
-                $result
-            }
-            [a, b] => {
-                let $array = [*a, *b];
-                $result
-            }
-            [a, b, c] => {
-                let $array = [*a, *b, *c];
-                $result
-            }
-            [a, b, c, d] => {
-                let $array = [*a, *b, *c, *d];
-                $result
-            }
-            _ => bail!("more than 4 places"),
-        }
-    };
-}
-
-// An expression of the challenger, or of a reference to it, as the line has it.
-macro_rules! with_challenger {
-    ($subject:expr, $challenger:ident => $result:expr) => {
-        match $subject.way {
-            Way::Direct => {
-                let $challenger = &mut $subject.challenger;
-                $result
-            }
-            Way::ByReference => {
-                let mut reference = &mut $subject.challenger;
-                let $challenger = &mut reference;
-                $result
-            }
-        }
-    };
-}
-
-mod answer;
-mod challenger_call;
 mod codecs;
 mod counts;
-mod duplex;
 mod fields;
-mod hash;
-mod line;
 mod names;
 mod patterns;
 mod program;
-mod replay;
 mod separators;
 mod steps;
-mod subject;
-mod symbol;
-mod symmetric;
-mod words;
 
-use anyhow::{Context, Result, bail};
+use anyhow::{Context, Result};
 use codecs::Codecs;
+use conformance_calls::line::{Line, Step};
+use conformance_calls::replay::first_difference;
+use conformance_calls::symmetric::Turning;
+use conformance_calls::{challengers, words};
 use counts::Counts;
-use line::{Line, Step};
 use patterns::Steps;
 use program::Program;
-use replay::first_difference;
 use std::alloc::Global;
 use std::process::ExitCode;
 use std::{env, fs};
 use steps::Parts;
-use subject::Way;
-use symmetric::Turning;
 
 // The files, without their ending.
 const FILES: [&str; 8] = [
@@ -181,7 +125,6 @@ fn difference(alloc: Global, line: &Line<'_>) -> Result<Option<(usize, String)>>
     let (kind, spec) = words::split_name(line.spec);
     let steps = line.steps.as_slice();
     match kind {
-        "by-reference" => challenger_difference(alloc, Way::ByReference, spec, steps),
         "field" => fields::field_difference(alloc, spec, steps),
         "field32" => fields::field32_difference(alloc, spec, steps),
         "algebra" => fields::algebra_difference(alloc, spec, steps),
@@ -197,21 +140,6 @@ fn difference(alloc: Global, line: &Line<'_>) -> Result<Option<(usize, String)>>
         "pattern" => first_difference(alloc, Steps::new(alloc), steps),
         "separator" => separators::difference(alloc, spec, steps),
         "program" => first_difference(alloc, Program, steps),
-        _ => challenger_difference(alloc, Way::Direct, line.spec, steps),
-    }
-}
-
-// The same, for calls on a challenger.
-fn challenger_difference(
-    alloc: Global,
-    way: Way,
-    spec: &str,
-    steps: &[Step<'_>],
-) -> Result<Option<(usize, String)>> {
-    let (kind, spec) = words::split_name(spec);
-    match kind {
-        "duplex" => duplex::difference(alloc, way, spec, steps),
-        "hash" => hash::difference(alloc, way, spec, steps),
-        _ => bail!("an unknown subject"),
+        _ => challengers::difference(alloc, line.spec, steps),
     }
 }

@@ -1,12 +1,12 @@
 // What binds a transcript to a protocol, and the seed that it gives a challenger.
 ghost use Rattle.std.specs.Prelude.{◌≤◌, length};
 
-use crate::answer;
-use crate::line::Step;
-use crate::replay::{Replayed, first_difference};
-use crate::symbol::{Symbol, numbers_of};
-use crate::words::{split_first, split_name};
 use anyhow::{Result, bail};
+use conformance_calls::answer;
+use conformance_calls::line::Step;
+use conformance_calls::replay::{Replayed, first_difference};
+use conformance_calls::symbol::{Symbol, numbers_of};
+use conformance_calls::words::{split_first, split_name};
 use p3_challenger::CanObserve;
 use p3_challenger::fs::{DomainSeparator, FieldUnit, InteractionPattern, Unit};
 use p3_field::{BabyBear, F257};

@@ -1,9 +1,12 @@
 -- Coefficients that are read, and spelled, one after another.
-use Rattle.std.proofs.Common.{◌≡◌, ℕ, suc, ◌<◌, ◌≤◌, ◌+◌, ◌-◌, ◌*◌, List, [], ◌∷◌, ◌++◌, length, take, drop, min, get_or, Result, Ok, Err, refl, sym, ap, ◌∙◌, append_assoc, append-nil, add-one, subst, arith}
+use Rattle.std.proofs.Common.{◌≡◌, ℕ, suc, ◌<◌, ◌≤◌, ◌+◌, ◌-◌, ◌*◌, List, [], ◌∷◌, ◌++◌, length, take, drop, min}
+use Rattle.std.proofs.Common.{get_or, Result, Ok, Err, refl, sym, ap, ◌∙◌, append_assoc, append-nil, add-one, subst}
+use Rattle.std.proofs.Common.{arith}
 use Rattle.std.specs.List.{flat_map}
 use Rattle.std.proofs.Math.Seq.{take-append-add, drop-cons}
 use Rattle.std.proofs.lemmas.Grind.{flat_map-append}
-use Rattle.std.proofs.lemmas.List.{take-append-le, take_min, take_more, drop-drop, flat_map_more, take-append-drop, take_all, length-drop}
+use Rattle.std.proofs.lemmas.List.{take-append-le, take_min, take_more, drop-drop, flat_map_more, take-append-drop}
+use Rattle.std.proofs.lemmas.List.{take_all, length-drop}
 use Rattle.p3_fs_core.specs.Errors.{Decodes}
 use Rattle.p3_fs_core.specs.declared.error.TranscriptError.{TranscriptError}
 use Rattle.p3_codecs.specs.Extension.{and_then, read_all, read_coefficients}
@@ -17,7 +20,8 @@ behind_nothing : {F : Type 0} (o : Result (List F × List ℕ) (List ℕ)) → b
 behind_nothing (Ok found) = refl
 behind_nothing (Err reason) = refl
 
-behind_one_more : {F : Type 0} (xs : List F) (x : F) (o : Result (List F × List ℕ) (List ℕ)) → behind_read xs (and_then (λ ys. Ok (x ∷ ys.0, ys.1)) o) ≡ behind_read (xs ++ x ∷ []) o
+behind_one_more : {F : Type 0} (xs : List F) (x : F) (o : Result (List F × List ℕ) (List ℕ)) →
+    behind_read xs (and_then (λ ys. Ok (x ∷ ys.0, ys.1)) o) ≡ behind_read (xs ++ x ∷ []) o
 behind_one_more xs x (Ok found) = ap (λ zs. Ok (zs, found.1)) (sym (append_assoc xs (x ∷ []) found.0))
 behind_one_more xs x (Err reason) = refl
 
@@ -35,7 +39,9 @@ module _ {F : Type 0} (base : List ℕ → Result (F × List ℕ) (List ℕ)) (w
       ∙ ap (λ k. read_all base n (drop k bytes)) front
 
   -- a coefficient more is read
-  pub has_read-next : (xs : List F) (i : ℕ) (x : F) → i < n → ((rest : List ℕ) → base (drop (i * width) bytes) ≡ Ok (x, rest) → rest ≡ drop width (drop (i * width) bytes)) → Decodes (base (drop (i * width) bytes)) (Ok x) → HasRead xs i → HasRead (xs ++ x ∷ []) (i + 1)
+  pub has_read-next : (xs : List F) (i : ℕ) (x : F) → i < n →
+      ((rest : List ℕ) → base (drop (i * width) bytes) ≡ Ok (x, rest) → rest ≡ drop width (drop (i * width) bytes)) →
+      Decodes (base (drop (i * width) bytes)) (Ok x) → HasRead xs i → HasRead (xs ++ x ∷ []) (i + 1)
   unfolding read_all
   has_read-next xs i x more behind decodes so_far =
       let here = drop (i * width) bytes in
@@ -46,12 +52,15 @@ module _ {F : Type 0} (base : List ℕ → Result (F × List ℕ) (List ℕ)) (w
       behind found.0 found.1 ∙ drop-drop width (i * width) bytes ∙ ap (λ k. drop k bytes) place in
       sym (behind_one_more xs x (read_all base (n - (i + 1)) (drop ((i + 1) * width) bytes)))
       ∙ ap (λ l. behind_read xs (and_then (λ ys. Ok (x ∷ ys.0, ys.1)) (read_all base (n - (i + 1)) l))) (sym rest)
-      ∙ ap (λ o. behind_read xs (and_then (λ y. and_then (λ ys. Ok (y.0 ∷ ys.0, ys.1)) (read_all base (n - (i + 1)) y.1)) o)) (sym found.1)
+      ∙ ap (λ o. behind_read xs (and_then (λ y. and_then (λ ys. Ok (y.0 ∷ ys.0, ys.1))
+      (read_all base (n - (i + 1)) y.1)) o)) (sym found.1)
       ∙ ap (λ k. behind_read xs (read_all base k here)) (sym left)
       ∙ so_far
 
   -- a coefficient that is none is why there is no element
-  pub has_read-stops : {A : Type 0} (element : List F → A) (xs : List F) (i : ℕ) (e : TranscriptError) → i < n → Decodes (base (drop (i * width) bytes)) (Err e) → HasRead xs i → Decodes (read_coefficients base n element bytes) (Err e)
+  pub has_read-stops : {A : Type 0} (element : List F → A) (xs : List F) (i : ℕ) (e : TranscriptError) → i < n →
+      Decodes (base (drop (i * width) bytes)) (Err e) → HasRead xs i →
+      Decodes (read_coefficients base n element bytes) (Err e)
   unfolding read_all
   has_read-stops {A} element xs i e more decodes so_far =
       let here = drop (i * width) bytes in
@@ -60,11 +69,14 @@ module _ {F : Type 0} (base : List ℕ → Result (F × List ℕ) (List ℕ)) (w
       let all : read_all base n bytes ≡ Err found.0 =
       sym so_far
       ∙ ap (λ k. behind_read xs (read_all base k here)) left
-      ∙ ap (λ o. behind_read xs (and_then (λ y. and_then (λ ys. Ok (y.0 ∷ ys.0, ys.1)) (read_all base (n - (i + 1)) y.1)) o)) found.1 in
-      subst (λ (o : Result (List F × List ℕ) (List ℕ)). Decodes (and_then (λ ys. Ok (element ys.0, ys.1)) o) (Err e)) (sym all) found.2
+      ∙ ap (λ o. behind_read xs (and_then (λ y. and_then (λ ys. Ok (y.0 ∷ ys.0, ys.1))
+      (read_all base (n - (i + 1)) y.1)) o)) found.1 in
+      subst (λ (o : Result (List F × List ℕ) (List ℕ)). Decodes (and_then (λ ys. Ok (element ys.0, ys.1)) o) (Err e))
+      (sym all) found.2
 
   -- all of them are read
-  pub has_read-all : {A : Type 0} (element : List F → A) (xs : List F) (i : ℕ) (x : A) → n ≤ i → x ≡ element xs → HasRead xs i → Decodes (read_coefficients base n element bytes) (Ok x)
+  pub has_read-all : {A : Type 0} (element : List F → A) (xs : List F) (i : ℕ) (x : A) → n ≤ i → x ≡ element xs →
+      HasRead xs i → Decodes (read_coefficients base n element bytes) (Ok x)
   unfolding read_all
   has_read-all {A} element xs i x done is so_far =
       let here = drop (i * width) bytes in
@@ -73,10 +85,13 @@ module _ {F : Type 0} (base : List ℕ → Result (F × List ℕ) (List ℕ)) (w
       sym so_far
       ∙ ap (λ k. behind_read xs (read_all base k here)) none
       ∙ ap (λ zs. Ok (zs, here)) (append-nil xs) in
-      subst (λ (o : Result (List F × List ℕ) (List ℕ)). Decodes (and_then (λ ys. Ok (element ys.0, ys.1)) o) (Ok x)) (sym all) is
+      subst (λ (o : Result (List F × List ℕ) (List ℕ)). Decodes (and_then (λ ys. Ok (element ys.0, ys.1)) o) (Ok x))
+      (sym all) is
 
 -- what is spelled of a row, where a part of the next spelling was added behind the first ones
-pub row-beginning : {F : Type 0} (wire : F → List ℕ) (xs : List F) (x : F) (ys : List F) (m : ℕ) (old : List ℕ) → (n : ℕ) × ((old ++ flat_map wire xs) ++ take m (wire x) ≡ old ++ take n (flat_map wire xs ++ (wire x ++ flat_map wire ys)))
+pub row-beginning : {F : Type 0} (wire : F → List ℕ) (xs : List F) (x : F) (ys : List F) (m : ℕ) (old : List ℕ) →
+    (n : ℕ) × ((old ++ flat_map wire xs) ++ take m (wire x) ≡ old ++ take n
+    (flat_map wire xs ++ (wire x ++ flat_map wire ys)))
 row-beginning wire xs x ys m old =
     let k = min m (length (wire x)) in
     let spelled = flat_map wire xs in
@@ -90,7 +105,8 @@ row-beginning wire xs x ys m old =
 
 module _ {F : Type 0} (wire : F → List ℕ) (xs : List F) (old : List ℕ) (i : ℕ) (x : F) (more : i < length xs) where
   -- a coefficient more is spelled
-  pub spelled-next : (here next : List ℕ) → here ≡ old ++ flat_map wire (take i xs) → next ≡ here ++ wire (get_or xs i x) → next ≡ old ++ flat_map wire (take (i + 1) xs)
+  pub spelled-next : (here next : List ℕ) → here ≡ old ++ flat_map wire (take i xs) →
+      next ≡ here ++ wire (get_or xs i x) → next ≡ old ++ flat_map wire (take (i + 1) xs)
   spelled-next here next so_far is =
       is
       ∙ ap (λ l. l ++ wire (get_or xs i x)) so_far
@@ -101,11 +117,13 @@ module _ {F : Type 0} (wire : F → List ℕ) (xs : List F) (old : List ℕ) (i 
   row-split : flat_map wire xs ≡ flat_map wire (take i xs) ++ (wire (get_or xs i x) ++ flat_map wire (drop (i + 1) xs))
   row-split =
       let whole : take i xs ++ (get_or xs i x ∷ drop (i + 1) xs) ≡ xs =
-      ap (λ l. take i xs ++ l) (sym (drop-cons xs i x more ∙ (λ j. get_or xs i x ∷ drop (sym (add-one i) j) xs))) ∙ take-append-drop i xs in
+      ap (λ l. take i xs ++ l) (sym (drop-cons xs i x more ∙ (λ j. get_or xs i x ∷ drop (sym (add-one i) j) xs)))
+      ∙ take-append-drop i xs in
       sym (ap (flat_map wire) whole) ∙ flat_map-append wire (take i xs) (get_or xs i x ∷ drop (i + 1) xs)
 
   -- a beginning of a coefficient's spelling is one of the row's
-  pub spelled-beginning : (here next : List ℕ) (m : ℕ) → here ≡ old ++ flat_map wire (take i xs) → next ≡ here ++ take m (wire (get_or xs i x)) → (n : ℕ) × (next ≡ old ++ take n (flat_map wire xs))
+  pub spelled-beginning : (here next : List ℕ) (m : ℕ) → here ≡ old ++ flat_map wire (take i xs) →
+      next ≡ here ++ take m (wire (get_or xs i x)) → (n : ℕ) × (next ≡ old ++ take n (flat_map wire xs))
   spelled-beginning here next m so_far is =
       let part = row-beginning wire (take i xs) (get_or xs i x) (drop (i + 1) xs) m old in (
         part.0,
@@ -115,15 +133,20 @@ module _ {F : Type 0} (wire : F → List ℕ) (xs : List F) (old : List ℕ) (i 
             ∙ ap (λ l. old ++ take part.0 l) (sym row-split),
       )
 
-module _ {F A : Type 0} (n : ℕ) (coefficients : A → List F) (element : List F → A) (as_many : (x : A) → length (coefficients x) ≡ n) (same : (x y : A) → coefficients x ≡ coefficients y → x ≡ y) (of_element : (xs : List F) → length xs ≡ n → coefficients (element xs) ≡ xs) where
+module _ {F A : Type 0} (n : ℕ) (coefficients : A → List F) (element : List F → A)
+    (as_many : (x : A) → length (coefficients x) ≡ n) (same : (x y : A) → coefficients x ≡ coefficients y → x ≡ y)
+    (of_element : (xs : List F) → length xs ≡ n → coefficients (element xs) ≡ xs) where
   -- an element is that of all its coefficients
   pub whole-element : (x : A) (i : ℕ) → n ≤ i → element (take i (coefficients x)) ≡ x
   whole-element x i done =
-      let all : take i (coefficients x) ≡ coefficients x = take_all i (coefficients x) (omega (arith, done, as_many x)) in
+      let all : take i (coefficients x) ≡ coefficients x = take_all i (coefficients x)
+      (omega (arith, done, as_many x)) in
       ap element all ∙ same (element (coefficients x)) x (of_element (coefficients x) (as_many x))
 
 -- bytes from a place on, as they are lent
-pub decoded-here : {F : Type 0} (base : List ℕ → Result (F × List ℕ) (List ℕ)) (width k i : ℕ) (bytes : List ℕ) (r : Result F TranscriptError) → k ≡ width → Decodes (base (take (length bytes - i * k) (drop (i * k) bytes))) r → Decodes (base (drop (i * width) bytes)) r
+pub decoded-here : {F : Type 0} (base : List ℕ → Result (F × List ℕ) (List ℕ)) (width k i : ℕ) (bytes : List ℕ)
+    (r : Result F TranscriptError) → k ≡ width → Decodes (base (take (length bytes - i * k) (drop (i * k) bytes))) r →
+    Decodes (base (drop (i * width) bytes)) r
 decoded-here base width k i bytes r is decodes =
     let short : length (drop (i * k) bytes) ≤ length bytes - i * k = omega (arith, length-drop (i * k) bytes) in
     let lent : take (length bytes - i * k) (drop (i * k) bytes) ≡ drop (i * width) bytes =

@@ -18,7 +18,8 @@ abbrev pub challenge_of : {F : Type 0} → Residues F → List ℕ → F
 challenge_of r bytes = r.of (big_endian bytes)
 
 -- an element is observed as the slice of its spelling's bytes
-abbrev pub observed_bytes : {F S Symbol : Type 0} → Residues F → ℕ → Observation S Symbol ℕ → (S → List ℕ → S → Type 0) → Observation S Symbol F
+abbrev pub observed_bytes : {F S Symbol : Type 0} → Residues F → ℕ → Observation S Symbol ℕ →
+    (S → List ℕ → S → Type 0) → Observation S Symbol F
 observed_bytes r bits byte slice_may_leave = observed_as (wire r (bytes_for bits)) (in_slice byte slice_may_leave)
 
 -- an element is drawn as the number of so many bytes

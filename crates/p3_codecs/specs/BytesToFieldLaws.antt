@@ -11,10 +11,13 @@ use Rattle.p3_fs_core.specs.Scalar.{wire}
 use Rattle.p3_fs_core.specs.ScalarLaws.{length-wire, wire-one_way, order-fits, width-positive}
 
 -- an element's symbols read one way
-pub wire_symbols-one_way : {F Symbol : Type 0} (r : Residues F) (laws : IsResidues r) (width : ℕ) (fits : r.order ≤ 256 ^ width) (symbols : ℕ → List Symbol) → ReadsOneWayOn IsByte symbols → ReadsOneWay (λ x. flat_map symbols (wire r width x))
+pub wire_symbols-one_way : {F Symbol : Type 0} (r : Residues F) (laws : IsResidues r) (width : ℕ)
+    (fits : r.order ≤ 256 ^ width) (symbols : ℕ → List Symbol) → ReadsOneWayOn IsByte symbols →
+    ReadsOneWay (λ x. flat_map symbols (wire r width x))
 wire_symbols-one_way r laws width fits symbols one_way x y a b e =
     let same = length-wire r laws width fits x ∙ sym (length-wire r laws width fits y) in
-    let bytes = bytes-one_way symbols one_way (wire r width x) (wire r width y) a b (AreBytes-in_bytes width (r.number x)) (AreBytes-in_bytes width (r.number y)) same e in
+    let bytes = bytes-one_way symbols one_way (wire r width x) (wire r width y) a b
+    (AreBytes-in_bytes width (r.number x)) (AreBytes-in_bytes width (r.number y)) same e in
     ((wire-one_way r laws width fits x y [] [] (ap (λ l. l ++ []) bytes.0)).0, bytes.1)
 
 -- a list of some length has an element
@@ -23,13 +26,20 @@ some_of [] h = absurd (omega (arith, h))
 some_of (x ∷ xs) h = tt
 
 -- the symbols of an element, where bytes are fed in one way
-pub bytes-tell_apart : {F Symbol : Type 0} (r : Residues F) → IsResidues r → (bits : ℕ) → r.order < 2 ^ bits → (symbols : ℕ → List Symbol) → ReadsOneWayOn IsByte symbols → TellsApart (λ x. flat_map symbols (wire r (bytes_for bits) x))
+pub bytes-tell_apart : {F Symbol : Type 0} (r : Residues F) → IsResidues r → (bits : ℕ) → r.order < 2 ^ bits →
+    (symbols : ℕ → List Symbol) → ReadsOneWayOn IsByte symbols →
+    TellsApart (λ x. flat_map symbols (wire r (bytes_for bits) x))
 bytes-tell_apart r laws bits below symbols one_way =
     let width = bytes_for bits in
     let fits = order-fits bits r.order below in
     record {
       one_way = wire_symbols-one_way r laws width fits symbols one_way;
       some = λ x.
-          let positive : 0 < length (wire r width x) = omega (arith, length-wire r laws width fits x, width-positive r laws bits below) in
-          bytes-feed symbols (byte-feeds symbols one_way) (wire r width x) (AreBytes-in_bytes width (r.number x)) (some_of (wire r width x) positive);
+          let positive : 0 < length (wire r width x) = omega (
+            arith,
+            length-wire r laws width fits x,
+            width-positive r laws bits below,
+          ) in
+          bytes-feed symbols (byte-feeds symbols one_way) (wire r width x) (AreBytes-in_bytes width (r.number x))
+          (some_of (wire r width x) positive);
     }

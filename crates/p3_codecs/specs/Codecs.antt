@@ -6,7 +6,8 @@ use Rattle.p3_fs_core.specs.Encoding.{Encoding, IsEncoding}
 
 -- Values are encoded, each in one way. What is observed is what is fed, and a refused value has fed a front of
 -- it. A draw that meets the limit gives nothing, and each draw takes some number of the smallest ones.
-pub record IsCodec {S Symbol T : Type 0} (fed : S → List Symbol → S) (next : S → S) (encoding : Encoding T) (observation : Observation S Symbol T) (sampling : Sampling S T) : Type 0 where
+pub record IsCodec {S Symbol T : Type 0} (fed : S → List Symbol → S) (next : S → S) (encoding : Encoding T)
+    (observation : Observation S Symbol T) (sampling : Sampling S T) : Type 0 where
   pub encodes : IsEncoding encoding
   pub observes : IsObservation fed observation
   pub samples : IsSampling next sampling

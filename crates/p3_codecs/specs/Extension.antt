@@ -1,5 +1,6 @@
 -- An element of a vector space, coefficient by coefficient in the order of the basis.
-use Rattle.std.specs.Prelude.{ℕ, zero, suc, ◌*◌, List, [], ◌∷◌, length, codes, nat_lt, flat_map, Result, Ok, Err, if◌then◌else◌}
+use Rattle.std.specs.Prelude.{ℕ, zero, suc, ◌*◌, List, [], ◌∷◌, length, codes, nat_lt, flat_map, Result, Ok, Err}
+use Rattle.std.specs.Prelude.{if◌then◌else◌}
 use Rattle.p3_challenger_core.specs.Observation as observation
 use Rattle.p3_challenger_core.specs.Observation.{Observation, observed_as}
 use Rattle.p3_challenger_core.specs.Sampling as sampling
@@ -16,17 +17,20 @@ and_then f (Ok x) = f x
 and_then f (Err reason) = Err reason
 
 -- n coefficients in a row, and the bytes after them, or why the first that is none is none
-unfoldable pub read_all : {F : Type 0} → (List ℕ → Result (F × List ℕ) (List ℕ)) → ℕ → List ℕ → Result (List F × List ℕ) (List ℕ)
+unfoldable pub read_all : {F : Type 0} → (List ℕ → Result (F × List ℕ) (List ℕ)) → ℕ → List ℕ →
+    Result (List F × List ℕ) (List ℕ)
 read_all read zero bytes = Ok ([], bytes)
 read_all read (suc n) bytes =
     and_then (λ x. and_then (λ xs. Ok (x.0 ∷ xs.0, xs.1)) (read_all read n x.1)) (read bytes)
 
 -- the element of n coefficients in a row
-abbrev pub read_coefficients : {F A : Type 0} → (List ℕ → Result (F × List ℕ) (List ℕ)) → ℕ → (List F → A) → List ℕ → Result (A × List ℕ) (List ℕ)
+abbrev pub read_coefficients : {F A : Type 0} → (List ℕ → Result (F × List ℕ) (List ℕ)) → ℕ → (List F → A) → List ℕ →
+    Result (A × List ℕ) (List ℕ)
 read_coefficients base n element bytes = and_then (λ xs. Ok (element xs.0, xs.1)) (read_all base n bytes)
 
 -- what is read at the head of bytes, where an element is made of n coefficients of this width
-abbrev pub read : {F A : Type 0} → (List ℕ → Result (F × List ℕ) (List ℕ)) → ℕ → ℕ → (List F → A) → List ℕ → Result (A × List ℕ) (List ℕ)
+abbrev pub read : {F A : Type 0} → (List ℕ → Result (F × List ℕ) (List ℕ)) → ℕ → ℕ → (List F → A) → List ℕ →
+    Result (A × List ℕ) (List ℕ)
 read base width n element bytes =
     if nat_lt (length bytes) (n * width) then Err not_enough_bytes else read_coefficients base n element bytes
 
@@ -40,7 +44,8 @@ encoding base n coefficients element =
     }
 
 -- it is observed as its coefficients
-abbrev pub observed_coefficients : {S Symbol F A : Type 0} → Observation S Symbol F → (A → List F) → Observation S Symbol A
+abbrev pub observed_coefficients : {S Symbol F A : Type 0} → Observation S Symbol F → (A → List F) →
+    Observation S Symbol A
 observed_coefficients base coefficients = observed_as coefficients (observation.in_row base)
 
 -- it is drawn as n coefficients, coefficient 0 first

@@ -48,14 +48,16 @@ impl<F: PrimeField64, C: CanObserve<u8> + CanSample<u8>> Codec<C, F> for BytesTo
       encodes = is_encoding F.residues F.are_residues F.bit_length F.bits_below;
       observes = observed_as-is_observation C.fed C.fed_nothing C.fed_more
           (in_slice C.observation C.slice_may_leave)
-          (in_slice-is_observation C.fed C.fed_nothing C.fed_more C.observation C.observes C.slice_may_leave C.slice_leaves)
+          (in_slice-is_observation C.fed C.fed_nothing C.fed_more C.observation C.observes C.slice_may_leave
+          C.slice_leaves)
           (wire F.residues (bytes_for F.bit_length));
       samples = made_of-is_sampling C.next (challenge_of F.residues)
           (in_row C.sampling (draw_bytes (bytes_for F.bit_length)))
           (in_row-is_sampling C.next C.sampling C.samples (draw_bytes (bytes_for F.bit_length)));
     } };
 
-    ghost symbols_read_one_way = { bytes-tell_apart F.residues F.are_residues F.bit_length F.bits_below C.observation.symbols };
+    ghost symbols_read_one_way = { bytes-tell_apart F.residues F.are_residues F.bit_length F.bits_below
+        C.observation.symbols };
 
     fn wire_len() -> usize {
         F::wire_len()

@@ -1,4 +1,5 @@
-ghost use Rattle.std.specs.Prelude.{◌≡◌, ℕ, ◌<◌, ◌≤◌, List, ◌++◌, take, drop, length, Some, Ok, Err, OnOk, OnErr, IfOk, IfErr};
+ghost use Rattle.std.specs.Prelude.{◌≡◌, ℕ, ◌<◌, ◌≤◌, List, ◌++◌, take, drop, length, Some, Ok, Err, OnOk, OnErr, IfOk};
+ghost use Rattle.std.specs.Prelude.{IfErr};
 ghost use Rattle.p3_challenger_core.specs.Observation.{Observation, RefusesObserve};
 ghost use Rattle.p3_challenger_core.specs.Sampling.{Sampling, RefusesDraw};
 ghost use Rattle.p3_challenger_core.specs.Reading.{TellsApart};

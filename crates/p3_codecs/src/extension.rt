@@ -88,7 +88,8 @@ impl<C: Sponge, F: Field, EF: BasedVectorSpace<F>, BaseCodec: ScalarCodec<C, F>>
 fn decode_element<C: Sponge, F: Field, EF: BasedVectorSpace<F>, BaseCodec: ScalarCodec<C, F>>(
     bytes: &[u8],
 ) -> Result<EF, TranscriptError>
-    ensures { Decodes (extension.read BaseCodec.encoding.read BaseCodec.encoding.width EF.DIMENSION EF.element bytes.now) result }
+    ensures { Decodes (extension.read BaseCodec.encoding.read BaseCodec.encoding.width EF.DIMENSION EF.element
+        bytes.now) result }
 {
     if bytes.len() < EF::DIMENSION * BaseCodec::wire_len() {
         return Err(TranscriptError::BadProofShape {

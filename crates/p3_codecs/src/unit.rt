@@ -40,7 +40,8 @@ pub trait Unit {
     ) -> Result<(), ChallengerError>
         requires { is_alphabet }
         ensures ok { OnOk result ((is_too_long (length bytes.now) → ⊥)
-            × (C.state challenger.new ≡ observed_all C.observation.observed (C.state challenger.old) (items bytes.now))) }
+            × (C.state challenger.new ≡ observed_all C.observation.observed (C.state challenger.old)
+            (items bytes.now))) }
         ensures err { IfErr result (λ e. RefusesBytes (is_too_long (length bytes.now))
             (LeavesItems C.observation C.slice_may_leave (C.state challenger.old) (items bytes.now))
             (C.state challenger.old) e (C.state challenger.new)) }
@@ -86,7 +87,8 @@ impl Unit for u8 {
         challenger: &mut C,
         bytes: &[u8],
     ) -> Result<(), ChallengerError>
-        ensures ok { OnOk result (C.state challenger.new ≡ observed_all C.observation.observed (C.state challenger.old) bytes.now) }
+        ensures ok { OnOk result (C.state challenger.new ≡ observed_all C.observation.observed (C.state challenger.old)
+            bytes.now) }
         // What is left is what one slice may leave.
         ensures err { IfErr result (λ e.
             RefusesObserve (C.slice_may_leave (C.state challenger.old) bytes.now) e (C.state challenger.new)) }

@@ -32,7 +32,8 @@ short_257 : scalar.read f257.residues 2 (1 ∷ []) ≡ Err scalar.not_enough_byt
 short_257 = refl
 
 -- the bytes 1 2 3 4 are their number and two chunks, and no byte is the number 0
-packed_four : packed baby_bear.residues 3 (1 ∷ 2 ∷ 3 ∷ 4 ∷ []) ≡ baby_bear.residues.of 4 ∷ baby_bear.residues.of 197121 ∷ baby_bear.residues.of 4 ∷ []
+packed_four : packed baby_bear.residues 3 (1 ∷ 2 ∷ 3 ∷ 4 ∷ []) ≡ baby_bear.residues.of 4 ∷ baby_bear.residues.of
+    197121 ∷ baby_bear.residues.of 4 ∷ []
 unfolding first_chunks
 packed_four = refl
 
@@ -42,21 +43,33 @@ packed_none = refl
 
 -- the 20 bytes 0123456789abcdeffedcba98765432100f1e2d3c draw 497719269, and with 4b5a6978 behind them
 -- 18060362441347088952 in the field of 64 bits
-drawn : big_endian (0x01 ∷ 0x23 ∷ 0x45 ∷ 0x67 ∷ 0x89 ∷ 0xab ∷ 0xcd ∷ 0xef ∷ 0xfe ∷ 0xdc ∷ 0xba ∷ 0x98 ∷ 0x76 ∷ 0x54 ∷ 0x32 ∷ 0x10 ∷ 0x0f ∷ 0x1e ∷ 0x2d ∷ 0x3c ∷ []) % 2013265921 ≡ 497719269
+drawn : big_endian (0x01 ∷ 0x23 ∷ 0x45 ∷ 0x67 ∷ 0x89 ∷ 0xab ∷ 0xcd ∷ 0xef ∷ 0xfe ∷ 0xdc ∷ 0xba ∷ 0x98 ∷ 0x76 ∷
+    0x54 ∷ 0x32 ∷ 0x10 ∷ 0x0f ∷ 0x1e ∷ 0x2d ∷ 0x3c ∷ []) % 2013265921 ≡ 497719269
 drawn = refl
 
-drawn_of_64_bits : big_endian (0x01 ∷ 0x23 ∷ 0x45 ∷ 0x67 ∷ 0x89 ∷ 0xab ∷ 0xcd ∷ 0xef ∷ 0xfe ∷ 0xdc ∷ 0xba ∷ 0x98 ∷ 0x76 ∷ 0x54 ∷ 0x32 ∷ 0x10 ∷ 0x0f ∷ 0x1e ∷ 0x2d ∷ 0x3c ∷ 0x4b ∷ 0x5a ∷ 0x69 ∷ 0x78 ∷ []) % 18446744069414584321 ≡ 18060362441347088952
+drawn_of_64_bits : big_endian (0x01 ∷ 0x23 ∷ 0x45 ∷ 0x67 ∷ 0x89 ∷ 0xab ∷ 0xcd ∷ 0xef ∷ 0xfe ∷ 0xdc ∷ 0xba ∷ 0x98 ∷
+    0x76 ∷ 0x54 ∷ 0x32 ∷ 0x10 ∷ 0x0f ∷ 0x1e ∷ 0x2d ∷ 0x3c ∷ 0x4b ∷ 0x5a ∷ 0x69 ∷ 0x78 ∷
+    []) % 18446744069414584321 ≡ 18060362441347088952
 drawn_of_64_bits = refl
 
 -- ---- an element of four coefficients
 
 -- 11, 13, 17, 19 are spelled 0000000b 0000000d 00000011 00000013; a byte fewer is too short
-spelled_four : flat_map (scalar.wire baby_bear.residues 4) (baby_bear.residues.of 11 ∷ baby_bear.residues.of 13 ∷ baby_bear.residues.of 17 ∷ baby_bear.residues.of 19 ∷ []) ≡ 0 ∷ 0 ∷ 0 ∷ 11 ∷ 0 ∷ 0 ∷ 0 ∷ 13 ∷ 0 ∷ 0 ∷ 0 ∷ 17 ∷ 0 ∷ 0 ∷ 0 ∷ 19 ∷ []
+spelled_four : flat_map (scalar.wire baby_bear.residues 4) (baby_bear.residues.of 11 ∷ baby_bear.residues.of
+    13 ∷ baby_bear.residues.of 17 ∷ baby_bear.residues.of 19 ∷ [])
+    ≡ 0 ∷ 0 ∷ 0 ∷ 11 ∷ 0 ∷ 0 ∷ 0 ∷ 13 ∷ 0 ∷ 0 ∷ 0 ∷ 17 ∷ 0 ∷ 0 ∷ 0 ∷ 19 ∷ []
 spelled_four = refl
 
-read_four : extension.read (scalar.read baby_bear.residues 4) 4 4 (λ xs. xs) (0 ∷ 0 ∷ 0 ∷ 11 ∷ 0 ∷ 0 ∷ 0 ∷ 13 ∷ 0 ∷ 0 ∷ 0 ∷ 17 ∷ 0 ∷ 0 ∷ 0 ∷ 19 ∷ []) ≡ Ok (baby_bear.residues.of 11 ∷ baby_bear.residues.of 13 ∷ baby_bear.residues.of 17 ∷ baby_bear.residues.of 19 ∷ [], [])
+read_four : extension.read (scalar.read baby_bear.residues 4) 4 4 (λ xs. xs)
+    (0 ∷ 0 ∷ 0 ∷ 11 ∷ 0 ∷ 0 ∷ 0 ∷ 13 ∷ 0 ∷ 0 ∷ 0 ∷ 17 ∷ 0 ∷ 0 ∷ 0 ∷ 19 ∷ [])
+    ≡ Ok (
+      baby_bear.residues.of 11 ∷ baby_bear.residues.of 13 ∷ baby_bear.residues.of 17 ∷ baby_bear.residues.of
+          19 ∷ [],
+      [],
+    )
 unfolding extension.read_all
 read_four = refl
 
-short_four : extension.read (scalar.read baby_bear.residues 4) 4 4 (λ xs. xs) (0 ∷ 0 ∷ 0 ∷ 11 ∷ 0 ∷ 0 ∷ 0 ∷ 13 ∷ 0 ∷ 0 ∷ 0 ∷ 17 ∷ 0 ∷ 0 ∷ 0 ∷ []) ≡ Err extension.not_enough_bytes
+short_four : extension.read (scalar.read baby_bear.residues 4) 4 4 (λ xs. xs)
+    (0 ∷ 0 ∷ 0 ∷ 11 ∷ 0 ∷ 0 ∷ 0 ∷ 13 ∷ 0 ∷ 0 ∷ 0 ∷ 17 ∷ 0 ∷ 0 ∷ 0 ∷ []) ≡ Err extension.not_enough_bytes
 short_four = refl

@@ -13,6 +13,7 @@ values-recorded =
     exact-observation (λ s xs. s ++ xs) append-nil append_assoc of_value (λ _ _. refl)
     (λ s x t is. unchanged-front (λ u xs. u ++ xs) append-nil append_assoc s t (x ∷ []) is)
 
-pub slice-recorded : {T : Type 0} (s xs t : List T) → IsNonEmpty xs × (t ≡ s) → LeavesInCalls of_value.observed of_value.may_leave s xs t
+pub slice-recorded : {T : Type 0} (s xs t : List T) → IsNonEmpty xs × (t ≡ s) →
+    LeavesInCalls of_value.observed of_value.may_leave s xs t
 slice-recorded s [] t left = absurd left.0
 slice-recorded s (x ∷ xs) t left = inl left.1

@@ -22,6 +22,7 @@ pub used_up-none : {T : Type 0} (left : List T) → IsUsedUp left → first_of l
 used_up-none [] h = refl
 used_up-none (x ∷ xs) h = absurd h
 
-pub supply-sampled : {T : Type 0} → IsSampling {S = List T} {T = T} rest_of (record { sampled = first_of; after = rest_of; meets_limit = IsUsedUp; may_leave = λ _ _. ⊥ })
+pub supply-sampled : {T : Type 0} → IsSampling {S = List T} {T = T} rest_of
+    (record { sampled = first_of; after = rest_of; meets_limit = IsUsedUp; may_leave = λ _ _. ⊥ })
 supply-sampled =
     record { limit_gives_none = used_up-none; steps = one_step rest_of; leaves = λ s t h. absurd h }

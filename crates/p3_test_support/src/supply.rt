@@ -61,7 +61,8 @@ impl<'a> CanObserve<u8> for Supply<'a> {
 
     ghost slice_may_leave = { λ _ _ _. ⊥ };
 
-    ghost observes = { unrefused_observe-is_observation (λ s _. s) (λ _. refl) (λ _ _ _. refl) (λ x. x ∷ []) (λ s _. s) (λ _ _. refl) };
+    ghost observes = { unrefused_observe-is_observation (λ s _. s) (λ _. refl) (λ _ _ _. refl)
+        (λ x. x ∷ []) (λ s _. s) (λ _ _. refl) };
 
     ghost slice_leaves = { λ _ _ _ h. absurd h };
 

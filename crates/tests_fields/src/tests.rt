@@ -1,4 +1,5 @@
-ghost use Rattle.std.specs.Prelude.{◌≡◌, ◌↔◌, ◌+◌, ◌*◌, ◌-◌, ◌%◌, ◌^◌, ◌<◌, ◌≤◌, ◌∷◌, IsTrue, Some, None, replicate, sum_by};
+ghost use Rattle.std.specs.Prelude.{◌≡◌, ◌↔◌, ◌+◌, ◌*◌, ◌-◌, ◌%◌, ◌^◌, ◌<◌, ◌≤◌, ◌∷◌, IsTrue, Some, None, replicate};
+ghost use Rattle.std.specs.Prelude.{sum_by};
 ghost use Rattle.p3_field.specs.Residues.{plus};
 
 use p3_field::{

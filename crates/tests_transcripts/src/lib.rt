@@ -1,8 +1,11 @@
-//! Tests of typed transcripts: codecs, alphabets, steps, patterns, separators, and of the program.
+//! Tests of typed transcripts: codecs, alphabets, steps, patterns, separators, of the program, and of
+//! generic callers.
 #![tactic(auto)]
 
 #[cfg(test)]
 mod alphabets;
+#[cfg(test)]
+mod callers;
 #[cfg(test)]
 mod codecs;
 #[cfg(test)]

@@ -3,6 +3,8 @@ use p3_fs_core::{
     MissingBeginInfo, MissingEndInfo, PatternError, TranscriptError,
 };
 use p3_patterns::InteractionPattern;
+use std::alloc::Global;
+use std::process::Abort;
 use std::test::Fail;
 
 fn step(hierarchy: Hierarchy, kind: Kind, label: Label) -> Interaction {
@@ -102,64 +104,91 @@ fn nested_containers_are_a_pattern(rt: HostRuntime) -> Result<(), Fail> {
     Ok(())
 }
 
-#[test]
-fn refusals_show_their_steps_and_positions(rt: HostRuntime) -> Result<(), Fail> {
-    let begin = opener(Kind::Message, "round");
-    let end = closer(Kind::Message, "other");
-    for (error, text) in [
-        (
-            TranscriptError::MissingBegin(MissingBeginInfo { position: 3, end }),
-            "missing begin for End Message other None opaque at position 3",
-        ),
-        (
-            TranscriptError::InvalidKind(InvalidKindInfo {
-                begin_position: 0,
-                begin,
-                interaction_position: 1,
-                interaction: step(Hierarchy::Atomic, Kind::Hint, "hint"),
-            }),
-            "invalid kind Atomic Hint hint None opaque at 1 for sub-protocol Begin Message round None opaque opened at 0",
-        ),
-        (
-            TranscriptError::MismatchedBeginEnd(MismatchedBeginEndInfo {
-                begin_position: 0,
-                begin,
-                end_position: 12,
-                end,
-            }),
-            "mismatched begin Begin Message round None opaque at 0 versus end End Message other None opaque at 12",
-        ),
-        (
-            TranscriptError::MissingEnd(MissingEndInfo { position: 0, begin }),
-            "missing end for Begin Message round None opaque opened at position 0",
-        ),
-        (
-            TranscriptError::Pattern(PatternError::Finished),
-            "already finished",
-        ),
-        (
-            TranscriptError::Pattern(PatternError::NoMoreSteps { received: end }),
-            "no more steps, received End Message other None opaque",
-        ),
-        (
-            TranscriptError::Pattern(PatternError::WrongStep {
-                received: end,
-                expected: begin,
-            }),
-            "received End Message other None opaque, expected Begin Message round None opaque",
-        ),
-        (
-            TranscriptError::Pattern(PatternError::Unplayed { expected: begin }),
-            "unplayed Begin Message round None opaque",
-        ),
-        (
-            TranscriptError::Pattern(PatternError::OverCap { len: 4, max: 3 }),
-            "length 4 exceeds 3",
-        ),
-        (TranscriptError::LabelTooLong, "label too long"),
-    ] {
-        let shown = error.to_string(rt.alloc())?;
-        assert_eq!(rt; shown.as_str(), text);
+// Asserts how each error prints.
+fn assert_shown(
+    rt: &impl Abort,
+    alloc: Global,
+    errors: &[(TranscriptError, &str)],
+) -> Result<(), Fail> {
+    for (error, text) in errors {
+        let shown = error.to_string(alloc)?;
+        assert_eq!(rt; shown.as_str(), *text);
     }
     Ok(())
+}
+
+#[test]
+fn faults_show_their_steps_and_positions(rt: HostRuntime) -> Result<(), Fail> {
+    let begin = opener(Kind::Message, "round");
+    let end = closer(Kind::Message, "other");
+    let without_opener = TranscriptError::MissingBegin(MissingBeginInfo { position: 3, end });
+    let another_kind = TranscriptError::InvalidKind(InvalidKindInfo {
+        begin_position: 0,
+        begin,
+        interaction_position: 1,
+        interaction: step(Hierarchy::Atomic, Kind::Hint, "hint"),
+    });
+    let another_closer = TranscriptError::MismatchedBeginEnd(MismatchedBeginEndInfo {
+        begin_position: 0,
+        begin,
+        end_position: 12,
+        end,
+    });
+    let without_closer = TranscriptError::MissingEnd(MissingEndInfo { position: 0, begin });
+    assert_shown(
+        &rt,
+        rt.alloc(),
+        &[
+            (
+                without_opener,
+                "missing begin for End Message other None opaque at position 3",
+            ),
+            (
+                another_kind,
+                "invalid kind Atomic Hint hint None opaque at 1 for sub-protocol Begin Message round None opaque opened at 0",
+            ),
+            (
+                another_closer,
+                "mismatched begin Begin Message round None opaque at 0 versus end End Message other None opaque at 12",
+            ),
+            (
+                without_closer,
+                "missing end for Begin Message round None opaque opened at position 0",
+            ),
+        ],
+    )
+}
+
+#[test]
+fn refusals_of_players_show_their_steps(rt: HostRuntime) -> Result<(), Fail> {
+    let expected = opener(Kind::Message, "round");
+    let received = closer(Kind::Message, "other");
+    let too_many = PatternError::NoMoreSteps { received };
+    let wrong_step = PatternError::WrongStep { received, expected };
+    let unplayed = PatternError::Unplayed { expected };
+    let over_cap = PatternError::OverCap { len: 4, max: 3 };
+    assert_shown(
+        &rt,
+        rt.alloc(),
+        &[
+            (
+                TranscriptError::Pattern(PatternError::Finished),
+                "already finished",
+            ),
+            (
+                TranscriptError::Pattern(too_many),
+                "no more steps, received End Message other None opaque",
+            ),
+            (
+                TranscriptError::Pattern(wrong_step),
+                "received End Message other None opaque, expected Begin Message round None opaque",
+            ),
+            (
+                TranscriptError::Pattern(unplayed),
+                "unplayed Begin Message round None opaque",
+            ),
+            (TranscriptError::Pattern(over_cap), "length 4 exceeds 3"),
+            (TranscriptError::LabelTooLong, "label too long"),
+        ],
+    )
 }

@@ -28,7 +28,7 @@ fn algebra(modulus: u64, degree: usize, basis: [u8; 32]) -> TypeTag {
 }
 
 #[test]
-fn order_is_that_of_the_variants_and_then_of_the_fields(rt: HostRuntime) {
+fn order_of_hierarchies_kinds_and_lengths_is_that_of_the_variants(rt: HostRuntime) {
     let hierarchies = [Hierarchy::Atomic, Hierarchy::Begin, Hierarchy::End];
     let kinds = [
         Kind::Protocol,
@@ -47,6 +47,13 @@ fn order_is_that_of_the_variants_and_then_of_the_fields(rt: HostRuntime) {
         Length::Bounded(0),
         Length::Bounded(1),
     ];
+    assert!(rt; is_strictly_increasing(&hierarchies));
+    assert!(rt; is_strictly_increasing(&kinds));
+    assert!(rt; is_strictly_increasing(&lengths));
+}
+
+#[test]
+fn order_of_tags_is_that_of_the_variants_and_then_of_the_fields(rt: HostRuntime) {
     let tower = TypeTag::BinaryTower {
         bits: 8,
         degree: 1,
@@ -66,9 +73,6 @@ fn order_is_that_of_the_variants_and_then_of_the_fields(rt: HostRuntime) {
         TypeTag::Bits { width: 9 },
         TypeTag::UniformBits { width: 8 },
     ];
-    assert!(rt; is_strictly_increasing(&hierarchies));
-    assert!(rt; is_strictly_increasing(&kinds));
-    assert!(rt; is_strictly_increasing(&lengths));
     assert!(rt; is_strictly_increasing(&tags));
 }
 

@@ -8,5 +8,6 @@ loop-byte-preserved g c =
     let r = g.F.PrimeCharacteristicRing.residues in
     let bytes = c.args.bytes.now in
     let i = c.loop-byte.byte-index in
-    behind-step r g.met.F.PrimeCharacteristicRing.are_residues bytes i (get_or bytes i 0) c.loop-byte.number c.behind-number.result (challenge_of r bytes)
+    behind-step r g.met.F.PrimeCharacteristicRing.are_residues bytes i (get_or bytes i 0) c.loop-byte.number
+    c.behind-number.result (challenge_of r bytes)
     c.loop-byte-test.true (λ _. get_or bytes i 0) c.behind-number.ensures c.loop-byte.invariant

@@ -7,4 +7,5 @@ abbrev pub invariant-loop-i : goal.invariant-loop-i
 invariant-loop-i g l =
     let codec = g.BaseCodec.Codec in
     let space = g.EF.BasedVectorSpace in
-    HasRead codec.encoding.read codec.encoding.width space.DIMENSION l.bytes (take l.i (space.coefficients l.element)) l.i
+    HasRead codec.encoding.read codec.encoding.width space.DIMENSION l.bytes (take l.i (space.coefficients l.element))
+    l.i

@@ -5,6 +5,7 @@ pub returns : goal.returns
 returns g c = λ one_way a b x y a_are b_are a_fits b_fits e.
     let unit = g.U.Unit in
     let symbols = g.C.CanObserve.observation.symbols in (
-      symbols-begin unit.is_item unit.items symbols one_way g.met.U.Unit.items_are a b x y a_are b_are (λ r s h. g.met.U.Unit.begins c.requires a b r s a_are b_are a_fits b_fits h) e,
+      symbols-begin unit.is_item unit.items symbols one_way g.met.U.Unit.items_are a b x y a_are b_are
+          (λ r s h. g.met.U.Unit.begins c.requires a b r s a_are b_are a_fits b_fits h) e,
       behind_equal unit.items symbols a b x y e,
     )

@@ -18,6 +18,11 @@ returns-in_err-sample_into_slice-clause-err g c =
     let n = bytes_for g.F.Field.bit_length + 16 in
     let room : List ℕ = replicate 24 0 in
     let as_many : length (take (c.wire_len.result + 16) room) ≡ n =
-    omega (arith, length-take-le (c.wire_len.result + 16) room (omega (arith, c.wire_len.ensures.most)), c.wire_len.ensures.width) in
+    omega (
+      arith,
+      length-take-le (c.wire_len.result + 16) room (omega (arith, c.wire_len.ensures.most)),
+      c.wire_len.ensures.width,
+    ) in
     rw (p.1, p.2) (refused-in_row g.C.Sponge.next m.sampling g.met.C.CanSample.samples
-    n e start end (subst (λ (k : ℕ). RefusesDraws m.sampling k e start end) as_many c.in_err-sample_into_slice.ensures.err))
+    n e start end (subst (λ (k : ℕ). RefusesDraws m.sampling k e start end) as_many
+    c.in_err-sample_into_slice.ensures.err))

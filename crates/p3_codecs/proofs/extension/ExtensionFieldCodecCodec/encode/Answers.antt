@@ -17,6 +17,8 @@ returns-in_err-encode-clause-left g c =
     let here = c.loop-coefficient.out.items in
     let part = c.in_err-encode.ensures.left in
     let more : i < length xs = subst (λ ys. i < length ys) lent c.loop-coefficient-test.true in
-    let so_far : here ≡ old ++ flat_map wire (take i xs) = c.loop-coefficient.invariant ∙ ap (λ ys. old ++ flat_map wire (take i ys)) lent in
+    let so_far : here ≡ old ++ flat_map wire (take i xs) = c.loop-coefficient.invariant
+    ∙ ap (λ ys. old ++ flat_map wire (take i ys)) lent in
     let is : x ≡ get_or xs i x = c.coefficient-item.is ∙ ap (λ ys. get_or ys i x) lent in
-    rw p.1 (spelled-beginning wire xs old i x more here c.encode.new.out.items part.0 so_far (part.1 ∙ ap (λ y. here ++ take part.0 (wire y)) is))
+    rw p.1 (spelled-beginning wire xs old i x more here c.encode.new.out.items part.0 so_far
+    (part.1 ∙ ap (λ y. here ++ take part.0 (wire y)) is))

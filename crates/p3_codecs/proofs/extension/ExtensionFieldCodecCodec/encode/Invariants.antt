@@ -5,4 +5,5 @@ use Rattle.p3_codecs.proofs.extension.ExtensionFieldCodecCodec.encode.Given as g
 -- the coefficients so far are spelled
 abbrev pub invariant-loop-coefficient : goal.invariant-loop-coefficient
 invariant-loop-coefficient g l =
-    l.out.items ≡ l.initial.out.items ++ flat_map g.BaseCodec.Codec.encoding.wire (take l.coefficient-index l.coefficients)
+    l.out.items ≡ l.initial.out.items ++ flat_map g.BaseCodec.Codec.encoding.wire
+    (take l.coefficient-index l.coefficients)

@@ -7,4 +7,5 @@ abbrev pub invariant-loop-coefficient : goal.invariant-loop-coefficient
 invariant-loop-coefficient g l =
     let codec = g.BaseCodec.Codec in
     let state = g.C.Sponge.state in
-    GoesOn codec.observation.observed codec.observation.may_leave (state l.initial.challenger) l.coefficients (state l.challenger) (drop l.coefficient-index l.coefficients)
+    GoesOn codec.observation.observed codec.observation.may_leave (state l.initial.challenger) l.coefficients
+    (state l.challenger) (drop l.coefficient-index l.coefficients)

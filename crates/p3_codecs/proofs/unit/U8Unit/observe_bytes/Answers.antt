@@ -14,7 +14,8 @@ returns-clause-fed g c =
     let bytes = c.args.bytes.now in
     let old = sponge.state c.args.challenger.now in
     let fed = all-fed sponge.fed sponge.fed_nothing sponge.fed_more o g.met.C.CanObserve.observes old bytes in
-    on_ok c.observe_slice.result (λ is. subst (λ s. IsFed sponge.fed old (flat_map o.symbols bytes) s) (sym is) fed) c.observe_slice.ensures.ok
+    on_ok c.observe_slice.result (λ is. subst (λ s. IsFed sponge.fed old (flat_map o.symbols bytes) s) (sym is) fed)
+    c.observe_slice.ensures.ok
 
 pub returns-clause-fed_exactly : goal.returns-clause-fed_exactly
 returns-clause-fed_exactly g c = λ one_way.
@@ -23,5 +24,6 @@ returns-clause-fed_exactly g c = λ one_way.
     let bytes = c.args.bytes.now in
     let are_bytes : AreBytes bytes = λ i. omega (arith, c.type_inv.bytes i) in
     let old = sponge.state c.args.challenger.now in
-    let fed = all-fed_exactly sponge.fed sponge.fed_nothing sponge.fed_more o g.met.C.CanObserve.observes old bytes (bytes-feed o.symbols (byte-feeds o.symbols one_way) bytes are_bytes) in
+    let fed = all-fed_exactly sponge.fed sponge.fed_nothing sponge.fed_more o g.met.C.CanObserve.observes old bytes
+    (bytes-feed o.symbols (byte-feeds o.symbols one_way) bytes are_bytes) in
     subst (λ s. OnOk c.observe_slice.result (sponge.state c.observe_slice.new.self ≡ s)) fed c.observe_slice.ensures.ok

@@ -1,5 +1,5 @@
 use crate::answer;
-use crate::challenger_call::{ChallengerCall, Draw, Form, Observation, RowKind, RowsKind};
+use crate::challenger_call::{ArraysKind, ChallengerCall, Draw, Form, Observation, RowKind};
 use crate::line::Step;
 use crate::replay::{Replayed, first_difference};
 use crate::subject::{
@@ -133,43 +133,18 @@ fn observe_any<F: Extended, P: CryptographicPermutation<[F; W]>, const W: usize,
     observation: Observation<F>,
 ) -> Result<()> {
     match observation {
-        Observation::Row(RowKind::Array, row) => {
-            with_array!(row.as_slice(), array => observe(alloc, subject, form, array))
+        Observation::Arrays(kind, rows) => {
+            let (first, rest) = rows.as_slice().split_first().context("no array")?;
+            with_array!(first.as_slice(), first => observe_arrays(alloc, subject, form, kind, first, rest))
         }
-        Observation::Row(RowKind::Digest, row) => {
-            with_array!(row.as_slice(), array => observe_digest(alloc, subject, form, array))
-        }
-        Observation::Rows(kind, rows) => observe_rows(alloc, subject, form, kind, rows),
+        Observation::Lists(lists) => observe(alloc, subject, form, lists),
         _ => observe_by_way(alloc, &mut subject.challenger, subject.way, observation),
     }
 }
 
+// Observes an array, or several of one length as a cap.
 #[tactic(auto, using(crate::proofs::Layouts::digest_fits))]
-fn observe_digest<
-    F: Extended,
-    P: CryptographicPermutation<[F; W]>,
-    const W: usize,
-    const R: usize,
-    const N: usize,
->(alloc: Global, subject: &mut Duplex<F, P, W, R>, form: Form, digest: [F; N]) -> Result<()> {
-    observe(alloc, subject, form, Hash::<F, F, N>::from(digest))
-}
-
-fn observe_rows<F: Extended, P: CryptographicPermutation<[F; W]>, const W: usize, const R: usize>(
-    alloc: Global,
-    subject: &mut Duplex<F, P, W, R>,
-    form: Form,
-    kind: RowsKind,
-    rows: Vec<Vec<F>>,
-) -> Result<()> {
-    if let RowsKind::Lists = kind {
-        return observe(alloc, subject, form, rows);
-    }
-    let (first, rest) = rows.as_slice().split_first().context("a cap of no roots")?;
-    with_array!(first.as_slice(), first => observe_cap(alloc, subject, form, kind, first, rest))
-}
-
-fn observe_cap<
+fn observe_arrays<
     F: Extended,
     P: CryptographicPermutation<[F; W]>,
     const W: usize,
@@ -179,14 +154,18 @@ fn observe_cap<
     alloc: Global,
     subject: &mut Duplex<F, P, W, R>,
     form: Form,
-    kind: RowsKind,
+    kind: ArraysKind,
     first: [F; N],
     rest: &[Vec<F>],
 ) -> Result<()> {
-    let cap = cap(alloc, first, rest)?;
     match kind {
-        RowsKind::CapByReference => observe(alloc, subject, form, &cap),
-        _ => observe(alloc, subject, form, cap),
+        ArraysKind::Cap => observe(alloc, subject, form, cap(alloc, first, rest)?),
+        ArraysKind::CapByReference => observe(alloc, subject, form, &cap(alloc, first, rest)?),
+        ArraysKind::Array if rest.is_empty() => observe(alloc, subject, form, first),
+        ArraysKind::Digest if rest.is_empty() => {
+            observe(alloc, subject, form, Hash::<F, F, N>::from(first))
+        }
+        _ => bail!("more than one array"),
     }
 }
 
@@ -223,7 +202,7 @@ fn observe_elements<F: Extended, C: FieldChallenger<F>>(
             let coefficients = symbols::<F>(alloc, coefficients.as_slice())?;
             observe_through_codec(challenger, coefficients.as_slice())
         }
-        Observation::Rows(_, _) => bail!("rows are arrays"),
+        Observation::Arrays(_, _) | Observation::Lists(_) => bail!("rows are arrays"),
     }
 }
 
@@ -243,7 +222,6 @@ fn observe_row<F: Extended, C: FieldChallenger<F>>(
             let slice = extension_elements::<F>(alloc, row)?;
             Ok(challenger.observe_algebra_slice(slice.as_slice())?)
         }
-        RowKind::Array | RowKind::Digest => bail!("an array"),
     }
 }
 

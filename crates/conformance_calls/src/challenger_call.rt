@@ -40,8 +40,10 @@ pub enum Observation<T> {
     BaseAsAlgebraElement(T),
     /// Values in a row.
     Row(RowKind, Vec<T>),
-    /// Rows of values.
-    Rows(RowsKind, Vec<Vec<T>>),
+    /// An array or several, by the rows of their values.
+    Arrays(ArraysKind, Vec<Vec<T>>),
+    /// `ov v.. / v..`: a list of lists.
+    Lists(Vec<Vec<T>>),
     /// `observe-bytes HEX`: a byte string, in the challenger's alphabet.
     Bytes(Vec<u8>),
     /// `observe-element c..`: through its codec, the element with these coefficients, one or four. They are of
@@ -54,25 +56,23 @@ pub enum Observation<T> {
 pub enum RowKind {
     /// `os v..`: a slice.
     Slice,
-    /// `oa v..`: an array.
-    Array,
-    /// `oh v..`: a digest.
-    Digest,
     /// `oe v v v v`: an element of an algebra, by its coefficients.
     AlgebraElement,
     /// `oes v v v v ..`: a slice of such elements.
     AlgebraSlice,
 }
 
-/// What rows of values are.
+/// What arrays are observed as.
 #[derive(Clone, Copy)]
-pub enum RowsKind {
+pub enum ArraysKind {
+    /// `oa v..`: an array.
+    Array,
+    /// `oh v..`: a digest.
+    Digest,
     /// `oc v.. / v..`: a Merkle cap, whose digests have one length.
     Cap,
     /// `ocr v.. / v..`: such a cap by reference.
     CapByReference,
-    /// `ov v.. / v..`: a list of lists.
-    Lists,
 }
 
 /// What is drawn.
@@ -106,19 +106,18 @@ pub enum ValuesKind {
     Array,
 }
 
-// The calls that observe a row, or rows.
-const ROWS: [(&str, RowKind); 5] = [
+// The calls that observe a row, or arrays.
+const ROWS: [(&str, RowKind); 3] = [
     ("os", RowKind::Slice),
-    ("oa", RowKind::Array),
-    ("oh", RowKind::Digest),
     ("oe", RowKind::AlgebraElement),
     ("oes", RowKind::AlgebraSlice),
 ];
 
-const ROWS_OF_ROWS: [(&str, RowsKind); 3] = [
-    ("oc", RowsKind::Cap),
-    ("ocr", RowsKind::CapByReference),
-    ("ov", RowsKind::Lists),
+const ARRAYS: [(&str, ArraysKind); 4] = [
+    ("oa", ArraysKind::Array),
+    ("oh", ArraysKind::Digest),
+    ("oc", ArraysKind::Cap),
+    ("ocr", ArraysKind::CapByReference),
 ];
 
 impl<T: Symbol> ChallengerCall<T> {
@@ -152,13 +151,16 @@ impl<T: Symbol> Observation<T> {
             "ob" => Ok(Observation::BaseAsAlgebraElement(T::of_number(words.parse()?)?)),
             "observe-bytes" => Ok(Observation::Bytes(hex::decode(alloc, words)?)),
             "observe-element" => Ok(Observation::Element(parse_row(alloc, words)?)),
-            "oc" | "ocr" | "ov" => {
-                let rows = rows_of_symbols(alloc, parse_rows(alloc, words)?.as_slice())?;
-                Ok(Observation::Rows(look_up(&ROWS_OF_ROWS, name)?, rows))
-            }
-            _ => {
+            "os" | "oe" | "oes" => {
                 let row = symbols(alloc, parse_row(alloc, words)?.as_slice())?;
                 Ok(Observation::Row(look_up(&ROWS, name)?, row))
+            }
+            _ => {
+                let rows = rows_of_symbols(alloc, parse_rows(alloc, words)?.as_slice())?;
+                match name {
+                    "ov" => Ok(Observation::Lists(rows)),
+                    _ => Ok(Observation::Arrays(look_up(&ARRAYS, name)?, rows)),
+                }
             }
         }
     }

@@ -19,11 +19,13 @@ up-multiple k n divides =
 digest_size : (τ : Ty) (n : ℕ) → up (max (align τ) 1) (up 1 (up (align τ) 0 + n * size τ) + 0) ≡ n * size τ
 digest_size τ n =
     ap (λ k. up k (up 1 (up (align τ) 0 + n * size τ) + 0)) (max-eq_left (align_pos τ))
-    ∙ ap (λ e. up (align τ) e) (add-zero (up 1 (up (align τ) 0 + n * size τ)) ∙ up-multiple 1 (up (align τ) 0 + n * size τ) (dv_one (up (align τ) 0 + n * size τ)))
+    ∙ ap (λ e. up (align τ) e) (add-zero (up 1 (up (align τ) 0 + n * size τ))
+    ∙ up-multiple 1 (up (align τ) 0 + n * size τ) (dv_one (up (align τ) 0 + n * size τ)))
     ∙ ap (λ e. up (align τ) (e + n * size τ)) (up-multiple (align τ) 0 (dv_zero (align τ)))
     ∙ ap (λ e. up (align τ) e) (zero-add (n * size τ))
     ∙ up-multiple (align τ) (n * size τ) (dv_mul (align τ) (size τ) n (align_size τ))
 
 -- a digest fits in memory where the array does
-pub digest_fits : (τ : Ty) (n : ℕ) → n * size τ < 9223372036854775808 → up (max (align τ) 1) (up 1 (up (align τ) 0 + n * size τ) + 0) < 9223372036854775808
+pub digest_fits : (τ : Ty) (n : ℕ) → n * size τ < 9223372036854775808 →
+    up (max (align τ) 1) (up 1 (up (align τ) 0 + n * size τ) + 0) < 9223372036854775808
 digest_fits τ n fits = subst (λ e. e < 9223372036854775808) (sym (digest_size τ n)) fits

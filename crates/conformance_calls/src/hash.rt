@@ -1,5 +1,5 @@
 use crate::answer;
-use crate::challenger_call::{ChallengerCall, Draw, Form, Observation, RowKind, RowsKind};
+use crate::challenger_call::{ArraysKind, ChallengerCall, Draw, Form, Observation, RowKind};
 use crate::line::Step;
 use crate::replay::{Replayed, first_difference};
 use crate::subject::{
@@ -90,53 +90,33 @@ fn observe_any<H: CryptographicHasher<u8, [u8; 32]>>(
     observation: Observation<u8>,
 ) -> Result<()> {
     match observation {
-        Observation::Row(RowKind::Array, row) => {
-            with_array!(row.as_slice(), array => observe(alloc, subject, form, array))
+        Observation::Arrays(kind, rows) => {
+            let (first, rest) = rows.as_slice().split_first().context("no array")?;
+            with_array!(first.as_slice(), first => observe_arrays(alloc, subject, form, kind, first, rest))
         }
-        Observation::Row(RowKind::Digest, row) => {
-            with_array!(row.as_slice(), array => observe_digest(alloc, subject, form, array))
-        }
-        Observation::Rows(kind, rows) => observe_rows(alloc, subject, form, kind, rows),
+        Observation::Lists(lists) => observe(alloc, subject, form, lists),
         _ =>
             with_challenger!(subject, challenger => observe_values(alloc, challenger, observation)),
     }
 }
 
-fn observe_digest<H: CryptographicHasher<u8, [u8; 32]>, const N: usize>(
+// Observes an array, or several of one length as a cap.
+fn observe_arrays<H: CryptographicHasher<u8, [u8; 32]>, const N: usize>(
     alloc: Global,
     subject: &mut Hashing<H>,
     form: Form,
-    digest: [u8; N],
-) -> Result<()> {
-    observe(alloc, subject, form, Hash::<u8, u8, N>::from(digest))
-}
-
-fn observe_rows<H: CryptographicHasher<u8, [u8; 32]>>(
-    alloc: Global,
-    subject: &mut Hashing<H>,
-    form: Form,
-    kind: RowsKind,
-    rows: Vec<Vec<u8>>,
-) -> Result<()> {
-    if let RowsKind::Lists = kind {
-        return observe(alloc, subject, form, rows);
-    }
-    let (first, rest) = rows.as_slice().split_first().context("a cap of no roots")?;
-    with_array!(first.as_slice(), first => observe_cap(alloc, subject, form, kind, first, rest))
-}
-
-fn observe_cap<H: CryptographicHasher<u8, [u8; 32]>, const N: usize>(
-    alloc: Global,
-    subject: &mut Hashing<H>,
-    form: Form,
-    kind: RowsKind,
+    kind: ArraysKind,
     first: [u8; N],
     rest: &[Vec<u8>],
 ) -> Result<()> {
-    let cap = cap(alloc, first, rest)?;
     match kind {
-        RowsKind::CapByReference => observe(alloc, subject, form, &cap),
-        _ => observe(alloc, subject, form, cap),
+        ArraysKind::Cap => observe(alloc, subject, form, cap(alloc, first, rest)?),
+        ArraysKind::CapByReference => observe(alloc, subject, form, &cap(alloc, first, rest)?),
+        ArraysKind::Array if rest.is_empty() => observe(alloc, subject, form, first),
+        ArraysKind::Digest if rest.is_empty() => {
+            observe(alloc, subject, form, Hash::<u8, u8, N>::from(first))
+        }
+        _ => bail!("more than one array"),
     }
 }
 
