@@ -15,7 +15,7 @@ pub enum CountCall {
     Log2(u64),
     /// `width n`: how many bytes hold every number up to n.
     Width(usize),
-    /// `encode n w`: the count n in w bytes, with zeros behind.
+    /// `encode n w`: the count n in w bytes, with zeros after.
     Encode(usize, usize),
     /// `decode w HEX`: the count that the bytes begin with, in w bytes.
     Decode(usize, Vec<u8>),

@@ -62,7 +62,7 @@ impl Replayed for Parts {
 }
 
 impl StepHead {
-    /// Reads a head with nothing behind it.
+    /// Reads a head with nothing after it.
     pub fn parse(words: &str) -> Result<StepHead> {
         let (hierarchy, words) = split_first(words)?;
         let (kind, words) = split_first(words)?;

@@ -6,7 +6,7 @@ use std::alloc::Global;
 /// A call on a challenger of `T`.
 #[derive(Drop)]
 pub enum ChallengerCall<T> {
-    /// An observation; behind the word `slice` an observation of an array, a digest, a cap or lists as a slice
+    /// An observation; after the word `slice` an observation of an array, a digest, a cap or lists as a slice
     /// of one.
     Observe(Form, Observation<T>),
     Draw(Draw),

@@ -6,7 +6,7 @@ use crate::{duplex, hash};
 use anyhow::{Result, bail};
 use std::alloc::Global;
 
-/// The first call with another answer, on a new challenger: `duplex F K W R`, or `hash H [HEX]`. Behind the word
+/// The first call with another answer, on a new challenger: `duplex F K W R`, or `hash H [HEX]`. After the word
 /// `by-reference` each call is made on a reference to it.
 pub fn difference(
     alloc: Global,

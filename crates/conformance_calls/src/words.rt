@@ -2,7 +2,7 @@
 use anyhow::{Context, Result, bail};
 use std::alloc::Global;
 
-/// The name of a call, and the words behind it.
+/// The name of a call, and the words after it.
 pub fn split_name(text: &str) -> (&str, &str) {
     text.split_once(' ').unwrap_or((text, ""))
 }
@@ -17,7 +17,7 @@ pub fn look_up<T: Copy>(table: &[(&str, T)], name: &str) -> Result<T> {
     bail!("an unknown name")
 }
 
-/// The first word, and those behind it.
+/// The first word, and those after it.
 pub fn split_first(words: &str) -> Result<(&str, &str)> {
     words.split_once(' ').context("too few words")
 }

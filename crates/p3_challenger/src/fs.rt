@@ -4,17 +4,18 @@ pub use p3_codecs::{
     BytesToFieldCodec, Codec, EXTRA_BYTES, ExtensionFieldCodec, FieldToFieldCodec, FieldUnit,
     MIN_CHALLENGE_SECURITY_BITS, ScalarCodec, Unit, symbols_begin,
 };
-pub use p3_duplex::duplex_elements_read_one_way;
+pub use p3_duplex::duplex_elements_are_prefix_code;
 pub use p3_fs_core::{
     Alternate, Hierarchy, Interaction, InvalidKindInfo, Kind, Label, Length,
     MismatchedBeginEndInfo, MissingBeginInfo, MissingEndInfo, PatternError, TranscriptError,
-    TranscriptField, TypeTag, bound_byte_width, counts_read_one_way, decode_len_be, encode_len_be,
+    TranscriptField, TypeTag, bound_byte_width, counts_are_prefix_code, decode_len_be,
+    encode_len_be,
 };
-pub use p3_hash_challenger::hash_values_read_one_way;
+pub use p3_hash_challenger::hash_values_are_prefix_code;
 pub use p3_patterns::{
-    InteractionPattern, Pattern, PatternPlayer, PatternState, renderings_read_one_way,
+    InteractionPattern, Pattern, PatternPlayer, PatternState, equal_renderings_are_equal_patterns,
 };
 pub use p3_turn::{
-    DomainSeparator, PROTOCOL_ID_LEN, identifiers_read_one_way, labels_read_one_way,
-    seeds_read_one_way,
+    DomainSeparator, PROTOCOL_ID_LEN, identifiers_are_injective, labels_are_injective,
+    seeds_are_prefix_code,
 };

@@ -11,5 +11,9 @@ pub use p3_challenger_core::{
     CanFinalizeDigest, CanObserve, CanSample, CanSampleBits, ChallengerError, FieldChallenger,
     Sponge, array_has_places, calls_have_one_cut, sample_array,
 };
-pub use p3_duplex::{DuplexChallenger, duplex_arrays_read_one_way, duplex_elements_read_one_way};
-pub use p3_hash_challenger::{HashChallenger, hash_arrays_read_one_way, hash_values_read_one_way};
+pub use p3_duplex::{
+    DuplexChallenger, duplex_arrays_are_prefix_code, duplex_elements_are_prefix_code,
+};
+pub use p3_hash_challenger::{
+    HashChallenger, hash_arrays_are_prefix_code, hash_values_are_prefix_code,
+};

@@ -15,7 +15,7 @@ pub record GoesOn {S T : Type 0} (step : S → T → S) (MayLeave : S → T → 
   pub refused : (t : S) → LeavesInCalls step MayLeave here rest t → LeavesInCalls step MayLeave start values t
 
 module _ {S T : Type 0} (step : S → T → S) (MayLeave : S → T → S → Type 0) (start : S) (values : List T) where
-  -- behind the last call
+  -- after the last call
   pub calls-done : (here : S) → GoesOn step MayLeave start values here [] → here ≡ observed_all step start values
   calls-done here on = on.whole
 
@@ -35,7 +35,7 @@ module _ {S T : Type 0} (step : S → T → S) (MayLeave : S → T → S → Typ
   call-refused here t x rest NoWitness h on = absurd h
   call-refused here t x rest TooLong h on = absurd h
 
-  -- the same of the values behind place i
+  -- the same of the values after place i
   module _ (here : S) (i : ℕ) where
     pub goes_on-end : length values ≤ i → GoesOn step MayLeave start values here (drop i values)
         → here ≡ observed_all step start values

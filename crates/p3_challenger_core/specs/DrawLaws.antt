@@ -16,18 +16,18 @@ module _ {S T : Type 0} (d : Sampling S T) where
     pub reached : after_draws d n start ≡ after_draws d left here
     pub refused : (e : ChallengerError) (t : S) → RefusesDraws d left e here t → RefusesDraws d n e start t
 
-  behind_nothing : (o : Option (List T)) → o ≡ option_map (λ ys. [] ++ ys) o
-  behind_nothing None = refl
-  behind_nothing (Some ys) = refl
+  after_nothing : (o : Option (List T)) → o ≡ option_map (λ ys. [] ++ ys) o
+  after_nothing None = refl
+  after_nothing (Some ys) = refl
 
   pub drew-start : (n : ℕ) (start : S) → Drew n start [] n start
   drew-start n start =
-      record { drawn = behind_nothing (draws d n start); reached = refl; refused = λ e t h. h }
+      record { drawn = after_nothing (draws d n start); reached = refl; refused = λ e t h. h }
 
-  behind_one_more : (xs : List T) (x : T) (o : Option (List T))
+  after_one_more : (xs : List T) (x : T) (o : Option (List T))
       → option_map (λ ys. xs ++ ys) (option_map (λ ys. x ∷ ys) o) ≡ option_map (λ ys. (xs ++ x ∷ []) ++ ys) o
-  behind_one_more xs x None = refl
-  behind_one_more xs x (Some ys) = ap Some (sym (append_assoc xs (x ∷ []) ys))
+  after_one_more xs x None = refl
+  after_one_more xs x (Some ys) = ap Some (sym (append_assoc xs (x ∷ []) ys))
 
   some-is : (o : Option T) (x : T) → o ≡ Some x → IsSome o
   some-is o x e = ap is_some e
@@ -42,7 +42,7 @@ module _ {S T : Type 0} (d : Sampling S T) where
             so_far.drawn
             ∙ ap (λ o. option_map (λ ys. xs ++ ys)
             (option_and_then (λ y. option_map (λ ys. y ∷ ys) (draws d left (d.after here))) o)) e
-            ∙ behind_one_more xs x (draws d left (d.after here));
+            ∙ after_one_more xs x (draws d left (d.after here));
         reached =
             so_far.reached
             ∙ ap (λ o. if is_some o then after_draws d left (d.after here) else d.after here) e;

@@ -17,18 +17,18 @@ abbrev pub LeavesFed : {S Symbol : Type 0} → (S → List Symbol → S) → S �
 LeavesFed fed s symbols t = (n : ℕ) × IsFed fed s (take n symbols) t
 
 -- the same exactly, where other symbols were fed before
-abbrev pub LeavesBehind : {S Symbol : Type 0} → (S → List Symbol → S) → S → List Symbol → List Symbol → S → Type 0
-LeavesBehind fed s before symbols t = (n : ℕ) × (t ≡ fed s (before ++ take n symbols))
+abbrev pub LeavesAfter : {S Symbol : Type 0} → (S → List Symbol → S) → S → List Symbol → List Symbol → S → Type 0
+LeavesAfter fed s before symbols t = (n : ℕ) × (t ≡ fed s (before ++ take n symbols))
 
--- What is observed is what is fed, and a refused value has fed a front of it. Behind a symbol no outputs are
+-- What is observed is what is fed, and a refused value has fed a front of it. After a symbol no outputs are
 -- left that could be dropped, so there both hold exactly.
 pub record IsObservation {S Symbol T : Type 0} (fed : S → List Symbol → S) (o : Observation S Symbol T) : Type 0 where
   pub observes : (s : S) (x : T) → IsFed fed s (o.symbols x) (o.observed s x)
-  pub observes_behind : (s : S) (y : Symbol) (ys : List Symbol) (x : T)
+  pub observes_after : (s : S) (y : Symbol) (ys : List Symbol) (x : T)
       → o.observed (fed s (y ∷ ys)) x ≡ fed s ((y ∷ ys) ++ o.symbols x)
   pub leaves : (s : S) (x : T) (t : S) → o.may_leave s x t → LeavesFed fed s (o.symbols x) t
-  pub leaves_behind : (s : S) (y : Symbol) (ys : List Symbol) (x : T) (t : S) → o.may_leave (fed s (y ∷ ys)) x t
-      → LeavesBehind fed s (y ∷ ys) (o.symbols x) t
+  pub leaves_after : (s : S) (y : Symbol) (ys : List Symbol) (x : T) (t : S) → o.may_leave (fed s (y ∷ ys)) x t
+      → LeavesAfter fed s (y ∷ ys) (o.symbols x) t
 
 -- an observation that is never refused
 abbrev pub unrefused_observe : {S Symbol T : Type 0} → (T → List Symbol) → (S → T → S) → Observation S Symbol T

@@ -4,7 +4,7 @@ use Rattle.std.proofs.Common.{refl, sym, ap, ◌∙◌, append_assoc, append-nil
 use Rattle.std.specs.List.{flat_map}
 use Rattle.std.specs.Result.{OnOk}
 use Rattle.p3_challenger_core.specs.Sponge.{IsNonEmpty, IsFed}
-use Rattle.p3_challenger_core.specs.Observation.{Observation, IsObservation, LeavesFed, LeavesBehind, LeavesInCalls}
+use Rattle.p3_challenger_core.specs.Observation.{Observation, IsObservation, LeavesFed, LeavesAfter, LeavesInCalls}
 use Rattle.p3_challenger_core.specs.Observation.{LeavesFront, RefusesObserve, observed_all, unrefused_observe, in_row}
 use Rattle.p3_challenger_core.specs.Observation.{in_slice, observed_as}
 use Rattle.p3_challenger_core.specs.declared.error.ChallengerError.{ChallengerError}
@@ -20,15 +20,15 @@ pub on_ok : {T E : Type 0} (result : Result T E) {A B : Type 0} → (A → B) �
 on_ok (Ok x) f h = f h
 on_ok (Err e) f h = tt
 
--- a front of a list is one of the list with another behind it, and so is the list with a front of the other
+-- a front of a list is one of the list with another after it, and so is the list with a front of the other
 pub front_append : {X : Type 0} (n : ℕ) (a b : List X) → (m : ℕ) × (take m (a ++ b) ≡ take n a)
 front_append zero a b = (0, refl)
 front_append (suc n) [] b = (0, refl)
 front_append (suc n) (x ∷ a) b = let rest = front_append n a b in (suc rest.0, ap (λ ys. x ∷ ys) rest.1)
 
-pub behind_append : {X : Type 0} (n : ℕ) (a b : List X) → (m : ℕ) × (take m (a ++ b) ≡ a ++ take n b)
-behind_append n [] b = (n, refl)
-behind_append n (x ∷ a) b = let rest = behind_append n a b in (suc rest.0, ap (λ ys. x ∷ ys) rest.1)
+pub after_append : {X : Type 0} (n : ℕ) (a b : List X) → (m : ℕ) × (take m (a ++ b) ≡ a ++ take n b)
+after_append n [] b = (n, refl)
+after_append n (x ∷ a) b = let rest = after_append n a b in (suc rest.0, ap (λ ys. x ∷ ys) rest.1)
 
 -- what a refused call leaves, seen in another way
 pub leaves-map : {S T : Type 0} {A B : S → T → S → Type 0} (step : S → T → S)
@@ -71,10 +71,10 @@ module _ {S Symbol : Type 0} (fed : S → List Symbol → S) (fed_nothing : (s :
   exact-observation o feeds fronts =
       record {
         observes = λ s x. exactly-fed s (o.symbols x) (o.observed s x) (feeds s x);
-        observes_behind = λ s y ys x. feeds (fed s (y ∷ ys)) x ∙ fed_more s (y ∷ ys) (o.symbols x);
+        observes_after = λ s y ys x. feeds (fed s (y ∷ ys)) x ∙ fed_more s (y ∷ ys) (o.symbols x);
         leaves = λ s x t h. let front = fronts s x t h in
             (front.0, exactly-fed s (take front.0 (o.symbols x)) t front.1);
-        leaves_behind = λ s y ys x t h.
+        leaves_after = λ s y ys x t h.
             let front = fronts (fed s (y ∷ ys)) x t h in
             (front.0, front.1 ∙ fed_more s (y ∷ ys) (take front.0 (o.symbols x)));
       }
@@ -108,21 +108,21 @@ module _ {S Symbol : Type 0} (fed : S → List Symbol → S) (fed_nothing : (s :
         traceless = nothing_then-traceless s t u b first second;
       }
 
-  -- two steps in a row, of which the second is exact behind a symbol
+  -- two steps in a row, of which the second is exact after a symbol
   pub fed-then : (s t u : S) (a b : List Symbol) → IsFed fed s a t → IsFed fed t b u
       → ((y : Symbol) (ys : List Symbol) → t ≡ fed s (y ∷ ys) → u ≡ fed s ((y ∷ ys) ++ b)) → IsFed fed s (a ++ b) u
-  fed-then s t u [] b first second behind = nothing_then s t u b first second
-  fed-then s t u (y ∷ ys) b first second behind = exactly-fed s ((y ∷ ys) ++ b) u (behind y ys (first.exactly tt))
+  fed-then s t u [] b first second following = nothing_then s t u b first second
+  fed-then s t u (y ∷ ys) b first second following = exactly-fed s ((y ∷ ys) ++ b) u (following y ys (first.exactly tt))
 
   -- ---- values in a row
 
   module _ {T : Type 0} (o : Observation S Symbol T) (laws : IsObservation fed o) where
-    all-behind : (s : S) (y : Symbol) (ys : List Symbol) (xs : List T)
+    all-following : (s : S) (y : Symbol) (ys : List Symbol) (xs : List T)
         → observed_all o.observed (fed s (y ∷ ys)) xs ≡ fed s ((y ∷ ys) ++ flat_map o.symbols xs)
-    all-behind s y ys [] = ap (λ zs. fed s (y ∷ zs)) (sym (append-nil ys))
-    all-behind s y ys (x ∷ xs) =
-        ap (λ t. observed_all o.observed t xs) (laws.observes_behind s y ys x)
-        ∙ all-behind s y (ys ++ o.symbols x) xs
+    all-following s y ys [] = ap (λ zs. fed s (y ∷ zs)) (sym (append-nil ys))
+    all-following s y ys (x ∷ xs) =
+        ap (λ t. observed_all o.observed t xs) (laws.observes_after s y ys x)
+        ∙ all-following s y (ys ++ o.symbols x) xs
         ∙ ap (fed s) (append_assoc (y ∷ ys) (o.symbols x) (flat_map o.symbols xs))
 
     -- values in a row are what they feed in a row
@@ -132,7 +132,7 @@ module _ {S Symbol : Type 0} (fed : S → List Symbol → S) (fed_nothing : (s :
         fed-then s (o.observed s x) (observed_all o.observed (o.observed s x) xs) (o.symbols x) (flat_map o.symbols xs)
         (laws.observes s x)
         (all-fed (o.observed s x) xs)
-        (λ y ys is. ap (λ t. observed_all o.observed t xs) is ∙ all-behind s y ys xs)
+        (λ y ys is. ap (λ t. observed_all o.observed t xs) is ∙ all-following s y ys xs)
 
     -- exactly so where some value feeds something, or there is none
     pub all-fed_exactly : (s : S) (xs : List T) → (IsNonEmpty xs → IsNonEmpty (flat_map o.symbols xs))
@@ -140,18 +140,18 @@ module _ {S Symbol : Type 0} (fed : S → List Symbol → S) (fed_nothing : (s :
     all-fed_exactly s [] some = sym (fed_nothing s)
     all-fed_exactly s (x ∷ xs) some = (all-fed s (x ∷ xs)).exactly (some tt)
 
-    calls-behind : (s : S) (y : Symbol) (ys : List Symbol) (xs : List T) (t : S)
+    calls-following : (s : S) (y : Symbol) (ys : List Symbol) (xs : List T) (t : S)
         → LeavesInCalls o.observed o.may_leave (fed s (y ∷ ys)) xs t
-        → LeavesBehind fed s (y ∷ ys) (flat_map o.symbols xs) t
-    calls-behind s y ys [] t h = absurd h
-    calls-behind s y ys (x ∷ xs) t (inl here) =
-        let left = laws.leaves_behind s y ys x t here in
+        → LeavesAfter fed s (y ∷ ys) (flat_map o.symbols xs) t
+    calls-following s y ys [] t h = absurd h
+    calls-following s y ys (x ∷ xs) t (inl here) =
+        let left = laws.leaves_after s y ys x t here in
         let front = front_append left.0 (o.symbols x) (flat_map o.symbols xs) in
         (front.0, left.1 ∙ ap (λ zs. fed s ((y ∷ ys) ++ zs)) (sym front.1))
-    calls-behind s y ys (x ∷ xs) t (inr later) =
-        let moved = subst (λ u. LeavesInCalls o.observed o.may_leave u xs t) (laws.observes_behind s y ys x) later in
-        let left = calls-behind s y (ys ++ o.symbols x) xs t moved in
-        let front = behind_append left.0 (o.symbols x) (flat_map o.symbols xs) in (
+    calls-following s y ys (x ∷ xs) t (inr later) =
+        let moved = subst (λ u. LeavesInCalls o.observed o.may_leave u xs t) (laws.observes_after s y ys x) later in
+        let left = calls-following s y (ys ++ o.symbols x) xs t moved in
+        let front = after_append left.0 (o.symbols x) (flat_map o.symbols xs) in (
           front.0,
           left.1
               ∙ ap (fed s) (append_assoc (y ∷ ys) (o.symbols x) (take left.0 (flat_map o.symbols xs)))
@@ -165,8 +165,8 @@ module _ {S Symbol : Type 0} (fed : S → List Symbol → S) (fed_nothing : (s :
         (left.0, nothing_then s here t (take left.0 (flat_map o.symbols xs)) first left.1)
     later-left s here t (y ∷ ys) xs first h left =
         let moved = subst (λ u. LeavesInCalls o.observed o.may_leave u xs t) (first.exactly tt) h in
-        let exact = calls-behind s y ys xs t moved in
-        let front = behind_append exact.0 (y ∷ ys) (flat_map o.symbols xs) in (
+        let exact = calls-following s y ys xs t moved in
+        let front = after_append exact.0 (y ∷ ys) (flat_map o.symbols xs) in (
           front.0,
           exactly-fed s (take front.0 ((y ∷ ys) ++ flat_map o.symbols xs)) t
               (exact.1 ∙ ap (fed s) (sym front.1)),
@@ -186,15 +186,21 @@ module _ {S Symbol : Type 0} (fed : S → List Symbol → S) (fed_nothing : (s :
 
     pub in_row-is_observation : IsObservation fed (in_row o)
     in_row-is_observation =
-        record { observes = all-fed; observes_behind = all-behind; leaves = calls-leave; leaves_behind = calls-behind }
+        record {
+          observes = all-fed;
+          observes_after = all-following;
+          leaves = calls-leave;
+          leaves_after =
+              calls-following;
+        }
 
     pub observed_as-is_observation : {U : Type 0} (f : U → T) → IsObservation fed (observed_as f o)
     observed_as-is_observation f =
         record {
           observes = λ s x. laws.observes s (f x);
-          observes_behind = λ s y ys x. laws.observes_behind s y ys (f x);
+          observes_after = λ s y ys x. laws.observes_after s y ys (f x);
           leaves = λ s x t h. laws.leaves s (f x) t h;
-          leaves_behind = λ s y ys x t h. laws.leaves_behind s y ys (f x) t h;
+          leaves_after = λ s y ys x t h. laws.leaves_after s y ys (f x) t h;
         }
 
     pub in_slice-is_observation : (slice_may_leave : S → List T → S → Type 0)
@@ -203,9 +209,9 @@ module _ {S Symbol : Type 0} (fed : S → List Symbol → S) (fed_nothing : (s :
     in_slice-is_observation slice_may_leave slice_leaves =
         record {
           observes = all-fed;
-          observes_behind = all-behind;
+          observes_after = all-following;
           leaves = λ s xs t h. calls-leave s xs t (slice_leaves s xs t h);
-          leaves_behind = λ s y ys xs t h. calls-behind s y ys xs t (slice_leaves (fed s (y ∷ ys)) xs t h);
+          leaves_after = λ s y ys xs t h. calls-following s y ys xs t (slice_leaves (fed s (y ∷ ys)) xs t h);
         }
 
     -- a front of the values was observed, and then a front of what the next one feeds was fed

@@ -1,16 +1,16 @@
--- What every spelling owes: that it reads one way.
+-- What every code owes: that it is a prefix code.
 use Rattle.std.specs.Prelude.{◌≡◌, ℕ, ◌<◌, ◌⊎◌, List, ◌++◌, slice_index}
 use Rattle.p3_challenger_core.specs.Sponge.{IsNonEmpty}
 
--- of these values, no spelling begins another, and no two have one: whatever follows, a spelling reads one
--- way
-abbrev pub ReadsOneWayOn : {T S : Type 0} → (T → Type 0) → (T → List S) → Type 0
-ReadsOneWayOn {T} {S} IsValue spelling =
+-- a prefix code of these values: no spelling begins another, and no two values have one; whatever follows, a
+-- spelling is read back
+abbrev pub IsPrefixCodeOn : {T S : Type 0} → (T → Type 0) → (T → List S) → Type 0
+IsPrefixCodeOn {T} {S} IsValue spelling =
     (x y : T) (a b : List S) → IsValue x → IsValue y → spelling x ++ a ≡ spelling y ++ b → (x ≡ y) × (a ≡ b)
 
 -- the same of all values
-abbrev pub ReadsOneWay : {T S : Type 0} → (T → List S) → Type 0
-ReadsOneWay {T} {S} spelling = (x y : T) (a b : List S) → spelling x ++ a ≡ spelling y ++ b → (x ≡ y) × (a ≡ b)
+abbrev pub IsPrefixCode : {T S : Type 0} → (T → List S) → Type 0
+IsPrefixCode {T} {S} spelling = (x y : T) (a b : List S) → spelling x ++ a ≡ spelling y ++ b → (x ≡ y) × (a ≡ b)
 
 -- a number is a byte
 abbrev pub IsByte : ℕ → Type 0
@@ -20,11 +20,11 @@ IsByte byte = byte < 256
 abbrev pub AreBytes : List ℕ → Type 0
 AreBytes bytes = (i : ℕ) → slice_index bytes i < 256
 
--- one list is the other with something behind it
+-- one list is the other with something after it
 abbrev pub OneBegins : {S : Type 0} → List S → List S → Type 0
 OneBegins {S} a b = ((rest : List S) × (a ++ rest ≡ b)) ⊎ ((rest : List S) × (b ++ rest ≡ a))
 
--- a spelling reads one way, and no value has an empty one
+-- the spellings are a prefix code, and no value has an empty one
 pub record TellsApart {T S : Type 0} (spelling : T → List S) : Type 0 where
-  pub one_way : ReadsOneWay spelling
+  pub prefix_code : IsPrefixCode spelling
   pub some : (x : T) → IsNonEmpty (spelling x)

@@ -86,10 +86,10 @@ in_row-not_refused sampled after n TooLong s t h = h
 
 -- ---- draws in a row as one draw
 
--- behind nothing comes nothing
-none_behind : {T : Type 0} (o : Option T) → option_and_then (λ x. option_map (λ (xs : List T). x ∷ xs) None) o ≡ None
-none_behind None = refl
-none_behind (Some x) = refl
+-- after nothing comes nothing
+none_after : {T : Type 0} (o : Option T) → option_and_then (λ x. option_map (λ (xs : List T). x ∷ xs) None) o ≡ None
+none_after None = refl
+none_after (Some x) = refl
 
 module _ {S T : Type 0} (next : S → S) (d : Sampling S T) (laws : IsSampling next d) where
   -- where one of the draws gives nothing, they give nothing
@@ -100,7 +100,7 @@ module _ {S T : Type 0} (next : S → S) (d : Sampling S T) (laws : IsSampling n
       ap (option_and_then (λ x. option_map (λ xs. x ∷ xs) (draws d n (d.after s)))) (laws.limit_gives_none s here)
   limit-none (suc n) s (inr later) =
       ap (λ o. option_and_then (λ x. option_map (λ xs. x ∷ xs) o) (d.sampled s)) (limit-none n (d.after s) later.1)
-      ∙ none_behind (d.sampled s)
+      ∙ none_after (d.sampled s)
 
   choose-steps : (gives : Option T) (s here there : S) → IsStepsOn next s here → IsStepsOn next s there
       → IsStepsOn next s (if is_some gives then here else there)
@@ -126,14 +126,14 @@ module _ {S T : Type 0} (next : S → S) (d : Sampling S T) (laws : IsSampling n
   in_row-is_sampling n =
       record { limit_gives_none = limit-none n; steps = row-steps n; leaves = row-leaves n }
 
-  -- where a draw gives nothing, those behind it are not made
+  -- where a draw gives nothing, those after it are not made
   stops_at : (n : ℕ) (s t : S) → d.sampled s ≡ None → t ≡ d.after s → t ≡ after_draws d (suc n) s
   unfolding after_draws
   stops_at n s t gives is = is ∙ sym (ap (λ o. if is_some o then after_draws d n (d.after s) else d.after s) gives)
 
-  goes_behind : (n : ℕ) (s t : S) → IsSome (d.sampled s) → t ≡ after_draws d n (d.after s) → t ≡ after_draws d (suc n) s
+  goes_after : (n : ℕ) (s t : S) → IsSome (d.sampled s) → t ≡ after_draws d n (d.after s) → t ≡ after_draws d (suc n) s
   unfolding after_draws
-  goes_behind n s t gives is = is ∙ sym (ap (λ b. if b then after_draws d n (d.after s) else d.after s) gives)
+  goes_after n s t gives is = is ∙ sym (ap (λ b. if b then after_draws d n (d.after s) else d.after s) gives)
 
   here_refused : (n : ℕ) (e : ChallengerError) (s t : S) → RefusesDraw d e s t → RefusesDraw (in_row d (suc n)) e s t
   unfolding SomeDraw
@@ -146,7 +146,7 @@ module _ {S T : Type 0} (next : S → S) (d : Sampling S T) (laws : IsSampling n
       → RefusesDraw (in_row d n) e (d.after s) t → RefusesDraw (in_row d (suc n)) e s t
   unfolding SomeDraw
   later_refused n OutOfMemory s t gives h = inr (gives, h)
-  later_refused n DrawLimit s t gives h = (inr (gives, h.0), goes_behind n s t gives h.1)
+  later_refused n DrawLimit s t gives h = (inr (gives, h.0), goes_after n s t gives h.1)
   later_refused n NoWitness s t gives h = absurd h
   later_refused n TooLong s t gives h = absurd h
 

@@ -112,14 +112,14 @@ cut-only calls first [] h =
     sym (ap segments (h ∙ sym (append-nil (calls_of first)))
     ∙ calls_of-more first [] [] (draws-segments first.draws [] [] refl))
 cut-only calls first (next ∷ others) h =
-    let behind = sym (cut-only h.0 next others h.2) in
+    let following = sym (cut-only h.0 next others h.2) in
     elim h.1 [
       | inl array ↦ sym (ap segments array
           ∙ calls_of-more first (next ∷ others) (observe_empty_array ∷ h.0)
           (draws-segments first.draws (next ∷ others) (observe_empty_array ∷ h.0)
-          (ap (λ cut. record { first = nothing; others = cut.first ∷ cut.others }) behind)))
+          (ap (λ cut. record { first = nothing; others = cut.first ∷ cut.others }) following)))
       | inr none ↦ sym (ap segments none.0
-          ∙ ended-by_draw first.values first.draws next others h.0 none.1 none.2 behind)
+          ∙ ended-by_draw first.values first.draws next others h.0 none.1 none.2 following)
     ]
 
 -- ---- runs
@@ -191,7 +191,7 @@ module _ {T A M D S : Type 0} (Keeps : S → Type 0) (by : ByCalls T A M D S) (o
       (record { values = x ∷ xs; draws = n })
   ended-run s x xs n = ap (λ run. run_before run (over.draws run.after n)) (agree.ended_values s x xs)
 
-  -- a step in front of a segment, and those behind it
+  -- a step in front of a segment, and those after it
   step-first : (step run : Run A M S) (others : List (Segment T))
       → run_before step (run_before run (run_others over run.after others))
       ≡ (let both = run_before step run in run_before both (run_others over both.after others))

@@ -57,7 +57,7 @@ EndsBefore segment next rest calls =
     (calls ≡ calls_of segment ++ observe_empty_array ∷ rest)
     ⊎ ((calls ≡ calls_of segment ++ rest) × (0 < segment.draws) × IsNonEmpty next.values)
 
--- calls are those of a segment and of the others behind it, and each ends before the next one
+-- calls are those of a segment and of the others after it, and each ends before the next one
 abbrev pub AreCutInto : {T : Type 0} → Segment T → List (Segment T) → List (Call T) → Type 0
 AreCutInto segment [] calls = calls ≡ calls_of segment
 AreCutInto {T} segment (next ∷ others) calls =

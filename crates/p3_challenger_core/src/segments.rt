@@ -1,4 +1,4 @@
-// Lists of calls are cut into segments in one way.
+// A list of calls has one cut into segments.
 ghost use Rattle.std.specs.Prelude.{◌≡◌, List};
 ghost use Rattle.p3_challenger_core.specs.Segments.{Call, Segments, IsCutOf, segments};
 

@@ -12,29 +12,29 @@ use Rattle.p3_fs_core.specs.declared.error.TranscriptError.{TranscriptError}
 use Rattle.p3_codecs.specs.Extension.{and_then, read_all, read_coefficients}
 use Rattle.p3_fs_core.specs.DecodingLaws.{decoded-ok, decoded-err}
 
--- coefficients in front of those that are read behind them
-abbrev pub behind_read : {F : Type 0} → List F → Result (List F × List ℕ) (List ℕ) → Result (List F × List ℕ) (List ℕ)
-behind_read xs o = and_then (λ ys. Ok (xs ++ ys.0, ys.1)) o
+-- coefficients in front of those that are read after them
+abbrev pub after_read : {F : Type 0} → List F → Result (List F × List ℕ) (List ℕ) → Result (List F × List ℕ) (List ℕ)
+after_read xs o = and_then (λ ys. Ok (xs ++ ys.0, ys.1)) o
 
-behind_nothing : {F : Type 0} (o : Result (List F × List ℕ) (List ℕ)) → behind_read [] o ≡ o
-behind_nothing (Ok found) = refl
-behind_nothing (Err reason) = refl
+after_nothing : {F : Type 0} (o : Result (List F × List ℕ) (List ℕ)) → after_read [] o ≡ o
+after_nothing (Ok found) = refl
+after_nothing (Err reason) = refl
 
-behind_one_more : {F : Type 0} (xs : List F) (x : F) (o : Result (List F × List ℕ) (List ℕ)) →
-    behind_read xs (and_then (λ ys. Ok (x ∷ ys.0, ys.1)) o) ≡ behind_read (xs ++ x ∷ []) o
-behind_one_more xs x (Ok found) = ap (λ zs. Ok (zs, found.1)) (sym (append_assoc xs (x ∷ []) found.0))
-behind_one_more xs x (Err reason) = refl
+after_one_more : {F : Type 0} (xs : List F) (x : F) (o : Result (List F × List ℕ) (List ℕ)) →
+    after_read xs (and_then (λ ys. Ok (x ∷ ys.0, ys.1)) o) ≡ after_read (xs ++ x ∷ []) o
+after_one_more xs x (Ok found) = ap (λ zs. Ok (zs, found.1)) (sym (append_assoc xs (x ∷ []) found.0))
+after_one_more xs x (Err reason) = refl
 
 module _ {F : Type 0} (base : List ℕ → Result (F × List ℕ) (List ℕ)) (width n : ℕ) (bytes : List ℕ) where
-  -- xs are the coefficients up to i: what is read behind them is what is read of all
+  -- xs are the coefficients up to i: what is read after them is what is read of all
   abbrev pub HasRead : List F → ℕ → Type 0
-  HasRead xs i = behind_read xs (read_all base (n - i) (drop (i * width) bytes)) ≡ read_all base n bytes
+  HasRead xs i = after_read xs (read_all base (n - i) (drop (i * width) bytes)) ≡ read_all base n bytes
 
   pub has_read-none : HasRead [] 0
   has_read-none =
       let all : n - 0 ≡ n = omega arith in
       let front : 0 * width ≡ 0 = omega arith in
-      behind_nothing (read_all base (n - 0) (drop (0 * width) bytes))
+      after_nothing (read_all base (n - 0) (drop (0 * width) bytes))
       ∙ ap (λ k. read_all base k (drop (0 * width) bytes)) all
       ∙ ap (λ k. read_all base n (drop k bytes)) front
 
@@ -43,18 +43,18 @@ module _ {F : Type 0} (base : List ℕ → Result (F × List ℕ) (List ℕ)) (w
       ((rest : List ℕ) → base (drop (i * width) bytes) ≡ Ok (x, rest) → rest ≡ drop width (drop (i * width) bytes)) →
       Decodes (base (drop (i * width) bytes)) (Ok x) → HasRead xs i → HasRead (xs ++ x ∷ []) (i + 1)
   unfolding read_all
-  has_read-next xs i x more behind decodes so_far =
+  has_read-next xs i x more following decodes so_far =
       let here = drop (i * width) bytes in
       let found = decoded-ok (base here) x decodes in
       let left : n - i ≡ suc (n - (i + 1)) = omega arith in
       let place : i * width + width ≡ (i + 1) * width = omega arith in
       let rest : found.0 ≡ drop ((i + 1) * width) bytes =
-      behind found.0 found.1 ∙ drop-drop width (i * width) bytes ∙ ap (λ k. drop k bytes) place in
-      sym (behind_one_more xs x (read_all base (n - (i + 1)) (drop ((i + 1) * width) bytes)))
-      ∙ ap (λ l. behind_read xs (and_then (λ ys. Ok (x ∷ ys.0, ys.1)) (read_all base (n - (i + 1)) l))) (sym rest)
-      ∙ ap (λ o. behind_read xs (and_then (λ y. and_then (λ ys. Ok (y.0 ∷ ys.0, ys.1))
+      following found.0 found.1 ∙ drop-drop width (i * width) bytes ∙ ap (λ k. drop k bytes) place in
+      sym (after_one_more xs x (read_all base (n - (i + 1)) (drop ((i + 1) * width) bytes)))
+      ∙ ap (λ l. after_read xs (and_then (λ ys. Ok (x ∷ ys.0, ys.1)) (read_all base (n - (i + 1)) l))) (sym rest)
+      ∙ ap (λ o. after_read xs (and_then (λ y. and_then (λ ys. Ok (y.0 ∷ ys.0, ys.1))
       (read_all base (n - (i + 1)) y.1)) o)) (sym found.1)
-      ∙ ap (λ k. behind_read xs (read_all base k here)) (sym left)
+      ∙ ap (λ k. after_read xs (read_all base k here)) (sym left)
       ∙ so_far
 
   -- a coefficient that is none is why there is no element
@@ -68,8 +68,8 @@ module _ {F : Type 0} (base : List ℕ → Result (F × List ℕ) (List ℕ)) (w
       let left : n - i ≡ suc (n - (i + 1)) = omega arith in
       let all : read_all base n bytes ≡ Err found.0 =
       sym so_far
-      ∙ ap (λ k. behind_read xs (read_all base k here)) left
-      ∙ ap (λ o. behind_read xs (and_then (λ y. and_then (λ ys. Ok (y.0 ∷ ys.0, ys.1))
+      ∙ ap (λ k. after_read xs (read_all base k here)) left
+      ∙ ap (λ o. after_read xs (and_then (λ y. and_then (λ ys. Ok (y.0 ∷ ys.0, ys.1))
       (read_all base (n - (i + 1)) y.1)) o)) found.1 in
       subst (λ (o : Result (List F × List ℕ) (List ℕ)). Decodes (and_then (λ ys. Ok (element ys.0, ys.1)) o) (Err e))
       (sym all) found.2
@@ -83,12 +83,12 @@ module _ {F : Type 0} (base : List ℕ → Result (F × List ℕ) (List ℕ)) (w
       let none : n - i ≡ 0 = omega arith in
       let all : read_all base n bytes ≡ Ok (xs, here) =
       sym so_far
-      ∙ ap (λ k. behind_read xs (read_all base k here)) none
+      ∙ ap (λ k. after_read xs (read_all base k here)) none
       ∙ ap (λ zs. Ok (zs, here)) (append-nil xs) in
       subst (λ (o : Result (List F × List ℕ) (List ℕ)). Decodes (and_then (λ ys. Ok (element ys.0, ys.1)) o) (Ok x))
       (sym all) is
 
--- what is spelled of a row, where a part of the next spelling was added behind the first ones
+-- what is spelled of a row, where a part of the next spelling was added after the first ones
 pub row-beginning : {F : Type 0} (wire : F → List ℕ) (xs : List F) (x : F) (ys : List F) (m : ℕ) (old : List ℕ) →
     (n : ℕ) × ((old ++ flat_map wire xs) ++ take m (wire x) ≡ old ++ take n
     (flat_map wire xs ++ (wire x ++ flat_map wire ys)))

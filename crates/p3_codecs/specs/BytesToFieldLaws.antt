@@ -3,43 +3,43 @@ use Rattle.std.proofs.Common.{◌≡◌, ℕ, suc, ◌<◌, ◌≤◌, ◌^◌, 
 use Rattle.std.specs.List.{flat_map}
 use Rattle.p3_field_core.specs.Residues.{Residues, IsResidues}
 use Rattle.p3_challenger_core.specs.Sponge.{IsNonEmpty}
-use Rattle.p3_challenger_core.specs.Reading.{ReadsOneWay, ReadsOneWayOn, TellsApart, IsByte}
-use Rattle.p3_challenger_core.specs.SymbolLaws.{byte-feeds, bytes-feed, bytes-one_way}
+use Rattle.p3_challenger_core.specs.Reading.{IsPrefixCode, IsPrefixCodeOn, TellsApart, IsByte}
+use Rattle.p3_challenger_core.specs.SymbolLaws.{byte-feeds, bytes-feed, bytes-prefix_code}
 use Rattle.p3_fs_core.specs.BigEndian.{bytes_for}
 use Rattle.p3_fs_core.specs.BigEndianLaws.{AreBytes-in_bytes}
 use Rattle.p3_fs_core.specs.Scalar.{wire}
-use Rattle.p3_fs_core.specs.ScalarLaws.{length-wire, wire-one_way, order-fits, width-positive}
+use Rattle.p3_fs_core.specs.ScalarLaws.{length-wire, wire-prefix_code, order-fits, width-positive}
 
--- an element's symbols read one way
-pub wire_symbols-one_way : {F Symbol : Type 0} (r : Residues F) (laws : IsResidues r) (width : ℕ)
-    (fits : r.order ≤ 256 ^ width) (symbols : ℕ → List Symbol) → ReadsOneWayOn IsByte symbols →
-    ReadsOneWay (λ x. flat_map symbols (wire r width x))
-wire_symbols-one_way r laws width fits symbols one_way x y a b e =
+-- the symbols of elements are a prefix code
+pub wire_symbols-prefix_code : {F Symbol : Type 0} (r : Residues F) (laws : IsResidues r) (width : ℕ)
+    (fits : r.order ≤ 256 ^ width) (symbols : ℕ → List Symbol) → IsPrefixCodeOn IsByte symbols →
+    IsPrefixCode (λ x. flat_map symbols (wire r width x))
+wire_symbols-prefix_code r laws width fits symbols prefix_code x y a b e =
     let same = length-wire r laws width fits x ∙ sym (length-wire r laws width fits y) in
-    let bytes = bytes-one_way symbols one_way (wire r width x) (wire r width y) a b
+    let bytes = bytes-prefix_code symbols prefix_code (wire r width x) (wire r width y) a b
     (AreBytes-in_bytes width (r.number x)) (AreBytes-in_bytes width (r.number y)) same e in
-    ((wire-one_way r laws width fits x y [] [] (ap (λ l. l ++ []) bytes.0)).0, bytes.1)
+    ((wire-prefix_code r laws width fits x y [] [] (ap (λ l. l ++ []) bytes.0)).0, bytes.1)
 
 -- a list of some length has an element
 some_of : {T : Type 0} (xs : List T) → 0 < length xs → IsNonEmpty xs
 some_of [] h = absurd (omega (arith, h))
 some_of (x ∷ xs) h = tt
 
--- the symbols of an element, where bytes are fed in one way
+-- the symbols of an element, where bytes are fed as a prefix code
 pub bytes-tell_apart : {F Symbol : Type 0} (r : Residues F) → IsResidues r → (bits : ℕ) → r.order < 2 ^ bits →
-    (symbols : ℕ → List Symbol) → ReadsOneWayOn IsByte symbols →
+    (symbols : ℕ → List Symbol) → IsPrefixCodeOn IsByte symbols →
     TellsApart (λ x. flat_map symbols (wire r (bytes_for bits) x))
-bytes-tell_apart r laws bits below symbols one_way =
+bytes-tell_apart r laws bits below symbols prefix_code =
     let width = bytes_for bits in
     let fits = order-fits bits r.order below in
     record {
-      one_way = wire_symbols-one_way r laws width fits symbols one_way;
+      prefix_code = wire_symbols-prefix_code r laws width fits symbols prefix_code;
       some = λ x.
           let positive : 0 < length (wire r width x) = omega (
             arith,
             length-wire r laws width fits x,
             width-positive r laws bits below,
           ) in
-          bytes-feed symbols (byte-feeds symbols one_way) (wire r width x) (AreBytes-in_bytes width (r.number x))
+          bytes-feed symbols (byte-feeds symbols prefix_code) (wire r width x) (AreBytes-in_bytes width (r.number x))
           (some_of (wire r width x) positive);
     }

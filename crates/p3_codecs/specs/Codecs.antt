@@ -4,7 +4,7 @@ use Rattle.p3_challenger_core.specs.Observation.{Observation, IsObservation}
 use Rattle.p3_challenger_core.specs.Sampling.{Sampling, IsSampling}
 use Rattle.p3_fs_core.specs.Encoding.{Encoding, IsEncoding}
 
--- Values are encoded, each in one way. What is observed is what is fed, and a refused value has fed a front of
+-- Values are encoded, as a prefix code. What is observed is what is fed, and a refused value has fed a front of
 -- it. A draw that meets the limit gives nothing, and each draw takes some number of the smallest ones.
 pub record IsCodec {S Symbol T : Type 0} (fed : S → List Symbol → S) (next : S → S) (encoding : Encoding T)
     (observation : Observation S Symbol T) (sampling : Sampling S T) : Type 0 where

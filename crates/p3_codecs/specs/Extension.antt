@@ -34,7 +34,7 @@ abbrev pub read : {F A : Type 0} → (List ℕ → Result (F × List ℕ) (List 
 read base width n element bytes =
     if nat_lt (length bytes) (n * width) then Err not_enough_bytes else read_coefficients base n element bytes
 
--- an element is encoded as its n coefficients, one behind another
+-- an element is encoded as its n coefficients, one after another
 abbrev pub encoding : {F A : Type 0} → Encoding F → ℕ → (A → List F) → (List F → A) → Encoding A
 encoding base n coefficients element =
     record {

@@ -6,13 +6,13 @@ use Rattle.std.proofs.Math.Nat.{zero-mul}
 use Rattle.std.proofs.lemmas.List.{length-append}
 use Rattle.p3_challenger_core.specs.Sponge.{IsNonEmpty}
 use Rattle.p3_fs_core.specs.Encoding.{Encoding, IsEncoding}
-use Rattle.p3_challenger_core.specs.Reading.{ReadsOneWay, TellsApart, AreBytes}
+use Rattle.p3_challenger_core.specs.Reading.{IsPrefixCode, TellsApart, AreBytes}
 use Rattle.p3_fs_core.specs.BigEndianLaws.{AreBytes-drop, drop-front}
-use Rattle.p3_fs_core.specs.ScalarLaws.{chosen, not_below, read-one_way}
-use Rattle.p3_challenger_core.specs.SymbolLaws.{row-feeds, row-one_way}
+use Rattle.p3_fs_core.specs.ScalarLaws.{chosen, not_below, read-prefix_code}
+use Rattle.p3_challenger_core.specs.SymbolLaws.{row-feeds, row-prefix_code}
 use Rattle.p3_codecs.specs.Extension.{and_then, read_all, read, encoding, not_enough_bytes}
 
--- what is read behind a value that is read
+-- what is read after a value that is read
 bound : {A B E : Type 0} (f : A → Result B E) (o : Result A E) (y : B) → and_then f o ≡ Ok y → (x : A) × (o ≡ Ok x)
     × (f x ≡ Ok y)
 bound f (Ok x) y e = (x, refl, e)
@@ -73,15 +73,16 @@ module _ {F : Type 0} (base_wire : F → List ℕ) (base_read : List ℕ → Res
           ∙ ap (and_then (λ xs. Ok (element xs.0, xs.1))) (read_all-row (coefficients x) rest)
           ∙ ap (λ y. Ok (y, rest)) itself
 
-      pub wire-one_way : ReadsOneWay (λ x. flat_map base_wire (coefficients x))
-      wire-one_way = read-one_way (λ x. flat_map base_wire (coefficients x)) (read base_read width n element) read-wire
+      pub wire-prefix_code : IsPrefixCode (λ x. flat_map base_wire (coefficients x))
+      wire-prefix_code = read-prefix_code (λ x. flat_map base_wire (coefficients x)) (read base_read width n element)
+          read-wire
 
   module _ (only_reads : (bytes : List ℕ) (x : F) (rest : List ℕ) → AreBytes bytes → base_read bytes ≡ Ok (x, rest) →
       bytes ≡ base_wire x ++ rest) where
-    -- what is behind a coefficient that is read
-    pub behind_coefficient : (x : F) (bytes rest : List ℕ) → AreBytes bytes → base_read bytes ≡ Ok (x, rest) →
+    -- what is after a coefficient that is read
+    pub after_coefficient : (x : F) (bytes rest : List ℕ) → AreBytes bytes → base_read bytes ≡ Ok (x, rest) →
         rest ≡ drop width bytes
-    behind_coefficient x bytes rest are_bytes e =
+    after_coefficient x bytes rest are_bytes e =
         sym (ap (drop width) (only_reads bytes x rest are_bytes e) ∙ drop-front width (base_wire x) rest (fixed x))
 
     -- coefficients that are read are spelled so
@@ -99,12 +100,12 @@ module _ {F : Type 0} (base_wire : F → List ℕ) (base_read : List ℕ → Res
         let first = bound (λ y. and_then (λ ys. Ok (y.0 ∷ ys.0, ys.1)) (read_all base_read n y.1)) (base_read bytes)
         (xs, rest) e in
         let x = first.0.0 in
-        let behind = first.0.1 in
-        let others = bound (λ ys. Ok (x ∷ ys.0, ys.1)) (read_all base_read n behind) (xs, rest) first.2 in
-        let spelled = only_reads bytes x behind are_bytes first.1 in
-        let behind_are : AreBytes behind = subst (λ (l : List ℕ). AreBytes l)
-        (sym (behind_coefficient x bytes behind are_bytes first.1)) (AreBytes-drop width bytes are_bytes) in
-        let row = read_all-only n behind others.0.0 others.0.1 behind_are others.1 in
+        let following = first.0.1 in
+        let others = bound (λ ys. Ok (x ∷ ys.0, ys.1)) (read_all base_read n following) (xs, rest) first.2 in
+        let spelled = only_reads bytes x following are_bytes first.1 in
+        let after_are : AreBytes following = subst (λ (l : List ℕ). AreBytes l)
+        (sym (after_coefficient x bytes following are_bytes first.1)) (AreBytes-drop width bytes are_bytes) in
+        let row = read_all-only n following others.0.0 others.0.1 after_are others.1 in
         let made : ◌≡◌ {A = List F × List ℕ} (x ∷ others.0.0, others.0.1) (xs, rest) = cc in
         let values : x ∷ others.0.0 ≡ xs = ap (λ p. p.0) made in
         let end : others.0.1 ≡ rest = ap (λ p. p.1) made in (
@@ -142,7 +143,8 @@ pub is_encoding : {F A : Type 0} (base : Encoding F) → IsEncoding base →
 is_encoding base laws n coefficients element as_many same of_element =
     record {
       fixed_width = length-wire base.wire base.width laws.fixed_width n coefficients as_many;
-      one_way = wire-one_way base.wire base.read base.width laws.fixed_width laws.reads_back n coefficients element
+      prefix_code = wire-prefix_code base.wire base.read base.width laws.fixed_width laws.reads_back n coefficients
+          element
           as_many same of_element;
       reads_back = read-wire base.wire base.read base.width laws.fixed_width laws.reads_back n coefficients element
           as_many same of_element;
@@ -152,24 +154,25 @@ is_encoding base laws n coefficients element as_many same of_element =
 
 -- ---- the symbols
 
-symbols-one_way : {F A Symbol : Type 0} (symbols : F → List Symbol) → ReadsOneWay symbols →
+symbols-prefix_code : {F A Symbol : Type 0} (symbols : F → List Symbol) → IsPrefixCode symbols →
     (n : ℕ) (coefficients : A → List F) → ((x : A) → length (coefficients x) ≡ n) →
-    ((x y : A) → coefficients x ≡ coefficients y → x ≡ y) → ReadsOneWay (λ x. flat_map symbols (coefficients x))
-symbols-one_way symbols one_way n coefficients as_many same x y a b e =
-    let row = row-one_way symbols one_way (coefficients x) (coefficients y) a b (as_many x ∙ sym (as_many y)) e in
+    ((x y : A) → coefficients x ≡ coefficients y → x ≡ y) → IsPrefixCode (λ x. flat_map symbols (coefficients x))
+symbols-prefix_code symbols prefix_code n coefficients as_many same x y a b e =
+    let row = row-prefix_code symbols prefix_code (coefficients x) (coefficients y) a b (as_many x ∙ sym (as_many y)) e
+    in
     (same x y row.0, row.1)
 
 some_of : {T : Type 0} (xs : List T) → 0 < length xs → IsNonEmpty xs
 some_of [] h = absurd (omega (arith, h))
 some_of (x ∷ xs) h = tt
 
--- the symbols of an element, where those of a coefficient are fed in one way
+-- the symbols of an element, where coefficients are fed as a prefix code
 pub coefficients-tell_apart : {F A Symbol : Type 0} (symbols : F → List Symbol) → TellsApart symbols → (n : ℕ) → 0 < n →
     (coefficients : A → List F) → ((x : A) → length (coefficients x) ≡ n) →
     ((x y : A) → coefficients x ≡ coefficients y → x ≡ y) → TellsApart (λ x. flat_map symbols (coefficients x))
 coefficients-tell_apart symbols base n positive coefficients as_many same =
     record {
-      one_way = symbols-one_way symbols base.one_way n coefficients as_many same;
+      prefix_code = symbols-prefix_code symbols base.prefix_code n coefficients as_many same;
       some = λ x.
           let long : 0 < length (coefficients x) = omega (arith, as_many x) in
           row-feeds symbols base.some (coefficients x) (some_of (coefficients x) long);

@@ -25,7 +25,7 @@ impl<F: PrimeField64, C: CanObserve<u8> + CanSample<u8>> Codec<C, F> for BytesTo
     ghost use Rattle.p3_challenger_core.specs.ObservationLaws.{in_slice-is_observation, observed_as-is_observation};
     ghost use Rattle.p3_challenger_core.specs.Sampling.{in_row};
     ghost use Rattle.p3_challenger_core.specs.SamplingLaws.{in_row-is_sampling, made_of-is_sampling};
-    ghost use Rattle.p3_challenger_core.specs.Reading.{ReadsOneWayOn, IsByte};
+    ghost use Rattle.p3_challenger_core.specs.Reading.{IsPrefixCodeOn, IsByte};
     ghost use Rattle.p3_fs_core.specs.BigEndian.{bytes_for};
     ghost use Rattle.p3_fs_core.specs.Scalar.{wire, encoding};
     ghost use Rattle.p3_fs_core.specs.ScalarLaws.{is_encoding};
@@ -42,7 +42,7 @@ impl<F: PrimeField64, C: CanObserve<u8> + CanSample<u8>> Codec<C, F> for BytesTo
 
     ghost sampling = { drawn_bytes F.residues F.bit_length C.sampling };
 
-    ghost is_fed_one_way = { ReadsOneWayOn IsByte C.observation.symbols };
+    ghost feeds_prefix_code = { IsPrefixCodeOn IsByte C.observation.symbols };
 
     ghost is_codec = { record {
       encodes = is_encoding F.residues F.are_residues F.bit_length F.bits_below;
@@ -56,7 +56,7 @@ impl<F: PrimeField64, C: CanObserve<u8> + CanSample<u8>> Codec<C, F> for BytesTo
           (in_row-is_sampling C.next C.sampling C.samples (draw_bytes (bytes_for F.bit_length)));
     } };
 
-    ghost symbols_read_one_way = { bytes-tell_apart F.residues F.are_residues F.bit_length F.bits_below
+    ghost symbols_are_prefix_code = { bytes-tell_apart F.residues F.are_residues F.bit_length F.bits_below
         C.observation.symbols };
 
     fn wire_len() -> usize {
@@ -102,13 +102,13 @@ fn field_of_bytes<F: PrimeField64>(bytes: &[u8]) -> F
 {
     let mut number = F::ZERO;
     for byte in bytes {
-        number = behind(number, *byte);
+        number = following(number, *byte);
     }
     number
 }
 
 // The element of a number with a byte more.
-fn behind<F: PrimeField64>(number: F, byte: u8) -> F
+fn following<F: PrimeField64>(number: F, byte: u8) -> F
     ensures { result ≡ F.residues.of (256 * F.residues.number number + byte) }
 {
     number * F::from_u16(256) + F::from_u8(byte)

@@ -32,9 +32,9 @@ pub trait Codec<C: Sponge, T> {
     // What a value feeds the challenger, the state after it, and what is left where it is refused.
     ghost observation: { Observation C.State C.Symbol T };
 
-    // What the codec needs of the challenger for the symbols of a value to read one way: that it feeds each
-    // value that the codec hands it in one way.
-    ghost is_fed_one_way: { Type 0 };
+    // What the codec needs of the challenger for the symbols of values to be a prefix code: that it feeds what the
+    // codec hands it as one.
+    ghost feeds_prefix_code: { Type 0 };
 
     // What a draw gives, the state after it, and when it is refused and what it leaves then.
     ghost sampling: { Sampling C.State T };
@@ -84,7 +84,7 @@ pub trait Codec<C: Sponge, T> {
     // Values are encoded, observed and drawn as every codec owes it.
     ghost is_codec: { IsCodec C.fed C.next encoding observation sampling };
 
-    ghost symbols_read_one_way: { is_fed_one_way → TellsApart observation.symbols };
+    ghost symbols_are_prefix_code: { feeds_prefix_code → TellsApart observation.symbols };
 }
 
 /// A codec of the elements of a field. A spelling has at least one byte, and at most 65535, so that an element of

@@ -10,7 +10,7 @@ use std::marker::PhantomData;
 
 /// An element of a vector space through the codec of its coefficients, in the order of the basis.
 ///
-/// Its spelling is that of the coefficients one behind another. A draw draws coefficient 0 first. `decode`
+/// Its spelling is that of the coefficients one after another. A draw draws coefficient 0 first. `decode`
 /// answers `not enough bytes for an extension-field encoding` where there are not enough for all of them,
 /// before any is read, and else the base codec's reason for the first coefficient that is none.
 pub struct ExtensionFieldCodec<F, EF, BaseCodec>(PhantomData<(F, EF, BaseCodec)>);
@@ -34,7 +34,7 @@ impl<C: Sponge, F: Field, EF: BasedVectorSpace<F>, BaseCodec: ScalarCodec<C, F>>
 
     ghost sampling = { extension.drawn_coefficients BaseCodec.sampling EF.DIMENSION EF.element };
 
-    ghost is_fed_one_way = { BaseCodec.is_fed_one_way };
+    ghost feeds_prefix_code = { BaseCodec.feeds_prefix_code };
 
     ghost is_codec = { record {
       encodes = is_encoding BaseCodec.encoding BaseCodec.is_codec.encodes EF.DIMENSION EF.coefficients EF.element
@@ -47,8 +47,8 @@ impl<C: Sponge, F: Field, EF: BasedVectorSpace<F>, BaseCodec: ScalarCodec<C, F>>
           (in_row-is_sampling C.next BaseCodec.sampling BaseCodec.is_codec.samples EF.DIMENSION);
     } };
 
-    ghost symbols_read_one_way = { λ given. coefficients-tell_apart BaseCodec.observation.symbols
-        (BaseCodec.symbols_read_one_way given) EF.DIMENSION EF.at_least_one EF.coefficients
+    ghost symbols_are_prefix_code = { λ given. coefficients-tell_apart BaseCodec.observation.symbols
+        (BaseCodec.symbols_are_prefix_code given) EF.DIMENSION EF.at_least_one EF.coefficients
         EF.length_coefficients EF.same_coefficients };
 
     fn wire_len() -> usize {

@@ -10,7 +10,7 @@ use std::marker::PhantomData;
 pub struct FieldToFieldCodec<F>(PhantomData<F>);
 
 impl<F: PrimeField64, C: CanObserve<F> + CanSample<F>> Codec<C, F> for FieldToFieldCodec<F> {
-    ghost use Rattle.p3_challenger_core.specs.Reading.{ReadsOneWay};
+    ghost use Rattle.p3_challenger_core.specs.Reading.{IsPrefixCode};
     ghost use Rattle.p3_challenger_core.specs.SymbolLaws.{element-feeds};
     ghost use Rattle.p3_fs_core.specs.Scalar.{encoding};
     ghost use Rattle.p3_fs_core.specs.ScalarLaws.{is_encoding};
@@ -25,7 +25,7 @@ impl<F: PrimeField64, C: CanObserve<F> + CanSample<F>> Codec<C, F> for FieldToFi
 
     ghost sampling = { C.sampling };
 
-    ghost is_fed_one_way = { ReadsOneWay C.observation.symbols };
+    ghost feeds_prefix_code = { IsPrefixCode C.observation.symbols };
 
     ghost is_codec = { record {
       encodes = is_encoding F.residues F.are_residues F.bit_length F.bits_below;
@@ -33,9 +33,9 @@ impl<F: PrimeField64, C: CanObserve<F> + CanSample<F>> Codec<C, F> for FieldToFi
       samples = C.samples;
     } };
 
-    ghost symbols_read_one_way = { λ one_way. record {
-      one_way = one_way;
-      some = element-feeds F.residues F.are_residues C.observation.symbols one_way;
+    ghost symbols_are_prefix_code = { λ prefix_code. record {
+      prefix_code = prefix_code;
+      some = element-feeds F.residues F.are_residues C.observation.symbols prefix_code;
     } };
 
     fn wire_len() -> usize {

@@ -1,7 +1,7 @@
 ghost use Rattle.std.specs.Prelude.{◌≡◌, ℕ, ◌<◌, ◌≤◌, List, [], ◌∷◌, ◌++◌, length, flat_map, OnOk, IfErr};
 ghost use Rattle.p3_challenger_core.specs.Observation.{observed_all, LeavesInCalls, RefusesObserve};
 ghost use Rattle.p3_challenger_core.specs.Sponge.{IsFed};
-ghost use Rattle.p3_challenger_core.specs.Reading.{AreBytes, IsByte, OneBegins, ReadsOneWayOn};
+ghost use Rattle.p3_challenger_core.specs.Reading.{AreBytes, IsByte, OneBegins, IsPrefixCodeOn};
 ghost use Rattle.p3_fs_core.specs.Packing.{packed, chunk_bytes, IsPackable};
 ghost use Rattle.p3_fs_core.specs.Alphabet.{RefusesBytes, LeavesItems, AreItems};
 
@@ -45,10 +45,11 @@ pub trait Unit {
         ensures err { IfErr result (λ e. RefusesBytes (is_too_long (length bytes.now))
             (LeavesItems C.observation C.slice_may_leave (C.state challenger.old) (items bytes.now))
             (C.state challenger.old) e (C.state challenger.new)) }
-        // What is observed is what the items feed; exactly so, where the challenger feeds each in one way.
+        // What is observed is what the items feed; exactly so, where the challenger feeds
+        // them as a prefix code.
         ensures fed { OnOk result (IsFed C.fed (C.state challenger.old)
             (flat_map C.observation.symbols (items bytes.now)) (C.state challenger.new)) }
-        ensures fed_exactly { ReadsOneWayOn is_item C.observation.symbols → OnOk result (C.state challenger.new
+        ensures fed_exactly { IsPrefixCodeOn is_item C.observation.symbols → OnOk result (C.state challenger.new
             ≡ C.fed (C.state challenger.old) (flat_map C.observation.symbols (items bytes.now))) };
 
     // The items of a byte string are items, and one of at most 255 bytes is not too long, so no count is.
@@ -57,7 +58,7 @@ pub trait Unit {
     ghost short_fits: { is_alphabet → (len : ℕ) → len ≤ 255 → is_too_long len → ⊥ };
 
     // Byte strings that begin one list of items begin one another. So byte strings of one length, and all
-    // those of which none begins another, read one way.
+    // those of which none begins another, are a prefix code.
     ghost begins: { is_alphabet → (a b : List ℕ) (x y : List Self.Item) → AreBytes a → AreBytes b
         → (is_too_long (length a) → ⊥) → (is_too_long (length b) → ⊥)
         → items a ++ x ≡ items b ++ y → OneBegins a b };
@@ -94,7 +95,7 @@ impl Unit for u8 {
             RefusesObserve (C.slice_may_leave (C.state challenger.old) bytes.now) e (C.state challenger.new)) }
         ensures fed { OnOk result (IsFed C.fed (C.state challenger.old)
             (flat_map C.observation.symbols bytes.now) (C.state challenger.new)) }
-        ensures fed_exactly { ReadsOneWayOn IsByte C.observation.symbols → OnOk result (C.state challenger.new
+        ensures fed_exactly { IsPrefixCodeOn IsByte C.observation.symbols → OnOk result (C.state challenger.new
             ≡ C.fed (C.state challenger.old) (flat_map C.observation.symbols bytes.now)) }
     {
         challenger.observe_slice(bytes)
@@ -145,24 +146,24 @@ impl<F: PrimeField64> Unit for FieldUnit<F> {
         ensures fed { OnOk result (IsFed C.fed (C.state challenger.old)
             (flat_map C.observation.symbols (packed F.residues (chunk_bytes F.bit_length) bytes.now))
             (C.state challenger.new)) }
-        ensures fed_exactly { ReadsOneWayOn (λ _. Unit {0}) C.observation.symbols → OnOk result (C.state challenger.new
+        ensures fed_exactly { IsPrefixCodeOn (λ _. Unit {0}) C.observation.symbols → OnOk result (C.state challenger.new
             ≡ C.fed (C.state challenger.old)
             (flat_map C.observation.symbols (packed F.residues (chunk_bytes F.bit_length) bytes.now))) }
-        // Whatever follows, the elements of a byte string that is short enough read one way.
-        ensures one_way { ReadsOneWayOn (IsPackable F.residues) (packed F.residues (chunk_bytes F.bit_length)) }
+        // Whatever follows, the elements of a byte string that is short enough tell it.
+        ensures prefix_code { IsPrefixCodeOn (IsPackable F.residues) (packed F.residues (chunk_bytes F.bit_length)) }
     {
         F::observe_seed(challenger, bytes)
     }
 }
 
 /// Byte strings are told apart by their symbols, in every alphabet and for every challenger that feeds its items
-/// in one way: where the symbols of two, with anything behind them, are equal, one string begins the other; and
-/// if the strings are equal, so is what stands behind them.
+/// as a prefix code: where the symbols of two, with anything after them, are equal, one string begins the other; and
+/// if the strings are equal, so is what stands after them.
 ///
 /// A law: the body is empty, and a caller cites the clause.
 pub fn symbols_begin<U: Unit, C: CanObserve<U::Item>>()
     requires { U.is_alphabet }
-    ensures { ReadsOneWayOn U.is_item C.observation.symbols → (a b : List ℕ) (x y : List C.Symbol)
+    ensures { IsPrefixCodeOn U.is_item C.observation.symbols → (a b : List ℕ) (x y : List C.Symbol)
         → AreBytes a → AreBytes b
         → (U.is_too_long (length a) → ⊥) → (U.is_too_long (length b) → ⊥)
         → flat_map C.observation.symbols (U.items a) ++ x ≡ flat_map C.observation.symbols (U.items b) ++ y

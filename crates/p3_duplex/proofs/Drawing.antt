@@ -24,18 +24,18 @@ module _ {F P : Type 0} (r : Residues F) (permute : P → List F → List F) (ra
   has_drawn-next xs ys i here there x more long is reached wrote so_far =
       let left : n - i ≡ suc (n - (i + 1)) = omega arith in
       let in_range : i < length xs = omega (arith, more, long) in
-      let behind : HasDrawn (take i xs) (suc (n - (i + 1))) here =
+      let following : HasDrawn (take i xs) (suc (n - (i + 1))) here =
       subst (λ k. HasDrawn (take i xs) k here) left so_far in
       let longer : take i xs ++ x ∷ [] ≡ take (i + 1) ys =
       sym (ap (take (i + 1)) wrote ∙ take_more_set xs i x in_range) in
       let rest = n - (i + 1) in
       record {
         values =
-            behind.values
+            following.values
             ∙ (λ j. take i xs ++ (sym is j ∷ drawn r permute rate rest (sym reached j)))
             ∙ sym (append_assoc (take i xs) (x ∷ []) (drawn r permute rate rest there))
             ∙ ap (λ zs. zs ++ drawn r permute rate rest there) longer;
-        reached = behind.reached ∙ ap (after_drawn r permute rate rest) (sym reached);
+        reached = following.reached ∙ ap (after_drawn r permute rate rest) (sym reached);
       }
 
   none_left : (i : ℕ) → n ≤ i → n - i ≡ 0

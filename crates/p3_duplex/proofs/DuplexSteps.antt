@@ -11,9 +11,9 @@ use Rattle.p3_challenger_core.specs.SegmentLaws.{StepsAgree}
 use Rattle.p3_duplex.specs.DuplexCalls.{DuplexSponge, DuplexRun, cell, overwritten, absorbing, duplexed, appended}
 use Rattle.p3_duplex.specs.DuplexCalls.{observed, last_output, one_taken, after_sampled, run_call, run_digest}
 use Rattle.p3_duplex.specs.DuplexCalls.{duplex_by_calls}
-use Rattle.p3_duplex.specs.DuplexSegments.{absorbed_blocks, handed_blocks, outputs_behind, absorbed, run_values}
-use Rattle.p3_duplex.specs.DuplexSegments.{permuted, handed_in_turn, output_at, left_behind, outputs_from, draws_from}
-use Rattle.p3_duplex.specs.DuplexSegments.{run_draws, digest_behind, duplex_by_segments}
+use Rattle.p3_duplex.specs.DuplexSegments.{absorbed_blocks, handed_blocks, outputs_after, absorbed, run_values}
+use Rattle.p3_duplex.specs.DuplexSegments.{permuted, handed_in_turn, output_at, left_after, outputs_from, draws_from}
+use Rattle.p3_duplex.specs.DuplexSegments.{run_draws, digest_after, duplex_by_segments}
 
 -- what a challenger keeps: fewer values are pending than the rate has cells, no more outputs are left
 -- than that, and none where a value is pending
@@ -45,7 +45,7 @@ module _ {F : Type 0} (r : Residues F) (permute : List F → List F) (n : ℕ) (
   -- fewer values than a block has are pending
   absorbed-short : (cells values : List F) → length values < n
       → absorbed r permute n cells values ≡ stays
-      (record { cells = cells; pending = values; outputs_left = outputs_behind n values })
+      (record { cells = cells; pending = values; outputs_left = outputs_after n values })
   unfolding absorbed_blocks handed_blocks
   absorbed-short cells values short =
       let none : n * 0 ≡ 0 = omega arith in
@@ -56,13 +56,13 @@ module _ {F : Type 0} (r : Residues F) (permute : List F → List F) (n : ℕ) (
             record {
               cells = absorbed_blocks r permute n k cells values;
               pending = drop (n * k) values;
-              outputs_left = outputs_behind n (drop (n * k) values);
+              outputs_left = outputs_after n (drop (n * k) values);
             };
       }) (div-eq_of_lt short)
       ∙ ap (λ k. stays (record
-      { cells = cells; pending = drop k values; outputs_left = outputs_behind n (drop k values) })) none
+      { cells = cells; pending = drop k values; outputs_left = outputs_after n (drop k values) })) none
 
-  -- a whole block is absorbed, and then what is behind it
+  -- a whole block is absorbed, and then what is after it
   absorbed-block : (cells block more : List F) → length block ≡ n
       → absorbed r permute n cells (block ++ more) ≡ handed_first (overwritten r n cells block)
       (absorbed r permute n (permute (overwritten r n cells block)) more)
@@ -84,7 +84,7 @@ module _ {F : Type 0} (r : Residues F) (permute : List F → List F) (n : ℕ) (
             record {
               cells = absorbed_blocks r permute n k cells all;
               pending = drop (n * k) all;
-              outputs_left = outputs_behind n (drop (n * k) all);
+              outputs_left = outputs_after n (drop (n * k) all);
             };
       }) blocks
       ∙ (λ i. record {
@@ -95,13 +95,13 @@ module _ {F : Type 0} (r : Residues F) (permute : List F → List F) (n : ℕ) (
             record {
               cells = absorbed_blocks r permute n q (permute (overwritten r n cells (front i))) (rest i);
               pending = pending i;
-              outputs_left = outputs_behind n (pending i);
+              outputs_left = outputs_after n (pending i);
             };
       })
 
-  outputs_behind-snoc : (pending : List F) (x : F) → outputs_behind n (pending ++ x ∷ []) ≡ 0
-  outputs_behind-snoc [] x = refl
-  outputs_behind-snoc (y ∷ ys) x = refl
+  outputs_after-snoc : (pending : List F) (x : F) → outputs_after n (pending ++ x ∷ []) ≡ 0
+  outputs_after-snoc [] x = refl
+  outputs_after-snoc (y ∷ ys) x = refl
 
   -- a value that fills a block: the block is absorbed
   observed-full : (s : DuplexSponge F) (x : F) → (length (s.pending ++ x ∷ []) == n) ≡ true
@@ -162,7 +162,7 @@ module _ {F : Type 0} (r : Residues F) (permute : List F → List F) (n : ℕ) (
   values-by false s x [] fits short =
       ap (λ run. run_before run (run_values r permute n run.after [])) (observed-short s x short)
       ∙ ap (λ k. stays (record { cells = s.cells; pending = s.pending ++ x ∷ []; outputs_left = k }))
-      (sym (outputs_behind-snoc s.pending x))
+      (sym (outputs_after-snoc s.pending x))
       ∙ sym (absorbed-short s.cells (s.pending ++ x ∷ []) (is_short s x fits.short short))
   values-by false s x (y ∷ ys) fits short =
       ap (λ run. run_before run (run_values r permute n run.after (y ∷ ys))) (observed-short s x short)
@@ -198,10 +198,10 @@ module _ {F : Type 0} (r : Residues F) (permute : List F → List F) (n : ℕ) (
   output_at-further cells q =
       λ i. cell r (permuted permute (further-div n q positive i) cells) (n - 1 - add-mod_left n q i)
 
-  left_behind-further : (cells : List F) (q : ℕ)
-      → left_behind permute n cells (n + q) ≡ left_behind permute n (permute cells) q
+  left_after-further : (cells : List F) (q : ℕ)
+      → left_after permute n cells (n + q) ≡ left_after permute n (permute cells) q
   unfolding permuted
-  left_behind-further cells q =
+  left_after-further cells q =
       λ i. record {
         cells = permuted permute (further-div n q positive i) cells;
         pending = [];
@@ -224,11 +224,11 @@ module _ {F : Type 0} (r : Residues F) (permute : List F → List F) (n : ℕ) (
   draws_from-further cells q k =
       let same : n + q + k ≡ n + (q + k) = omega arith in
       let turns : (n + q + k) / n ≡ suc ((q + k) / n) = ap (λ p. p / n) same ∙ further-div n (q + k) positive in
-      let behind = ap (left_behind permute n cells) same ∙ left_behind-further cells (q + k) in
+      let following = ap (left_after permute n cells) same ∙ left_after-further cells (q + k) in
       λ i. record {
         answers = outputs_from-further cells q (suc k) i;
         handed = handed_in_turn permute (turns i) cells;
-        after = behind i;
+        after = following i;
       }
 
   -- with outputs left, the place where a challenger stands is at the last of them
@@ -247,10 +247,10 @@ module _ {F : Type 0} (r : Residues F) (permute : List F → List F) (n : ℕ) (
   output_at-here cells left more h =
       λ i. cell r (permuted permute (here-div left more h i) cells) (here-mod left more h i)
 
-  left_behind-here : (cells : List F) (left : ℕ) → 0 < left → left ≤ n
-      → left_behind permute n cells (n - left) ≡ record { cells = cells; pending = []; outputs_left = left - 1 }
+  left_after-here : (cells : List F) (left : ℕ) → 0 < left → left ≤ n
+      → left_after permute n cells (n - left) ≡ record { cells = cells; pending = []; outputs_left = left - 1 }
   unfolding permuted
-  left_behind-here cells left more h =
+  left_after-here cells left more h =
       λ i. record {
         cells = permuted permute (here-div left more h i) cells;
         pending = [];
@@ -266,11 +266,11 @@ module _ {F : Type 0} (r : Residues F) (permute : List F → List F) (n : ℕ) (
   taken-next cells left zero more h =
       let same : n - left + 0 ≡ n - left = omega arith in
       let turns : (n - left + 0) / n ≡ 0 = ap (λ p. p / n) same ∙ here-div left more h in
-      let behind = ap (left_behind permute n cells) same ∙ left_behind-here cells left more h in
+      let following = ap (left_after permute n cells) same ∙ left_after-here cells left more h in
       λ i. record {
         answers = output_at-here cells left more h i ∷ [];
         handed = handed_in_turn permute (turns i) cells;
-        after = behind i;
+        after = following i;
       }
   taken-next cells left (suc k) more h =
       let next : suc (n - left) ≡ n - (left - 1) = omega arith in
@@ -278,7 +278,7 @@ module _ {F : Type 0} (r : Residues F) (permute : List F → List F) (n : ℕ) (
       λ i. record {
         answers = output_at-here cells left more h i ∷ outputs_from r permute n cells (next i) (suc k);
         handed = handed_in_turn permute (further i / n) cells;
-        after = left_behind permute n cells (further i);
+        after = left_after permute n cells (further i);
       }
 
   -- with outputs left nothing is permuted
@@ -346,7 +346,7 @@ module _ {F : Type 0} (r : Residues F) (permute : List F → List F) (n : ℕ) (
   -- ---- the digest
 
   digests-agree : (cells pending : List F) (left : ℕ)
-      → run_digest r permute n (record { cells = cells; pending = pending; outputs_left = left }) ≡ digest_behind r
+      → run_digest r permute n (record { cells = cells; pending = pending; outputs_left = left }) ≡ digest_after r
       permute n cells pending
   digests-agree cells [] left = refl
   digests-agree cells (x ∷ xs) left = refl

@@ -14,7 +14,7 @@ filled_more cells i y below =
     ∙ ap (λ front. front ++ drop (suc i) cells) (replicate_more i y)
     ∙ ap (λ n. replicate (i + 1) y ++ drop n cells) (sym (add-one i))
 
--- a block over the front, zeros behind it, and one cell behind those
+-- a block over the front, zeros after it, and one cell after those
 pub written : {X : Type 0} (cells block zeros : List X) (rate : ℕ) (x : X) → length block ≤ rate → rate < length cells
     → length zeros ≡ rate - length block
     → set (take (length block) (block ++ drop (length block) cells)
@@ -23,9 +23,9 @@ pub written : {X : Type 0} (cells block zeros : List X) (rate : ℕ) (x : X) →
 written cells block zeros rate x fits below long =
     let n = length block in
     let front : take n (block ++ drop n cells) ≡ block = take_at block (drop n cells) n refl in
-    let behind : drop n (block ++ drop n cells) ≡ drop n cells = drop_at block (drop n cells) n refl in
+    let following : drop n (block ++ drop n cells) ≡ drop n cells = drop_at block (drop n cells) n refl in
     let same : n + (rate - n) ≡ rate = omega arith in
-    let rest : drop (rate - n) (drop n (block ++ drop n cells)) ≡ drop rate cells = ap (drop (rate - n)) behind
+    let rest : drop (rate - n) (drop n (block ++ drop n cells)) ≡ drop rate cells = ap (drop (rate - n)) following
     ∙ drop-drop (rate - n) n cells ∙ ap (λ k. drop k cells) same in
     let both : length (block ++ zeros) ≡ rate = omega (arith, length-append block zeros) in
     (λ i. set (front i ++ (zeros ++ rest i)) rate x)

@@ -6,7 +6,7 @@ use Rattle.std.proofs.lemmas.List.{take_more_set, take_all, length-set}
 use Rattle.p3_field_core.specs.Residues.{Residues}
 use Rattle.p3_duplex.specs.DuplexCalls.{DuplexSponge, duplexed, appended, observed}
 
--- written behind all that is pending, it fills the buffer
+-- written after all that is pending, it fills the buffer
 pub pushed : {F : Type 0} (buffer : List F) (inputs : ℕ) (x : F) → inputs + 1 ≡ length buffer
     → take inputs buffer ++ x ∷ [] ≡ set buffer inputs x
 pushed buffer inputs x full =

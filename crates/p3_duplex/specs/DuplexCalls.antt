@@ -21,7 +21,7 @@ abbrev pub cell : {F : Type 0} → Residues F → List F → ℕ → F
 cell r cells i = slice_index_or cells i (r.of 0)
 
 -- the cells with a block written over the rate: the block, zeros up to the rate, how many values the
--- block has added to the cell behind the rate, and the other cells as they are
+-- block has added to the cell after the rate, and the other cells as they are
 abbrev pub overwritten : {F : Type 0} → Residues F → ℕ → List F → List F → List F
 overwritten r rate cells block =
     block ++ (replicate (rate - length block)

@@ -20,10 +20,10 @@ handed_blocks r permute rate (suc n) cells values =
     let block_over = overwritten r rate cells (take rate values) in
     block_over ∷ handed_blocks r permute rate n (permute block_over) (drop rate values)
 
--- how many outputs are left behind the blocks: none where a shorter block is pending
-abbrev pub outputs_behind : {F : Type 0} → ℕ → List F → ℕ
-outputs_behind rate [] = rate
-outputs_behind rate (x ∷ xs) = 0
+-- how many outputs are left after the blocks: none where a shorter block is pending
+abbrev pub outputs_after : {F : Type 0} → ℕ → List F → ℕ
+outputs_after rate [] = rate
+outputs_after rate (x ∷ xs) = 0
 
 -- each whole block of values is absorbed, and what is left over is pending
 abbrev pub absorbed : {F : Type 0} → Residues F → (List F → List F) → ℕ → List F → List F → DuplexRun F
@@ -36,11 +36,11 @@ absorbed r permute rate cells values =
       after = record {
         cells = absorbed_blocks r permute rate blocks cells values;
         pending = pending;
-        outputs_left = outputs_behind rate pending;
+        outputs_left = outputs_after rate pending;
       };
     }
 
--- a segment's values go on behind those that are pending; with none nothing changes
+-- a segment's values go on after those that are pending; with none nothing changes
 abbrev pub run_values : {F : Type 0} → Residues F → (List F → List F) → ℕ → DuplexSponge F → List F → DuplexRun F
 run_values r permute rate start [] = stays start
 run_values r permute rate start (x ∷ xs) = absorbed r permute rate start.cells (start.pending ++ x ∷ xs)
@@ -64,8 +64,8 @@ abbrev pub output_at : {F : Type 0} → Residues F → (List F → List F) → �
 output_at r permute rate cells place = cell r (permuted permute (place / rate) cells) (rate - 1 - place % rate)
 
 -- once that output is drawn, the cells of the rate before it are left
-abbrev pub left_behind : {F : Type 0} → (List F → List F) → ℕ → List F → ℕ → DuplexSponge F
-left_behind permute rate cells place =
+abbrev pub left_after : {F : Type 0} → (List F → List F) → ℕ → List F → ℕ → DuplexSponge F
+left_after permute rate cells place =
     record { cells = permuted permute (place / rate) cells; pending = []; outputs_left = rate - 1 - place % rate }
 
 -- the outputs of n draws from a place on
@@ -80,7 +80,7 @@ draws_from r permute rate cells place n =
     record {
       answers = outputs_from r permute rate cells place (suc n);
       handed = handed_in_turn permute ((place + n) / rate) cells;
-      after = left_behind permute rate cells (place + n);
+      after = left_after permute rate cells (place + n);
     }
 
 -- where draws begin: a block that is pending is absorbed first, and then all outputs are left
@@ -105,11 +105,11 @@ run_draws r permute rate s (suc n) =
 
 -- ---- the digest
 
--- The digest behind segments is the rate after one step more: the block that is pending is absorbed, or,
+-- The digest after segments is the rate after one step more: the block that is pending is absorbed, or,
 -- where none is, the cells are permuted.
-abbrev pub digest_behind : {F : Type 0} → Residues F → (List F → List F) → ℕ → List F → List F → Run F (List F) (List F)
-digest_behind r permute rate cells [] = record { answers = []; handed = cells ∷ []; after = take rate (permute cells) }
-digest_behind r permute rate cells (x ∷ xs) =
+abbrev pub digest_after : {F : Type 0} → Residues F → (List F → List F) → ℕ → List F → List F → Run F (List F) (List F)
+digest_after r permute rate cells [] = record { answers = []; handed = cells ∷ []; after = take rate (permute cells) }
+digest_after r permute rate cells (x ∷ xs) =
     let block_over = overwritten r rate cells (x ∷ xs) in
     record { answers = []; handed = block_over ∷ []; after = take rate (permute block_over) }
 
@@ -125,5 +125,5 @@ duplex_by_segments r permute rate =
       values = run_values r permute rate;
       draws = run_draws r permute rate;
       ended = λ s. s;
-      digest = λ s. digest_behind r permute rate s.cells s.pending;
+      digest = λ s. digest_after r permute rate s.cells s.pending;
     }

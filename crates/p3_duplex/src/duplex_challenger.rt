@@ -20,8 +20,8 @@ use std::marker::Model;
 /// A challenger made of a permutation of `WIDTH` cells, of which the first `RATE` are the rate.
 ///
 /// What is observed is pending until it fills the rate, or until a draw finds no output left. Then it
-/// is absorbed: its values are written over the rate with zeros behind them, their number is added to
-/// the cell behind the rate, and the cells are permuted. The cells of the rate are then the outputs,
+/// is absorbed: its values are written over the rate with zeros after them, their number is added to
+/// the cell after the rate, and the cells are permuted. The cells of the rate are then the outputs,
 /// drawn from the last one backwards. An observation drops the outputs left, and a draw that finds
 /// none, and nothing pending, permutes the cells.
 ///
@@ -403,7 +403,7 @@ fn plus_number<F: PrimeField64>(x: F, n: u64) -> F
     x + F::from_u64(n)
 }
 
-// Writes a block over the rate, and how many values it has into the cell behind it.
+// Writes a block over the rate, and how many values it has into the cell after it.
 fn overwrite<F: PrimeField64>(cells: &mut [F], block: &[F], rate: usize)
     requires fits { length block.now ≤ rate }
     requires capacity { rate < length cells.old }

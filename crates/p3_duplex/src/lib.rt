@@ -6,4 +6,4 @@ mod duplex_challenger;
 mod prefix_code;
 
 pub use duplex_challenger::DuplexChallenger;
-pub use prefix_code::{duplex_arrays_read_one_way, duplex_elements_read_one_way};
+pub use prefix_code::{duplex_arrays_are_prefix_code, duplex_elements_are_prefix_code};

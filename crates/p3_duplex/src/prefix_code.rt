@@ -1,6 +1,6 @@
-// What a duplex challenger feeds reads one way: the premises of the laws on symbols.
+// What a duplex challenger feeds is a prefix code: the premises of the laws on symbols.
 ghost use Rattle.std.specs.Prelude.{◌≡◌, List, length, ◌++◌};
-ghost use Rattle.p3_challenger_core.specs.Reading.{ReadsOneWay, ReadsOneWayOn};
+ghost use Rattle.p3_challenger_core.specs.Reading.{IsPrefixCode, IsPrefixCodeOn};
 ghost use Rattle.p3_symmetric.specs.declared.hash.Hash.{Hash};
 ghost use Rattle.p3_symmetric.specs.HashValues.{values_of};
 
@@ -9,24 +9,24 @@ use p3_challenger_core::CanObserve;
 use p3_field_core::PrimeField64;
 use p3_symmetric::{CryptographicPermutation, Hash};
 
-/// The elements that a duplex challenger observes feed symbols that read one way.
+/// The symbols of the elements that a duplex challenger observes are a prefix code.
 ///
 /// A law: the body is empty, and a caller cites the clause.
 #[tactic(auto, using(p3_challenger_core::specs::SymbolLaws::one_symbol_each))]
-pub fn duplex_elements_read_one_way<
+pub fn duplex_elements_are_prefix_code<
     F: PrimeField64,
     P: CryptographicPermutation<[F; WIDTH]>,
     const WIDTH: usize,
     const RATE: usize,
 >()
-    ensures { ReadsOneWay ⟦<DuplexChallenger<F, P, WIDTH, RATE> as CanObserve<F>>⟧.observation.symbols }
+    ensures { IsPrefixCode ⟦<DuplexChallenger<F, P, WIDTH, RATE> as CanObserve<F>>⟧.observation.symbols }
 {}
 
-/// Arrays of `N` elements and digests of `N` elements feed symbols that read one way, each among themselves and
+/// Arrays of `N` elements and digests of `N` elements feed symbols that are a prefix code, each among themselves and
 /// both together.
 ///
 /// A law: the body is empty, and a caller cites the clauses.
-pub fn duplex_arrays_read_one_way<
+pub fn duplex_arrays_are_prefix_code<
     M,
     F: PrimeField64,
     P: CryptographicPermutation<[F; WIDTH]>,
@@ -34,9 +34,9 @@ pub fn duplex_arrays_read_one_way<
     const RATE: usize,
     const N: usize,
 >()
-    ensures arrays { ReadsOneWayOn (λ values. length values ≡ N)
+    ensures arrays { IsPrefixCodeOn (λ values. length values ≡ N)
         ⟦<DuplexChallenger<F, P, WIDTH, RATE> as CanObserve<[F; N]>>⟧.observation.symbols }
-    ensures digests { ReadsOneWay
+    ensures digests { IsPrefixCode
         ⟦<DuplexChallenger<F, P, WIDTH, RATE> as CanObserve<Hash<M, F, N>>>⟧.observation.symbols }
     ensures both { (digest : Hash M F N) (values a b : List F) → length values ≡ N →
         ⟦<DuplexChallenger<F, P, WIDTH, RATE> as CanObserve<Hash<M, F, N>>>⟧.observation.symbols digest ++ a

@@ -33,19 +33,30 @@ power-odd m a s p odd =
 
 module _ {F : Type 0} (r : Residues F) (laws : IsResidues r) where
   -- a step of the loop: the product takes the square where the power is odd
-  pub step-odd : (product square product' square' : F) (left whole : ℕ) → left % 2 ≡ 1 → product' ≡ r.of (r.number product * r.number square) → square' ≡ r.of (r.number square * r.number square) → (r.number product * r.number square ^ left) % r.order ≡ whole → (r.number product' * r.number square' ^ (left / 2)) % r.order ≡ whole
+  pub step-odd : (product square product' square' : F) (left whole : ℕ) → left % 2 ≡ 1
+      → product' ≡ r.of (r.number product * r.number square) → square' ≡ r.of (r.number square * r.number square)
+      → (r.number product * r.number square ^ left) % r.order ≡ whole
+      → (r.number product' * r.number square' ^ (left / 2)) % r.order ≡ whole
   step-odd product square product' square' left whole odd p q so_far =
       let first = ap r.number p ∙ laws.number_of (r.number product * r.number square) in
       let second = ap r.number q ∙ laws.number_of (r.number square * r.number square) in
-      ap₂ (λ a s. (a * s ^ (left / 2)) % r.order) first second ∙ power-odd r.order (r.number product) (r.number square) left odd ∙ so_far
+      ap₂ (λ a s. (a * s ^ (left / 2)) % r.order) first second
+      ∙ power-odd r.order (r.number product) (r.number square) left odd ∙ so_far
 
-  pub step-even : (product square product' square' : F) (left whole : ℕ) → left % 2 ≢ 1 → product' ≡ product → square' ≡ r.of (r.number square * r.number square) → (r.number product * r.number square ^ left) % r.order ≡ whole → (r.number product' * r.number square' ^ (left / 2)) % r.order ≡ whole
+  pub step-even : (product square product' square' : F) (left whole : ℕ) → left % 2 ≢ 1 → product' ≡ product
+      → square' ≡ r.of (r.number square * r.number square) → (r.number product * r.number square ^ left) % r.order ≡ whole
+      → (r.number product' * r.number square' ^ (left / 2)) % r.order ≡ whole
   step-even product square product' square' left whole even p q so_far =
       let second = ap r.number q ∙ laws.number_of (r.number square * r.number square) in
-      ap₂ (λ a s. (a * s ^ (left / 2)) % r.order) (ap r.number p) second ∙ power-even r.order (r.number product) (r.number square) left even ∙ so_far
+      ap₂ (λ a s. (a * s ^ (left / 2)) % r.order) (ap r.number p) second
+      ∙ power-even r.order (r.number product) (r.number square) left even ∙ so_far
 
   -- at the end the product is the power
-  pub of-power : (base product square : F) (exponent left : ℕ) → left ≡ 0 → (r.number product * r.number square ^ left) % r.order ≡ (r.number base ^ exponent) % r.order → product ≡ r.of (r.number base ^ exponent)
+  pub of-power : (base product square : F) (exponent left : ℕ) → left ≡ 0
+      → (r.number product * r.number square ^ left) % r.order ≡ (r.number base ^ exponent) % r.order
+      → product ≡ r.of (r.number base ^ exponent)
   of-power base product square exponent left none e =
-      let one : r.number product * r.number square ^ left ≡ r.number product = ap (λ k. r.number product * r.number square ^ k) none ∙ ap (λ k. r.number product * k) (pow-zero (r.number square)) ∙ mul-one (r.number product) in
+      let one : r.number product * r.number square ^ left ≡ r.number product =
+      ap (λ k. r.number product * r.number square ^ k) none
+      ∙ ap (λ k. r.number product * k) (pow-zero (r.number square)) ∙ mul-one (r.number product) in
       of-is r laws product (r.number base ^ exponent) (sym (ap (λ q. q % r.order) one) ∙ e)

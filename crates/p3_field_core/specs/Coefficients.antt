@@ -14,7 +14,8 @@ abbrev pub element_of_one : {F : Type 0} → F → List F → F
 element_of_one nought [] = nought
 element_of_one nought (x ∷ xs) = x
 
-pub coefficients-element_of_one : {F : Type 0} (nought : F) (xs : List F) → length xs ≡ 1 → element_of_one nought xs ∷ [] ≡ xs
+pub coefficients-element_of_one : {F : Type 0} (nought : F) (xs : List F) → length xs ≡ 1
+    → element_of_one nought xs ∷ [] ≡ xs
 coefficients-element_of_one nought [] one = absurd (omega (arith, one))
 coefficients-element_of_one nought (x ∷ []) one = refl
 coefficients-element_of_one nought (x ∷ y ∷ ys) one = absurd (omega (arith, one))

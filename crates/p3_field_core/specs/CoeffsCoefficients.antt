@@ -33,14 +33,16 @@ cut_to nought D xs = take D (xs ++ replicate D nought)
 
 pub length-cut_to : {F : Type 0} (nought : F) (D : ℕ) (xs : List F) → length (cut_to nought D xs) ≡ D
 length-cut_to nought D xs =
-    let long : D ≤ length (xs ++ replicate D nought) = omega (arith, length-append xs (replicate D nought), length-replicate D nought) in
+    let long : D ≤ length (xs ++ replicate D nought) =
+    omega (arith, length-append xs (replicate D nought), length-replicate D nought) in
     length-take-le D (xs ++ replicate D nought) long
 
 -- the element of these coefficients
 abbrev pub element_of : {F : Type 0} {D : ℕ} → F → List F → Coeffs F D
 element_of {F} {D} nought xs = record { coefficients = cut_to nought D xs; full = length-cut_to nought D xs }
 
-pub coefficients-element_of : {F : Type 0} {D : ℕ} (nought : F) (xs : List F) → length xs ≡ D → coefficients_of (element_of {D = D} nought xs) ≡ xs
+pub coefficients-element_of : {F : Type 0} {D : ℕ} (nought : F) (xs : List F) → length xs ≡ D
+    → coefficients_of (element_of {D = D} nought xs) ≡ xs
 coefficients-element_of {F} {D} nought xs full =
     let whole : D ≤ length xs = omega (arith, full) in
     let all : length xs ≤ D = omega (arith, full) in

@@ -1,10 +1,13 @@
 -- The count of a bounded step.
-use Rattle.std.proofs.Common.{◌≡◌, ℕ, ◌<◌, ◌≤◌, ◌+◌, ◌-◌, ◌*◌, ◌^◌, List, ◌++◌, length, take, drop, replicate, sym, ap, ◌∙◌, subst, arith}
+use Rattle.std.proofs.Common.{◌≡◌, ℕ, ◌<◌, ◌≤◌, ◌+◌, ◌-◌, ◌*◌, ◌^◌, List, ◌++◌, length, take, drop, replicate, sym}
+use Rattle.std.proofs.Common.{ap, ◌∙◌, subst, arith}
 use Rattle.std.proofs.lemmas.Nat.{leading_length}
 use Rattle.std.specs.Int.{div_ceil}
-use Rattle.p3_challenger_core.specs.Reading.{AreBytes, ReadsOneWayOn}
+use Rattle.p3_challenger_core.specs.Reading.{AreBytes, IsPrefixCodeOn}
 use Rattle.p3_fs_core.specs.BigEndian.{big_endian, in_bytes, bytes_for}
-use Rattle.p3_fs_core.specs.BigEndianLaws.{fits-bytes_for, bytes_for-least, big_endian-in_bytes, big_endian-below, in_bytes-big_endian, length-in_bytes, AreBytes-take, take-front, drop-front}
+use Rattle.p3_fs_core.specs.BigEndianLaws.{fits-bytes_for, bytes_for-least, big_endian-in_bytes, big_endian-below}
+use Rattle.p3_fs_core.specs.BigEndianLaws.{in_bytes-big_endian, length-in_bytes, AreBytes-take, take-front}
+use Rattle.p3_fs_core.specs.BigEndianLaws.{drop-front}
 use Rattle.std.proofs.lemmas.List.{length-take-le}
 use lib.Count.{count_leading_zeros}
 
@@ -49,15 +52,15 @@ counted_spelled_back width number buf are_bytes long is =
     ap (in_bytes width) is
     ∙ in_bytes-big_endian width (take width buf) (length-take-le width buf long) (AreBytes-take width buf are_bytes)
 
--- whatever follows, counts of one width read one way
-pub counts_one_way : (width : ℕ) → ReadsOneWayOn (λ n. n < 256 ^ width) (in_bytes width)
-counts_one_way width x y a b x_fits y_fits e =
+-- counts of one width are a prefix code
+pub counts_prefix_code : (width : ℕ) → IsPrefixCodeOn (λ n. n < 256 ^ width) (in_bytes width)
+counts_prefix_code width x y a b x_fits y_fits e =
     let front : in_bytes width x ≡ in_bytes width y =
     sym (take-front width (in_bytes width x) a (length-in_bytes width x))
     ∙ ap (take width) e
     ∙ take-front width (in_bytes width y) b (length-in_bytes width y) in
-    let behind : a ≡ b =
+    let following : a ≡ b =
     sym (drop-front width (in_bytes width x) a (length-in_bytes width x))
     ∙ ap (drop width) e
     ∙ drop-front width (in_bytes width y) b (length-in_bytes width y) in
-    (sym (big_endian-in_bytes width x x_fits) ∙ ap big_endian front ∙ big_endian-in_bytes width y y_fits, behind)
+    (sym (big_endian-in_bytes width x x_fits) ∙ ap big_endian front ∙ big_endian-in_bytes width y y_fits, following)

@@ -4,7 +4,8 @@ use Rattle.p3_challenger_core.specs.declared.error.ChallengerError.{ChallengerEr
 use Rattle.p3_challenger_core.specs.contracts.error.ChallengerErrorPartialEq.TheImpl as challengers
 use Rattle.p3_fs_core.specs.declared.error.TranscriptError.{TranscriptError}
 use Rattle.p3_fs_core.specs.declared.error.PatternError.{PatternError}
-use Rattle.p3_fs_core.specs.declared.error.PatternError.TheVariants.{Finished, NoMoreSteps, WrongStep, Unplayed, OverCap}
+use Rattle.p3_fs_core.specs.declared.error.PatternError.TheVariants.{Finished, NoMoreSteps, WrongStep, Unplayed}
+use Rattle.p3_fs_core.specs.declared.error.PatternError.TheVariants.{OverCap}
 use Rattle.p3_fs_core.specs.declared.error.MissingBeginInfo.{MissingBeginInfo}
 use Rattle.p3_fs_core.specs.declared.error.InvalidKindInfo.{InvalidKindInfo}
 use Rattle.p3_fs_core.specs.declared.error.MismatchedBeginEndInfo.{MismatchedBeginEndInfo}
@@ -23,7 +24,9 @@ use Rattle.p3_fs_core.specs.contracts.error.MismatchedBeginEndInfoPartialEq.TheI
 use Rattle.p3_fs_core.specs.contracts.error.MissingEndInfoPartialEq.TheImpl as missing_ends
 use Rattle.std.specs.contracts.prelude.RefStrPartialEq.TheImpl as texts
 use Rattle.std.specs.contracts.prelude.UsizePartialEq.TheImpl as numbers
-use Rattle.p3_fs_core.specs.Errors.{missing_begin, invalid_kind, mismatched_begin_end, missing_end, Refusal, fault, bad_proof_shape, misfit, challenger_refused, label_too_long, out_of_memory, misfit_of, refusal_of}
+use Rattle.p3_fs_core.specs.Errors.{missing_begin, invalid_kind, mismatched_begin_end, missing_end, Refusal, fault}
+use Rattle.p3_fs_core.specs.Errors.{bad_proof_shape, misfit, challenger_refused, label_too_long, out_of_memory}
+use Rattle.p3_fs_core.specs.Errors.{misfit_of, refusal_of}
 use Rattle.p3_fs_core.specs.Interactions.{step_of}
 use Rattle.p3_fs_core.specs.Steps.{Step}
 use Rattle.p3_fs_core.proofs.StepEquality.{both, and, equal_steps, text-same, text-self}

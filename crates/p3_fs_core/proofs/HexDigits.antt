@@ -1,5 +1,7 @@
 -- A number's digits in base 16, in two parts, and those of bytes.
-use Rattle.std.proofs.Common.{◌≡◌, ℕ, zero, suc, ◌+◌, ◌-◌, ◌*◌, ◌/◌, ◌%◌, ◌^◌, ◌<◌, ◌≤◌, false, List, [], ◌∷◌, ◌++◌, length, replicate, slice_index, refl, sym, ap, ◌∙◌, inl, inr, lit<, arith, append_assoc, append-nil, eq-eqb, ne_eqb, pow-suc}
+use Rattle.std.proofs.Common.{◌≡◌, ℕ, zero, suc, ◌+◌, ◌-◌, ◌*◌, ◌/◌, ◌%◌, ◌^◌, ◌<◌, ◌≤◌, false, List, [], ◌∷◌, ◌++◌}
+use Rattle.std.proofs.Common.{length, replicate, slice_index, refl, sym, ap, ◌∙◌, inl, inr, lit<, arith, append_assoc}
+use Rattle.std.proofs.Common.{append-nil, eq-eqb, ne_eqb, pow-suc}
 use Rattle.std.proofs.lemmas.Bool.{cases_lt}
 use Rattle.std.proofs.lemmas.List.{length-append}
 use Rattle.std.proofs.Math.Nat.{mul_left_comm, mul-pos}

@@ -1,13 +1,14 @@
 -- Laws of the alphabet of bytes.
-use Rattle.std.proofs.Common.{◌≡◌, ℕ, zero, suc, List, [], ◌∷◌, ◌++◌, inl, inr, refl, sym, ap, ◌∙◌, append_assoc, append-nil}
+use Rattle.std.proofs.Common.{◌≡◌, ℕ, zero, suc, List, [], ◌∷◌, ◌++◌, inl, inr, refl, sym, ap, ◌∙◌, append_assoc}
+use Rattle.std.proofs.Common.{append-nil}
 use Rattle.std.specs.List.{flat_map}
 use Rattle.std.proofs.lemmas.List.{append_cancel_left}
-use Rattle.p3_challenger_core.specs.Reading.{ReadsOneWayOn, IsByte, AreBytes, OneBegins}
+use Rattle.p3_challenger_core.specs.Reading.{IsPrefixCodeOn, IsByte, AreBytes, OneBegins}
 use Rattle.p3_fs_core.specs.Alphabet.{AreItems}
 
-behind : {S : Type 0} (c d : S) (a b : List S) → c ≡ d → OneBegins a b → OneBegins (c ∷ a) (d ∷ b)
-behind c d a b same (inl h) = inl (h.0, ap (λ l. c ∷ l) h.1 ∙ ap (λ z. z ∷ b) same)
-behind c d a b same (inr h) = inr (h.0, ap (λ l. d ∷ l) h.1 ∙ ap (λ z. z ∷ a) (sym same))
+following : {S : Type 0} (c d : S) (a b : List S) → c ≡ d → OneBegins a b → OneBegins (c ∷ a) (d ∷ b)
+following c d a b same (inl h) = inl (h.0, ap (λ l. c ∷ l) h.1 ∙ ap (λ z. z ∷ b) same)
+following c d a b same (inr h) = inr (h.0, ap (λ l. d ∷ l) h.1 ∙ ap (λ z. z ∷ a) (sym same))
 
 -- equal lists begin one another
 pub begins_itself : {S : Type 0} (a b : List S) → a ≡ b → OneBegins a b
@@ -19,18 +20,18 @@ one_begins [] b x y e = inl (b, refl)
 one_begins (c ∷ a) [] x y e = inr (c ∷ a, refl)
 one_begins {S} (c ∷ a) (d ∷ b) x y e =
     let same : ◌≡◌ {A = S × List S} (c, a ++ x) (d, b ++ y) = cc in
-    behind c d a b (ap (λ p. p.0) same) (one_begins a b x y (ap (λ p. p.1) same))
+    following c d a b (ap (λ p. p.0) same) (one_begins a b x y (ap (λ p. p.1) same))
 
--- lists of items whose symbols, with anything behind them, are equal: one list begins the other
-pub row-begins : {T S : Type 0} (IsItem : T → Type 0) (symbols : T → List S) → ReadsOneWayOn IsItem symbols →
+-- lists of items whose symbols, with anything after them, are equal: one list begins the other
+pub row-begins : {T S : Type 0} (IsItem : T → Type 0) (symbols : T → List S) → IsPrefixCodeOn IsItem symbols →
     (xs ys : List T) (a b : List S) → AreItems IsItem xs → AreItems IsItem ys →
     flat_map symbols xs ++ a ≡ flat_map symbols ys ++ b → OneBegins xs ys
-row-begins IsItem symbols one_way [] ys a b x_are y_are e = inl (ys, refl)
-row-begins IsItem symbols one_way (x ∷ xs) [] a b x_are y_are e = inr (x ∷ xs, refl)
-row-begins IsItem symbols one_way (x ∷ xs) (y ∷ ys) a b x_are y_are e =
-    let first = one_way x y (flat_map symbols xs ++ a) (flat_map symbols ys ++ b) x_are.0 y_are.0
+row-begins IsItem symbols prefix_code [] ys a b x_are y_are e = inl (ys, refl)
+row-begins IsItem symbols prefix_code (x ∷ xs) [] a b x_are y_are e = inr (x ∷ xs, refl)
+row-begins IsItem symbols prefix_code (x ∷ xs) (y ∷ ys) a b x_are y_are e =
+    let first = prefix_code x y (flat_map symbols xs ++ a) (flat_map symbols ys ++ b) x_are.0 y_are.0
     (sym (append_assoc (symbols x) (flat_map symbols xs) a) ∙ e ∙ append_assoc (symbols y) (flat_map symbols ys) b) in
-    behind x y xs ys first.0 (row-begins IsItem symbols one_way xs ys a b x_are.1 y_are.1 first.1)
+    following x y xs ys first.0 (row-begins IsItem symbols prefix_code xs ys a b x_are.1 y_are.1 first.1)
 
 -- the bytes of a byte string are items of the alphabet of bytes
 pub bytes-are_items : (bytes : List ℕ) → AreBytes bytes → AreItems IsByte bytes
@@ -42,10 +43,10 @@ pub all-are_items : {T : Type 0} (xs : List T) → AreItems (λ (x : T). Unit {0
 all-are_items [] = tt
 all-are_items (x ∷ xs) = (tt, all-are_items xs)
 
--- An alphabet tells byte strings apart by their symbols: where those of two, with anything behind them, are
--- equal, one string begins the other, and behind equal strings stands the same.
+-- An alphabet tells byte strings apart by their symbols: where those of two, with anything after them, are
+-- equal, one string begins the other, and after equal strings stands the same.
 module _ {T S : Type 0} (IsItem : T → Type 0) (items : List ℕ → List T) (symbols : T →
-    List S) (one_way : ReadsOneWayOn IsItem symbols) (items_are : (bytes : List ℕ) → AreBytes bytes →
+    List S) (prefix_code : IsPrefixCodeOn IsItem symbols) (items_are : (bytes : List ℕ) → AreBytes bytes →
     AreItems IsItem (items bytes)) where
   begins_by : (a b : List ℕ) → ((x y : List T) → items a ++ x ≡ items b ++ y → OneBegins a b) →
       OneBegins (items a) (items b) → OneBegins a b
@@ -56,10 +57,10 @@ module _ {T S : Type 0} (IsItem : T → Type 0) (items : List ℕ → List T) (s
       ((r s : List T) → items a ++ r ≡ items b ++ s → OneBegins a b) →
       flat_map symbols (items a) ++ x ≡ flat_map symbols (items b) ++ y → OneBegins a b
   symbols-begin a b x y a_are b_are begins e =
-      begins_by a b begins (row-begins IsItem symbols one_way (items a) (items b) x y (items_are a a_are)
+      begins_by a b begins (row-begins IsItem symbols prefix_code (items a) (items b) x y (items_are a a_are)
       (items_are b b_are) e)
 
-pub behind_equal : {T S : Type 0} (items : List ℕ → List T) (symbols : T → List S) (a b : List ℕ) (x y : List S) →
+pub after_equal : {T S : Type 0} (items : List ℕ → List T) (symbols : T → List S) (a b : List ℕ) (x y : List S) →
     flat_map symbols (items a) ++ x ≡ flat_map symbols (items b) ++ y → a ≡ b → x ≡ y
-behind_equal items symbols a b x y e same =
+after_equal items symbols a b x y e same =
     append_cancel_left (flat_map symbols (items a)) x y (e ∙ ap (λ c. flat_map symbols (items c) ++ y) (sym same))

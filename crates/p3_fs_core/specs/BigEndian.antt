@@ -2,7 +2,7 @@
 use Rattle.std.specs.Prelude.{ℕ, ◌+◌, ◌*◌, ◌/◌, List, [], ◌∷◌}
 use Rattle.std.specs.Int.{bytes_high_first}
 
--- the number that bytes are behind a number
+-- the number that bytes are after a number
 abbrev pub big_endian_after : ℕ → List ℕ → ℕ
 big_endian_after n [] = n
 big_endian_after n (byte ∷ bytes) = big_endian_after (256 * n + byte) bytes

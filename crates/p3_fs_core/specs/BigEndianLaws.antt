@@ -1,7 +1,10 @@
 -- Laws of numbers as bytes, the highest first.
-use Rattle.std.proofs.Common.{◌≡◌, ℕ, zero, suc, ◌<◌, ◌≤◌, ◌+◌, ◌-◌, ◌*◌, ◌/◌, ◌%◌, ◌^◌, List, [], ◌∷◌, ◌++◌, length, take, drop, replicate, append-nil, refl, sym, ap, ◌∙◌, subst, inl, inr, lit<, arith, pow-suc, pow_mono}
+use Rattle.std.proofs.Common.{◌≡◌, ℕ, zero, suc, ◌<◌, ◌≤◌, ◌+◌, ◌-◌, ◌*◌, ◌/◌, ◌%◌, ◌^◌, List, [], ◌∷◌, ◌++◌, length}
+use Rattle.std.proofs.Common.{take, drop, replicate, append-nil, refl, sym, ap, ◌∙◌, subst, inl, inr, lit<, arith}
+use Rattle.std.proofs.Common.{pow-suc, pow_mono}
 use Rattle.std.proofs.lemmas.Bool.{cases_lt}
-use Rattle.std.proofs.Math.Nat.{div-add-mod, div-div-eq-div-mul, div-eq_of_lt, div-one, mod-lt, lt-mul-div-succ, zero-add, suc-add}
+use Rattle.std.proofs.Math.Nat.{div-add-mod, div-div-eq-div-mul, div-eq_of_lt, div-one, mod-lt, lt-mul-div-succ}
+use Rattle.std.proofs.Math.Nat.{zero-add, suc-add}
 use Rattle.std.proofs.lemmas.Nat.{pow_pos, pow-add, be_bytes_8}
 use Rattle.std.proofs.Math.Seq.{take-append_seam, drop-append_seam}
 use Rattle.std.proofs.lemmas.List.{length-append, length-replicate, length-drop, take-replicate, take_all, drop_all}
@@ -26,7 +29,7 @@ one_more k n =
     ∙ ap (λ m. 256 * (n / 256 ^ k / 256) + m) (byte_at-digit k n)
     ∙ div-add-mod (n / 256 ^ k) 256
 
--- the lowest bytes of a number, behind what is above them, are the number
+-- the lowest bytes of a number, after what is above them, are the number
 after-in_bytes : (k n : ℕ) → big_endian_after (n / 256 ^ k) (in_bytes k n) ≡ n
 after-in_bytes zero n = div-one n
 after-in_bytes (suc k) n = ap (λ m. big_endian_after m (in_bytes k n)) (one_more k n) ∙ after-in_bytes k n
@@ -48,7 +51,7 @@ AreBytes-in_bytes zero n i = lit< tt
 AreBytes-in_bytes (suc k) n zero = byte_at-below k n
 AreBytes-in_bytes (suc k) n (suc i) = AreBytes-in_bytes k n i
 
--- what is behind the highest bytes
+-- what is after the highest bytes
 pub drop-in_bytes : (j k n : ℕ) → drop j (in_bytes (j + k) n) ≡ in_bytes k n
 drop-in_bytes zero k n = ap (λ m. in_bytes m n) (zero-add k)
 drop-in_bytes (suc j) k n = ap (λ m. drop (suc j) (in_bytes m n)) (suc-add j k) ∙ drop-in_bytes j k n
@@ -60,9 +63,10 @@ take-front k xs ys is = subst (λ (n : ℕ). take n (xs ++ ys) ≡ xs) is (take-
 pub drop-front : {A : Type 0} (k : ℕ) (xs ys : List A) → length xs ≡ k → drop k (xs ++ ys) ≡ ys
 drop-front k xs ys is = subst (λ (n : ℕ). drop n (xs ++ ys) ≡ ys) is (drop-append_seam xs ys)
 
--- equally long fronts of one list are one, and so is what is behind them
-pub front-one_way : {A : Type 0} (xs ys a b : List A) → length xs ≡ length ys → xs ++ a ≡ ys ++ b → (xs ≡ ys) × (a ≡ b)
-front-one_way xs ys a b same e =
+-- equally long fronts of one list are one, and so is what is after them
+pub front-prefix_code : {A : Type 0} (xs ys a b : List A) → length xs ≡ length ys → xs ++ a ≡ ys ++ b → (xs ≡ ys)
+    × (a ≡ b)
+front-prefix_code xs ys a b same e =
     let k = length ys in (
       sym (take-front k xs a same) ∙ ap (take k) e ∙ take-append_seam ys b,
       sym (drop-front k xs a same) ∙ ap (drop k) e ∙ drop-append_seam ys b,
@@ -88,7 +92,7 @@ one_byte-div a byte small = omega (arith, small)
 one_byte-mod : (a byte : ℕ) → byte < 256 → (256 * a + byte) % 256 ≡ byte
 one_byte-mod a byte small = omega (arith, small)
 
--- above bytes stands what they are behind
+-- above bytes stands what they are after
 after-div : (a : ℕ) (bytes : List ℕ) → AreBytes bytes → big_endian_after a bytes / 256 ^ length bytes ≡ a
 after-div a [] h = div-one a
 after-div a (byte ∷ bytes) h =
@@ -189,14 +193,14 @@ number_of_padded bytes padded n short are_bytes is fits read =
     sym (big_endian-in_bytes 8 n fits) ∙ ap big_endian spelled ∙ big_endian-zeros k bytes
 
 -- what a machine word of zeros is, whose end bytes are written over
-pub written_behind : (k : ℕ) (back bytes : List ℕ) → k ≤ 8 → back ≡ bytes →
+pub written_after : (k : ℕ) (back bytes : List ℕ) → k ≤ 8 → back ≡ bytes →
     take k (replicate 8 0) ++ (back ++ drop (8 - k) (drop k (replicate 8 0))) ≡ replicate k 0 ++ bytes
-written_behind k back bytes small is =
+written_after k back bytes small is =
     let zeros : List ℕ = replicate 8 0 in
     let rest : List ℕ = drop k zeros in
-    let behind : length rest ≤ 8 - k = omega (arith, length-drop k zeros) in
+    let following : length rest ≤ 8 - k = omega (arith, length-drop k zeros) in
     ap (λ front. front ++ (back ++ drop (8 - k) rest)) (take-replicate k 8 0 small)
-    ∙ ap (λ end. replicate k 0 ++ (back ++ end)) (drop_all (8 - k) rest behind)
+    ∙ ap (λ end. replicate k 0 ++ (back ++ end)) (drop_all (8 - k) rest following)
     ∙ ap (λ end. replicate k 0 ++ end) (append-nil back ∙ is)
 
 -- the bytes that a machine word has for a number of fewer

@@ -6,12 +6,12 @@ use Rattle.p3_fs_core.specs.declared.error.TranscriptError.{TranscriptError}
 
 module _ {T : Type 0} (spelling : T → List ℕ) (reading : List ℕ → Result (T × List ℕ) (List ℕ)) where
   module _ (width : ℕ) (bytes : List ℕ) (reads_only : (x : T) (rest : List ℕ) → reading bytes ≡ Ok (x, rest) →
-      bytes ≡ spelling x ++ rest) (behind : (x : T) (rest : List ℕ) → drop width (spelling x ++ rest) ≡ rest) where
+      bytes ≡ spelling x ++ rest) (following : (x : T) (rest : List ℕ) → drop width (spelling x ++ rest) ≡ rest) where
     found_in : (o : Result (T × List ℕ) (List ℕ)) (r : Result T TranscriptError) → reading bytes ≡ o → Decodes o r →
         IfOk r (λ x. bytes ≡ spelling x ++ drop width bytes)
     found_in (Ok found) (Ok x) is decodes =
         let spelled = reads_only found.0 found.1 is in
-        let rest : drop width bytes ≡ found.1 = ap (drop width) spelled ∙ behind found.0 found.1 in
+        let rest : drop width bytes ≡ found.1 = ap (drop width) spelled ∙ following found.0 found.1 in
         spelled ∙ ap (λ y. spelling y ++ found.1) (sym decodes) ∙ ap (λ end. spelling x ++ end) (sym rest)
     found_in (Ok found) (Err e) is decodes = tt
     found_in (Err reason) (Ok x) is decodes = absurd decodes

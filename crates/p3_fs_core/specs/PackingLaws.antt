@@ -1,14 +1,19 @@
 -- Laws of byte strings as elements of a field.
-use Rattle.std.proofs.Common.{◌≡◌, ℕ, zero, suc, ◌<◌, ◌≤◌, ◌+◌, ◌-◌, ◌*◌, ◌/◌, ◌^◌, List, [], ◌∷◌, ◌++◌, length, map, take, drop, min, replicate, append-nil, inl, inr, refl, sym, ap, ◌∙◌, subst, lit<, arith, pow-suc, pow_mono}
-use Rattle.std.proofs.Math.Nat.{mul_comm, mul_assoc, lt-mul-div-succ, add-mul-div_left, div-eq_of_lt, div-eq_of_lt-le, div-one}
+use Rattle.std.proofs.Common.{◌≡◌, ℕ, zero, suc, ◌<◌, ◌≤◌, ◌+◌, ◌-◌, ◌*◌, ◌/◌, ◌^◌, List, [], ◌∷◌, ◌++◌, length, map}
+use Rattle.std.proofs.Common.{take, drop, min, replicate, append-nil, inl, inr, refl, sym, ap, ◌∙◌, subst, lit<}
+use Rattle.std.proofs.Common.{arith, pow-suc, pow_mono}
+use Rattle.std.proofs.Math.Nat.{mul_comm, mul_assoc, lt-mul-div-succ, add-mul-div_left, div-eq_of_lt, div-eq_of_lt-le}
+use Rattle.std.proofs.Math.Nat.{div-one}
 use Rattle.std.proofs.lemmas.Nat.{pow-add, le_bytes_8}
-use Rattle.std.proofs.lemmas.List.{take-append-drop, take_all, drop_all, drop-replicate, length-append, length-replicate, length-take, length-drop, nil_from_length}
+use Rattle.std.proofs.lemmas.List.{take-append-drop, take_all, drop_all, drop-replicate, length-append}
+use Rattle.std.proofs.lemmas.List.{length-replicate, length-take, length-drop, nil_from_length}
 use Rattle.std.proofs.lemmas.Bool.{cases_lt}
 use Rattle.std.specs.Int.{w64, byte_at, bytes_low_first, from_le_bytes}
 use Rattle.p3_field_core.specs.Residues.{Residues, IsResidues}
 use Rattle.p3_field_core.specs.ResidueLaws.{of-injective}
-use Rattle.p3_challenger_core.specs.Reading.{ReadsOneWayOn, OneBegins, AreBytes}
-use Rattle.p3_fs_core.specs.BigEndianLaws.{AreBytes-take, AreBytes-drop, one_more, take-front, drop-front, power_of_bytes}
+use Rattle.p3_challenger_core.specs.Reading.{IsPrefixCodeOn, OneBegins, AreBytes}
+use Rattle.p3_fs_core.specs.BigEndianLaws.{AreBytes-take, AreBytes-drop, one_more, take-front, drop-front}
+use Rattle.p3_fs_core.specs.BigEndianLaws.{power_of_bytes}
 use Rattle.p3_fs_core.specs.AlphabetLaws.{begins_itself}
 use Rattle.p3_fs_core.specs.Packing.{little_endian, chunk_bytes, chunk_count, first_chunks, chunks, packed, IsPackable}
 
@@ -84,7 +89,7 @@ little_endian-zeros : (k : ℕ) → little_endian (replicate k 0) ≡ 0
 little_endian-zeros zero = refl
 little_endian-zeros (suc k) = ap (λ n. 0 + 256 * n) (little_endian-zeros k)
 
--- zeros behind bytes do not change their number
+-- zeros after bytes do not change their number
 little_endian-padded : (bytes : List ℕ) (k : ℕ) → little_endian (bytes ++ replicate k 0) ≡ little_endian bytes
 little_endian-padded [] k = little_endian-zeros k
 little_endian-padded (byte ∷ bytes) k = ap (λ n. byte + 256 * n) (little_endian-padded bytes k)
@@ -170,14 +175,14 @@ end_of size chunk rest all short parts = elim (cases_lt (length all) size) [
   | inr full ↦ drop-front size chunk rest (omega (arith, short, full))
 ]
 
--- the first chunk, and the chunks of what is behind it
+-- the first chunk, and the chunks of what is after it
 pub chunks-step : (size : ℕ) (all chunk rest : List ℕ) → 0 < size → 0 < length all → all ≡ chunk ++ rest →
     length chunk ≡ min size (length all) → chunks size all ≡ chunk ∷ chunks size rest
 unfolding first_chunks
 chunks-step size all chunk rest positive some parts short =
-    let behind : length rest ≡ length all - size = omega (arith, short, ap length parts, length-append chunk rest) in
+    let following : length rest ≡ length all - size = omega (arith, short, ap length parts, length-append chunk rest) in
     let count : chunk_count size (length all) ≡ suc (chunk_count size (length rest)) =
-    count-more size (length all) positive some ∙ ap (λ k. suc (chunk_count size k)) (sym behind) in
+    count-more size (length all) positive some ∙ ap (λ k. suc (chunk_count size k)) (sym following) in
     let front : take size all ≡ chunk = ap (take size) parts ∙ front_of size chunk rest all short parts in
     let end : drop size all ≡ rest = ap (drop size) parts ∙ end_of size chunk rest all short parts in
     ap (λ k. first_chunks size k all) count
@@ -224,16 +229,16 @@ module _ {F : Type 0} (r : Residues F) (laws : IsResidues r) (size : ℕ) (fits 
       (of-injective r laws (little_endian a) (little_endian b) (chunk-fits a a_are short) (chunk-fits b b_are b_short)
       e)
 
-  -- as many chunks of equally many bytes read one way
-  pub chunks-one_way : (n : ℕ) (a b : List ℕ) (x y : List F) → AreBytes a → AreBytes b → length a ≡ length b →
+  -- as many chunks of equally many bytes are a prefix code
+  pub chunks-prefix_code : (n : ℕ) (a b : List ℕ) (x y : List F) → AreBytes a → AreBytes b → length a ≡ length b →
       length a ≤ n * size → map element_of_chunk (first_chunks size n a) ++ x
       ≡ map element_of_chunk (first_chunks size n b) ++ y → (a ≡ b) × (x ≡ y)
   unfolding first_chunks
-  chunks-one_way zero a b x y a_are b_are same all e =
+  chunks-prefix_code zero a b x y a_are b_are same all e =
       let a_none : a ≡ [] = nil_from_length a (omega (arith, all)) in
       let b_none : b ≡ [] = nil_from_length b (omega (arith, all, same)) in
       (a_none ∙ sym b_none, e)
-  chunks-one_way (suc n) a b x y a_are b_are same all e =
+  chunks-prefix_code (suc n) a b x y a_are b_are same all e =
       let front : ◌≡◌ {A = F × List F} (
         element_of_chunk (take size a),
         map element_of_chunk (first_chunks size n (drop size a)) ++ x,
@@ -250,16 +255,16 @@ module _ {F : Type 0} (r : Residues F) (laws : IsResidues r) (size : ℕ) (fits 
       ∙ sym (length-drop size b) in
       let product : suc n * size ≡ n * size + size = omega arith in
       let others_all : length (drop size a) ≤ n * size = omega (arith, length-drop size a, all, product) in
-      let others = chunks-one_way n (drop size a) (drop size b) x y (AreBytes-drop size a a_are)
+      let others = chunks-prefix_code n (drop size a) (drop size b) x y (AreBytes-drop size a a_are)
       (AreBytes-drop size b b_are) others_same others_all (ap (λ p. p.1) front) in (
         sym (take-append-drop size a) ∙ ap (λ c. c ++ drop size a) first ∙ ap (λ c. take size b ++ c) others.0
             ∙ take-append-drop size b,
         others.1,
       )
 
-  -- whatever follows, packed byte strings read one way
-  pub packed-one_way : 0 < size → ReadsOneWayOn (IsPackable r) (packed r size)
-  packed-one_way positive a b x y a_is b_is e =
+  -- packed byte strings are a prefix code
+  pub packed-prefix_code : 0 < size → IsPrefixCodeOn (IsPackable r) (packed r size)
+  packed-prefix_code positive a b x y a_is b_is e =
       let front : ◌≡◌ {A = F × List F} (r.of (length a), map element_of_chunk (chunks size a) ++ x) (
         r.of (length b),
         map element_of_chunk (chunks size b) ++ y,
@@ -268,7 +273,8 @@ module _ {F : Type 0} (r : Residues F) (laws : IsResidues r) (size : ℕ) (fits 
       let as_many : map element_of_chunk (first_chunks size (chunk_count size (length a)) a) ++ x
       ≡ map element_of_chunk (first_chunks size (chunk_count size (length a)) b) ++ y =
       ap (λ p. p.1) front ∙ ap (λ k. map element_of_chunk (first_chunks size (chunk_count size k) b) ++ y) (sym same) in
-      chunks-one_way (chunk_count size (length a)) a b x y a_is.0 b_is.0 same (chunks-enough size (length a) positive)
+      chunks-prefix_code (chunk_count size (length a)) a b x y a_is.0 b_is.0 same
+      (chunks-enough size (length a) positive)
       as_many
 
 -- ---- a field's own chunks
@@ -281,10 +287,10 @@ is_below n m short = elim (cases_lt n m) [
 
 module _ {F : Type 0} (r : Residues F) (laws : IsResidues r) (bits : ℕ) (below : r.order < 2 ^ bits)
     (least : 2 ^ bits ≤ 2 * r.order) (large : 256 < r.order) where
-  pub field_packed-one_way : ReadsOneWayOn (IsPackable r) (packed r (chunk_bytes bits))
-  field_packed-one_way =
+  pub field_packed-prefix_code : IsPrefixCodeOn (IsPackable r) (packed r (chunk_bytes bits))
+  field_packed-prefix_code =
       let positive = chunk_bytes-positive bits r.order large below in
-      packed-one_way r laws (chunk_bytes bits)
+      packed-prefix_code r laws (chunk_bytes bits)
       (chunk-below bits r.order (chunk_bytes bits) least (omega (arith, positive)) (omega arith)) positive
 
 -- byte strings that begin one list of elements are one
@@ -294,7 +300,7 @@ pub packed-begins : {F : Type 0} (r : Residues F) (laws : IsResidues r) (bits : 
     packed r (chunk_bytes bits) a ++ x ≡ packed r (chunk_bytes bits) b ++ y → OneBegins a b
 packed-begins r laws bits below least large a b x y a_are b_are a_short b_short e =
     begins_itself a b
-    ((field_packed-one_way r laws bits below least large a b x y (a_are, is_below (length a) r.order a_short) (
+    ((field_packed-prefix_code r laws bits below least large a b x y (a_are, is_below (length a) r.order a_short) (
       b_are,
       is_below (length b) r.order b_short,
     ) e).0)

@@ -1,13 +1,16 @@
 -- Laws of an element's spelling.
-use Rattle.std.proofs.Common.{◌≡◌, ℕ, zero, suc, ◌<◌, ◌≤◌, ◌*◌, ◌^◌, List, ◌++◌, length, take, drop, Bool, true, false, nat_lt, if◌then◌else◌, Result, Ok, Err, refl, sym, ap, ◌∙◌, inl, inr, pow_mono, arith}
+use Rattle.std.proofs.Common.{◌≡◌, ℕ, zero, suc, ◌<◌, ◌≤◌, ◌*◌, ◌^◌, List, ◌++◌, length, take, drop, Bool, true}
+use Rattle.std.proofs.Common.{false, nat_lt, if◌then◌else◌, Result, Ok, Err, refl, sym, ap, ◌∙◌, inl, inr, pow_mono}
+use Rattle.std.proofs.Common.{arith}
 use Rattle.std.proofs.lemmas.Bool.Decides.{nat_tests}
 use Rattle.std.proofs.lemmas.List.{take-append-drop, length-take-le, length-append}
 use Rattle.p3_field_core.specs.Residues.{Residues, IsResidues}
 use Rattle.p3_field_core.specs.ResidueLaws.{number_of-below}
-use Rattle.p3_challenger_core.specs.Reading.{ReadsOneWay, AreBytes}
+use Rattle.p3_challenger_core.specs.Reading.{IsPrefixCode, AreBytes}
 use Rattle.std.proofs.lemmas.Bool.{cases_lt}
 use Rattle.p3_fs_core.specs.BigEndian.{big_endian, in_bytes, bytes_for}
-use Rattle.p3_fs_core.specs.BigEndianLaws.{big_endian-in_bytes, in_bytes-big_endian, length-in_bytes, AreBytes-take, take-front, drop-front, fits-bytes_for}
+use Rattle.p3_fs_core.specs.BigEndianLaws.{big_endian-in_bytes, in_bytes-big_endian, length-in_bytes, AreBytes-take}
+use Rattle.p3_fs_core.specs.BigEndianLaws.{take-front, drop-front, fits-bytes_for}
 use Rattle.p3_fs_core.specs.Scalar.{wire, read, element_of, encoding, not_enough_bytes, outside_range}
 use Rattle.p3_fs_core.specs.Encoding.{IsEncoding}
 
@@ -33,10 +36,10 @@ at_least n m h = grind (arith, nat_tests)
 is_below : (n m : ℕ) → nat_lt n m ≡ true → n < m
 is_below n m h = grind (arith, nat_tests)
 
--- what is read reads one way, whatever is read and however it is spelled
-pub read-one_way : {T : Type 0} (spelling : T → List ℕ) (reading : List ℕ → Result (T × List ℕ) (List ℕ)) →
-    ((x : T) (rest : List ℕ) → reading (spelling x ++ rest) ≡ Ok (x, rest)) → ReadsOneWay spelling
-read-one_way {T} spelling reading reads x y a b h =
+-- what is read back is a prefix code, whatever is read and however it is spelled
+pub read-prefix_code : {T : Type 0} (spelling : T → List ℕ) (reading : List ℕ → Result (T × List ℕ) (List ℕ)) →
+    ((x : T) (rest : List ℕ) → reading (spelling x ++ rest) ≡ Ok (x, rest)) → IsPrefixCode spelling
+read-prefix_code {T} spelling reading reads x y a b h =
     let both : ◌≡◌ {A = Result (T × List ℕ) (List ℕ)} (Ok (x, a)) (Ok (y, b)) = sym (reads x a) ∙ ap reading h
     ∙ reads y b in
     let same : ◌≡◌ {A = T × List ℕ} (x, a) (y, b) = cc in
@@ -66,7 +69,7 @@ module _ {F : Type 0} (r : Residues F) (laws : IsResidues r) (width : ℕ) (fits
       (drop width (spelled ++ rest))) (not_below (length (spelled ++ rest)) width long)
       ∙ ap (λ bytes. element_of r (big_endian bytes) (drop width (spelled ++ rest)))
       (take-front width spelled rest (length-wire x))
-      ∙ ap (λ behind. element_of r (big_endian spelled) behind) (drop-front width spelled rest (length-wire x))
+      ∙ ap (λ following. element_of r (big_endian spelled) following) (drop-front width spelled rest (length-wire x))
       ∙ ap (λ n. element_of r n rest) (number-wire x)
       ∙ element_of-number x rest
 
@@ -80,17 +83,17 @@ module _ {F : Type 0} (r : Residues F) (laws : IsResidues r) (width : ℕ) (fits
       in
       let found = accepted (nat_lt n r.order) outside_range (r.of n, drop width bytes) (x, rest) long.1 in
       let value : r.of n ≡ x = ap (λ p. p.0) found.1 in
-      let behind : drop width bytes ≡ rest = ap (λ p. p.1) found.1 in
+      let following : drop width bytes ≡ rest = ap (λ p. p.1) found.1 in
       let same : r.number x ≡ n = sym (ap r.number value) ∙ number_of-below r laws n (is_below n r.order found.0) in
       let spelled : wire r width x ≡ front =
       ap (in_bytes width) same
       ∙ in_bytes-big_endian width front (length-take-le width bytes (at_least (length bytes) width long.0))
       (AreBytes-take width bytes are_bytes) in
-      sym (ap (λ a. a ++ rest) spelled ∙ ap (λ b. front ++ b) (sym behind) ∙ take-append-drop width bytes)
+      sym (ap (λ a. a ++ rest) spelled ∙ ap (λ b. front ++ b) (sym following) ∙ take-append-drop width bytes)
 
-  -- a spelling reads one way
-  pub wire-one_way : ReadsOneWay (wire r width)
-  wire-one_way = read-one_way (wire r width) (read r width) read-wire
+  -- the spellings are a prefix code
+  pub wire-prefix_code : IsPrefixCode (wire r width)
+  wire-prefix_code = read-prefix_code (wire r width) (read r width) read-wire
 
 -- ---- the width of a field
 
@@ -118,7 +121,7 @@ is_encoding r laws bits below =
     let fits = order-fits bits r.order below in
     record {
       fixed_width = length-wire r laws width fits;
-      one_way = wire-one_way r laws width fits;
+      prefix_code = wire-prefix_code r laws width fits;
       reads_back = read-wire r laws width fits;
       only_reads = read-only r laws width fits;
     }

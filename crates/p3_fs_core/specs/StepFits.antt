@@ -4,7 +4,8 @@ use Rattle.p3_challenger_core.specs.Reading.{AreBytes}
 use Rattle.p3_fs_core.specs.declared.step.Length.{Length}
 use Rattle.p3_fs_core.specs.declared.step.Length.TheVariants.{None, Scalar, Fixed, Bounded}
 use Rattle.p3_fs_core.specs.declared.step.TypeTag.{TypeTag}
-use Rattle.p3_fs_core.specs.declared.step.TypeTag.TheVariants.{Marker, Bytes, Algebra, BinaryTower, BinaryPolynomial, Opaque, Bits, UniformBits}
+use Rattle.p3_fs_core.specs.declared.step.TypeTag.TheVariants.{Marker, Bytes, Algebra, BinaryTower, BinaryPolynomial}
+use Rattle.p3_fs_core.specs.declared.step.TypeTag.TheVariants.{Opaque, Bits, UniformBits}
 use Rattle.p3_fs_core.specs.Steps.{Step}
 
 -- the number of a length fits its type

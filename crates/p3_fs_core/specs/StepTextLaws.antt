@@ -1,14 +1,16 @@
 -- Laws of the texts of steps: each is read back from what it prints.
-use Rattle.std.proofs.Common.{◌≡◌, ℕ, ◌≤◌, ◌<◌, ◌^◌, ◌/◌, ◌%◌, false, List, [], ◌∷◌, ◌++◌, length, drop, slice_index, codes, ◌==◌, if◌then◌else◌, append_assoc, refl, sym, ap, subst, ◌∙◌, lit<, arith}
+use Rattle.std.proofs.Common.{◌≡◌, ℕ, ◌≤◌, ◌<◌, ◌^◌, ◌/◌, ◌%◌, false, List, [], ◌∷◌, ◌++◌, length, drop, slice_index}
+use Rattle.std.proofs.Common.{codes, ◌==◌, if◌then◌else◌, append_assoc, refl, sym, ap, subst, ◌∙◌, lit<, arith}
 use Rattle.std.proofs.lemmas.Bool.Decides.{nat_tests}
 use Rattle.std.proofs.Math.Seq.{drop-append_seam}
 use Rattle.std.proofs.lemmas.Fmt.{digits_is_IsNumeral}
 use Rattle.std.specs.Char.{digit_value}
 use Rattle.std.specs.Fmt.{decimal, digits, digit_glyph}
 use Rattle.std.specs.Str.Parse.{AllDigits, digits_value}
-use Rattle.p3_challenger_core.specs.Reading.{ReadsOneWay, ReadsOneWayOn, IsByte, AreBytes}
+use Rattle.p3_challenger_core.specs.Reading.{IsPrefixCode, IsPrefixCodeOn, IsByte, AreBytes}
 use Rattle.p3_fs_core.specs.StepFits.{FitsLength, IsEnd, FitsTag}
-use Rattle.p3_fs_core.specs.StepTexts.{hierarchy_text, kind_text, length_text, hex_number, hex_text, hex_byte_text, algebra_end, type_tag_text}
+use Rattle.p3_fs_core.specs.StepTexts.{hierarchy_text, kind_text, length_text, hex_number, hex_text, hex_byte_text}
+use Rattle.p3_fs_core.specs.StepTexts.{algebra_end, type_tag_text}
 use Rattle.p3_fs_core.specs.declared.step.Hierarchy.{Hierarchy}
 use Rattle.p3_fs_core.specs.declared.step.Hierarchy.TheVariants.{Atomic, Begin, End}
 use Rattle.p3_fs_core.specs.declared.step.Kind.{Kind}
@@ -16,8 +18,9 @@ use Rattle.p3_fs_core.specs.declared.step.Kind.TheVariants.{Protocol, Public, Me
 use Rattle.p3_fs_core.specs.declared.step.Length.{Length}
 use Rattle.p3_fs_core.specs.declared.step.Length.TheVariants.{None, Scalar, Fixed, Bounded}
 use Rattle.p3_fs_core.specs.declared.step.TypeTag.{TypeTag}
-use Rattle.p3_fs_core.specs.declared.step.TypeTag.TheVariants.{Marker, Bytes, Algebra, BinaryTower, BinaryPolynomial, Opaque, Bits, UniformBits}
-use Rattle.p3_challenger_core.specs.SymbolLaws.{bytes-one_way}
+use Rattle.p3_fs_core.specs.declared.step.TypeTag.TheVariants.{Marker, Bytes, Algebra, BinaryTower, BinaryPolynomial}
+use Rattle.p3_fs_core.specs.declared.step.TypeTag.TheVariants.{Opaque, Bits, UniformBits}
+use Rattle.p3_challenger_core.specs.SymbolLaws.{bytes-prefix_code}
 
 -- ---- numbers
 
@@ -27,65 +30,66 @@ EndsDigits base [] = Unit {0}
 EndsDigits base (c ∷ cs) = base ≤ digit_value c
 
 -- digits end where no more follow
-digits-one_way : (base : ℕ) (xs ys a b : List ℕ) → AllDigits base xs → AllDigits base ys → EndsDigits base a →
+digits-prefix_code : (base : ℕ) (xs ys a b : List ℕ) → AllDigits base xs → AllDigits base ys → EndsDigits base a →
     EndsDigits base b → xs ++ a ≡ ys ++ b → (xs ≡ ys) × (a ≡ b)
-digits-one_way base [] [] a b x_are y_are a_ends b_ends e = (refl, e)
-digits-one_way base [] (y ∷ ys) [] b x_are y_are a_ends b_ends e = absurd (cc)
-digits-one_way base [] (y ∷ ys) (c ∷ a) b x_are y_are a_ends b_ends e =
+digits-prefix_code base [] [] a b x_are y_are a_ends b_ends e = (refl, e)
+digits-prefix_code base [] (y ∷ ys) [] b x_are y_are a_ends b_ends e = absurd (cc)
+digits-prefix_code base [] (y ∷ ys) (c ∷ a) b x_are y_are a_ends b_ends e =
     let same : c ≡ y = cc in
     absurd (omega (arith, a_ends, y_are.0, ap digit_value same))
-digits-one_way base (x ∷ xs) [] a [] x_are y_are a_ends b_ends e = absurd (cc)
-digits-one_way base (x ∷ xs) [] a (c ∷ b) x_are y_are a_ends b_ends e =
+digits-prefix_code base (x ∷ xs) [] a [] x_are y_are a_ends b_ends e = absurd (cc)
+digits-prefix_code base (x ∷ xs) [] a (c ∷ b) x_are y_are a_ends b_ends e =
     let same : c ≡ x = cc in
     absurd (omega (arith, b_ends, x_are.0, ap digit_value same))
-digits-one_way base (x ∷ xs) (y ∷ ys) a b x_are y_are a_ends b_ends e =
+digits-prefix_code base (x ∷ xs) (y ∷ ys) a b x_are y_are a_ends b_ends e =
     let first : x ≡ y = cc in
-    let others = digits-one_way base xs ys a b x_are.1 y_are.1 a_ends b_ends (cc) in
+    let others = digits-prefix_code base xs ys a b x_are.1 y_are.1 a_ends b_ends (cc) in
     (ap (λ z. z ∷ xs) first ∙ ap (λ zs. y ∷ zs) others.0, others.1)
 
-number-one_way : (base m n : ℕ) (a b : List ℕ) → 2 ≤ base → base ≤ 16 → m < base ^ 64 → n < base ^ 64 →
+number-prefix_code : (base m n : ℕ) (a b : List ℕ) → 2 ≤ base → base ≤ 16 → m < base ^ 64 → n < base ^ 64 →
     EndsDigits base a → EndsDigits base b → digits base false m ++ a ≡ digits base false n ++ b → (m ≡ n) × (a ≡ b)
-number-one_way base m n a b low high m_fits n_fits a_ends b_ends e =
+number-prefix_code base m n a b low high m_fits n_fits a_ends b_ends e =
     let first = digits_is_IsNumeral base false low high m m_fits in
     let second = digits_is_IsNumeral base false low high n n_fits in
-    let parts = digits-one_way base (digits base false m) (digits base false n) a b first.0.1 second.0.1 a_ends b_ends
+    let parts = digits-prefix_code base (digits base false m) (digits base false n) a b first.0.1 second.0.1 a_ends
+    b_ends
     e in
     (sym first.1 ∙ ap (digits_value base) parts.0 ∙ second.1, parts.1)
 
 -- a number in decimal is read back, where no digit follows
-pub decimal-one_way : (m n : ℕ) (a b : List ℕ) → m < 2 ^ 128 → n < 2 ^ 128 → EndsDigits 10 a → EndsDigits 10 b →
+pub decimal-prefix_code : (m n : ℕ) (a b : List ℕ) → m < 2 ^ 128 → n < 2 ^ 128 → EndsDigits 10 a → EndsDigits 10 b →
     decimal m ++ a ≡ decimal n ++ b → (m ≡ n) × (a ≡ b)
-decimal-one_way m n a b m_fits n_fits a_ends b_ends e =
-    number-one_way 10 m n a b (lit< tt) (lit< tt) (omega (arith, m_fits)) (omega (arith, n_fits)) a_ends b_ends e
+decimal-prefix_code m n a b m_fits n_fits a_ends b_ends e =
+    number-prefix_code 10 m n a b (lit< tt) (lit< tt) (omega (arith, m_fits)) (omega (arith, n_fits)) a_ends b_ends e
 
 -- so is one in base 16
-pub hex_number-one_way : (m n : ℕ) (a b : List ℕ) → m < 2 ^ 128 → n < 2 ^ 128 → EndsDigits 16 a → EndsDigits 16 b →
+pub hex_number-prefix_code : (m n : ℕ) (a b : List ℕ) → m < 2 ^ 128 → n < 2 ^ 128 → EndsDigits 16 a → EndsDigits 16 b →
     hex_number m ++ a ≡ hex_number n ++ b → (m ≡ n) × (a ≡ b)
-hex_number-one_way m n a b m_fits n_fits a_ends b_ends e =
-    number-one_way 16 m n a b (lit< tt) (lit< tt) (omega (arith, m_fits)) (omega (arith, n_fits)) a_ends b_ends e
+hex_number-prefix_code m n a b m_fits n_fits a_ends b_ends e =
+    number-prefix_code 16 m n a b (lit< tt) (lit< tt) (omega (arith, m_fits)) (omega (arith, n_fits)) a_ends b_ends e
 
 -- ---- bytes
 
 glyph-injective : (d e : ℕ) → d < 16 → e < 16 → digit_glyph false d ≡ digit_glyph false e → d ≡ e
 glyph-injective d e d_fits e_fits same = grind (arith, nat_tests)
 
-hex_byte-one_way : ReadsOneWayOn IsByte hex_byte_text
-hex_byte-one_way x y a b x_is y_is e =
+hex_byte-prefix_code : IsPrefixCodeOn IsByte hex_byte_text
+hex_byte-prefix_code x y a b x_is y_is e =
     let high : x / 16 ≡ y / 16 = glyph-injective (x / 16) (y / 16) (omega (arith, x_is)) (omega (arith, y_is)) (cc) in
     let low : x % 16 ≡ y % 16 = glyph-injective (x % 16) (y % 16) (omega arith) (omega arith) (cc) in
     (omega (arith, high, low), cc)
 
 -- as many bytes are read back
-pub hex_text-one_way : (xs ys a b : List ℕ) → AreBytes xs → AreBytes ys → length xs ≡ length ys →
+pub hex_text-prefix_code : (xs ys a b : List ℕ) → AreBytes xs → AreBytes ys → length xs ≡ length ys →
     hex_text xs ++ a ≡ hex_text ys ++ b → (xs ≡ ys) × (a ≡ b)
-hex_text-one_way = bytes-one_way hex_byte_text hex_byte-one_way
+hex_text-prefix_code = bytes-prefix_code hex_byte_text hex_byte-prefix_code
 
 -- ---- words
 
 -- a word that tells its value is read back, whatever follows
-word-one_way : {T : Type 0} (text : T → List ℕ) (value_of : List ℕ → T) →
-    ((x : T) (rest : List ℕ) → value_of (text x ++ rest) ≡ x) → ReadsOneWay text
-word-one_way text value_of tells x y a b e =
+word-prefix_code : {T : Type 0} (text : T → List ℕ) (value_of : List ℕ → T) →
+    ((x : T) (rest : List ℕ) → value_of (text x ++ rest) ≡ x) → IsPrefixCode text
+word-prefix_code text value_of tells x y a b e =
     let same : x ≡ y = sym (tells x a) ∙ ap value_of e ∙ tells y b in
     let words : text x ++ a ≡ text x ++ b = e ∙ ap (λ z. text z ++ b) (sym same) in
     let k = length (text x) in
@@ -102,8 +106,8 @@ hierarchy-told Atomic rest = refl
 hierarchy-told Begin rest = refl
 hierarchy-told End rest = refl
 
-pub hierarchy-one_way : ReadsOneWay hierarchy_text
-hierarchy-one_way = word-one_way hierarchy_text hierarchy_of hierarchy-told
+pub hierarchy-prefix_code : IsPrefixCode hierarchy_text
+hierarchy-prefix_code = word-prefix_code hierarchy_text hierarchy_of hierarchy-told
 
 -- by the letters 0 and 1
 abbrev kind_of : List ℕ → Kind
@@ -125,28 +129,28 @@ kind-told Challenge rest = refl
 kind-told Pow rest = refl
 kind-told Salt rest = refl
 
-pub kind-one_way : ReadsOneWay kind_text
-kind-one_way = word-one_way kind_text kind_of kind-told
+pub kind-prefix_code : IsPrefixCode kind_text
+kind-prefix_code = word-prefix_code kind_text kind_of kind-told
 
 -- ---- texts with numbers
 
--- a number in decimal, and what is behind it
+-- a number in decimal, and what is after it
 decimal_part : (m n : ℕ) (x y a b : List ℕ) → m < 2 ^ 128 → n < 2 ^ 128 → EndsDigits 10 (x ++ a) →
     EndsDigits 10 (y ++ b) → (decimal m ++ x) ++ a ≡ (decimal n ++ y) ++ b → (m ≡ n) × (x ++ a ≡ y ++ b)
 decimal_part m n x y a b m_fits n_fits a_ends b_ends e =
-    decimal-one_way m n (x ++ a) (y ++ b) m_fits n_fits a_ends b_ends (sym (append_assoc (decimal m) x a) ∙ e
+    decimal-prefix_code m n (x ++ a) (y ++ b) m_fits n_fits a_ends b_ends (sym (append_assoc (decimal m) x a) ∙ e
     ∙ append_assoc (decimal n) y b)
 
 hex_part : (m n : ℕ) (x y a b : List ℕ) → m < 2 ^ 128 → n < 2 ^ 128 → EndsDigits 16 (x ++ a) → EndsDigits 16 (y ++ b) →
     (hex_number m ++ x) ++ a ≡ (hex_number n ++ y) ++ b → (m ≡ n) × (x ++ a ≡ y ++ b)
 hex_part m n x y a b m_fits n_fits a_ends b_ends e =
-    hex_number-one_way m n (x ++ a) (y ++ b) m_fits n_fits a_ends b_ends (sym (append_assoc (hex_number m) x a) ∙ e
+    hex_number-prefix_code m n (x ++ a) (y ++ b) m_fits n_fits a_ends b_ends (sym (append_assoc (hex_number m) x a) ∙ e
     ∙ append_assoc (hex_number n) y b)
 
 -- a number in decimal, and the end of its parentheses
-closed-one_way : (m n : ℕ) (a b : List ℕ) → m < 2 ^ 64 → n < 2 ^ 64 →
+closed-prefix_code : (m n : ℕ) (a b : List ℕ) → m < 2 ^ 64 → n < 2 ^ 64 →
     (decimal m ++ codes ")") ++ a ≡ (decimal n ++ codes ")") ++ b → (m ≡ n) × (a ≡ b)
-closed-one_way m n a b m_fits n_fits e =
+closed-prefix_code m n a b m_fits n_fits e =
     let parts = decimal_part m n (codes ")") (codes ")") a b (omega (arith, m_fits)) (omega (arith, n_fits)) (lit< tt)
     (lit< tt) e in
     (parts.0, ap (drop 1) parts.1)
@@ -186,27 +190,27 @@ counted-own Scalar = refl
 counted-own (Fixed _) = refl
 counted-own (Bounded _) = refl
 
-counted-one_way : (variant : Length) (m n : ℕ) (a b : List ℕ) → FitsLength (counted variant m) →
+counted-prefix_code : (variant : Length) (m n : ℕ) (a b : List ℕ) → FitsLength (counted variant m) →
     FitsLength (counted variant n) → length_text (counted variant m) ++ a ≡ length_text (counted variant n) ++ b →
     (counted variant m ≡ counted variant n) × (a ≡ b)
-counted-one_way None m n a b m_fits n_fits e = (refl, ap (drop 4) e)
-counted-one_way Scalar m n a b m_fits n_fits e = (refl, ap (drop 6) e)
-counted-one_way (Fixed _) m n a b m_fits n_fits e =
-    let parts = closed-one_way m n a b m_fits n_fits (ap (drop 6) e) in
+counted-prefix_code None m n a b m_fits n_fits e = (refl, ap (drop 4) e)
+counted-prefix_code Scalar m n a b m_fits n_fits e = (refl, ap (drop 6) e)
+counted-prefix_code (Fixed _) m n a b m_fits n_fits e =
+    let parts = closed-prefix_code m n a b m_fits n_fits (ap (drop 6) e) in
     (ap Fixed parts.0, parts.1)
-counted-one_way (Bounded _) m n a b m_fits n_fits e =
-    let parts = closed-one_way m n a b m_fits n_fits (ap (drop 8) e) in
+counted-prefix_code (Bounded _) m n a b m_fits n_fits e =
+    let parts = closed-prefix_code m n a b m_fits n_fits (ap (drop 8) e) in
     (ap Bounded parts.0, parts.1)
 
 -- a length is read back, whatever follows
-pub length-one_way : ReadsOneWayOn FitsLength length_text
-length-one_way x y a b x_fits y_fits e =
+pub length-prefix_code : IsPrefixCodeOn FitsLength length_text
+length-prefix_code x y a b x_fits y_fits e =
     let variant = counted x 0 in
     let same : variant ≡ counted y 0 = sym (counted-told x a) ∙ ap counted_of e ∙ counted-told y b in
     let own = counted-own x in
     let other : counted variant (count_of y) ≡ y = ap (λ v. counted v (count_of y)) same ∙ counted-own y in
     let parts =
-    counted-one_way variant (count_of x) (count_of y) a b
+    counted-prefix_code variant (count_of x) (count_of y) a b
     (subst FitsLength (sym own) x_fits)
     (subst FitsLength (sym other) y_fits)
     (ap (λ l. length_text l ++ a) own ∙ e ∙ sym (ap (λ l. length_text l ++ b) other)) in
@@ -290,57 +294,58 @@ refilled-own Opaque = refl
 refilled-own (Bits _) = refl
 refilled-own (UniformBits _) = refl
 
-end-one_way : (d k : ℕ) (xs ys a b : List ℕ) → IsEnd d xs → IsEnd k ys →
+end-prefix_code : (d k : ℕ) (xs ys a b : List ℕ) → IsEnd d xs → IsEnd k ys →
     algebra_end d xs ++ a ≡ algebra_end k ys ++ b → (d ≡ k) × (xs ≡ ys) × (a ≡ b)
-end-one_way d k xs ys a b x_is y_is e =
-    let behind : List ℕ → List ℕ = λ zs. codes ";" ++ (hex_text zs ++ codes ")") in
-    let degrees = decimal_part d k (behind xs) (behind ys) a b (omega (arith, x_is.0)) (omega (arith, y_is.0))
+end-prefix_code d k xs ys a b x_is y_is e =
+    let following : List ℕ → List ℕ = λ zs. codes ";" ++ (hex_text zs ++ codes ")") in
+    let degrees = decimal_part d k (following xs) (following ys) a b (omega (arith, x_is.0)) (omega (arith, y_is.0))
     (lit< tt) (lit< tt) (ap (drop 1) e) in
     let bases : hex_text xs ++ (codes ")" ++ a) ≡ hex_text ys ++ (codes ")" ++ b) =
     sym (append_assoc (hex_text xs) (codes ")") a) ∙ ap (drop 1) degrees.1 ∙ append_assoc (hex_text ys) (codes ")") b in
-    let same = hex_text-one_way xs ys (codes ")" ++ a) (codes ")" ++ b) x_is.2 y_is.2 (x_is.1 ∙ sym y_is.1) bases in
+    let same = hex_text-prefix_code xs ys (codes ")" ++ a) (codes ")" ++ b) x_is.2 y_is.2 (x_is.1 ∙ sym y_is.1) bases in
     (degrees.0, same.0, ap (drop 1) same.1)
 
-refill-one_way : (variant : TypeTag) (j k m n d c : ℕ) (xs ys a b : List ℕ) → FitsTag (refill variant j m d xs) →
+refill-prefix_code : (variant : TypeTag) (j k m n d c : ℕ) (xs ys a b : List ℕ) → FitsTag (refill variant j m d xs) →
     FitsTag (refill variant k n c ys) → type_tag_text (refill variant j m d xs) ++ a
     ≡ type_tag_text (refill variant k n c ys) ++ b → (refill variant j m d xs ≡ refill variant k n c ys) × (a ≡ b)
-refill-one_way Marker j k m n d c xs ys a b x_fits y_fits e = (refl, ap (drop 6) e)
-refill-one_way Bytes j k m n d c xs ys a b x_fits y_fits e = (refl, ap (drop 5) e)
-refill-one_way (Algebra _ _ _) j k m n d c xs ys a b x_fits y_fits e =
+refill-prefix_code Marker j k m n d c xs ys a b x_fits y_fits e = (refl, ap (drop 6) e)
+refill-prefix_code Bytes j k m n d c xs ys a b x_fits y_fits e = (refl, ap (drop 5) e)
+refill-prefix_code (Algebra _ _ _) j k m n d c xs ys a b x_fits y_fits e =
     let moduli = decimal_part m n (algebra_end d xs) (algebra_end c ys) a b (omega (arith, x_fits.0))
     (omega (arith, y_fits.0)) (lit< tt) (lit< tt) (ap (drop 8) e) in
-    let ends = end-one_way d c xs ys a b x_fits.1 y_fits.1 moduli.1 in
+    let ends = end-prefix_code d c xs ys a b x_fits.1 y_fits.1 moduli.1 in
     ((λ i. Algebra (moduli.0 i) (ends.0 i) (ends.1 i)), ends.2)
-refill-one_way (BinaryTower _ _ _) j k m n d c xs ys a b x_fits y_fits e =
+refill-prefix_code (BinaryTower _ _ _) j k m n d c xs ys a b x_fits y_fits e =
     let bits = decimal_part j k (algebra_end d xs) (algebra_end c ys) a b (omega (arith, x_fits.0))
     (omega (arith, y_fits.0)) (lit< tt) (lit< tt) (ap (drop 12) e) in
-    let ends = end-one_way d c xs ys a b x_fits.1 y_fits.1 bits.1 in
+    let ends = end-prefix_code d c xs ys a b x_fits.1 y_fits.1 bits.1 in
     ((λ i. BinaryTower (bits.0 i) (ends.0 i) (ends.1 i)), ends.2)
-refill-one_way (BinaryPolynomial _ _ _ _) j k m n d c xs ys a b x_fits y_fits e =
-    let behind : ℕ → ℕ → List ℕ →
+refill-prefix_code (BinaryPolynomial _ _ _ _) j k m n d c xs ys a b x_fits y_fits e =
+    let following : ℕ → ℕ → List ℕ →
     List ℕ = λ modulus degree basis. codes ",0x" ++ (hex_number modulus ++ algebra_end degree basis) in
-    let bits = decimal_part j k (behind m d xs) (behind n c ys) a b (omega (arith, x_fits.0)) (omega (arith, y_fits.0))
+    let bits = decimal_part j k (following m d xs) (following n c ys) a b (omega (arith, x_fits.0))
+    (omega (arith, y_fits.0))
     (lit< tt) (lit< tt) (ap (drop 17) e) in
     let moduli = hex_part m n (algebra_end d xs) (algebra_end c ys) a b x_fits.1 y_fits.1 (lit< tt) (lit< tt)
     (ap (drop 3) bits.1) in
-    let ends = end-one_way d c xs ys a b x_fits.2 y_fits.2 moduli.1 in
+    let ends = end-prefix_code d c xs ys a b x_fits.2 y_fits.2 moduli.1 in
     ((λ i. BinaryPolynomial (bits.0 i) (moduli.0 i) (ends.0 i) (ends.1 i)), ends.2)
-refill-one_way Opaque j k m n d c xs ys a b x_fits y_fits e = (refl, ap (drop 6) e)
-refill-one_way (Bits _) j k m n d c xs ys a b x_fits y_fits e =
-    let parts = closed-one_way j k a b x_fits y_fits (ap (drop 5) e) in
+refill-prefix_code Opaque j k m n d c xs ys a b x_fits y_fits e = (refl, ap (drop 6) e)
+refill-prefix_code (Bits _) j k m n d c xs ys a b x_fits y_fits e =
+    let parts = closed-prefix_code j k a b x_fits y_fits (ap (drop 5) e) in
     (ap Bits parts.0, parts.1)
-refill-one_way (UniformBits _) j k m n d c xs ys a b x_fits y_fits e =
-    let parts = closed-one_way j k a b x_fits y_fits (ap (drop 12) e) in
+refill-prefix_code (UniformBits _) j k m n d c xs ys a b x_fits y_fits e =
+    let parts = closed-prefix_code j k a b x_fits y_fits (ap (drop 12) e) in
     (ap UniformBits parts.0, parts.1)
 
 -- a tag is read back, whatever follows
-pub type_tag-one_way : ReadsOneWayOn FitsTag type_tag_text
-type_tag-one_way x y a b x_fits y_fits e =
+pub type_tag-prefix_code : IsPrefixCodeOn FitsTag type_tag_text
+type_tag-prefix_code x y a b x_fits y_fits e =
     let same : shape x ≡ shape y = sym (shape-read x a) ∙ ap shape_of e ∙ shape-read y b in
     let own = refilled-own x in
     let other : refilled (shape x) y ≡ y = ap (λ t. refilled t y) same ∙ refilled-own y in
     let parts =
-    refill-one_way (shape x) (bits_of x) (bits_of y) (modulus_of x) (modulus_of y) (degree_of x) (degree_of y)
+    refill-prefix_code (shape x) (bits_of x) (bits_of y) (modulus_of x) (modulus_of y) (degree_of x) (degree_of y)
     (basis_of x) (basis_of y) a b
     (subst FitsTag (sym own) x_fits)
     (subst FitsTag (sym other) y_fits)

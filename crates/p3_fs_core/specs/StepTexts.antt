@@ -9,7 +9,8 @@ use Rattle.p3_fs_core.specs.declared.step.Kind.TheVariants.{Protocol, Public, Me
 use Rattle.p3_fs_core.specs.declared.step.Length.{Length}
 use Rattle.p3_fs_core.specs.declared.step.Length.TheVariants.{None, Scalar, Fixed, Bounded}
 use Rattle.p3_fs_core.specs.declared.step.TypeTag.{TypeTag}
-use Rattle.p3_fs_core.specs.declared.step.TypeTag.TheVariants.{Marker, Bytes, Algebra, BinaryTower, BinaryPolynomial, Opaque, Bits, UniformBits}
+use Rattle.p3_fs_core.specs.declared.step.TypeTag.TheVariants.{Marker, Bytes, Algebra, BinaryTower, BinaryPolynomial}
+use Rattle.p3_fs_core.specs.declared.step.TypeTag.TheVariants.{Opaque, Bits, UniformBits}
 
 abbrev pub hierarchy_text : Hierarchy → List ℕ
 hierarchy_text Atomic = codes "Atomic"
@@ -43,7 +44,7 @@ hex_byte_text byte = digit_glyph false (byte / 16) ∷ digit_glyph false (byte %
 abbrev pub hex_text : List ℕ → List ℕ
 hex_text bytes = flat_map hex_byte_text bytes
 
--- what stands behind the field in the tag of an algebra: its degree, and the digest of its basis
+-- what stands after the field in the tag of an algebra: its degree, and the digest of its basis
 abbrev pub algebra_end : ℕ → List ℕ → List ℕ
 algebra_end degree basis = codes "^" ++ (decimal degree ++ (codes ";" ++ (hex_text basis ++ codes ")")))
 

@@ -2,7 +2,7 @@
 ghost use Rattle.std.specs.Prelude.{◌≡◌, ◌-◌, ◌<◌, ◌≤◌, ◌++◌, length, replicate};
 ghost use Rattle.p3_fs_core.specs.BigEndian.{big_endian, in_bytes};
 
-// The lowest `width` bytes of a number in the first places, with zeros behind.
+// The lowest `width` bytes of a number in the first places, with zeros after.
 pub(crate) fn leading_bytes(number: u64, width: usize) -> [u8; 8]
     requires { width ≤ 8 }
     ensures { result ≡ in_bytes width number ++ replicate (8 - width) 0 }

@@ -1,7 +1,7 @@
 // The count of a bounded step: how many bytes it takes, and those bytes.
 ghost use Rattle.std.specs.Prelude.{◌≡◌, ℕ, ◌-◌, ◌^◌, ◌<◌, ◌≤◌, ◌++◌, length, take, replicate};
 ghost use Rattle.p3_fs_core.specs.BigEndian.{big_endian, in_bytes};
-ghost use Rattle.p3_challenger_core.specs.Reading.{ReadsOneWayOn};
+ghost use Rattle.p3_challenger_core.specs.Reading.{IsPrefixCodeOn};
 
 use crate::big_endian::{leading_bytes, number_of_bytes};
 
@@ -15,7 +15,7 @@ pub fn bound_byte_width(max: usize) -> usize
     bits.div_ceil(8) as usize
 }
 
-/// A count in the first `width` bytes, the highest first, with zeros behind.
+/// A count in the first `width` bytes, the highest first, with zeros after.
 ///
 /// Conditions: `width` is at most 8, and the count fits in so many bytes.
 #[tactic(auto, using(crate::proofs::Counting::counted_read_back))]
@@ -42,10 +42,10 @@ pub fn decode_len_be(buf: &[u8], width: usize) -> usize
     number_of_bytes(&buf[..width]) as usize
 }
 
-/// Whatever follows, counts of one width read one way: no spelling of a count begins another's.
+/// Counts of one width are a prefix code: no spelling of a count begins another's.
 ///
 /// A law: the body is empty, and a caller cites the clause.
-#[tactic(auto, using(crate::proofs::Counting::counts_one_way))]
-pub fn counts_read_one_way()
-    ensures { (width : ℕ) → ReadsOneWayOn (λ count. count < 256 ^ width) (in_bytes width) }
+#[tactic(auto, using(crate::proofs::Counting::counts_prefix_code))]
+pub fn counts_are_prefix_code()
+    ensures { (width : ℕ) → IsPrefixCodeOn (λ count. count < 256 ^ width) (in_bytes width) }
 {}

@@ -17,6 +17,6 @@ pub use error::{
     TranscriptError,
 };
 pub use interaction::{Alternate, Interaction, Label};
-pub use length_prefix::{bound_byte_width, counts_read_one_way, decode_len_be, encode_len_be};
+pub use length_prefix::{bound_byte_width, counts_are_prefix_code, decode_len_be, encode_len_be};
 pub use step::{Hierarchy, Kind, Length, TypeTag};
 pub use transcript_field::TranscriptField;

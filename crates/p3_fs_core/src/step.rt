@@ -3,7 +3,8 @@
 ghost use Rattle.std.specs.Prelude.{◌≡◌, Some};
 ghost use Rattle.std.specs.Str.{IsAscii};
 ghost use Rattle.p3_field_core.specs.Equality.{IsExact};
-ghost use Rattle.p3_fs_core.specs.StepTexts.{hierarchy_text, kind_text, length_text, type_tag_text, hex_text, hex_number};
+ghost use Rattle.p3_fs_core.specs.StepTexts.{hierarchy_text, kind_text, length_text, type_tag_text, hex_text};
+ghost use Rattle.p3_fs_core.specs.StepTexts.{hex_number};
 
 use std::fmt;
 

@@ -1,9 +1,10 @@
-ghost use Rattle.std.specs.Prelude.{◌≡◌, ℕ, ◌<◌, ◌≤◌, List, [], ◌∷◌, ◌++◌, length, take, drop, flat_map, Ok, OnOk, OnErr, IfOk, IfErr};
+ghost use Rattle.std.specs.Prelude.{◌≡◌, ℕ, ◌<◌, ◌≤◌, List, [], ◌∷◌, ◌++◌, length, take, drop, flat_map, Ok, OnOk};
+ghost use Rattle.std.specs.Prelude.{OnErr, IfOk, IfErr};
 ghost use Rattle.p3_challenger_core.specs.Observation.{observed_all, LeavesInCalls};
 ghost use Rattle.p3_challenger_core.specs.Sponge.{IsFed};
 ghost use Rattle.p3_fs_core.specs.Alphabet.{RefusesBytes};
 ghost use Rattle.p3_fs_core.specs.Packing.{packed, chunk_bytes};
-ghost use Rattle.p3_challenger_core.specs.Reading.{ReadsOneWay, AreBytes};
+ghost use Rattle.p3_challenger_core.specs.Reading.{IsPrefixCode, AreBytes};
 ghost use Rattle.p3_fs_core.specs.Encoding.{IsEncoding};
 ghost use Rattle.p3_fs_core.specs.Scalar.{encoding};
 ghost use Rattle.p3_fs_core.specs.Errors.{Decodes};
@@ -47,11 +48,12 @@ pub trait TranscriptField: PrimeField64 {
             (LeavesInCalls C.observation.observed C.observation.may_leave (C.state challenger.old)
             (packed Self.residues (chunk_bytes Self.bit_length) bytes.now))
             (C.state challenger.old) e (C.state challenger.new)) }
-        // What is observed is what the elements feed; exactly so, where the challenger feeds each in one way.
+        // What is observed is what the elements feed; exactly so, where the challenger feeds
+        // them as a prefix code.
         ensures fed { OnOk result (IsFed C.fed (C.state challenger.old)
             (flat_map C.observation.symbols (packed Self.residues (chunk_bytes Self.bit_length) bytes.now))
             (C.state challenger.new)) }
-        ensures fed_exactly { ReadsOneWay C.observation.symbols → OnOk result (C.state challenger.new
+        ensures fed_exactly { IsPrefixCode C.observation.symbols → OnOk result (C.state challenger.new
             ≡ C.fed (C.state challenger.old)
             (flat_map C.observation.symbols (packed Self.residues (chunk_bytes Self.bit_length) bytes.now))) }
     {
@@ -99,7 +101,7 @@ pub trait TranscriptField: PrimeField64 {
         decode_field_be_canonical(bytes)
     }
 
-    // Elements are encoded, each in one way.
+    // Elements are encoded, as a prefix code.
     ghost encodes: { IsEncoding (encoding Self.residues Self.bit_length) };
 }
 

@@ -7,7 +7,7 @@ use Rattle.p3_challenger_core.specs.Segments.{Call, observe, observe_empty_array
 use Rattle.p3_challenger_core.specs.SegmentLaws.{StepsAgree}
 use Rattle.p3_hash_challenger.specs.HashCalls.{HashFunction, HashSponge, HashRun, absorbing, observed, flushed}
 use Rattle.p3_hash_challenger.specs.HashCalls.{last_output, one_taken, after_sampled, run_call, hash_by_calls}
-use Rattle.p3_hash_challenger.specs.HashSegments.{run_values, hashed, handed_in_turn, output_at, left_behind}
+use Rattle.p3_hash_challenger.specs.HashSegments.{run_values, hashed, handed_in_turn, output_at, left_after}
 use Rattle.p3_hash_challenger.specs.HashSegments.{outputs_from, draws_from, run_draws, hash_by_segments}
 
 -- a digest further on in the row is one hash more, at the same place
@@ -45,10 +45,10 @@ module _ {T : Type 0} (h : HashFunction T) (positive : 0 < h.out_len) where
       λ i. slice_index_or (hashed h.digest (further-div h.out_len q positive i) chain)
       (h.out_len - 1 - add-mod_left h.out_len q i) h.filler
 
-  left_behind-further : (chain : List T) (q : ℕ)
-      → left_behind h chain (h.out_len + q) ≡ left_behind h (h.digest chain) q
+  left_after-further : (chain : List T) (q : ℕ)
+      → left_after h chain (h.out_len + q) ≡ left_after h (h.digest chain) q
   unfolding hashed
-  left_behind-further chain q =
+  left_after-further chain q =
       λ i. record {
         pending = hashed h.digest (further-div h.out_len q positive i) chain;
         outputs_left = h.out_len - 1 - add-mod_left h.out_len q i;
@@ -71,11 +71,11 @@ module _ {T : Type 0} (h : HashFunction T) (positive : 0 < h.out_len) where
       let same : h.out_len + q + k ≡ h.out_len + (q + k) = omega arith in
       let turns : (h.out_len + q + k) / h.out_len ≡ suc ((q + k) / h.out_len) =
       ap (λ p. p / h.out_len) same ∙ further-div h.out_len (q + k) positive in
-      let behind = ap (left_behind h chain) same ∙ left_behind-further chain (q + k) in
+      let following = ap (left_after h chain) same ∙ left_after-further chain (q + k) in
       λ i. record {
         answers = outputs_from-further chain q (suc k) i;
         handed = handed_in_turn h.digest (turns i) chain;
-        after = behind i;
+        after = following i;
       }
 
   output_at-here : (chain : List T) (left : ℕ) → 0 < left → left ≤ h.out_len
@@ -85,10 +85,10 @@ module _ {T : Type 0} (h : HashFunction T) (positive : 0 < h.out_len) where
       λ i. slice_index_or (hashed h.digest (here-div h.out_len left more fits i) chain)
       (here-mod h.out_len left more fits i) h.filler
 
-  left_behind-here : (chain : List T) (left : ℕ) → 0 < left → left ≤ h.out_len
-      → left_behind h chain (h.out_len - left) ≡ record { pending = chain; outputs_left = left - 1 }
+  left_after-here : (chain : List T) (left : ℕ) → 0 < left → left ≤ h.out_len
+      → left_after h chain (h.out_len - left) ≡ record { pending = chain; outputs_left = left - 1 }
   unfolding hashed
-  left_behind-here chain left more fits =
+  left_after-here chain left more fits =
       λ i. record {
         pending = hashed h.digest (here-div h.out_len left more fits i) chain;
         outputs_left = here-mod h.out_len left more fits i;
@@ -108,11 +108,11 @@ module _ {T : Type 0} (h : HashFunction T) (positive : 0 < h.out_len) where
       let same : h.out_len - left + 0 ≡ h.out_len - left = omega arith in
       let turns : (h.out_len - left + 0) / h.out_len ≡ 0 =
       ap (λ p. p / h.out_len) same ∙ here-div h.out_len left more fits in
-      let behind = ap (left_behind h chain) same ∙ left_behind-here chain left more fits in
+      let following = ap (left_after h chain) same ∙ left_after-here chain left more fits in
       λ i. record {
         answers = output_at-here chain left more fits i ∷ [];
         handed = handed_in_turn h.digest (turns i) chain;
-        after = behind i;
+        after = following i;
       }
   taken-next chain left (suc k) more fits =
       let next : suc (h.out_len - left) ≡ h.out_len - (left - 1) = omega arith in
@@ -120,7 +120,7 @@ module _ {T : Type 0} (h : HashFunction T) (positive : 0 < h.out_len) where
       λ i. record {
         answers = output_at-here chain left more fits i ∷ outputs_from h chain (next i) (suc k);
         handed = handed_in_turn h.digest (further i / h.out_len) chain;
-        after = left_behind h chain (further i);
+        after = left_after h chain (further i);
       }
 
   -- with outputs left nothing is hashed

@@ -13,7 +13,7 @@ pub record LeadsOn {S T : Type 0} (observed : S → T → S) (start : S) (values
   pub refused : (t : S) → LeavesBeginning observed here rest t → LeavesBeginning observed start values t
 
 module _ {S T : Type 0} (observed : S → T → S) (start : S) (values : List T) (here : S) (i : ℕ) where
-  -- behind the last value
+  -- after the last value
   pub leads_on-end : length values ≤ i → LeadsOn observed start values here (drop i values)
       → here ≡ observed_all observed start values
   leads_on-end h on = sym (ap (observed_all observed here) (drop_of_length-le values h)) ∙ on.whole
@@ -39,7 +39,7 @@ module _ {S U : Type 0} (step : S → U → S) where
   leaves-first s (x ∷ xs) ys t (inl here) = inl here
   leaves-first s (x ∷ xs) ys t (inr later) = inr (leaves-first (step s x) xs ys t later)
 
-  -- as is one behind parts that are observed
+  -- as is one after parts that are observed
   pub leaves-later : (s : S) (xs ys : List U) (t : S) → LeavesBeginning step (observed_all step s xs) ys t
       → LeavesBeginning step s (xs ++ ys) t
   leaves-later s [] ys t h = h

@@ -31,8 +31,8 @@ output_at h chain place =
     slice_index_or (hashed h.digest (place / h.out_len) chain) (h.out_len - 1 - place % h.out_len) h.filler
 
 -- once that output is drawn: the h that it was in is pending, and its places before it are left
-abbrev pub left_behind : {T : Type 0} → HashFunction T → List T → ℕ → HashSponge T
-left_behind h chain place =
+abbrev pub left_after : {T : Type 0} → HashFunction T → List T → ℕ → HashSponge T
+left_after h chain place =
     record {
       pending = hashed h.digest (place / h.out_len) chain;
       outputs_left = h.out_len - 1 - place % h.out_len;
@@ -49,7 +49,7 @@ draws_from h chain place n =
     record {
       answers = outputs_from h chain place (suc n);
       handed = handed_in_turn h.digest ((place + n) / h.out_len) chain;
-      after = left_behind h chain (place + n);
+      after = left_after h chain (place + n);
     }
 
 -- with outputs left draws go on where those before them stopped, and else they begin anew
@@ -63,7 +63,7 @@ abbrev pub HashSegments : Type 0 → Type 0
 HashSegments T = BySegments T T (List T) (List T) (HashSponge T)
 
 -- The chain of the next segment is what the one before left pending, and no output is left. The digest
--- behind the last one is the hash of the chain that a next one would have.
+-- after the last one is the hash of the chain that a next one would have.
 abbrev pub hash_by_segments : {T : Type 0} → HashFunction T → HashSegments T
 hash_by_segments h =
     record {

@@ -3,9 +3,9 @@ use Rattle.std.proofs.Common.{◌≡◌, ℕ, Some, List, [], ◌∷◌, ◌++�
 use Rattle.std.proofs.Common.{ap, subst, ◌∙◌, append_assoc, append-nil}
 use Rattle.std.specs.List.{flat_map}
 use Rattle.p3_challenger_core.specs.Sponge.{IsNonEmpty}
-use Rattle.p3_challenger_core.specs.Observation.{Observation, IsObservation, LeavesFed, LeavesBehind, LeavesBeginning}
+use Rattle.p3_challenger_core.specs.Observation.{Observation, IsObservation, LeavesFed, LeavesAfter, LeavesBeginning}
 use Rattle.p3_challenger_core.specs.Observation.{LeavesInCalls, observed_all}
-use Rattle.p3_challenger_core.specs.ObservationLaws.{nothing-fed, exact-observation, unchanged-front, behind_append}
+use Rattle.p3_challenger_core.specs.ObservationLaws.{nothing-fed, exact-observation, unchanged-front, after_append}
 use Rattle.p3_challenger_core.specs.Sampling.{IsSampling, unrefused_draw}
 use Rattle.p3_challenger_core.specs.SamplingLaws.{unrefused_draw-is_sampling, one_step}
 use Rattle.p3_hash_challenger.specs.HashCalls.{HashFunction, absorbing}
@@ -49,9 +49,9 @@ module _ {T H : Type 0} where
   unchanged : (s t : HashState T H) (symbols : List T) → t ≡ s → LeavesFed fed s symbols t
   unchanged s t symbols is = (0, nothing-fed fed (λ _. refl) fed-append s t is)
 
-  unchanged-behind : (s : HashState T H) (before : List T) (t : HashState T H) (symbols : List T) → t ≡ fed s before
-      → LeavesBehind fed s before symbols t
-  unchanged-behind s before t symbols is = (0, is ∙ ap (fed s) (sym (append-nil before)))
+  unchanged-following : (s : HashState T H) (before : List T) (t : HashState T H) (symbols : List T) → t ≡ fed s before
+      → LeavesAfter fed s before symbols t
+  unchanged-following s before t symbols is = (0, is ∙ ap (fed s) (sym (append-nil before)))
 
 -- one value, or a slice of them
 abbrev pub of_value : {T H : Type 0} → Observation (HashState T H) T T
@@ -77,18 +77,18 @@ array-traceless s [] y ys =
     ap (λ p. record { sponge = absorbing (p ++ y ∷ ys); hasher = s.hasher }) (append-nil s.sponge.pending)
 array-traceless s (x ∷ xs) y ys = fed-append s (x ∷ xs) (y ∷ ys)
 
-array-behind : {T H : Type 0} (s : HashState T H) (y : T) (ys xs : List T)
+array-following : {T H : Type 0} (s : HashState T H) (y : T) (ys xs : List T)
     → array_observed (fed s (y ∷ ys)) xs ≡ fed s ((y ∷ ys) ++ xs)
-array-behind s y ys xs =
+array-following s y ys xs =
     ap (λ p. record { sponge = absorbing p; hasher = s.hasher }) (append_assoc s.sponge.pending (y ∷ ys) xs)
 
 pub arrays-observed : {T H : Type 0} → IsObservation fed (of_array {T = T} {H = H})
 arrays-observed =
     record {
       observes = λ s xs. record { exactly = array_observed-fed s xs; traceless = array-traceless s xs };
-      observes_behind = array-behind;
+      observes_after = array-following;
       leaves = λ s xs t is. unchanged s t xs is;
-      leaves_behind = λ s y ys xs t is. unchanged-behind s (y ∷ ys) t xs is;
+      leaves_after = λ s y ys xs t is. unchanged-following s (y ∷ ys) t xs is;
     }
 
 -- a value that is fed as one list
@@ -120,21 +120,21 @@ module _ {T H X U : Type 0} (parts : X → List U) (items : U → List T) where
   beginning-fed s (p ∷ ps) t (inl is) = (0, is)
   beginning-fed s (p ∷ ps) t (inr later) =
       let left = beginning-fed (fed s (items p)) ps t later in
-      let front = behind_append left.0 (items p) (flat_map items ps) in
+      let front = after_append left.0 (items p) (flat_map items ps) in
       (front.0, left.1 ∙ fed-append s (items p) (take left.0 (flat_map items ps)) ∙ ap (fed s) (sym front.1))
 
   pub parts-observed : IsObservation fed of_parts
   parts-observed =
       exact-observation fed (λ _. refl) fed-append of_parts (λ _ _. refl) (λ s x t h. beginning-fed s (parts x) t h)
 
-  -- the parts of the first value, or of those behind it
+  -- the parts of the first value, or of those after it
   beginning-split : (s : HashState T H) (ps qs : List U) (t : HashState T H) → LeavesBeginning part_fed s (ps ++ qs) t
       → LeavesBeginning part_fed s ps t ⊎ LeavesBeginning part_fed (observed_all part_fed s ps) qs t
   beginning-split s [] qs t h = inr h
   beginning-split s (p ∷ ps) qs t (inl is) = inl (inl is)
   beginning-split s (p ∷ ps) qs t (inr later) = elim (beginning-split (fed s (items p)) ps qs t later) [
     | inl here ↦ inl (inr here)
-    | inr behind ↦ inr behind
+    | inr following ↦ inr following
   ]
 
   pub parts-front : (s : HashState T H) (xs : List X) (t : HashState T H)
@@ -142,8 +142,9 @@ module _ {T H X U : Type 0} (parts : X → List U) (items : U → List T) where
   parts-front s [] t h = absurd h
   parts-front s (x ∷ xs) t h = elim (beginning-split s (parts x) (flat_map parts xs) t h) [
     | inl here ↦ inl here
-    | inr behind ↦
-        let moved = subst (λ u. LeavesBeginning part_fed u (flat_map parts xs) t) (all_fed items s (parts x)) behind in
+    | inr following ↦
+        let moved = subst (λ u. LeavesBeginning part_fed u (flat_map parts xs) t) (all_fed items s (parts x)) following
+        in
         inr (parts-front (fed s (flat_map items (parts x))) xs t moved)
   ]
 

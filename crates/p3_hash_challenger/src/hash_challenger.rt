@@ -198,7 +198,7 @@ impl<T: Copy, H: CryptographicHasher<T, [T; OUT_LEN]>, const OUT_LEN: usize> Has
     }
 }
 
-// Makes the buffer what is pending, so that values can be added behind it.
+// Makes the buffer what is pending, so that values can be added after it.
 fn copy_digest<T: Copy, const OUT_LEN: usize>(
     digest: &Option<[T; OUT_LEN]>,
     buffer: &mut Vec<T>,

@@ -5,4 +5,4 @@ mod hash_challenger;
 mod prefix_code;
 
 pub use hash_challenger::HashChallenger;
-pub use prefix_code::{hash_arrays_read_one_way, hash_values_read_one_way};
+pub use prefix_code::{hash_arrays_are_prefix_code, hash_values_are_prefix_code};

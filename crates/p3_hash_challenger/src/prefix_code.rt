@@ -1,6 +1,6 @@
-// What a hash challenger feeds reads one way: the premises of the laws on symbols.
+// What a hash challenger feeds is a prefix code: the premises of the laws on symbols.
 ghost use Rattle.std.specs.Prelude.{◌≡◌, List, length, ◌++◌};
-ghost use Rattle.p3_challenger_core.specs.Reading.{ReadsOneWay, ReadsOneWayOn};
+ghost use Rattle.p3_challenger_core.specs.Reading.{IsPrefixCode, IsPrefixCodeOn};
 ghost use Rattle.p3_symmetric.specs.declared.hash.Hash.{Hash};
 ghost use Rattle.p3_symmetric.specs.HashValues.{values_of};
 
@@ -8,32 +8,32 @@ use crate::HashChallenger;
 use p3_challenger_core::CanObserve;
 use p3_symmetric::{CryptographicHasher, Hash};
 
-/// The values that a hash challenger observes feed symbols that read one way.
+/// The symbols of the values that a hash challenger observes are a prefix code.
 ///
 /// A law: the body is empty, and a caller cites the clause.
 #[tactic(auto, using(p3_challenger_core::specs::SymbolLaws::one_symbol_each))]
-pub fn hash_values_read_one_way<
+pub fn hash_values_are_prefix_code<
     T: Copy,
     H: CryptographicHasher<T, [T; OUT_LEN]>,
     const OUT_LEN: usize,
 >()
-    ensures { ReadsOneWay ⟦<HashChallenger<T, H, OUT_LEN> as CanObserve<T>>⟧.observation.symbols }
+    ensures { IsPrefixCode ⟦<HashChallenger<T, H, OUT_LEN> as CanObserve<T>>⟧.observation.symbols }
 {}
 
-/// Arrays of `N` values and digests of `N` values feed symbols that read one way, each among themselves and both
+/// Arrays of `N` values and digests of `N` values feed symbols that are a prefix code, each among themselves and both
 /// together.
 ///
 /// A law: the body is empty, and a caller cites the clauses.
-pub fn hash_arrays_read_one_way<
+pub fn hash_arrays_are_prefix_code<
     F,
     T: Copy,
     H: CryptographicHasher<T, [T; OUT_LEN]>,
     const N: usize,
     const OUT_LEN: usize,
 >()
-    ensures arrays { ReadsOneWayOn (λ values. length values ≡ N)
+    ensures arrays { IsPrefixCodeOn (λ values. length values ≡ N)
         ⟦<HashChallenger<T, H, OUT_LEN> as CanObserve<[T; N]>>⟧.observation.symbols }
-    ensures digests { ReadsOneWay
+    ensures digests { IsPrefixCode
         ⟦<HashChallenger<T, H, OUT_LEN> as CanObserve<Hash<F, T, N>>>⟧.observation.symbols }
     ensures both { (digest : Hash F T N) (values a b : List T) → length values ≡ N →
         ⟦<HashChallenger<T, H, OUT_LEN> as CanObserve<Hash<F, T, N>>>⟧.observation.symbols digest ++ a

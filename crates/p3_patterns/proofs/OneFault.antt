@@ -1,5 +1,6 @@
 -- Steps have one first fault at most.
-use Rattle.std.proofs.Common.{◌≡◌, ℕ, ◌⊎◌, List, [], ◌∷◌, ◌++◌, length, refl, sym, ap, subst, ◌∙◌, inl, inr, append_assoc}
+use Rattle.std.proofs.Common.{◌≡◌, ℕ, ◌⊎◌, List, [], ◌∷◌, ◌++◌, length, refl, sym, ap, subst, ◌∙◌, inl, inr}
+use Rattle.std.proofs.Common.{append_assoc}
 use Rattle.p3_fs_core.specs.declared.step.Hierarchy.TheVariants.{End}
 use Rattle.p3_fs_core.specs.declared.step.Kind.TheVariants.{Protocol}
 use Rattle.p3_fs_core.specs.Steps.{Step}

@@ -1,12 +1,13 @@
 -- What is written of a line, and of the lines so far.
-use Rattle.std.proofs.Common.{◌≡◌, ℕ, zero, suc, ◌+◌, ◌-◌, ◌*◌, ◌<◌, ◌≤◌, List, [], ◌∷◌, ◌++◌, length, map, get_or, drop, replicate, codes, append_assoc, append-nil, add-one, refl, sym, ap, ◌∙◌, arith}
+use Rattle.std.proofs.Common.{◌≡◌, ℕ, zero, suc, ◌+◌, ◌-◌, ◌*◌, ◌<◌, ◌≤◌, List, [], ◌∷◌, ◌++◌, length, map, get_or}
+use Rattle.std.proofs.Common.{drop, replicate, codes, append_assoc, append-nil, add-one, refl, sym, ap, ◌∙◌, arith}
 use Rattle.std.proofs.Math.Seq.{drop-cons}
 use Rattle.std.proofs.lemmas.List.{drop-map, drop_all, length-map}
 use Rattle.std.specs.List.{repeat}
 use Rattle.std.specs.Fmt.{decimal}
 use Rattle.p3_fs_core.specs.Steps.{Step}
 use Rattle.p3_fs_core.specs.Interactions.{step_of}
-use Rattle.p3_patterns.specs.Rendering.{depth_behind, indentation, padded, line, lines, position_digits, rendering}
+use Rattle.p3_patterns.specs.Rendering.{depth_after, indentation, padded, line, lines, position_digits, rendering}
 use Rattle.p3_fs_core.specs.declared.interaction.Interaction.{Interaction}
 use Rattle.p3_fs_core.specs.declared.step.Hierarchy.{Hierarchy}
 use Rattle.p3_fs_core.specs.declared.step.Hierarchy.TheVariants.{Atomic, Begin, End}
@@ -29,7 +30,8 @@ line-front count digits position depth text is =
     let number = decimal position in
     ap (λ front. (front ++ (number ++ (codes " " ++ repeat depth (codes "  ")))) ++ text) (zeros count
     ∙ ap (λ k. replicate k 48) is)
-    ∙ ap (λ behind. (replicate (digits - length number) 48 ++ (number ++ (codes " " ++ behind))) ++ text) (spaces depth)
+    ∙ ap (λ following. (replicate (digits - length number) 48 ++ (number ++ (codes " " ++ following))) ++ text)
+    (spaces depth)
     ∙ ap (λ all. all ++ text)
     (sym (append_assoc (replicate (digits - length number) 48) number (codes " " ++ replicate (2 * depth) 32)))
     ∙ append_assoc (padded digits position) (codes " " ++ replicate (2 * depth) 32) text
@@ -37,7 +39,7 @@ line-front count digits position depth text is =
 -- ---- one line more
 
 pub depth-small : (hierarchy : Hierarchy) (depth position : ℕ) → depth ≤ position →
-    depth_behind hierarchy depth ≤ position + 1
+    depth_after hierarchy depth ≤ position + 1
 depth-small Atomic depth position small = omega (arith, small)
 depth-small Begin depth position small = omega (arith, small)
 depth-small End depth position small = omega (arith, small)
@@ -45,7 +47,7 @@ depth-small End depth position small = omega (arith, small)
 first-line : (text : Step → List ℕ) (digits position depth : ℕ) (steps : List Interaction) (d : Interaction) →
     position < length steps → lines text digits position depth (drop position (map step_of steps))
     ≡ line text digits position depth (step_of (get_or steps position d)) ++ lines text digits (position + 1)
-    (depth_behind (get_or steps position d).hierarchy depth) (drop (position + 1) (map step_of steps))
+    (depth_after (get_or steps position d).hierarchy depth) (drop (position + 1) (map step_of steps))
 first-line text digits position depth steps d within =
     let s = get_or steps position d in
     let left : drop position (map step_of steps) ≡ step_of s ∷ drop (position + 1) (map step_of steps) =
@@ -58,7 +60,7 @@ first-line text digits position depth steps d within =
 one-more : (text : Step → List ℕ) (digits position depth indented deeper : ℕ) (first second : Hierarchy)
     (steps : List Interaction) (d : Interaction) (written whole : List ℕ) → position < length steps →
     first ≡ (get_or steps position d).hierarchy → indented ≡ indentation first depth →
-    second ≡ (get_or steps position d).hierarchy → deeper ≡ depth_behind second depth →
+    second ≡ (get_or steps position d).hierarchy → deeper ≡ depth_after second depth →
     written ++ lines text digits position depth (drop position (map step_of steps)) ≡ whole →
     (written
     ++ (padded digits position
@@ -71,10 +73,10 @@ one-more text digits position depth indented deeper first second steps d written
     let shown : ℕ →
     List ℕ = λ k. padded digits position ++ (codes " " ++ (replicate (2 * k) 32 ++ (text (step_of s) ++ codes "\n"))) in
     let at : indented ≡ indentation s.hierarchy depth = indented_is ∙ ap (λ h. indentation h depth) first_is in
-    let behind : deeper ≡ depth_behind s.hierarchy depth = deeper_is ∙ ap (λ h. depth_behind h depth) second_is in
+    let following : deeper ≡ depth_after s.hierarchy depth = deeper_is ∙ ap (λ h. depth_after h depth) second_is in
     append_assoc written (shown indented) (rest deeper)
     ∙ ap (λ k. written ++ (shown k ++ rest deeper)) at
-    ∙ ap (λ k. written ++ (shown (indentation s.hierarchy depth) ++ rest k)) behind
+    ∙ ap (λ k. written ++ (shown (indentation s.hierarchy depth) ++ rest k)) following
     ∙ ap (λ all. written ++ all) (sym (first-line text digits position depth steps d within))
     ∙ so_far
 
@@ -82,7 +84,7 @@ one-more text digits position depth indented deeper first second steps d written
 pub one-more-read : (text : Step → List ℕ) (digits position depth indented deeper : ℕ) (first second : Hierarchy)
     (steps : List Interaction) (d read : Interaction) (written whole : List ℕ) → read ≡ get_or steps position d →
     position < length steps → first ≡ read.hierarchy → indented ≡ indentation first depth → second ≡ read.hierarchy →
-    deeper ≡ depth_behind second depth →
+    deeper ≡ depth_after second depth →
     written ++ lines text digits position depth (drop position (map step_of steps)) ≡ whole →
     (written
     ++ (padded digits position ++ (codes " " ++ (replicate (2 * indented) 32 ++ (text (step_of read) ++ codes "\n")))))

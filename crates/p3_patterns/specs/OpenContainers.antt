@@ -19,7 +19,8 @@ OpensAt [] positions steps = (positions ≡ []) × IsPattern Protocol steps
 OpensAt (opener ∷ below) positions steps =
     (before : List Step) × (inside : List Step) × (outer : List ℕ)
     × (steps ≡ before ++ (opener ∷ inside)) × (positions ≡ outer ++ (length before ∷ []))
-    × (opener.hierarchy ≡ Begin) × Allows (kind_of below) opener × IsPattern opener.kind inside × OpensAt below outer before
+    × (opener.hierarchy ≡ Begin) × Allows (kind_of below) opener × IsPattern opener.kind inside
+    × OpensAt below outer before
 
 -- the positions are those of the openers that the steps leave open, the outermost first
 abbrev pub AreOpen : List Step → List ℕ → Type 0

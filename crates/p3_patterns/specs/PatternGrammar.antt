@@ -10,7 +10,7 @@ use Rattle.p3_fs_core.specs.Steps.{Step, Closes}
 abbrev pub Allows : Kind → Step → Type 0
 Allows kind s = (kind ≡ Protocol) ⊎ (s.kind ≡ kind)
 
--- What may stand in a container of the kind: steps that it allows, each of them a leaf, or an opener behind
+-- What may stand in a container of the kind: steps that it allows, each of them a leaf, or an opener after
 -- which stand a pattern of the opener's own kind and a closer that closes it.
 pub data IsPattern : Kind → List Step → Type 0 where
   nothing : (kind : Kind) → IsPattern kind []
@@ -24,7 +24,7 @@ pub data IsPattern : Kind → List Step → Type 0 where
 abbrev pub IsViable : List Step → Type 0
 IsViable steps = (more : List Step) × IsPattern Protocol (steps ++ more)
 
--- The opener at the position is the innermost one that is still open: what stands behind it is a pattern of
+-- The opener at the position is the innermost one that is still open: what stands after it is a pattern of
 -- its kind. No two openers of a list are so, hence it is the last one.
 pub record IsInnermost (steps : List Step) (position : ℕ) (opener : Step) : Type 0 where
   pub before : List Step

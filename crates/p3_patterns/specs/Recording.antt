@@ -20,7 +20,7 @@ pub record Records (before : Recording) (s : Step) (after : Recording) : Type 0 
   pub viable : IsViable (before.steps ++ (s ∷ []))
   pub recorded : after ≡ record { steps = before.steps ++ (s ∷ []); finished = false }
 
--- why the step is refused behind those: no pattern begins with them and this one, and this is their first
+-- why the step is refused after those: no pattern begins with them and this one, and this is their first
 -- fault; or some pattern does, and memory was refused
 abbrev pub FaultOfNext : List Step → Step → TranscriptError → Type 0
 FaultOfNext steps s e =

@@ -6,11 +6,11 @@ use Rattle.p3_fs_core.specs.declared.step.Hierarchy.TheVariants.{Atomic, Begin, 
 use Rattle.p3_fs_core.specs.Steps.{Step}
 use Rattle.p3_fs_core.specs.StepFits.{FitsTypes}
 
--- how many containers are open behind a step
-abbrev pub depth_behind : Hierarchy → ℕ → ℕ
-depth_behind Atomic depth = depth
-depth_behind Begin depth = depth + 1
-depth_behind End depth = depth - 1
+-- how many containers are open after a step
+abbrev pub depth_after : Hierarchy → ℕ → ℕ
+depth_after Atomic depth = depth
+depth_after Begin depth = depth + 1
+depth_after End depth = depth - 1
 
 -- how far a step is indented: a closer stands where its opener does
 abbrev pub indentation : Hierarchy → ℕ → ℕ
@@ -32,7 +32,7 @@ line text digits position depth s =
 abbrev pub lines : (Step → List ℕ) → ℕ → ℕ → ℕ → List Step → List ℕ
 lines text digits position depth [] = []
 lines text digits position depth (s ∷ rest) =
-    line text digits position depth s ++ lines text digits (position + 1) (depth_behind s.hierarchy depth) rest
+    line text digits position depth s ++ lines text digits (position + 1) (depth_after s.hierarchy depth) rest
 
 -- how many digits the positions of so many steps take: those of the last one
 abbrev pub position_digits : ℕ → ℕ

@@ -12,6 +12,6 @@ mod state;
 
 pub use pattern::Pattern;
 pub use player::PatternPlayer;
-pub use rendering::renderings_read_one_way;
+pub use rendering::equal_renderings_are_equal_patterns;
 pub use sequence::InteractionPattern;
 pub use state::PatternState;

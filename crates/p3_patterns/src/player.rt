@@ -4,7 +4,8 @@ ghost use Rattle.std.specs.Option.{option_map};
 ghost use Rattle.p3_fs_core.specs.Errors.{misfit_of};
 ghost use Rattle.p3_fs_core.specs.Interactions.{step_of};
 ghost use Rattle.p3_patterns.specs.PatternSteps.{steps_of};
-ghost use Rattle.p3_patterns.specs.Playing.{Plays, RefusesToPlay, FaultOfPlay, FaultOfPlayEnd, IsPatternError, IsPlayed, CarriesReceived, next_step};
+ghost use Rattle.p3_patterns.specs.Playing.{Plays, RefusesToPlay, FaultOfPlay, FaultOfPlayEnd, IsPatternError};
+ghost use Rattle.p3_patterns.specs.Playing.{IsPlayed, CarriesReceived, next_step};
 
 use crate::{InteractionPattern, Pattern};
 use p3_fs_core::{Interaction, PatternError, TranscriptError};

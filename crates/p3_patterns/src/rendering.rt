@@ -1,11 +1,13 @@
 // The text of a whole pattern, and its digest.
-ghost use Rattle.std.specs.Prelude.{◌≡◌, ◌↔◌, ◌+◌, ◌*◌, ◌<◌, ◌^◌, ◌++◌, ℕ, List, Some, map, length, replicate, codes, IfOk, string_bytes, if◌then◌else◌};
+ghost use Rattle.std.specs.Prelude.{◌≡◌, ◌↔◌, ◌+◌, ◌*◌, ◌<◌, ◌^◌, ◌++◌, ℕ, List, Some, map, length, replicate, codes};
+ghost use Rattle.std.specs.Prelude.{IfOk, string_bytes, if◌then◌else◌};
 ghost use Rattle.std.specs.Fmt.{decimal};
 ghost use Rattle.std.specs.List.{repeat};
 ghost use Rattle.p3_fs_core.specs.Steps.{Step, plain_text, alternate_text};
 ghost use Rattle.p3_fs_core.specs.Interactions.{step_of};
 ghost use Rattle.p3_patterns.specs.PatternSteps.{steps_of};
-ghost use Rattle.p3_patterns.specs.Rendering.{depth_behind, indentation, padded, rendering, SameButTypeNames, AllFitTypes};
+ghost use Rattle.p3_patterns.specs.Rendering.{depth_after, indentation, padded, rendering, SameButTypeNames};
+ghost use Rattle.p3_patterns.specs.Rendering.{AllFitTypes};
 
 use crate::InteractionPattern;
 use p3_fs_core::{Alternate, Hierarchy, Interaction};
@@ -61,8 +63,8 @@ impl InteractionPattern {
 /// whatever bytes their labels have. Of patterns that is so with no condition.
 ///
 /// A law: the body is empty, and a caller cites a clause.
-#[tactic(auto, using(crate::specs::RenderingLaws::rendering_one_way))]
-pub fn renderings_read_one_way()
+#[tactic(auto, using(crate::specs::RenderingLaws::rendering_injective))]
+pub fn equal_renderings_are_equal_patterns()
     ensures steps { (x y : List Step) → AllFitTypes x → AllFitTypes y → length x < 2 ^ 64 → length y < 2 ^ 64
         → (rendering alternate_text x ≡ rendering alternate_text y ↔ SameButTypeNames x y) }
     ensures patterns { (x y : InteractionPattern) →
@@ -95,7 +97,7 @@ impl fmt::Display for Rendering<'_> {
                 alternate: self.alternate,
             };
             write!(f, "{line}")?;
-            depth = depth_behind(step.hierarchy(), depth);
+            depth = depth_after(step.hierarchy(), depth);
         }
         Ok(())
     }
@@ -111,10 +113,10 @@ fn indentation(hierarchy: Hierarchy, depth: usize) -> usize
     }
 }
 
-// How many containers are open behind a step, where so many are open before it.
-fn depth_behind(hierarchy: Hierarchy, depth: usize) -> usize
+// How many containers are open after a step, where so many are open before it.
+fn depth_after(hierarchy: Hierarchy, depth: usize) -> usize
     requires { depth < usize.MAX }
-    ensures { result ≡ depth_behind hierarchy depth }
+    ensures { result ≡ depth_after hierarchy depth }
 {
     match hierarchy {
         Hierarchy::Atomic => depth,
@@ -136,7 +138,7 @@ fn decimal_digits(n: usize) -> usize
     digits
 }
 
-// A step that prints as a line: behind its position, which has so many digits or more, and so far indented.
+// A step that prints as a line: after its position, which has so many digits or more, and so far indented.
 #[derive(Clone, Copy)]
 struct Line<'a> {
     digits: usize,

@@ -1,5 +1,6 @@
 // The steps of a whole protocol.
-ghost use Rattle.std.specs.Prelude.{◌≡◌, ◌↔◌, ◌⊎◌, ◌<◌, ◌^◌, [], ◌∷◌, ◌++◌, List, map, length, IfOk, IfErr, IfSome, IfNone, OnOk, IsOk, IsTrue};
+ghost use Rattle.std.specs.Prelude.{◌≡◌, ◌↔◌, ◌⊎◌, ◌<◌, ◌^◌, [], ◌∷◌, ◌++◌, List, map, length, IfOk, IfErr, IfSome};
+ghost use Rattle.std.specs.Prelude.{IfNone, OnOk, IsOk, IsTrue};
 ghost use Rattle.p3_field_core.specs.Equality.{IsExact};
 ghost use Rattle.p3_fs_core.specs.declared.step.Kind.TheVariants.{Protocol};
 ghost use Rattle.p3_fs_core.specs.Errors.{Fault};

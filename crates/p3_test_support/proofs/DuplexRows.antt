@@ -3,9 +3,11 @@
 use Rattle.std.proofs.Common.{◌≡◌, ℕ, List, [], ◌∷◌, map, refl}
 use Rattle.p3_small_primes.specs.F257Residues.{F257, residues}
 use Rattle.p3_symmetric.specs.Turn.{turned}
-use Rattle.p3_challenger_core.specs.Segments.{Call, observe, observe_empty_array, draw, ByCalls, BySegments, segments, run_calls, run_calls_to_digest, run_segments, run_segments_to_digest}
+use Rattle.p3_challenger_core.specs.Segments.{Call, observe, observe_empty_array, draw, ByCalls, BySegments, segments}
+use Rattle.p3_challenger_core.specs.Segments.{run_calls, run_calls_to_digest, run_segments, run_segments_to_digest}
 use Rattle.p3_duplex.specs.DuplexCalls.{DuplexSponge, fresh, duplex_by_calls}
-use Rattle.p3_duplex.specs.DuplexSegments.{duplex_by_segments, absorbed_blocks, handed_blocks, permuted, handed_in_turn, outputs_from}
+use Rattle.p3_duplex.specs.DuplexSegments.{duplex_by_segments, absorbed_blocks, handed_blocks, permuted}
+use Rattle.p3_duplex.specs.DuplexSegments.{handed_in_turn, outputs_from}
 
 abbrev start : DuplexSponge F257
 start = fresh residues 3
@@ -33,7 +35,7 @@ drawn_by_segments calls = numbers (run_segments by_segments start (segments call
 abbrev handed_by_segments : List (Call F257) → List (List ℕ)
 handed_by_segments calls = map numbers (run_segments by_segments start (segments calls)).handed
 
--- the numbers of the digest behind calls, and the states handed over up to it
+-- the numbers of the digest after calls, and the states handed over up to it
 abbrev digest_after : List (Call F257) → List ℕ
 digest_after calls = numbers (run_calls_to_digest by_calls start calls).after
 
@@ -100,7 +102,8 @@ full_block_draw_by_segments : drawn_by_segments (five ∷ nought ∷ draw ∷ []
 unfolding absorbed_blocks handed_blocks permuted handed_in_turn outputs_from
 full_block_draw_by_segments = refl
 
-two_segments : drawn_by_segments (five ∷ draw ∷ draw ∷ five ∷ draw ∷ draw ∷ []) ≡ drawn (five ∷ draw ∷ draw ∷ five ∷ draw ∷ draw ∷ [])
+two_segments : drawn_by_segments (five ∷ draw ∷ draw ∷ five ∷ draw ∷ draw ∷ []) ≡ drawn
+    (five ∷ draw ∷ draw ∷ five ∷ draw ∷ draw ∷ [])
 unfolding absorbed_blocks handed_blocks permuted handed_in_turn outputs_from
 two_segments = refl
 
@@ -110,8 +113,9 @@ two_segments = refl
 fresh_draws_handed : handed (draw ∷ draw ∷ draw ∷ draw ∷ []) ≡ state 0 0 0 ∷ state 1 2 3 ∷ []
 fresh_draws_handed = refl
 
--- and a digest behind them once more
-fresh_draws_digest_handed : handed_to_digest (draw ∷ draw ∷ draw ∷ draw ∷ []) ≡ state 0 0 0 ∷ state 1 2 3 ∷ state 3 5 4 ∷ []
+-- and a digest after them once more
+fresh_draws_digest_handed : handed_to_digest (draw ∷ draw ∷ draw ∷ draw ∷ []) ≡ state 0 0 0 ∷ state 1 2 3 ∷ state 3 5 4
+    ∷ []
 fresh_draws_digest_handed = refl
 
 -- a digest of a fresh sponge permutes the zeros
@@ -130,7 +134,7 @@ pending_handed = refl
 short_block_digest_handed : handed_to_digest (five ∷ []) ≡ state 5 0 1 ∷ []
 short_block_digest_handed = refl
 
--- a full block is absorbed at once, and the draw behind it finds an output
+-- a full block is absorbed at once, and the draw after it finds an output
 full_block_handed : handed (five ∷ nought ∷ draw ∷ []) ≡ state 5 0 2 ∷ []
 full_block_handed = refl
 
@@ -155,7 +159,8 @@ fresh_draws_handed_by_segments : handed_by_segments (draw ∷ draw ∷ draw ∷ 
 unfolding absorbed_blocks handed_blocks permuted handed_in_turn outputs_from
 fresh_draws_handed_by_segments = refl
 
-fresh_draws_digest_handed_by_segments : handed_to_digest_by_segments (draw ∷ draw ∷ draw ∷ draw ∷ []) ≡ state 0 0 0 ∷ state 1 2 3 ∷ state 3 5 4 ∷ []
+fresh_draws_digest_handed_by_segments : handed_to_digest_by_segments (draw ∷ draw ∷ draw ∷ draw ∷ []) ≡ state 0 0 0 ∷
+    state 1 2 3 ∷ state 3 5 4 ∷ []
 unfolding absorbed_blocks handed_blocks permuted handed_in_turn outputs_from
 fresh_draws_digest_handed_by_segments = refl
 
@@ -179,15 +184,18 @@ full_block_handed_by_segments : handed_by_segments (five ∷ nought ∷ draw ∷
 unfolding absorbed_blocks handed_blocks permuted handed_in_turn outputs_from
 full_block_handed_by_segments = refl
 
-full_block_digest_handed_by_segments : handed_to_digest_by_segments (five ∷ nought ∷ []) ≡ state 5 0 2 ∷ state 1 4 8 ∷ []
+full_block_digest_handed_by_segments : handed_to_digest_by_segments (five ∷ nought ∷ []) ≡ state 5 0 2 ∷ state 1 4 8 ∷
+    []
 unfolding absorbed_blocks handed_blocks permuted handed_in_turn outputs_from
 full_block_digest_handed_by_segments = refl
 
-two_segments_handed_by_segments : handed_by_segments (five ∷ draw ∷ draw ∷ five ∷ draw ∷ []) ≡ state 5 0 1 ∷ state 5 0 9 ∷ []
+two_segments_handed_by_segments : handed_by_segments (five ∷ draw ∷ draw ∷ five ∷ draw ∷ []) ≡ state 5 0 1 ∷ state 5 0 9
+    ∷ []
 unfolding absorbed_blocks handed_blocks permuted handed_in_turn outputs_from
 two_segments_handed_by_segments = refl
 
-three_values_digest_handed_by_segments : handed_to_digest_by_segments (five ∷ nought ∷ five ∷ []) ≡ state 5 0 2 ∷ state 5 0 9 ∷ []
+three_values_digest_handed_by_segments : handed_to_digest_by_segments (five ∷ nought ∷ five ∷ []) ≡ state 5 0 2 ∷ state
+    5 0 9 ∷ []
 unfolding absorbed_blocks handed_blocks permuted handed_in_turn outputs_from
 three_values_digest_handed_by_segments = refl
 
@@ -195,7 +203,7 @@ array_handed_by_segments : handed_by_segments (draw ∷ observe_empty_array ∷ 
 unfolding absorbed_blocks handed_blocks permuted handed_in_turn outputs_from
 array_handed_by_segments = refl
 
--- the digests behind those calls
+-- the digests after those calls
 four_draws_digest : digest_after (draw ∷ draw ∷ draw ∷ draw ∷ []) ≡ 6 ∷ 6 ∷ []
 four_draws_digest = refl
 

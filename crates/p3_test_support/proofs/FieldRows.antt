@@ -41,7 +41,7 @@ packed_none : packed baby_bear.residues 3 [] ≡ baby_bear.residues.of 0 ∷ []
 unfolding first_chunks
 packed_none = refl
 
--- the 20 bytes 0123456789abcdeffedcba98765432100f1e2d3c draw 497719269, and with 4b5a6978 behind them
+-- the 20 bytes 0123456789abcdeffedcba98765432100f1e2d3c draw 497719269, and with 4b5a6978 after them
 -- 18060362441347088952 in the field of 64 bits
 drawn : big_endian (0x01 ∷ 0x23 ∷ 0x45 ∷ 0x67 ∷ 0x89 ∷ 0xab ∷ 0xcd ∷ 0xef ∷ 0xfe ∷ 0xdc ∷ 0xba ∷ 0x98 ∷ 0x76 ∷
     0x54 ∷ 0x32 ∷ 0x10 ∷ 0x0f ∷ 0x1e ∷ 0x2d ∷ 0x3c ∷ []) % 2013265921 ≡ 497719269

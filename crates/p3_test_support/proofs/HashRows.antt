@@ -1,7 +1,9 @@
 -- Worked rows, computed on the definitions: the places of a digest are the length of the message plus 0, 1, ..
 use Rattle.std.proofs.Common.{◌≡◌, ℕ, List, [], ◌∷◌, replicate, refl, ap}
 use Rattle.std.specs.List.{range_with_len}
-use Rattle.p3_challenger_core.specs.Segments.{Call, observe, observe_empty_array, draw, Run, Segment, IsCutOf, segments, run_calls, run_calls_to_digest, run_segments, run_segments_to_digest}
+use Rattle.p3_challenger_core.specs.Segments.{Call, observe, observe_empty_array, draw, Run, Segment, IsCutOf}
+use Rattle.p3_challenger_core.specs.Segments.{segments, run_calls, run_calls_to_digest, run_segments}
+use Rattle.p3_challenger_core.specs.Segments.{run_segments_to_digest}
 use Rattle.p3_challenger_core.specs.SegmentLaws.{cut-only}
 use Rattle.p3_hash_challenger.specs.HashCalls.{HashFunction, HashSponge, absorbing, hash_by_calls}
 use Rattle.p3_hash_challenger.specs.HashSegments.{hash_by_segments, hashed, handed_in_turn, outputs_from}
@@ -53,14 +55,14 @@ three_draws_handed = refl
 empty_array_handed : (run (draw ∷ draw ∷ observe_empty_array ∷ draw ∷ [])).handed ≡ start ∷ range_with_len 4 32 ∷ []
 empty_array_handed = refl
 
--- as does a draw behind all 32 places
+-- as does a draw after all 32 places
 places_handed : (run (replicate 32 draw)).handed ≡ start ∷ []
 places_handed = refl
 
 more_places_handed : (run (replicate 33 draw)).handed ≡ start ∷ range_with_len 4 32 ∷ []
 more_places_handed = refl
 
--- what was observed stands behind what is pending
+-- what was observed stands after what is pending
 observed_handed : (run (observe 9 ∷ observe 8 ∷ draw ∷ [])).handed ≡ (0 ∷ 1 ∷ 2 ∷ 3 ∷ 9 ∷ 8 ∷ []) ∷ []
 observed_handed = refl
 
@@ -79,7 +81,8 @@ three_draws_handed_by_segments : (run_by_segments (draw ∷ draw ∷ draw ∷ []
 unfolding hashed handed_in_turn outputs_from
 three_draws_handed_by_segments = refl
 
-empty_array_handed_by_segments : (run_by_segments (draw ∷ draw ∷ observe_empty_array ∷ draw ∷ [])).handed ≡ start ∷ range_with_len 4 32 ∷ []
+empty_array_handed_by_segments : (run_by_segments (draw ∷ draw ∷ observe_empty_array ∷ draw ∷ [])).handed ≡ start ∷
+    range_with_len 4 32 ∷ []
 unfolding hashed handed_in_turn outputs_from
 empty_array_handed_by_segments = refl
 
@@ -91,7 +94,8 @@ more_places_handed_by_segments : (run_by_segments (replicate 33 draw)).handed �
 unfolding hashed handed_in_turn outputs_from
 more_places_handed_by_segments = refl
 
-observed_handed_by_segments : (run_by_segments (observe 9 ∷ observe 8 ∷ draw ∷ [])).handed ≡ (0 ∷ 1 ∷ 2 ∷ 3 ∷ 9 ∷ 8 ∷ []) ∷ []
+observed_handed_by_segments : (run_by_segments (observe 9 ∷ observe 8 ∷ draw ∷ [])).handed ≡
+    (0 ∷ 1 ∷ 2 ∷ 3 ∷ 9 ∷ 8 ∷ []) ∷ []
 unfolding hashed handed_in_turn outputs_from
 observed_handed_by_segments = refl
 
@@ -99,7 +103,8 @@ digest_handed_by_segments : (run_to_digest_by_segments []).handed ≡ start ∷ 
 unfolding hashed handed_in_turn outputs_from
 digest_handed_by_segments = refl
 
-three_draws_digest_handed_by_segments : (run_to_digest_by_segments (draw ∷ draw ∷ draw ∷ [])).handed ≡ start ∷ range_with_len 4 32 ∷ []
+three_draws_digest_handed_by_segments : (run_to_digest_by_segments (draw ∷ draw ∷ draw ∷ [])).handed ≡ start ∷
+    range_with_len 4 32 ∷ []
 unfolding hashed handed_in_turn outputs_from
 three_draws_digest_handed_by_segments = refl
 
@@ -112,19 +117,26 @@ three_draws_digest_by_segments = refl
 abbrev segment : List ℕ → ℕ → Segment ℕ
 segment values draws = record { values = values; draws = draws }
 
-cut_at_values : segments (draw ∷ observe 1 ∷ observe 2 ∷ draw ∷ draw ∷ observe 3 ∷ []) ≡ record { first = segment [] 1; others = segment (1 ∷ 2 ∷ []) 2 ∷ segment (3 ∷ []) 0 ∷ [] }
+cut_at_values : segments (draw ∷ observe 1 ∷ observe 2 ∷ draw ∷ draw ∷ observe 3 ∷ []) ≡ record
+    { first = segment [] 1; others = segment (1 ∷ 2 ∷ []) 2 ∷ segment (3 ∷ []) 0 ∷ [] }
 cut_at_values = refl
 
-cut_at_arrays : segments (observe 1 ∷ draw ∷ observe_empty_array ∷ draw ∷ observe_empty_array ∷ observe_empty_array ∷ observe 2 ∷ []) ≡ record { first = segment (1 ∷ []) 1; others = segment [] 1 ∷ segment [] 0 ∷ segment (2 ∷ []) 0 ∷ [] }
+cut_at_arrays : segments
+    (observe 1 ∷ draw ∷ observe_empty_array ∷ draw ∷ observe_empty_array ∷ observe_empty_array ∷ observe 2 ∷ []) ≡
+    record { first = segment (1 ∷ []) 1; others = segment [] 1 ∷ segment [] 0 ∷ segment (2 ∷ []) 0 ∷ [] }
 cut_at_arrays = refl
 
 -- values in a row are not cut apart, nor are draws from the values before them
-not_between_values : IsCutOf (observe 1 ∷ observe 2 ∷ []) (record { first = segment (1 ∷ []) 0; others = segment (2 ∷ []) 0 ∷ [] }) → ⊥
+not_between_values : IsCutOf (observe 1 ∷ observe 2 ∷ [])
+    (record { first = segment (1 ∷ []) 0; others = segment (2 ∷ []) 0 ∷ [] }) → ⊥
 not_between_values h =
-    let others : segment (2 ∷ []) 0 ∷ [] ≡ [] = ap (λ cut. cut.others) (cut-only (observe 1 ∷ observe 2 ∷ []) (segment (1 ∷ []) 0) (segment (2 ∷ []) 0 ∷ []) h) in
+    let others : segment (2 ∷ []) 0 ∷ [] ≡ [] =
+    ap (λ cut. cut.others) (cut-only (observe 1 ∷ observe 2 ∷ []) (segment (1 ∷ []) 0) (segment (2 ∷ []) 0 ∷ []) h) in
     cc
 
-not_before_draws : IsCutOf (observe 1 ∷ draw ∷ []) (record { first = segment (1 ∷ []) 0; others = segment [] 1 ∷ [] }) → ⊥
+not_before_draws : IsCutOf (observe 1 ∷ draw ∷ []) (record { first = segment (1 ∷ []) 0; others = segment [] 1 ∷ [] })
+    → ⊥
 not_before_draws h =
-    let others : segment [] 1 ∷ [] ≡ [] = ap (λ cut. cut.others) (cut-only (observe 1 ∷ draw ∷ []) (segment (1 ∷ []) 0) (segment [] 1 ∷ []) h) in
+    let others : segment [] 1 ∷ [] ≡ [] =
+    ap (λ cut. cut.others) (cut-only (observe 1 ∷ draw ∷ []) (segment (1 ∷ []) 0) (segment [] 1 ∷ []) h) in
     cc

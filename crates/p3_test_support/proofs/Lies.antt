@@ -23,7 +23,7 @@ scribbling = record { symbols = λ x. x ∷ []; observed = λ s x. s ++ (x ∷ [
 
 scribbling-refused : IsObservation kept scribbling → ⊥
 scribbling-refused laws =
-    let left = laws.leaves_behind [] 1 [] 2 (77 ∷ 1 ∷ []) refl in
+    let left = laws.leaves_after [] 1 [] 2 (77 ∷ 1 ∷ []) refl in
     absurd (omega (arith, heads 77 1 (1 ∷ []) _ left.1))
 
 -- a value is kept, and is said to feed nothing
@@ -85,7 +85,7 @@ abbrev constant : Encoding ℕ
 constant = record { width = 1; wire = λ _. 0 ∷ []; read = λ bytes. Ok (0, bytes) }
 
 constant-refused : IsEncoding constant → ⊥
-constant-refused laws = absurd (omega (arith, (laws.one_way 0 1 [] [] refl).0))
+constant-refused laws = absurd (omega (arith, (laws.prefix_code 0 1 [] [] refl).0))
 
 -- ---- alphabets
 

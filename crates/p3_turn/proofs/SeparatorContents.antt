@@ -3,7 +3,7 @@ use Rattle.std.proofs.Common.{◌≡◌, ℕ, ◌≤◌, List, length, sym, ap, 
 use Rattle.std.specs.List.{All}
 use Rattle.p3_patterns.specs.PatternSteps.{PatternSteps}
 use Rattle.p3_turn.specs.Seed.{identifier, label_of, FitsCount}
-use Rattle.p3_turn.specs.SeedLaws.{identifier_one_way}
+use Rattle.p3_turn.specs.SeedLaws.{identifier_injective}
 use Rattle.p3_turn.specs.SeparatorLaws.{only_chunks}
 use Rattle.p3_turn.specs.SeparatorParts.{separator_of}
 use Rattle.p3_turn.specs.Separators.{Separator}
@@ -17,7 +17,7 @@ module _ {U D : Type 0} where
       separator_of s ≡ record { version = version; name = name; chunks = chunks; pattern = pattern }
   made_of s version name chunks pattern id_is short label_is fit pattern_is =
       let id = s.is_identifier in
-      let parts = identifier_one_way id.version version id.name name id.short short (sym id.spelled ∙ id_is) in
+      let parts = identifier_injective id.version version id.name name id.short short (sym id.spelled ∙ id_is) in
       let same = only_chunks s.instance_label.items s.is_label chunks fit label_is in
       (λ i. record { version = parts.0 i; name = parts.1 i; chunks = same i; pattern = pattern_is i })
 

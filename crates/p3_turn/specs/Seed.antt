@@ -13,11 +13,11 @@ use Rattle.p3_patterns.specs.Rendering.{rendering}
 abbrev pub identifier : ℕ → List ℕ → List ℕ
 identifier version name = version ∷ (name ++ (replicate (62 - length name) 0 ++ (length name ∷ [])))
 
--- a byte string behind its length in four bytes, the highest first
+-- a byte string after its length in four bytes, the highest first
 abbrev pub counted : List ℕ → List ℕ
 counted bytes = in_bytes 4 (length bytes) ++ bytes
 
--- the label of an instance: each of its chunks behind its length
+-- the label of an instance: each of its chunks after its length
 abbrev pub label_of : List (List ℕ) → List ℕ
 label_of chunks = flat_map counted chunks
 
@@ -32,7 +32,7 @@ RefusesChunk len LabelTooLong = 2 ^ 32 ≤ len
 RefusesChunk len OutOfMemory = len < 2 ^ 32
 RefusesChunk len _ = ⊥
 
--- the seed: identifier, digest of the pattern, label behind its length, and a last byte
+-- the seed: identifier, digest of the pattern, label after its length, and a last byte
 abbrev pub seed_bytes : List ℕ → List ℕ → List ℕ → List ℕ
 seed_bytes protocol_id digest label = protocol_id ++ (digest ++ (counted label ++ (0x80 ∷ [])))
 

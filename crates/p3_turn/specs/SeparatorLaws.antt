@@ -6,10 +6,10 @@ use Rattle.std.specs.List.{All}
 use Rattle.std.proofs.lemmas.List.Elements.{All-push}
 use Rattle.p3_challenger_core.specs.Reading.{AreBytes}
 use Rattle.p3_turn.specs.Seed.{identifier, counted, label_of, FitsCount}
-use Rattle.p3_turn.specs.SeedLaws.{identifier_one_way, label_one_way, label_more}
+use Rattle.p3_turn.specs.SeedLaws.{identifier_injective, label_injective, label_more}
 use Rattle.p3_turn.specs.Separators.{IsIdentifier, IsLabel}
 
--- bytes are equal in one way
+-- that bytes are equal has one proof
 bytes-prop : (xs ys : List ℕ) → IsProp (xs ≡ ys)
 bytes-prop xs ys = Coded-set (coded_list coded_ℕ) xs ys
 
@@ -24,10 +24,10 @@ FitsCount-prop bytes = le_prop
 
 -- ---- identifiers
 
--- bytes are an identifier in one way
+-- that bytes are an identifier has one proof
 pub IsIdentifier-prop : (protocol_id : List ℕ) → IsProp (IsIdentifier protocol_id)
 IsIdentifier-prop protocol_id x y =
-    let parts = identifier_one_way x.version y.version x.name y.name x.short y.short (sym x.spelled ∙ y.spelled) in
+    let parts = identifier_injective x.version y.version x.name y.name x.short y.short (sym x.spelled ∙ y.spelled) in
     let Same : ℕ × List ℕ → Type 0 = λ (p : ℕ × List ℕ).
     (spelled : protocol_id ≡ identifier p.0 p.1) (version_fits : p.0 < 256) (named : 1 ≤ length p.1)
     (short : length p.1 ≤ 62) (bytes : AreBytes p.1)
@@ -56,9 +56,9 @@ IsIdentifier-prop protocol_id x y =
 -- a label is that of its chunks alone
 pub only_chunks : (label : List ℕ) (is : IsLabel label) (chunks : List (List ℕ)) → All FitsCount chunks →
     label ≡ label_of chunks → is.chunks ≡ chunks
-only_chunks label is chunks fit spelled = label_one_way is.chunks chunks is.counted fit (sym is.spelled ∙ spelled)
+only_chunks label is chunks fit spelled = label_injective is.chunks chunks is.counted fit (sym is.spelled ∙ spelled)
 
--- bytes are a label in one way
+-- that bytes are a label has one proof
 pub IsLabel-prop : (label : List ℕ) → IsProp (IsLabel label)
 IsLabel-prop label x y =
     let Same : List (List ℕ) → Type 0 = λ (chunks : List (List ℕ)).

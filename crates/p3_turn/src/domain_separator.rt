@@ -1,14 +1,16 @@
 // What binds a transcript to a protocol, its pattern and the instance.
-ghost use Rattle.std.specs.Prelude.{◌≡◌, ◌↔◌, ℕ, true, ◌+◌, ◌<◌, ◌≤◌, ◌^◌, List, [], ◌∷◌, ◌++◌, length, OnOk, OnErr, IfOk, IfErr};
+ghost use Rattle.std.specs.Prelude.{◌≡◌, ◌↔◌, ℕ, true, ◌+◌, ◌<◌, ◌≤◌, ◌^◌, List, [], ◌∷◌, ◌++◌, length, OnOk, OnErr};
+ghost use Rattle.std.specs.Prelude.{IfOk, IfErr};
 ghost use Rattle.std.specs.List.{All, flat_map};
 ghost use Rattle.p3_challenger_core.specs.Observation.{observed_all};
 ghost use Rattle.p3_challenger_core.specs.Sponge.{IsFed};
 ghost use Rattle.p3_fs_core.specs.Alphabet.{LeavesItems};
 ghost use Rattle.p3_patterns.specs.PatternSteps.{steps_of};
-ghost use Rattle.p3_challenger_core.specs.Reading.{ReadsOneWayOn};
+ghost use Rattle.p3_challenger_core.specs.Reading.{IsPrefixCodeOn};
 ghost use Rattle.p3_turn.specs.SeparatorLaws.{IsIdentifier-prop, IsLabel-prop};
 ghost use Rattle.p3_turn.specs.Separators.{IsIdentifier, IsLabel};
-ghost use Rattle.p3_turn.specs.Seed.{identifier, counted, label_of, FitsCount, RefusesChunk, seed_of, RefusesSeed, AreSeedParts, parts_of, seed_of_parts};
+ghost use Rattle.p3_turn.specs.Seed.{identifier, counted, label_of, FitsCount, RefusesChunk, seed_of, RefusesSeed};
+ghost use Rattle.p3_turn.specs.Seed.{AreSeedParts, parts_of, seed_of_parts};
 
 use p3_challenger_core::CanObserve;
 use p3_codecs::Unit;
@@ -90,7 +92,7 @@ impl<U, D> DomainSeparator<U, D> {
         &self.protocol_id
     }
 
-    /// The label of the instance: each of its chunks behind its length in four bytes, the highest first.
+    /// The label of the instance: each of its chunks after its length in four bytes, the highest first.
     pub fn instance_label(&self) -> &[u8]
         ensures { result.now ≡ self.now.instance_label.items }
     {
@@ -104,7 +106,7 @@ impl<U, D> DomainSeparator<U, D> {
         &self.pattern
     }
 
-    /// Adds a chunk at the end of the instance's label, behind its length in four bytes, the highest first.
+    /// Adds a chunk at the end of the instance's label, after its length in four bytes, the highest first.
     /// So no two lists of chunks make one label.
     ///
     /// The errors are [`TranscriptError::LabelTooLong`], where the label would have 2^32 bytes or more, and
@@ -160,7 +162,7 @@ impl<U, D> DomainSeparator<U, D> {
 }
 
 impl<U: Unit, D: DigestHasher> DomainSeparator<U, D> {
-    /// Observes the seed in one byte string: the identifier, the digest of the pattern, the label behind its
+    /// Observes the seed in one byte string: the identifier, the digest of the pattern, the label after its
     /// length in four bytes, and a byte 0x80.
     ///
     /// Conditions: `U` is an alphabet, as [`Unit::observe_bytes`] has it.
@@ -179,14 +181,15 @@ impl<U: Unit, D: DigestHasher> DomainSeparator<U, D> {
             IfErr result (λ e. RefusesSeed (U.is_too_long (length seed))
             (LeavesItems C.observation C.slice_may_leave (C.state challenger.old) (U.items seed))
             (C.state challenger.old) e (C.state challenger.new)) }
-        // What is observed is what the items feed; exactly so, where the challenger feeds each in one way.
+        // What is observed is what the items feed; exactly so, where the challenger feeds
+        // them as a prefix code.
         ensures fed { let seed = seed_of D.digest_of self.now.protocol_id self.now.pattern.value
             self.now.instance_label.items in
             OnOk result (IsFed C.fed (C.state challenger.old)
             (flat_map C.observation.symbols (U.items seed)) (C.state challenger.new)) }
         ensures fed_exactly { let seed = seed_of D.digest_of self.now.protocol_id self.now.pattern.value
             self.now.instance_label.items in
-            ReadsOneWayOn U.is_item C.observation.symbols → OnOk result (C.state challenger.new
+            IsPrefixCodeOn U.is_item C.observation.symbols → OnOk result (C.state challenger.new
             ≡ C.fed (C.state challenger.old) (flat_map C.observation.symbols (U.items seed))) }
         // The seed is that of an identifier, a digest and a label.
         ensures parts { OnOk result (AreSeedParts
@@ -215,7 +218,7 @@ impl<U: Unit, D: DigestHasher> DomainSeparator<U, D> {
     }
 }
 
-// Adds a byte string behind its length in four bytes. Where memory is refused, nothing is added.
+// Adds a byte string after its length in four bytes. Where memory is refused, nothing is added.
 fn push_counted(bytes: &mut Vec<u8>, added: &[u8]) -> Result<(), AllocError>
     requires { FitsCount added.now }
     ensures ok { OnOk result (bytes.new.items ≡ bytes.old.items ++ counted added.now) }
@@ -244,8 +247,8 @@ fn protocol_identifier(version: u8, name: &[u8]) -> [u8; PROTOCOL_ID_LEN]
 /// An identifier of a protocol comes from one version and one name.
 ///
 /// A law: the body is empty, and a caller cites the clause.
-#[tactic(auto, using(crate::specs::SeedLaws::identifier_one_way))]
-pub fn identifiers_read_one_way()
+#[tactic(auto, using(crate::specs::SeedLaws::identifier_injective))]
+pub fn identifiers_are_injective()
     ensures { (v w : ℕ) (a b : List ℕ) → length a ≤ 62 → length b ≤ 62 →
         identifier v a ≡ identifier w b → (v ≡ w) × (a ≡ b) }
 {}
@@ -253,15 +256,15 @@ pub fn identifiers_read_one_way()
 /// A label of an instance comes from one list of chunks.
 ///
 /// A law: the body is empty, and a caller cites the clause.
-#[tactic(auto, using(crate::specs::SeedLaws::label_one_way))]
-pub fn labels_read_one_way()
+#[tactic(auto, using(crate::specs::SeedLaws::label_injective))]
+pub fn labels_are_injective()
     ensures { (x y : List (List ℕ)) → All FitsCount x → All FitsCount y → label_of x ≡ label_of y → x ≡ y }
 {}
 
 /// Whatever follows, a seed comes from one identifier, one digest and one label.
 ///
 /// A law: the body is empty, and a caller cites the clause.
-#[tactic(auto, using(crate::specs::SeedLaws::seed_one_way))]
-pub fn seeds_read_one_way()
-    ensures { ReadsOneWayOn AreSeedParts seed_of_parts }
+#[tactic(auto, using(crate::specs::SeedLaws::seed_prefix_code))]
+pub fn seeds_are_prefix_code()
+    ensures { IsPrefixCodeOn AreSeedParts seed_of_parts }
 {}

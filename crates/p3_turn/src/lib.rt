@@ -4,6 +4,6 @@
 mod domain_separator;
 
 pub use domain_separator::{
-    DomainSeparator, PROTOCOL_ID_LEN, identifiers_read_one_way, labels_read_one_way,
-    seeds_read_one_way,
+    DomainSeparator, PROTOCOL_ID_LEN, identifiers_are_injective, labels_are_injective,
+    seeds_are_prefix_code,
 };

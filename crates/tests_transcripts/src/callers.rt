@@ -1,5 +1,5 @@
 // The generic callers of the crate `uses`, at types that users have.
-use p3_challenger::fs::{BytesToFieldCodec, hash_values_read_one_way};
+use p3_challenger::fs::{BytesToFieldCodec, hash_values_are_prefix_code};
 use p3_challenger::{CanFinalizeDigest, CanObserve, HashChallenger};
 use p3_field::{BabyBear, F257, PrimeCharacteristicRing, PrimeField64};
 use p3_symmetric::Sha256Hasher;
@@ -38,6 +38,6 @@ fn a_value_and_arrays_are_observed_and_one_is_drawn(rt: HostRuntime) -> Result<(
 // The conditions of the law are met by scalars in a challenger of bytes.
 #[test]
 fn symbols_of_scalars_bind_them(_rt: HostRuntime) {
-    hash_values_read_one_way::<u8, Sha256Hasher, 32>();
+    hash_values_are_prefix_code::<u8, Sha256Hasher, 32>();
     symbols_bind_values::<BabyBear, Scalars, u8, Bytes>();
 }

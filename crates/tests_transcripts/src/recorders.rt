@@ -19,7 +19,7 @@ fn record(alloc: Global, steps: &[Interaction]) -> Result<InteractionPattern, Tr
     recorder.finalize()
 }
 
-// The grammar: no steps are a pattern; and so is a leaf with a pattern behind it, or an opener, a pattern, a
+// The grammar: no steps are a pattern; and so is a leaf with a pattern after it, or an opener, a pattern, a
 // closer that closes it and a pattern. In a container of another kind than Protocol all are of its kind.
 fn is_pattern(kind: Kind, steps: &[Interaction]) -> bool {
     if steps.len() == 0 {

@@ -1,15 +1,16 @@
 -- Lemmas on the first path.
-use Rattle.std.proofs.Common.{◌≡◌, ℕ, ◌==◌, List, length, drop, take, Bool, true, false, if◌then◌else◌, nat_lt, Ok, Err, sym, ap, ◌∙◌}
+use Rattle.std.proofs.Common.{◌≡◌, ℕ, ◌==◌, List, length, drop, take, Bool, true, false, if◌then◌else◌, nat_lt, Ok}
+use Rattle.std.proofs.Common.{Err, sym, ap, ◌∙◌}
 use Rattle.p3_challenger.specs.BigEndian.{big_endian}
 use Rattle.p3_challenger.specs.Scalar.{not_enough_bytes, outside_range}
 use Rattle.transcript_program.specs.Scalar.{order, width, read}
 use Rattle.p3_challenger.specs.Errors.{Decodes}
 use Rattle.p3_challenger.specs.BabyBearResidues.{BabyBear, residues}
-use Rattle.transcript_program.specs.First.{read_whole, nothing_behind, too_short, trailing_bytes}
+use Rattle.transcript_program.specs.First.{read_whole, nothing_after, too_short, trailing_bytes}
 
 whole_by : (short canonical : Bool) (y : BabyBear) (rest : List ℕ) (value : BabyBear) → length rest ≡ 0 →
     Decodes (if short then Err not_enough_bytes else if canonical then Ok (y, rest) else Err outside_range) (Ok value) →
-    (if short then Err too_short else nothing_behind
+    (if short then Err too_short else nothing_after
     (if short then Err not_enough_bytes else if canonical then Ok (y, rest) else Err outside_range)) ≡ Ok value
 whole_by true canonical y rest value none decodes = absurd decodes
 whole_by false true y rest value none decodes =

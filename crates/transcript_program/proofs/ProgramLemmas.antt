@@ -1,5 +1,6 @@
 -- Lemmas on the program.
-use Rattle.std.proofs.Common.{◌≡◌, ◌≢◌, ℕ, ◌<◌, ◌≤◌, List, [], ◌∷◌, length, map, get_or, Bor, Option, Some, None, Result, Ok, Err, IfOk, IfErr, IsOk, IfNone, refl, ap, subst, sym, ◌∙◌, codes, arith}
+use Rattle.std.proofs.Common.{◌≡◌, ◌≢◌, ℕ, ◌<◌, ◌≤◌, List, [], ◌∷◌, length, map, get_or, Bor, Option, Some, None}
+use Rattle.std.proofs.Common.{Result, Ok, Err, IfOk, IfErr, IsOk, IfNone, refl, ap, subst, sym, ◌∙◌, codes, arith}
 use Rattle.std.specs.Result.{result_unwrap_or}
 use Rattle.p3_challenger.specs.BabyBearResidues.{BabyBear}
 use Rattle.transcript_program.specs.declared.program.Request.{Request}
@@ -49,4 +50,3 @@ asks_nothing words name scalar are none DemoPattern asks =
 pub none_there : {T A : Type 0} (found : Option T) → found ≡ None → A → IfNone found A
 none_there (Some x) is h = tt
 none_there None is h = h
-

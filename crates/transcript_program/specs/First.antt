@@ -31,16 +31,17 @@ abbrev pub trailing_bytes : List ℕ
 trailing_bytes = codes "trailing NARG bytes after final verifier step"
 
 -- the scalar that bytes are, whole, or why they are none
-abbrev pub nothing_behind : Result (BabyBear × List ℕ) (List ℕ) → Result BabyBear (List ℕ)
-nothing_behind (Ok found) = if length found.1 == 0 then Ok found.0 else Err trailing_bytes
-nothing_behind (Err reason) = Err reason
+abbrev pub nothing_after : Result (BabyBear × List ℕ) (List ℕ) → Result BabyBear (List ℕ)
+nothing_after (Ok found) = if length found.1 == 0 then Ok found.0 else Err trailing_bytes
+nothing_after (Err reason) = Err reason
 
 abbrev pub read_whole : List ℕ → Result BabyBear (List ℕ)
-read_whole narg = if nat_lt (length narg) width then Err too_short else nothing_behind (read narg)
+read_whole narg = if nat_lt (length narg) width then Err too_short else nothing_after (read narg)
 
 -- what a verifier may answer on a proof: it accepts exactly what is, whole, a scalar, by that
 -- scalar's run, and else tells why it is none; want of memory comes in place of an acceptance alone
-abbrev pub Verifies : {R : Type 0} → Result BabyBear (List ℕ) → (BabyBear → R → Type 0) → Result R TranscriptError → Type 0
+abbrev pub Verifies : {R : Type 0} → Result BabyBear (List ℕ) → (BabyBear → R → Type 0) → Result R TranscriptError
+    → Type 0
 Verifies (Ok value) Accepts (Ok found) = Accepts value found
 Verifies (Ok value) Accepts (Err e) = e ≡ OutOfMemory
 Verifies (Err reason) Accepts (Ok found) = ⊥

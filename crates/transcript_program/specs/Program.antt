@@ -43,7 +43,8 @@ lines proof challenge =
 pub record IsFirstText (x : BabyBear) (text : List ℕ) : Type 0 where
   pub challenge : BabyBear
   pub after : HashState ℕ Sha256Hasher
-  pub run : IsRun (function_of (λ _ message. sha256 message) 32 0) (record { sponge = absorbing []; hasher = record {} }) x challenge after
+  pub run : IsRun (function_of (λ _ message. sha256 message) 32 0)
+      (record { sponge = absorbing []; hasher = record {} }) x challenge after
   pub text_is : text ≡ lines (wire x) challenge
 
 -- the words of a command line ask for this
@@ -89,7 +90,7 @@ text_of (Done text) = string_bytes text
 text_of (Refused e) = codes "refused: " ++ (reason_of e ++ 10 ∷ [])
 text_of Usage = usage_line
 
--- a writer holds the text behind the bytes that it held, and the status is the answer's; or a write failed, and
+-- a writer holds the text after the bytes that it held, and the status is the answer's; or a write failed, and
 -- the status is 1
 abbrev pub Tells : Answer → ℕ → Option (List ℕ) → Option (List ℕ) → Type 0
 Tells answer status old new = ((status ≡ status_of answer) × Appends old new (text_of answer)) ⊎ (status ≡ 1)

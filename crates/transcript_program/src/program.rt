@@ -1,6 +1,7 @@
 ghost use Rattle.std.specs.Prelude.{◌≡◌, Some, map, IfSome, IfNone, IfOk, IfErr, string_bytes};
 ghost use Rattle.p3_challenger.specs.BabyBearResidues.{BabyBear};
-ghost use Rattle.transcript_program.specs.Program.{IsScalarText, Asks, Answers, Refuses, IsAnswer, Tells, IsFirstText, lines, status_of, text_of, reason_of};
+ghost use Rattle.transcript_program.specs.Program.{IsScalarText, Asks, Answers, Refuses, IsAnswer, Tells};
+ghost use Rattle.transcript_program.specs.Program.{IsFirstText, lines, status_of, text_of, reason_of};
 ghost use Rattle.transcript_program.specs.Demo.{demo_text};
 
 use crate::{demo, first};

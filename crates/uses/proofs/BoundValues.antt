@@ -15,7 +15,7 @@ use Rattle.p3_challenger.specs.Observation.{
 }
 use Rattle.p3_challenger.specs.ObservationLaws.{all-fed, calls-leave, in_slice-is_observation}
 use Rattle.p3_challenger.specs.ObservationLaws.{observed_as-is_observation}
-use Rattle.p3_challenger.specs.Reading.{ReadsOneWay, OneBegins}
+use Rattle.p3_challenger.specs.Reading.{IsPrefixCode, OneBegins}
 use Rattle.p3_challenger.specs.Alphabet.{RefusesBytes, LeavesItems}
 use Rattle.p3_challenger.specs.ChallengerError.{ChallengerError}
 use Rattle.p3_challenger.specs.ChallengerError.TheVariants.{OutOfMemory, DrawLimit, NoWitness, TooLong}
@@ -113,21 +113,21 @@ begins-equal a b same (inr h) =
     sym (sym (append-nil b) ∙ ap (λ c. b ++ c) (sym (nil_from_length h.0 none)) ∙ h.1)
 
 module _ {Symbol T : Type 0} (of_value : T → List Symbol) (of_bytes : List ℕ → List Symbol) where
-  behind : (p : T) (a : List ℕ) (v : T) (x : List Symbol) →
+  following : (p : T) (a : List ℕ) (v : T) (x : List Symbol) →
       in_turn of_value of_bytes p a v ++ x ≡ of_value p ++ (of_bytes a ++ (of_value v ++ x))
-  behind p a v x =
+  following p a v x =
       append_assoc (of_value p) (of_bytes a ++ of_value v) x
       ∙ ap (λ ys. of_value p ++ ys) (append_assoc (of_bytes a) (of_value v) x)
 
   -- the first value is read off, then the byte string of its length, and then the second value
-  pub symbols-bind : ReadsOneWay of_value → (p q v w : T) (a b : List ℕ) (x y : List Symbol) → length a ≡ length b →
+  pub symbols-bind : IsPrefixCode of_value → (p q v w : T) (a b : List ℕ) (x y : List Symbol) → length a ≡ length b →
       ((r s : List Symbol) → of_bytes a ++ r ≡ of_bytes b ++ s → OneBegins a b × (a ≡ b → r ≡ s)) →
       in_turn of_value of_bytes p a v ++ x ≡ in_turn of_value of_bytes q b w ++ y →
       (p ≡ q) × (a ≡ b) × (v ≡ w) × (x ≡ y)
-  symbols-bind one_way p q v w a b x y same reads e =
-      let first = one_way p q (of_bytes a ++ (of_value v ++ x)) (of_bytes b ++ (of_value w ++ y))
-      (sym (behind p a v x) ∙ e ∙ behind q b w y) in
+  symbols-bind prefix_code p q v w a b x y same reads e =
+      let first = prefix_code p q (of_bytes a ++ (of_value v ++ x)) (of_bytes b ++ (of_value w ++ y))
+      (sym (following p a v x) ∙ e ∙ following q b w y) in
       let message = reads (of_value v ++ x) (of_value w ++ y) first.1 in
       let is : a ≡ b = begins-equal a b same message.0 in
-      let second = one_way v w x y (message.1 is) in
+      let second = prefix_code v w x y (message.1 is) in
       (first.0, is, second.0, second.1)

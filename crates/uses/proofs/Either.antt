@@ -1,7 +1,7 @@
 -- Values of two types, observed in a row: observations of either are one observation.
 use Rattle.std.proofs.Common.{◌≡◌, ◌⊎◌, inl, inr, List, ◌∷◌, ◌++◌}
 use Rattle.p3_challenger.specs.Sponge.{IsFed}
-use Rattle.p3_challenger.specs.Observation.{Observation, IsObservation, LeavesFed, LeavesBehind}
+use Rattle.p3_challenger.specs.Observation.{Observation, IsObservation, LeavesFed, LeavesAfter}
 
 module _ {S Symbol A B : Type 0} (o : Observation S Symbol A) (p : Observation S Symbol B) where
   abbrev symbols_of : A ⊎ B → List Symbol
@@ -24,26 +24,26 @@ module _ {S Symbol A B : Type 0} (o : Observation S Symbol A) (p : Observation S
     observes s (inl x) = o_laws.observes s x
     observes s (inr x) = p_laws.observes s x
 
-    observes_behind : (s : S) (y : Symbol) (ys : List Symbol) (x : A ⊎ B) →
+    observes_after : (s : S) (y : Symbol) (ys : List Symbol) (x : A ⊎ B) →
         observed_by (fed s (y ∷ ys)) x ≡ fed s ((y ∷ ys) ++ symbols_of x)
-    observes_behind s y ys (inl x) = o_laws.observes_behind s y ys x
-    observes_behind s y ys (inr x) = p_laws.observes_behind s y ys x
+    observes_after s y ys (inl x) = o_laws.observes_after s y ys x
+    observes_after s y ys (inr x) = p_laws.observes_after s y ys x
 
     leaves : (s : S) (x : A ⊎ B) (t : S) → MayLeave s x t → LeavesFed fed s (symbols_of x) t
     leaves s (inl x) t h = o_laws.leaves s x t h
     leaves s (inr x) t h = p_laws.leaves s x t h
 
-    leaves_behind : (s : S) (y : Symbol) (ys : List Symbol) (x : A ⊎ B) (t : S) →
-        MayLeave (fed s (y ∷ ys)) x t → LeavesBehind fed s (y ∷ ys) (symbols_of x) t
-    leaves_behind s y ys (inl x) t h = o_laws.leaves_behind s y ys x t h
-    leaves_behind s y ys (inr x) t h = p_laws.leaves_behind s y ys x t h
+    leaves_after : (s : S) (y : Symbol) (ys : List Symbol) (x : A ⊎ B) (t : S) →
+        MayLeave (fed s (y ∷ ys)) x t → LeavesAfter fed s (y ∷ ys) (symbols_of x) t
+    leaves_after s y ys (inl x) t h = o_laws.leaves_after s y ys x t h
+    leaves_after s y ys (inr x) t h = p_laws.leaves_after s y ys x t h
 
     pub either-is_observation : IsObservation fed either
     either-is_observation =
         record {
           observes = observes;
-          observes_behind = observes_behind;
+          observes_after = observes_after;
           leaves = leaves;
-          leaves_behind =
-              leaves_behind;
+          leaves_after =
+              leaves_after;
         }

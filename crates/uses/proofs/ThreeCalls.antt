@@ -1,4 +1,4 @@
--- Two calls that observe, and a draw behind them.
+-- Two calls that observe, and a draw after them.
 use Rattle.std.proofs.Common.{◌≡◌, ◌⊎◌, inl, inr, List, [], ◌∷◌, ◌++◌, Some, Result, Ok, Err, sym, ap, ◌∙◌, subst}
 use Rattle.std.proofs.Common.{append-nil}
 use Rattle.std.specs.List.{flat_map}
@@ -9,7 +9,7 @@ use Rattle.p3_challenger.specs.ObservationLaws.{all-fed, calls-leave}
 use Rattle.p3_challenger.specs.Sampling.{Sampling, IsSampling, RefusesDraw}
 use Rattle.p3_challenger.specs.ChallengerError.{ChallengerError}
 use Rattle.p3_challenger.specs.ChallengerError.TheVariants.{OutOfMemory, DrawLimit, NoWitness, TooLong}
-use Rattle.uses.specs.ThreeCalls.{DrawsBehind, RefusesThreeCalls}
+use Rattle.uses.specs.ThreeCalls.{DrawsAfter, RefusesThreeCalls}
 use Rattle.uses.proofs.Either.{either, either-is_observation}
 
 module _ {S Symbol A B X : Type 0} (fed : S → List Symbol → S) (fed_nothing : (s : S) → fed s [] ≡ s)
@@ -65,6 +65,6 @@ module _ {S Symbol A B X : Type 0} (fed : S → List Symbol → S) (fed_nothing 
       draw-refused TooLong t h = absurd h
 
       pub drawn : (result : Result X ChallengerError) (t : S) → IfOk result (λ x. d.sampled v ≡ Some x) →
-          OnOk result (t ≡ d.after v) → IfOk result (λ x. DrawsBehind fed d symbols x s t)
+          OnOk result (t ≡ d.after v) → IfOk result (λ x. DrawsAfter fed d symbols x s t)
       drawn (Ok x) t gives is = (v, both-fed, gives, is)
       drawn (Err e) t gives is = tt

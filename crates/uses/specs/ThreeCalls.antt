@@ -6,10 +6,10 @@ use Rattle.p3_challenger.specs.Sampling.{Sampling}
 use Rattle.p3_challenger.specs.ChallengerError.{ChallengerError}
 use Rattle.p3_challenger.specs.ChallengerError.TheVariants.{OutOfMemory, DrawLimit}
 
--- behind these symbols, the value is drawn
-abbrev pub DrawsBehind : {S Symbol X : Type 0} →
+-- after these symbols, the value is drawn
+abbrev pub DrawsAfter : {S Symbol X : Type 0} →
     (S → List Symbol → S) → Sampling S X → List Symbol → X → S → S → Type 0
-DrawsBehind {S} fed d symbols x s t =
+DrawsAfter {S} fed d symbols x s t =
     (here : S) × IsFed fed s symbols here × (d.sampled here ≡ Some x) × (t ≡ d.after here)
 
 -- What the calls leave where one answers this error. Where memory is refused, a front of the symbols was fed, or all

@@ -2,7 +2,7 @@
 // Where one of the calls is refused, the traits alone say which front of the symbols was fed.
 ghost use Rattle.std.specs.Prelude.{◌≡◌, ◌++◌, Some, flat_map, IfOk, IfErr};
 ghost use Rattle.p3_challenger.specs.Sponge.{IsFed};
-ghost use Rattle.uses.specs.ThreeCalls.{DrawsBehind, RefusesThreeCalls};
+ghost use Rattle.uses.specs.ThreeCalls.{DrawsAfter, RefusesThreeCalls};
 
 use p3_challenger::{CanObserve, CanSample, ChallengerError};
 
@@ -16,7 +16,7 @@ pub fn observe_and_draw<A, B, X: Drop, C: CanObserve<A> + CanObserve<B> + CanSam
     first: A,
     rest: &[B],
 ) -> Result<X, ChallengerError>
-    ensures drawn { IfOk result (λ x. DrawsBehind C.fed C.sampling
+    ensures drawn { IfOk result (λ x. DrawsAfter C.fed C.sampling
         (⟦<C as CanObserve<A>>⟧.observation.symbols first
         ++ flat_map ⟦<C as CanObserve<B>>⟧.observation.symbols rest.now)
         x (C.state challenger.old) (C.state challenger.new)) }

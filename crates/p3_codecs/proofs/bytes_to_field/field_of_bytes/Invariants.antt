@@ -3,7 +3,7 @@ use Rattle.p3_fs_core.specs.BigEndian.{big_endian_after}
 use Rattle.p3_codecs.specs.BytesToField.{challenge_of}
 use Rattle.p3_codecs.proofs.bytes_to_field.field_of_bytes.Given as goal
 
--- the bytes that are left, behind the number so far, give what all of them give
+-- the bytes that are left, after the number so far, give what all of them give
 abbrev pub invariant-loop-byte : goal.invariant-loop-byte
 invariant-loop-byte g l =
     let r = g.F.PrimeCharacteristicRing.residues in

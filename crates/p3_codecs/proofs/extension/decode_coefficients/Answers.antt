@@ -1,7 +1,7 @@
 use Rattle.std.proofs.Common.{◌+◌, ◌*◌, ◌<◌, ◌≤◌, length, take, drop, Ok, Err, sym, ap, ◌∙◌, subst, arith}
 use Rattle.std.proofs.lemmas.List.{take_more_set}
 use Rattle.std.proofs.lemmas.Result.{err_from_is_err_and}
-use Rattle.p3_codecs.specs.ExtensionLaws.{behind_coefficient}
+use Rattle.p3_codecs.specs.ExtensionLaws.{after_coefficient}
 use Rattle.p3_fs_core.specs.BigEndianLaws.{AreBytes-drop}
 use Rattle.p3_codecs.proofs.Coefficients.{HasRead, has_read-next, has_read-stops, has_read-all, whole-element}
 use Rattle.p3_codecs.proofs.Coefficients.{decoded-here}
@@ -40,7 +40,7 @@ loop-i-preserved g c =
     ) in
     let are_bytes = AreBytes-drop (i * codec.encoding.width) bytes (λ j. omega (arith, c.type_inv.bytes j)) in
     let next = has_read-next codec.encoding.read codec.encoding.width space.DIMENSION bytes (take i xs) i x more
-    (λ rest. behind_coefficient codec.encoding.wire codec.encoding.read codec.encoding.width
+    (λ rest. after_coefficient codec.encoding.wire codec.encoding.read codec.encoding.width
     laws.is_codec.encodes.fixed_width laws.is_codec.encodes.only_reads x here rest are_bytes)
     (decoded-here codec.encoding.read codec.encoding.width c.wire_len-width.result i bytes (Ok x)
     c.wire_len-width.ensures c.in_ok-decode.ensures.exact) c.loop-i.invariant in

@@ -4,7 +4,7 @@ use Rattle.p3_field_core.specs.Residues.{plus}
 use Rattle.p3_duplex.proofs.Overwriting.{written}
 use Rattle.p3_duplex.proofs.duplex_challenger.overwrite.Goals as goal
 
--- the front is the block, zeros follow, and the cell behind the rate has the count
+-- the front is the block, zeros follow, and the cell after the rate has the count
 pub returns : goal.returns
 returns g c =
     let r = g.F.PrimeCharacteristicRing.residues in

@@ -13,12 +13,15 @@ loop-left-preserved g c =
     elim c.if-left-eq1.branch [
       | then-left-eq1 w ↦
           let product = w.product-is ∙ ring.mul_law _ _ _ w.mul-product.ensures in
-          step-odd r ring.are_residues _ _ _ _ c.loop-left.left whole w.if-left-eq1.true product square c.loop-left.invariant
+          step-odd r ring.are_residues _ _ _ _ c.loop-left.left whole w.if-left-eq1.true product square
+          c.loop-left.invariant
       | else-left-eq1 w ↦
-          step-even r ring.are_residues _ _ _ _ c.loop-left.left whole w.if-left-eq1.false w.product-is square c.loop-left.invariant
+          step-even r ring.are_residues _ _ _ _ c.loop-left.left whole w.if-left-eq1.false w.product-is square
+          c.loop-left.invariant
     ]
 
 -- nothing is left of the power, so the product is the power
 pub returns : goal.returns
 returns g c =
-    of-power g.R.PrimeCharacteristicRing.residues g.met.R.PrimeCharacteristicRing.are_residues c.args.base _ _ c.args.exponent _ (omega arith) c.loop-left.invariant
+    of-power g.R.PrimeCharacteristicRing.residues g.met.R.PrimeCharacteristicRing.are_residues c.args.base _ _
+    c.args.exponent _ (omega arith) c.loop-left.invariant

@@ -23,7 +23,8 @@ returns-then-is_closer c = λ rest.
     let viable = open-viable before c.args.containers.now.openers.items c.requires.open in
     let ends = c.is_closer.ensures.0 c.if-is_closer.true in
     let test = closer-test before next c.in-Some.begin_position opener viable c.in-Some.ensures.some ends in
-    first-mismatched before rest next _ c.in-Some.begin_position opener (length-map c.args.before.now step_of) viable c.in-Some.ensures.some ends
+    first-mismatched before rest next _ c.in-Some.begin_position opener (length-map c.args.before.now step_of) viable
+    c.in-Some.ensures.some ends
     (λ closes. c.requires.stuck (test.0 closes))
 
 pub returns-else-is_closer : goal.returns-else-is_closer
@@ -32,7 +33,9 @@ returns-else-is_closer c = λ rest.
     let next = step_of c.args.next.now in
     let opener = step_of c.in-Some.begin.now in
     let viable = open-viable before c.args.containers.now.openers.items c.requires.open in
-    let goes_on : next.hierarchy ≡ End → ⊥ = λ ends. let is = c.is_closer.ensures.1 ends in let is_not = c.if-is_closer.false in cc in
+    let goes_on : next.hierarchy ≡ End → ⊥ = λ ends. let is = c.is_closer.ensures.1 ends in let is_not =
+    c.if-is_closer.false in cc in
     let test = allowed-test before next c.in-Some.begin_position opener viable c.in-Some.ensures.some goes_on in
-    first-invalid_kind before rest next _ c.in-Some.begin_position opener (length-map c.args.before.now step_of) viable c.in-Some.ensures.some goes_on
+    first-invalid_kind before rest next _ c.in-Some.begin_position opener (length-map c.args.before.now step_of) viable
+    c.in-Some.ensures.some goes_on
     (λ allowed. c.requires.stuck (test.0 allowed))

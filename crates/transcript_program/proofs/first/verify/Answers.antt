@@ -12,7 +12,8 @@ use Rattle.transcript_program.proofs.first.verify.Goals as goal
 pub returns-clause-exact : goal.returns-clause-exact
 returns-clause-exact g c =
     let none : length (drop width c.args.narg.now) ≡ 0 = omega (arith, length-drop width c.args.narg.now) in
-    let whole : read_whole c.args.narg.now ≡ Ok c.in_ok-found.found = read_whole-decoded c.args.narg.now c.in_ok-found.found none c.in_ok-found.ensures.exact in
+    let whole : read_whole c.args.narg.now ≡ Ok c.in_ok-found.found =
+    read_whole-decoded c.args.narg.now c.in_ok-found.found none c.in_ok-found.ensures.exact in
     let seen = c.in_ok-observe.ensures.ok in
     rw whole (
       refl,
@@ -25,7 +26,8 @@ returns-clause-exact g c =
 -- the scalar that was decoded is the prover's, and so are the challenge and the challenger
 pub returns-clause-accepts : goal.returns-clause-accepts
 returns-clause-accepts g c = λ value challenge after run spelled.
-    let found : ◌≡◌ {A = Result BabyBear TranscriptError} (Ok c.in_ok-found.found) (Ok value) = c.in_ok-found.ensures.only value [] spelled in
+    let found : ◌≡◌ {A = Result BabyBear TranscriptError} (Ok c.in_ok-found.found) (Ok value) =
+    c.in_ok-found.ensures.only value [] spelled in
     let same : c.in_ok-found.found ≡ value = cc in
     let hasher = g.H.CryptographicHasher in
     let function = function_of hasher.hash g.row.OUT_LEN hasher.filler in

@@ -18,14 +18,18 @@ returns-clause-ok c =
     let run = c.in_ok-run.run' in
     let prover : c.new-2.result ≡ fresh_with [] = c.new-2.ensures ∙ ap fresh_with c.new.ensures.items in
     let verifier : c.new-4.result ≡ fresh_with [] = c.new-4.ensures ∙ ap fresh_with c.new-3.ensures.items in
-    let proved = subst (λ (s : HashState ℕ Sha256Hasher). IsRun (function_of (λ _ m. sha256 m) 32 0) s value run.challenge run.challenger) prover c.in_ok-run.ensures.run in
-    let handed = subst (λ (s : HashState ℕ Sha256Hasher). IsRun (function_of (λ _ m. sha256 m) 32 0) s value run.challenge run.challenger) (sym verifier) proved in
-    let accepted = c.in_ok-read.ensures.accepts value run.challenge run.challenger handed (c.as_slice.ensures.value ∙ c.in_ok-run.ensures.wire) in
+    let proved = subst (λ (s : HashState ℕ Sha256Hasher). IsRun (function_of (λ _ m. sha256 m) 32 0) s value
+    run.challenge run.challenger) prover c.in_ok-run.ensures.run in
+    let handed = subst (λ (s : HashState ℕ Sha256Hasher). IsRun (function_of (λ _ m. sha256 m) 32 0) s value
+    run.challenge run.challenger) (sym verifier) proved in
+    let accepted = c.in_ok-read.ensures.accepts value run.challenge run.challenger handed (c.as_slice.ensures.value
+    ∙ c.in_ok-run.ensures.wire) in
     let challenges = accepted.1.0 in
     let shown = c.in_ok-first_lines.ensures in
     record {
       challenge = run.challenge;
       after = run.challenger;
       run = proved;
-      text_is = shown ∙ ap (λ proof. lines proof c.in_ok-read.read.challenge) (c.as_slice-2.ensures.value ∙ c.in_ok-run.ensures.wire) ∙ ap (lines (wire value)) challenges;
+      text_is = shown ∙ ap (λ proof. lines proof c.in_ok-read.read.challenge) (c.as_slice-2.ensures.value
+          ∙ c.in_ok-run.ensures.wire) ∙ ap (lines (wire value)) challenges;
     }

@@ -6,5 +6,5 @@ pub returns : goal.returns
 returns g c = λ p q v w a b x y a_are b_are a_fits b_fits same.
     symbols-bind g.D.Codec.observation.symbols (λ bytes. flat_map g.C.CanObserve.observation.symbols
     (g.U.Unit.items bytes))
-    (g.met.D.Codec.symbols_read_one_way c.requires.values).one_way p q v w a b x y same
+    (g.met.D.Codec.symbols_are_prefix_code c.requires.values).prefix_code p q v w a b x y same
     (λ r s e. c.symbols_begin.ensures c.requires.items a b r s a_are b_are a_fits b_fits e)

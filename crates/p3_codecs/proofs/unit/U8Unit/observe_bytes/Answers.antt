@@ -18,12 +18,12 @@ returns-clause-fed g c =
     c.observe_slice.ensures.ok
 
 pub returns-clause-fed_exactly : goal.returns-clause-fed_exactly
-returns-clause-fed_exactly g c = λ one_way.
+returns-clause-fed_exactly g c = λ prefix_code.
     let o = g.C.CanObserve.observation in
     let sponge = g.C.Sponge in
     let bytes = c.args.bytes.now in
     let are_bytes : AreBytes bytes = λ i. omega (arith, c.type_inv.bytes i) in
     let old = sponge.state c.args.challenger.now in
     let fed = all-fed_exactly sponge.fed sponge.fed_nothing sponge.fed_more o g.met.C.CanObserve.observes old bytes
-    (bytes-feed o.symbols (byte-feeds o.symbols one_way) bytes are_bytes) in
+    (bytes-feed o.symbols (byte-feeds o.symbols prefix_code) bytes are_bytes) in
     subst (λ s. OnOk c.observe_slice.result (sponge.state c.observe_slice.new.self ≡ s)) fed c.observe_slice.ensures.ok

@@ -19,11 +19,11 @@ returns-clause-fed g c =
     c.observe_packed.ensures.ok
 
 pub returns-clause-fed_exactly : goal.returns-clause-fed_exactly
-returns-clause-fed_exactly g c = λ one_way.
+returns-clause-fed_exactly g c = λ prefix_code.
     let r = g.Self.PrimeCharacteristicRing.residues in
     let o = g.C.CanObserve.observation in
     let sponge = g.C.Sponge in
-    let each = element-feeds r g.met.Self.PrimeCharacteristicRing.are_residues o.symbols one_way in
+    let each = element-feeds r g.met.Self.PrimeCharacteristicRing.are_residues o.symbols prefix_code in
     let old = sponge.state c.args.challenger.now in
     let values = packed r (chunk_bytes g.Self.Field.bit_length) c.args.bytes.now in
     let fed = all-fed_exactly sponge.fed sponge.fed_nothing sponge.fed_more o g.met.C.CanObserve.observes old values

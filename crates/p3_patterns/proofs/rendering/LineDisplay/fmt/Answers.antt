@@ -19,7 +19,7 @@ returns-then-self-clause-writes g c plain ok =
     (repeat count (codes "0") ++ (decimal l.position ++ (codes " " ++ repeat l.indentation (codes "  "))))
     c.write.new.self =
     search rules in
-    let behind : HasWritten g.W.Write.write_str_gives c.write.new.self text c.writeln.new.self = search rules in
+    let following : HasWritten g.W.Write.write_str_gives c.write.new.self text c.writeln.new.self = search rules in
     let form =
     ap (λ b. padded l.digits l.position
     ++ (codes " "
@@ -27,7 +27,7 @@ returns-then-self-clause-writes g c plain ok =
     ++ ((if b then alternate_text (step_of l.step.now) else plain_text (step_of l.step.now)) ++ codes "\n"))))
     (sym c.if-self.true) in
     has_written_of_eq _ _ _ _ _ (line-front count l.digits l.position l.indentation text missing
-    ∙ form) (has_written_append _ _ _ _ _ _ front behind)
+    ∙ form) (has_written_append _ _ _ _ _ _ front following)
 
 pub returns-else-self-clause-writes : goal.returns-else-self-clause-writes
 returns-else-self-clause-writes g c plain ok =
@@ -40,7 +40,7 @@ returns-else-self-clause-writes g c plain ok =
     (repeat count (codes "0") ++ (decimal l.position ++ (codes " " ++ repeat l.indentation (codes "  "))))
     c.write.new.self =
     search rules in
-    let behind : HasWritten g.W.Write.write_str_gives c.write.new.self text c.writeln-else-self.new.self =
+    let following : HasWritten g.W.Write.write_str_gives c.write.new.self text c.writeln-else-self.new.self =
     search rules in
     let form =
     ap (λ b. padded l.digits l.position
@@ -49,4 +49,4 @@ returns-else-self-clause-writes g c plain ok =
     ++ ((if b then alternate_text (step_of l.step.now) else plain_text (step_of l.step.now)) ++ codes "\n"))))
     (sym c.if-self.false) in
     has_written_of_eq _ _ _ _ _ (line-front count l.digits l.position l.indentation text missing
-    ∙ form) (has_written_append _ _ _ _ _ _ front behind)
+    ∙ form) (has_written_append _ _ _ _ _ _ front following)

@@ -14,14 +14,16 @@ use Rattle.p3_patterns.proofs.sequence.InteractionPattern.new.Goals as goal
 pub returns-in_err-validate-clause-only : goal.returns-in_err-validate-clause-only
 returns-in_err-validate-clause-only c = λ pattern.
     let p = err_from_is_err_and c.from_residual.result c.from_residual.ensures.1 in
-    let lent = subst (λ (xs : List Interaction). IsPattern Protocol (map step_of xs)) (sym c.deref.ensures.value) pattern in
+    let lent = subst (λ (xs : List Interaction). IsPattern Protocol (map step_of xs)) (sym c.deref.ensures.value)
+    pattern in
     ⊎_elim (λ fault. absurd (names-no_pattern (map step_of c.deref.result.now) c.in_err-validate.field-0.0 fault lent))
     (λ refused. rw (p.1, p.2) refused) c.in_err-validate.ensures.err
 
 pub returns-in_err-validate-clause-err : goal.returns-in_err-validate-clause-err
 returns-in_err-validate-clause-err c =
     let p = err_from_is_err_and c.from_residual.result c.from_residual.ensures.1 in
-    let fault = subst (λ (xs : List Interaction). NamesFirstFault (map step_of xs) c.in_err-validate.field-0.0 ⊎ (c.in_err-validate.field-0.0 ≡ OutOfMemory))
+    let fault = subst (λ (xs : List Interaction). NamesFirstFault (map step_of xs) c.in_err-validate.field-0.0
+    ⊎ (c.in_err-validate.field-0.0 ≡ OutOfMemory))
     c.deref.ensures.value c.in_err-validate.ensures.err in
     rw (p.1, p.2) fault
 

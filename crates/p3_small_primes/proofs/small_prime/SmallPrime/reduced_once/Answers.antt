@@ -15,7 +15,8 @@ returns g c =
     let left : c.if-value-order.value ≡ n % order =
     elim c.if-value-order.branch [
       | then-value-order w ↦ w.value-is ∙ sym (mod-eq_of_lt (omega arith))
-      | else-value-order w ↦ w.value-is ∙ ap (λ k. n - k) c.from-order.ensures ∙ less_order n order (omega arith) c.requires
+      | else-value-order w ↦ w.value-is ∙ ap (λ k. n - k) c.from-order.ensures
+          ∙ less_order n order (omega arith) c.requires
     ]
     in
     number-injective _ _ left

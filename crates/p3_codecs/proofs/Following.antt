@@ -13,15 +13,15 @@ turned n = omega arith
 
 module _ {F : Type 0} (r : Residues F) (laws : IsResidues r) where
   -- the number and the byte may be left modulo the order
-  same_behind : (n byte : ℕ) → ((n * (256 % r.order)) % r.order + byte % r.order) % r.order ≡ (256 * n + byte) % r.order
-  same_behind n byte =
+  same_after : (n byte : ℕ) → ((n * (256 % r.order)) % r.order + byte % r.order) % r.order ≡ (256 * n + byte) % r.order
+  same_after n byte =
       ap (λ k. (k + byte % r.order) % r.order) (mul-mod_second n 256 r.order)
       ∙ sym (add-mod (n * 256) byte r.order)
       ∙ ap (λ k. (k + byte) % r.order) (turned n)
 
-  pub behind-is : (x radix moved added result : F) (byte : ℕ) → radix ≡ r.of 256 → moved ≡ product_of r x radix →
+  pub following-is : (x radix moved added result : F) (byte : ℕ) → radix ≡ r.of 256 → moved ≡ product_of r x radix →
       added ≡ r.of byte → result ≡ sum_of r moved added → result ≡ r.of (256 * r.number x + byte)
-  behind-is x radix moved added result byte radix_is moved_is added_is result_is =
+  following-is x radix moved added result byte radix_is moved_is added_is result_is =
       let times : r.number moved ≡ (r.number x * (256 % r.order)) % r.order =
       ap r.number moved_is
       ∙ laws.number_of (r.number x * r.number radix)
@@ -31,10 +31,10 @@ module _ {F : Type 0} (r : Residues F) (laws : IsResidues r) where
       ∙ ap (λ k. r.of (k + r.number added)) times
       ∙ ap (λ k. r.of ((r.number x * (256 % r.order)) % r.order + k)) byte_is
       ∙ of-same r laws ((r.number x * (256 % r.order)) % r.order + byte % r.order) (256 * r.number x + byte)
-      (same_behind (r.number x) byte)
+      (same_after (r.number x) byte)
 
-  byte_behind : (n byte : ℕ) → (256 * (n % r.order) + byte) % r.order ≡ (256 * n + byte) % r.order
-  byte_behind n byte =
+  byte_after : (n byte : ℕ) → (256 * (n % r.order) + byte) % r.order ≡ (256 * n + byte) % r.order
+  byte_after n byte =
       add-mod (256 * (n % r.order)) byte r.order
       ∙ ap (λ k. (k + byte % r.order) % r.order) (mul-mod_second 256 n r.order)
       ∙ sym (add-mod (256 * n) byte r.order)
@@ -45,14 +45,14 @@ module _ {F : Type 0} (r : Residues F) (laws : IsResidues r) where
   after-mod n [] = mod-eq_of_lt (mod-lt n (omega (arith, laws.above_one)))
   after-mod n (byte ∷ bytes) =
       sym (after-mod (256 * (n % r.order) + byte) bytes)
-      ∙ ap (λ k. big_endian_after k bytes % r.order) (byte_behind n byte)
+      ∙ ap (λ k. big_endian_after k bytes % r.order) (byte_after n byte)
       ∙ after-mod (256 * n + byte) bytes
 
   -- a byte more is read
-  pub behind-step : (bytes : List ℕ) (i byte : ℕ) (x next target : F) → i < length bytes → byte ≡ get_or bytes i 0 →
+  pub following-step : (bytes : List ℕ) (i byte : ℕ) (x next target : F) → i < length bytes → byte ≡ get_or bytes i 0 →
       next ≡ r.of (256 * r.number x + byte) → r.of (big_endian_after (r.number x) (drop i bytes)) ≡ target →
       r.of (big_endian_after (r.number next) (drop (i + 1) bytes)) ≡ target
-  behind-step bytes i byte x next target more is next_is so_far =
+  following-step bytes i byte x next target more is next_is so_far =
       let rest = drop (i + 1) bytes in
       let split : drop i bytes ≡ byte ∷ rest = drop-cons bytes i 0 more
       ∙ (λ j. sym is j ∷ drop (sym (add-one i) j) bytes) in
