@@ -1,6 +1,6 @@
 // What a hash challenger observes beside single values and arrays: digests, caps and lists of lists.
 // Each feeds its values in order, by one call a digest or a list.
-ghost use Rattle.std.specs.Prelude.{◌≡◌, ◌↔◌, List, OnOk, IfErr, map};
+ghost use Rattle.std.specs.Prelude.{◌≡◌, ◌↔◌, OnOk, IfErr};
 ghost use Rattle.std.specs.List.{flat_map};
 ghost use Rattle.p3_challenger_core.specs.Observation.{RefusesObserve, LeavesBeginning, observed_all};
 
@@ -33,10 +33,7 @@ impl<T: Copy, H: CryptographicHasher<T, [T; OUT_LEN]>, const OUT_LEN: usize> Has
     {}
 
     // Feeds parts in order, each by one call. A refused call has fed the parts before the refused one.
-    pub(crate) fn feed_parts<Part: AsSlice<T>>(
-        &mut self,
-        parts: &[Part],
-    ) -> Result<(), ChallengerError>
+    fn feed_parts<Part: AsSlice<T>>(&mut self, parts: &[Part]) -> Result<(), ChallengerError>
         ensures each { OnOk result (
             self.new ≡ observed_all (λ s part. hash_state.fed s (Part.items part)) self.old parts.now) }
         ensures whole { OnOk result (self.new ≡ hash_state.fed self.old (flat_map Part.items parts.now)) }
