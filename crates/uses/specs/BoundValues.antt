@@ -1,13 +1,18 @@
 -- A value, a byte string and a second value, absorbed one after another.
 use Rattle.std.specs.Prelude.{ℕ, List, ◌++◌}
+use Rattle.std.specs.List.{flat_map}
 use Rattle.p3_challenger.specs.Sponge.{IsFed}
 use Rattle.p3_challenger.specs.Observation.{LeavesFed}
 use Rattle.p3_challenger.specs.ChallengerError.{ChallengerError}
 use Rattle.p3_challenger.specs.ChallengerError.TheVariants.{OutOfMemory, TooLong}
 
+-- the symbols of a byte string, by its items in an alphabet
+abbrev pub of_bytes : {Item Symbol : Type 0} → (List ℕ → List Item) → (Item → List Symbol) → List ℕ → List Symbol
+of_bytes items symbols bytes = flat_map symbols (items bytes)
+
 -- the symbols of the three
 abbrev pub in_turn : {T Symbol : Type 0} → (T → List Symbol) → (List ℕ → List Symbol) → T → List ℕ → T → List Symbol
-in_turn of_value of_bytes first message second = of_value first ++ (of_bytes message ++ of_value second)
+in_turn of_value of_message first message second = of_value first ++ (of_message message ++ of_value second)
 
 -- What an absorption that answers this error leaves: where memory is refused, a front of the symbols was fed;
 -- where the byte string is too long, those of the first value alone were.
