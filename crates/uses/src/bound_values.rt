@@ -2,7 +2,7 @@
 // the alphabet are: the call says which symbols it fed, and those symbols bind the three, as a law.
 ghost use Rattle.std.specs.Prelude.{◌≡◌, ℕ, List, ◌++◌, length, OnOk, IfErr};
 ghost use Rattle.p3_challenger.specs.Sponge.{IsFed};
-ghost use Rattle.p3_challenger.specs.Reading.{AreBytes, ReadsOneWayOn};
+ghost use Rattle.p3_challenger.specs.Reading.{AreBytes, IsPrefixCodeOn};
 ghost use Rattle.uses.specs.BoundValues.{in_turn, of_bytes, RefusesInTurn};
 
 use p3_challenger::fs::{Codec, Unit, symbols_begin};
@@ -28,7 +28,7 @@ pub fn absorb_values<T, D: Codec<C, T>, U: Unit, C: CanObserve<U::Item>>(
         first.now message.now second.now)
         (C.state challenger.new)) }
     // Where a value has symbols, they are fed exactly.
-    ensures fed_exactly { D.is_fed_one_way → OnOk result (C.state challenger.new ≡ C.fed (C.state challenger.old)
+    ensures fed_exactly { D.feeds_prefix_code → OnOk result (C.state challenger.new ≡ C.fed (C.state challenger.old)
         (in_turn D.observation.symbols (of_bytes U.items C.observation.symbols)
         first.now message.now second.now)) }
     ensures err { IfErr result (λ e. RefusesInTurn C.fed (U.is_too_long (length message.now))
@@ -43,15 +43,15 @@ pub fn absorb_values<T, D: Codec<C, T>, U: Unit, C: CanObserve<U::Item>>(
 }
 
 /// The symbols that [`absorb_values`] feeds bind what it absorbs: where two such lists of symbols are equal, with
-/// anything behind them, and the byte strings have one length, then the values and the byte strings are equal, and
-/// so is what stands behind.
+/// anything after them, and the byte strings have one length, then the values and the byte strings are equal, and
+/// so is what stands after.
 ///
 /// A law: a caller cites the clause. Conditions: the challenger feeds each value of the codec, and each item of the
-/// alphabet, in one way.
+/// alphabet, as a prefix code.
 pub fn symbols_bind_values<T, D: Codec<C, T>, U: Unit, C: CanObserve<U::Item>>()
     requires alphabet { U.is_alphabet }
-    requires values { D.is_fed_one_way }
-    requires items { ReadsOneWayOn U.is_item C.observation.symbols }
+    requires values { D.feeds_prefix_code }
+    requires items { IsPrefixCodeOn U.is_item C.observation.symbols }
     ensures { (p q v w : T) (a b : List ℕ) (x y : List C.Symbol) → AreBytes a → AreBytes b
         → (U.is_too_long (length a) → ⊥) → (U.is_too_long (length b) → ⊥) → length a ≡ length b
         → in_turn D.observation.symbols (of_bytes U.items C.observation.symbols) p a v ++ x
