@@ -88,7 +88,7 @@ impl CryptographicHasher<u8, [u8; 24]> for FixedHasher {
 
 /// A challenger that draws these bytes, the last one first.
 pub fn fixed_challenger(alloc: Global, digest: [u8; 24]) -> HashChallenger<u8, FixedHasher, 24>
-    ensures pending { result.transcript.pending ≡ [] }
+    ensures pending { result.sponge.pending ≡ [] }
     ensures digest { result.hasher.digest ≡ digest }
 {
     HashChallenger::new(Vec::new(alloc), FixedHasher { digest })
@@ -99,7 +99,7 @@ pub fn length_challenger(
     alloc: Global,
     pending: usize,
 ) -> Result<HashChallenger<u8, LengthHasher, 32>, AllocError>
-    ensures { IfOk result (λ challenger. challenger.transcript.pending ≡ replicate pending 0) }
+    ensures { IfOk result (λ challenger. challenger.sponge.pending ≡ replicate pending 0) }
 {
     let initial_state = vec![in alloc; 0u8; pending]?;
     Ok(HashChallenger::new(initial_state, LengthHasher))
