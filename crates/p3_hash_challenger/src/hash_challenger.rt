@@ -173,8 +173,10 @@ impl<T: Copy, H: CryptographicHasher<T, [T; OUT_LEN]>, const OUT_LEN: usize> Has
     {
         copy_digest(&self.digest, &mut self.input_buffer)?;
         self.input_buffer.extend_from_slice(values)?;
-        self.digest = None;
-        self.outputs_left = 0;
+        if self.digest.is_some() {
+            self.digest = None;
+            self.outputs_left = 0;
+        }
         Ok(())
     }
 
@@ -258,8 +260,11 @@ impl<T: Copy, H: CryptographicHasher<T, [T; OUT_LEN]>, const OUT_LEN: usize> Can
     fn observe(&mut self, value: T) -> Result<(), ChallengerError> {
         copy_digest(&self.digest, &mut self.input_buffer)?;
         self.input_buffer.push(value)?;
-        self.digest = None;
-        self.outputs_left = 0;
+        // Most values come while no output is left, and then there is no digest to clear.
+        if self.digest.is_some() {
+            self.digest = None;
+            self.outputs_left = 0;
+        }
         Ok(())
     }
 
