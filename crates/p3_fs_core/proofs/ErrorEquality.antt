@@ -1,5 +1,5 @@
 -- Errors compare equal exactly where they say one thing.
-use Rattle.std.proofs.Common.{◌≡◌, ◌↔◌, ℕ, Bool, true, ◌&&◌, refl, sym, ap, ◌∙◌, rules}
+use Rattle.std.proofs.Common.{◌≡◌, ◌↔◌, ℕ, true, ◌&&◌, refl, sym, ap, ◌∙◌, rules}
 use Rattle.p3_challenger_core.specs.declared.error.ChallengerError.{ChallengerError}
 use Rattle.p3_challenger_core.specs.contracts.error.ChallengerErrorPartialEq.TheImpl as challengers
 use Rattle.p3_fs_core.specs.declared.error.TranscriptError.{TranscriptError}
@@ -29,14 +29,9 @@ use Rattle.p3_fs_core.specs.Errors.{bad_proof_shape, misfit, challenger_refused,
 use Rattle.p3_fs_core.specs.Errors.{misfit_of, refusal_of}
 use Rattle.p3_fs_core.specs.Interactions.{step_of}
 use Rattle.p3_fs_core.specs.Steps.{Step}
-use Rattle.p3_fs_core.proofs.StepEquality.{both, and, equal_steps, text-same, text-self}
+use Rattle.std.proofs.lemmas.Bool.Decides.{Decides-and, Decides-like, Decides-eqb}
+use Rattle.p3_fs_core.proofs.StepEquality.{equal_steps, equal_texts}
 use Rattle.p3_fs_core.proofs.Variants.{SeenFrom, compared_as_seen}
-
-number-same : (m n : ℕ) → numbers.ghosts.eq m n ≡ true → m ≡ n
-number-same m n e = search rules
-
-number-self : (m n : ℕ) → m ≡ n → numbers.ghosts.eq m n ≡ true
-number-self m n e = search rules
 
 -- ---- why a step does not fit
 
@@ -47,19 +42,8 @@ misfit_place (WrongStep received expected) = 2
 misfit_place (Unplayed expected) = 3
 misfit_place (OverCap len max) = 4
 
--- two parts compare equal exactly where each does
-pairs : {s t : Bool} {F G : Type 0} → (s ≡ true ↔ F) → (t ≡ true ↔ G) → (s && t ≡ true ↔ F × G)
-pairs {s} {t} first second = (
-  λ e. let p = both s t e in (first.0 p.0, second.0 p.1),
-  λ h. and s t (first.1 h.0) (second.1 h.1),
-)
-
--- one fact in place of another that says as much
-seen_by : {F G : Type 0} {s : Bool} → (s ≡ true ↔ F) → (F → G) → (G → F) → (s ≡ true ↔ G)
-seen_by equal to from = (λ e. to (equal.0 e), λ g. equal.1 (from g))
-
 numbers-equal : (m n : ℕ) → (numbers.ghosts.eq m n ≡ true ↔ m ≡ n)
-numbers-equal m n = (number-same m n, number-self m n)
+numbers-equal = Decides-eqb
 
 misfit_seen : Choice (misfits.the_parts interaction_type.the_row) → PatternError Step
 misfit_seen c = misfit_of (misfits.the_make interaction_type.the_row c)
@@ -83,16 +67,17 @@ misfits-seen = (
   λ x y. (λ e. refl, λ e. refl),
   λ x. refl,
   (
-    λ x y. seen_by (equal_steps x.0 y.0) (λ e. ap NoMoreSteps e) (λ e. cc),
+    λ x y. Decides-like _ (λ e. ap NoMoreSteps e) (λ e. cc) (equal_steps x.0 y.0),
     λ x. refl,
     (
-      λ x y. seen_by (pairs (equal_steps x.0 y.0) (equal_steps x.1.0 y.1.0)) (λ e. cc) (λ e. (cc, cc)),
+      λ x y. Decides-like _ (λ e. cc) (λ e. (cc, cc)) (Decides-and _ _ (equal_steps x.0 y.0) (equal_steps x.1.0 y.1.0)),
       λ x. refl,
       (
-        λ x y. seen_by (equal_steps x.0 y.0) (λ e. ap Unplayed e) (λ e. cc),
+        λ x y. Decides-like _ (λ e. ap Unplayed e) (λ e. cc) (equal_steps x.0 y.0),
         λ x. refl,
         (
-          λ x y. seen_by (pairs (numbers-equal x.0 y.0) (numbers-equal x.1.0 y.1.0)) (λ e. cc) (λ e. (cc, cc)),
+          λ x y. Decides-like _ (λ e. cc) (λ e. (cc, cc))
+              (Decides-and _ _ (numbers-equal x.0 y.0) (numbers-equal x.1.0 y.1.0)),
           λ x. refl,
           tt,
         ),
@@ -109,10 +94,9 @@ equal_misfits a b =
     let row = interaction_type.the_row in
     let first = ap misfit_of (misfits.the_eta row a) in
     let second = ap misfit_of (misfits.the_eta row b) in
-    seen_by (compared_as_seen misfit_place 0 (misfits.the_parts row) _ misfit_seen misfits-seen
+    Decides-like _ (λ e. sym first ∙ e ∙ second) (λ e. first ∙ e
+    ∙ sym second) (compared_as_seen misfit_place 0 (misfits.the_parts row) _ misfit_seen misfits-seen
     (misfits.as_values row a) (misfits.as_values row b))
-    (λ e. sym first ∙ e ∙ second)
-    (λ e. first ∙ e ∙ sym second)
 
 -- ---- why a transcript was refused
 
@@ -131,37 +115,40 @@ missing_begin-equal : (x y : MissingBeginInfo) →
     (missing_begins.ghosts.eq x y ≡ true ↔ fault (missing_begin x.position (step_of x.end))
     ≡ fault (missing_begin y.position (step_of y.end)))
 missing_begin-equal x y =
-    seen_by (pairs (numbers-equal x.position y.position) (equal_steps x.end y.end)) (λ e. cc) (λ e. (cc, cc))
+    Decides-like _ (λ e. cc) (λ e. (cc, cc))
+    (Decides-and _ _ (numbers-equal x.position y.position) (equal_steps x.end y.end))
 
 missing_end-equal : (x y : MissingEndInfo) →
     (missing_ends.ghosts.eq x y ≡ true ↔ fault (missing_end x.position (step_of x.begin))
     ≡ fault (missing_end y.position (step_of y.begin)))
 missing_end-equal x y =
-    seen_by (pairs (numbers-equal x.position y.position) (equal_steps x.begin y.begin)) (λ e. cc) (λ e. (cc, cc))
+    Decides-like _ (λ e. cc) (λ e. (cc, cc))
+    (Decides-and _ _ (numbers-equal x.position y.position) (equal_steps x.begin y.begin))
 
 invalid_kind-equal : (x y : InvalidKindInfo) →
     (invalid_kinds.ghosts.eq x y ≡ true
     ↔ fault (invalid_kind x.begin_position (step_of x.begin) x.interaction_position (step_of x.interaction))
     ≡ fault (invalid_kind y.begin_position (step_of y.begin) y.interaction_position (step_of y.interaction)))
 invalid_kind-equal x y =
-    seen_by
-    (pairs (numbers-equal x.begin_position y.begin_position)
-    (pairs (equal_steps x.begin y.begin)
-    (pairs (numbers-equal x.interaction_position y.interaction_position) (equal_steps x.interaction y.interaction))))
+    Decides-like _
     (λ e. let p = e.0 in let q = e.1.0 in let r = e.1.1.0 in let s = e.1.1.1 in cc)
     (λ e. (cc, (cc, (cc, cc))))
+    (Decides-and _ _ (numbers-equal x.begin_position y.begin_position)
+    (Decides-and _ _ (equal_steps x.begin y.begin)
+    (Decides-and _ _ (numbers-equal x.interaction_position y.interaction_position)
+    (equal_steps x.interaction y.interaction))))
 
 mismatched-equal : (x y : MismatchedBeginEndInfo) →
     (mismatches.ghosts.eq x y ≡ true
     ↔ fault (mismatched_begin_end x.begin_position (step_of x.begin) x.end_position (step_of x.end))
     ≡ fault (mismatched_begin_end y.begin_position (step_of y.begin) y.end_position (step_of y.end)))
 mismatched-equal x y =
-    seen_by
-    (pairs (numbers-equal x.begin_position y.begin_position)
-    (pairs (equal_steps x.begin y.begin)
-    (pairs (numbers-equal x.end_position y.end_position) (equal_steps x.end y.end))))
+    Decides-like _
     (λ e. let p = e.0 in let q = e.1.0 in let r = e.1.1.0 in let s = e.1.1.1 in cc)
     (λ e. (cc, (cc, (cc, cc))))
+    (Decides-and _ _ (numbers-equal x.begin_position y.begin_position)
+    (Decides-and _ _ (equal_steps x.begin y.begin)
+    (Decides-and _ _ (numbers-equal x.end_position y.end_position) (equal_steps x.end y.end))))
 
 challenger-same : (a b : ChallengerError) → challengers.ghosts.eq a b ≡ true → a ≡ b
 challenger-same a b e = search rules
@@ -207,10 +194,10 @@ refusals-seen = (
         λ x y. missing_end-equal x.0 y.0,
         λ x. refl,
         (
-          λ x y. (λ e. ap bad_proof_shape (text-same x.0 y.0 e), λ e. text-self x.0 y.0 (cc)),
+          λ x y. Decides-like _ (λ e. ap bad_proof_shape e) (λ e. cc) (equal_texts x.0 y.0),
           λ x. refl,
           (
-            λ x y. seen_by (equal_misfits x.0 y.0) (λ e. ap misfit e) (λ e. cc),
+            λ x y. Decides-like _ (λ e. ap misfit e) (λ e. cc) (equal_misfits x.0 y.0),
             λ x. refl,
             (
               λ x y. (λ e. ap challenger_refused (challenger-same x.0 y.0 e), λ e. challenger-self x.0 y.0 (cc)),
@@ -230,7 +217,6 @@ unfolding refusal_seen
 equal_refusals a b =
     let first = ap refusal_of (refusals.the_eta a) in
     let second = ap refusal_of (refusals.the_eta b) in
-    seen_by (compared_as_seen place 0 refusals.the_parts _ refusal_seen refusals-seen (refusals.as_values a)
+    Decides-like _ (λ e. sym first ∙ e ∙ second) (λ e. first ∙ e
+    ∙ sym second) (compared_as_seen place 0 refusals.the_parts _ refusal_seen refusals-seen (refusals.as_values a)
     (refusals.as_values b))
-    (λ e. sym first ∙ e ∙ second)
-    (λ e. first ∙ e ∙ sym second)

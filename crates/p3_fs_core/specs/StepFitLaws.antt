@@ -11,7 +11,7 @@ use Rattle.p3_fs_core.specs.declared.step.TypeTag.TheVariants.{Opaque, Bits, Uni
 use Rattle.p3_fs_core.specs.Steps.{Step}
 use Rattle.p3_fs_core.specs.StepFits.{FitsLength, IsEnd, FitsTag, FitsTypes, IsProgramStep, AreProgramSteps}
 
-AreBytes-prop : (bytes : List ℕ) → IsProp (AreBytes bytes)
+pub AreBytes-prop : (bytes : List ℕ) → IsProp (AreBytes bytes)
 AreBytes-prop bytes x y = λ k i. le_prop (x i) (y i) k
 
 FitsLength-prop : (carried : Length) → IsProp (FitsLength carried)

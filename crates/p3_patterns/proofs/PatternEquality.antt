@@ -1,5 +1,6 @@
 -- Patterns compare as the lists of their steps, and equal exactly where they have the same.
-use Rattle.std.proofs.Common.{◌≡◌, ◌↔◌, Bool, true, false, ◌&&◌, List, [], ◌∷◌, map, refl, sym, ap, subst, ◌∙◌}
+use Rattle.std.proofs.Common.{◌≡◌, ◌↔◌, true, List, [], ◌∷◌, map, refl, sym, ap, subst, ◌∙◌}
+use Rattle.std.proofs.lemmas.Bool.Decides.{Decides-and, Decides-like}
 use Rattle.std.specs.Cmp.Lexicographic.{pointwise}
 use Rattle.p3_field_core.specs.Equality.{IsExact}
 use Rattle.p3_fs_core.specs.declared.interaction.Interaction.{Interaction}
@@ -41,40 +42,21 @@ as_patterns F xs ys a b first second =
 
 -- ---- equality
 
-both : (a b : Bool) → a && b ≡ true → (a ≡ true) × (b ≡ true)
-both true true e = (refl, refl)
-both true false e = absurd (cc)
-both false b e = absurd (cc)
-
-and : (a b : Bool) → a ≡ true → b ≡ true → a && b ≡ true
-and a b e f = cc
-
 -- where interactions compare equal exactly if they are one step
 module _ (compared : (a b : Interaction) → (interactions.ghosts.eq a b ≡ true ↔ step_of a ≡ step_of b)) where
-  same-items : (xs ys : List Interaction) → pointwise interactions.ghosts.eq xs ys ≡ true →
-      map step_of xs ≡ map step_of ys
-  same-items [] [] e = refl
-  same-items [] (y ∷ ys) e = absurd (cc)
-  same-items (x ∷ xs) [] e = absurd (cc)
-  same-items (x ∷ xs) (y ∷ ys) e =
-      let p = both _ _ e in
-      ap (λ s. s ∷ map step_of xs) ((compared x y).0 p.0) ∙ ap (λ rest. step_of y ∷ rest) (same-items xs ys p.1)
-
-  items-same : (xs ys : List Interaction) → map step_of xs ≡ map step_of ys →
-      pointwise interactions.ghosts.eq xs ys ≡ true
-  items-same [] [] e = refl
-  items-same [] (y ∷ ys) e = absurd (cc)
-  items-same (x ∷ xs) [] e = absurd (cc)
-  items-same (x ∷ xs) (y ∷ ys) e =
-      let first : step_of x ≡ step_of y = cc in
-      and _ _ ((compared x y).1 first) (items-same xs ys (cc))
+  equal_items : (xs ys : List Interaction) →
+      (pointwise interactions.ghosts.eq xs ys ≡ true ↔ map step_of xs ≡ map step_of ys)
+  equal_items [] [] = (λ _. refl, λ _. refl)
+  equal_items [] (y ∷ ys) = (λ e. absurd (cc), λ e. absurd (cc))
+  equal_items (x ∷ xs) [] = (λ e. absurd (cc), λ e. absurd (cc))
+  equal_items (x ∷ xs) (y ∷ ys) =
+      Decides-like _ (λ p i. p.0 i ∷ p.1 i) (λ e. (cc, cc)) (Decides-and _ _ (compared x y) (equal_items xs ys))
 
   pub equal_patterns : IsExact patterns.ghosts.eq
   equal_patterns a b =
       let first = steps-of_interactions a.steps a.fit in
-      let second = steps-of_interactions b.steps b.fit in (
-        λ e. PatternSteps-same a b (sym first ∙ same-items (interactions_of_pattern a) (interactions_of_pattern b) e
-            ∙ second),
-        λ e. items-same (interactions_of_pattern a) (interactions_of_pattern b) (first ∙ ap (λ p. p.steps) e
-            ∙ sym second),
-      )
+      let second = steps-of_interactions b.steps b.fit in
+      Decides-like _
+      (λ e. PatternSteps-same a b (sym first ∙ e ∙ second))
+      (λ e. first ∙ ap (λ p. p.steps) e ∙ sym second)
+      (equal_items (interactions_of_pattern a) (interactions_of_pattern b))

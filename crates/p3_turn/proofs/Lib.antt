@@ -1,5 +1,4 @@
 pub mod Identifiers
 pub mod Labels
 pub mod SeparatorContents
-pub mod SeparatorEquality
 pub mod WorkedRows

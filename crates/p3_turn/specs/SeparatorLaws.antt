@@ -5,6 +5,7 @@ use Rattle.std.specs.Coded.{le_prop, Coded-set, coded_list, coded_ℕ}
 use Rattle.std.specs.List.{All}
 use Rattle.std.proofs.lemmas.List.Elements.{All-push}
 use Rattle.p3_challenger_core.specs.Reading.{AreBytes}
+use Rattle.p3_fs_core.specs.StepFitLaws.{AreBytes-prop}
 use Rattle.p3_turn.specs.Seed.{identifier, counted, label_of, FitsCount}
 use Rattle.p3_turn.specs.SeedLaws.{identifier_injective, label_injective, label_more}
 use Rattle.p3_turn.specs.Separators.{IsIdentifier, IsLabel}
@@ -12,9 +13,6 @@ use Rattle.p3_turn.specs.Separators.{IsIdentifier, IsLabel}
 -- that bytes are equal has one proof
 bytes-prop : (xs ys : List ℕ) → IsProp (xs ≡ ys)
 bytes-prop xs ys = Coded-set (coded_list coded_ℕ) xs ys
-
-AreBytes-prop : (bytes : List ℕ) → IsProp (AreBytes bytes)
-AreBytes-prop bytes x y = λ k i. le_prop (x i) (y i) k
 
 All-prop : (P : List ℕ → Type 0) → ((xs : List ℕ) → IsProp (P xs)) → (all : List (List ℕ)) → IsProp (All P all)
 All-prop P one all x y = λ i k d within. one _ (x k d within) (y k d within) i
