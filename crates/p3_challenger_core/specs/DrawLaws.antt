@@ -1,13 +1,11 @@
 -- Draws in a row, one after another.
-use Rattle.std.proofs.Common.{◌≡◌, ℕ, zero, suc, ◌+◌, ◌-◌, ◌<◌, ◌≤◌, List, [], ◌∷◌, ◌++◌, Option, Some, None, IsSome}
+use Rattle.std.proofs.Common.{◌≡◌, ℕ, suc, ◌+◌, ◌-◌, ◌<◌, ◌≤◌, List, [], ◌∷◌, ◌++◌, Option, Some, None, IsSome}
 use Rattle.std.proofs.Common.{is_some, if◌then◌else◌, option_and_then, refl, sym, ap, ◌∙◌, inl, inr, subst}
 use Rattle.std.proofs.Common.{append_assoc, append-nil, arith}
 use Rattle.std.specs.Option.{option_map}
 use Rattle.p3_challenger_core.specs.declared.error.ChallengerError.{ChallengerError}
-use Rattle.p3_challenger_core.specs.declared.error.ChallengerError.TheVariants.{OutOfMemory, DrawLimit, NoWitness}
-use Rattle.p3_challenger_core.specs.declared.error.ChallengerError.TheVariants.{TooLong}
-use Rattle.p3_challenger_core.specs.Sampling.{Sampling, IsSampling, draws, after_draws, SomeDraw, RefusesDraw}
-use Rattle.p3_challenger_core.specs.Sampling.{RefusesDraws, in_row, made_of}
+use Rattle.p3_challenger_core.specs.Sampling.{Sampling, draws, after_draws, RefusesDraw}
+use Rattle.p3_challenger_core.specs.Sampling.{RefusesDraws}
 
 module _ {S T : Type 0} (d : Sampling S T) where
   -- Of n draws from a start, xs were drawn: what is left of them goes on from here.

@@ -5,8 +5,7 @@ use Rattle.std.specs.Option.{option_map}
 use Rattle.p3_challenger_core.specs.Sponge.{IsStepsOn}
 use Rattle.p3_challenger_core.specs.Observation.{RefusesObserve}
 use Rattle.p3_challenger_core.specs.declared.error.ChallengerError.{ChallengerError}
-use Rattle.p3_challenger_core.specs.declared.error.ChallengerError.TheVariants.{OutOfMemory, DrawLimit, NoWitness}
-use Rattle.p3_challenger_core.specs.declared.error.ChallengerError.TheVariants.{TooLong}
+use Rattle.p3_challenger_core.specs.declared.error.ChallengerError.TheVariants.{OutOfMemory, DrawLimit}
 
 -- what a draw gives, which is none where it meets the draw limit; the state after it; the states whose draw
 -- meets the limit; and what may be left of a state where memory is refused

@@ -1,5 +1,5 @@
 -- A draw takes one of the outputs left, which are places of what is pending.
-use Rattle.std.proofs.Common.{◌≡◌, ℕ, zero, suc, ◌<◌, ◌≤◌, ◌-◌, List, [], ◌∷◌, length, ◌==◌, if◌then◌else◌, Bool}
+use Rattle.std.proofs.Common.{◌≡◌, ℕ, zero, suc, ◌<◌, ◌≤◌, ◌-◌, List, [], ◌∷◌, length, if◌then◌else◌, Bool}
 use Rattle.std.proofs.Common.{slice_index_or, refl, sym, ap, subst, arith}
 use Rattle.std.proofs.lemmas.List.{get_or_default}
 use Rattle.p3_challenger_core.specs.Segments.{Call, observe, observe_empty_array, draw}
