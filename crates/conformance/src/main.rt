@@ -101,7 +101,9 @@ enum Outcome {
 fn compare(alloc: Global, text: &str) -> Result<Outcome> {
     let mut lines = 0usize;
     let mut calls = 0usize;
-    for (text, number) in text.lines().zip(1usize..) {
+    let mut number = 0usize;
+    for text in text.lines() {
+        number = number.saturating_add(1);
         if text.starts_with('#') {
             continue;
         }

@@ -349,7 +349,7 @@ fn recorded(alloc: Global, steps: &[Interaction]) -> Result<String> {
 }
 
 fn refused_at(recorder: &mut PatternState<u8>, steps: &[Interaction]) -> Option<usize> {
-    for (step, position) in steps.iter().zip(0usize..) {
+    for (position, step) in steps.iter().enumerate() {
         if recorder.interact(*step).is_err() {
             return Some(position);
         }

@@ -39,10 +39,12 @@ impl<'a> ProgramCall<'a> {
 // The texts in quotation marks.
 fn quoted(alloc: Global, words: &str) -> Result<Vec<&str>> {
     let mut texts = Vec::new(alloc);
-    for (part, index) in words.split('"').zip(0usize..) {
-        if index % 2 == 1 {
+    let mut is_quoted = false;
+    for part in words.split('"') {
+        if is_quoted {
             texts.push(part)?;
         }
+        is_quoted = !is_quoted;
     }
     Ok(texts)
 }

@@ -16,7 +16,7 @@ pub fn first_difference<S: Replayed + Drop>(
     mut subject: S,
     steps: &[Step<'_>],
 ) -> Result<Option<(usize, String)>> {
-    for (step, index) in steps.iter().zip(0usize..) {
+    for (index, step) in steps.iter().enumerate() {
         let answer = subject.answer(alloc, step.call).context(step.call)?;
         if answer.as_str() != step.answer {
             return Ok(Some((index, answer)));
