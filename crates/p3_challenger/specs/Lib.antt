@@ -3,6 +3,8 @@ pub use Rattle.p3_symmetric.specs.Digests
 pub use Rattle.p3_symmetric.specs.DigestLaws
 pub use Rattle.p3_symmetric.specs.Digests
 pub use Rattle.p3_symmetric.specs.DigestLaws
+pub use Rattle.p3_symmetric.specs.Digests
+pub use Rattle.p3_symmetric.specs.DigestLaws
 pub use Rattle.p3_symmetric.specs.HashValues
 pub use Rattle.p3_challenger_core.specs.BitLaws
 pub use Rattle.p3_challenger_core.specs.Bits

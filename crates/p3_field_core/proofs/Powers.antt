@@ -44,7 +44,8 @@ module _ {F : Type 0} (r : Residues F) (laws : IsResidues r) where
       ∙ power-odd r.order (r.number product) (r.number square) left odd ∙ so_far
 
   pub step-even : (product square product' square' : F) (left whole : ℕ) → left % 2 ≢ 1 → product' ≡ product
-      → square' ≡ r.of (r.number square * r.number square) → (r.number product * r.number square ^ left) % r.order ≡ whole
+      → square' ≡ r.of (r.number square * r.number square)
+      → (r.number product * r.number square ^ left) % r.order ≡ whole
       → (r.number product' * r.number square' ^ (left / 2)) % r.order ≡ whole
   step-even product square product' square' left whole even p q so_far =
       let second = ap r.number q ∙ laws.number_of (r.number square * r.number square) in
