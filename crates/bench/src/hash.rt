@@ -76,16 +76,16 @@ fn observe_bytes(mut chain: Chain) -> Result<u64> {
     for i in 0..OBSERVES {
         chain.observe((i % 256) as u8)?;
     }
-    let drawn: u8 = chain.sample()?;
-    Ok(u64::from(drawn))
+    Ok(chain.input().last().map_or(0, |byte| u64::from(*byte)))
 }
 
+// What is observed is pending, and nothing is hashed.
 fn observe_slices(mut chain: Chain) -> Result<u64> {
     let piece = [1u8; PIECE];
     for _ in 0..PIECES {
         chain.observe_slice(&piece[..])?;
     }
-    Ok(1)
+    Ok(chain.input().last().map_or(0, |byte| u64::from(*byte)))
 }
 
 fn first_byte(text: &[u8]) -> u64 {

@@ -4,9 +4,9 @@ use crate::hash::Chain;
 use crate::patterns;
 use crate::timing::least;
 use anyhow::Result;
-use p3_challenger::fs::{DomainSeparator, FieldUnit, InteractionPattern, TranscriptError, Unit};
-use p3_challenger::{CanObserve, DuplexChallenger};
-use p3_field::{BabyBear, Goldilocks};
+use p3_challenger::fs::{DomainSeparator, FieldUnit, InteractionPattern};
+use p3_challenger::{CanSample, DuplexChallenger};
+use p3_field::{BabyBear, Goldilocks, PrimeField64};
 use p3_symmetric::{Sha256Hasher, Turn};
 use std::alloc::Global;
 
@@ -27,7 +27,7 @@ pub fn measure(rt: &HostRuntime, runs: u32, text: &[u8]) -> Result<u64> {
         runs,
         MEBIBYTE,
         fresh,
-        |duplex| { seeded(&baby, duplex) },
+        |duplex| { seed_baby(&baby, duplex) },
     )?;
     let goldilocks = separator::<FieldUnit<Goldilocks>>(
         alloc,
@@ -40,7 +40,7 @@ pub fn measure(rt: &HostRuntime, runs: u32, text: &[u8]) -> Result<u64> {
         runs,
         MEBIBYTE,
         large,
-        |duplex| { seeded(&goldilocks, duplex) },
+        |duplex| { seed_goldilocks(&goldilocks, duplex) },
     )?;
     let bytes = separator::<u8>(alloc, InteractionPattern::empty(alloc), text)?;
     least(
@@ -49,7 +49,7 @@ pub fn measure(rt: &HostRuntime, runs: u32, text: &[u8]) -> Result<u64> {
         runs,
         MEBIBYTE,
         chain,
-        |hash| seeded(&bytes, hash),
+        |hash| seed_bytes(&bytes, hash),
     )?;
     let pattern = patterns::pattern_of(patterns::container(alloc, CONTAINER)?)?;
     let small = separator::<FieldUnit<BabyBear>>(alloc, pattern, b"")?;
@@ -59,7 +59,7 @@ pub fn measure(rt: &HostRuntime, runs: u32, text: &[u8]) -> Result<u64> {
         runs.saturating_mul(200),
         1,
         fresh,
-        |duplex| seeded(&small, duplex),
+        |duplex| seed_baby(&small, duplex),
     )
 }
 
@@ -71,12 +71,24 @@ fn separator<U>(alloc: Global, pattern: InteractionPattern, chunk: &[u8]) -> Res
     Ok(separator)
 }
 
-fn seeded<U: Unit, C: CanObserve<U::Item> + Drop>(
-    separator: &Separator<U>,
-    mut challenger: C,
-) -> Result<u64>
-    requires { U.is_alphabet }
-{
-    separator.seed(&mut challenger)?;
-    Ok(1)
+// Absorbs the seed, and shows something of what it left, so that no part of it can be left out.
+fn seed_baby(separator: &Separator<FieldUnit<BabyBear>>, mut duplex: Duplex) -> Result<u64> {
+    separator.seed(&mut duplex)?;
+    let drawn: BabyBear = duplex.sample()?;
+    Ok(drawn.as_canonical_u64())
+}
+
+fn seed_goldilocks(
+    separator: &Separator<FieldUnit<Goldilocks>>,
+    mut duplex: DuplexChallenger<Goldilocks, Turn<1>, 16, 8>,
+) -> Result<u64> {
+    separator.seed(&mut duplex)?;
+    let drawn: Goldilocks = duplex.sample()?;
+    Ok(drawn.as_canonical_u64())
+}
+
+// The bytes are pending, and nothing is hashed.
+fn seed_bytes(separator: &Separator<u8>, mut chain: Chain) -> Result<u64> {
+    separator.seed(&mut chain)?;
+    Ok(chain.input().last().map_or(0, |byte| u64::from(*byte)))
 }
