@@ -267,9 +267,9 @@ const LABELS: [Label; 39] = [
 
 /// Reads a label, in which `\n` is a newline.
 pub fn parse_label(text: &str) -> Result<Label> {
-    for label in LABELS {
-        if label == text {
-            return Ok(label);
+    for label in &LABELS {
+        if *label == text {
+            return Ok(*label);
         }
     }
     match text {
