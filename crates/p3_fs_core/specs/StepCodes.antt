@@ -7,7 +7,7 @@ use Rattle.p3_fs_core.specs.declared.step.Length.{Length}
 use Rattle.p3_fs_core.specs.declared.step.TypeTag.{TypeTag}
 use Rattle.p3_fs_core.specs.contracts.step.Hierarchy as hierarchy
 use Rattle.p3_fs_core.specs.contracts.step.Kind as kind
-use Rattle.p3_fs_core.specs.contracts.step.Length as length
+use Rattle.p3_fs_core.specs.contracts.step.Length as count
 use Rattle.p3_fs_core.specs.contracts.step.TypeTag as type_tag
 use Rattle.p3_fs_core.specs.Steps.{Step, step_with}
 
@@ -21,7 +21,7 @@ abbrev parts_code : Coded Parts
 parts_code =
     coded× hierarchy.the_row.coded
     (coded× kind.the_row.coded
-    (coded× text_code (coded× type_tag.the_row.coded (coded× text_code length.the_row.coded))))
+    (coded× text_code (coded× type_tag.the_row.coded (coded× text_code count.the_row.coded))))
 
 abbrev pub step_code : Coded Step
 step_code =
