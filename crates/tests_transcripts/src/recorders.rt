@@ -1,4 +1,7 @@
-use p3_fs_core::{Hierarchy, Interaction, Kind, Label, Length, TranscriptError};
+use p3_fs_core::{
+    Hierarchy, Interaction, InvalidKindInfo, Kind, Label, Length, MismatchedBeginEndInfo,
+    MissingBeginInfo, MissingEndInfo, TranscriptError,
+};
 use p3_patterns::{InteractionPattern, Pattern, PatternState};
 use std::alloc::{AllocError, Global};
 use std::test::Fail;
@@ -53,6 +56,70 @@ fn ends(opener: &Interaction, step: &Interaction) -> bool {
         && step.label() == opener.label()
 }
 
+// The first fault by a look back at every step, and no stack: the plain way.
+fn rescanned(steps: &[Interaction]) -> Result<(), TranscriptError> {
+    for position in 0..steps.len() {
+        let next = steps[position];
+        check_next(&steps[..position], position, next)?;
+    }
+    match innermost(steps) {
+        None => Ok(()),
+        Some((position, begin)) => Err(TranscriptError::MissingEnd(MissingEndInfo {
+            position,
+            begin,
+        })),
+    }
+}
+
+fn check_next(
+    before: &[Interaction],
+    position: usize,
+    next: Interaction,
+) -> Result<(), TranscriptError> {
+    let closes = next.hierarchy() == Hierarchy::End;
+    match innermost(before) {
+        None if closes => Err(TranscriptError::MissingBegin(MissingBeginInfo {
+            position,
+            end: next,
+        })),
+        None => Ok(()),
+        Some((begin_position, begin)) if closes && !next.closes(&begin) => {
+            Err(TranscriptError::MismatchedBeginEnd(MismatchedBeginEndInfo {
+                begin_position,
+                begin,
+                end_position: position,
+                end: next,
+            }))
+        }
+        Some((begin_position, begin))
+            if !closes && begin.kind() != Kind::Protocol && next.kind() != begin.kind() => {
+            Err(TranscriptError::InvalidKind(InvalidKindInfo {
+                begin_position,
+                begin,
+                interaction_position: position,
+                interaction: next,
+            }))
+        }
+        Some(_) => Ok(()),
+    }
+}
+
+// The last opener that no closer after it wants.
+fn innermost(steps: &[Interaction]) -> Option<(usize, Interaction)> {
+    let mut closers = 0usize;
+    for back in 0..steps.len() {
+        let position = steps.len() - 1 - back;
+        let step = steps[position];
+        match step.hierarchy() {
+            Hierarchy::Atomic => {}
+            Hierarchy::End => closers = closers.saturating_add(1),
+            Hierarchy::Begin if closers == 0 => return Some((position, step)),
+            Hierarchy::Begin => closers -= 1,
+        }
+    }
+    None
+}
+
 // One of the twelve steps of two kinds and two labels.
 fn letter(code: usize) -> Interaction {
     let hierarchy = match code % 3 {
@@ -98,12 +165,51 @@ fn short_words_are_patterns_by_the_grammar_alone(rt: HostRuntime) -> Result<(), 
             let steps = word(rt.alloc(), len, code)?;
             let is = is_pattern(Kind::Protocol, &steps);
             let recorded = record(rt.alloc(), &steps);
+            let rescanned = rescanned(&steps);
             let made = InteractionPattern::new(steps);
             assert_eq!(rt; made.is_ok(), is, "{len} {code}");
             assert_eq!(rt; recorded, made, "{len} {code}");
+            assert_eq!(rt; made.map(|_| ()), rescanned, "{len} {code}");
             found = found.saturating_add(u64::from(is));
         }
         assert_eq!(rt; found, patterns, "{len}");
     }
+    Ok(())
+}
+
+// A container in another, so many deep, of which the outermost one has a closer with another label.
+#[test]
+fn ten_thousand_containers_end_in_a_closer_of_another(rt: HostRuntime) -> Result<(), Fail> {
+    let begin = step(Hierarchy::Begin, Kind::Protocol, "a");
+    let other = step(Hierarchy::End, Kind::Protocol, "b");
+    let mut steps = Vec::new(rt.alloc());
+    for _ in 0..10_000 {
+        steps.push(begin)?;
+    }
+    for _ in 1..10_000 {
+        steps.push(step(Hierarchy::End, Kind::Protocol, "a"))?;
+    }
+    steps.push(other)?;
+    let recorded = record(rt.alloc(), &steps);
+    let made = InteractionPattern::new(steps);
+    assert_eq!(rt; recorded, made);
+    let fault = TranscriptError::MismatchedBeginEnd(MismatchedBeginEndInfo {
+        begin_position: 0,
+        begin,
+        end_position: 19_999,
+        end: other,
+    });
+    assert_eq!(rt; made, Err(fault));
+    Ok(())
+}
+
+// So many steps that a look back at each would take seconds.
+#[test]
+fn fifty_thousand_steps_are_a_pattern(rt: HostRuntime) -> Result<(), Fail> {
+    let mut steps = Vec::new(rt.alloc());
+    for _ in 0..50_000 {
+        steps.push(step(Hierarchy::Atomic, Kind::Message, "a"))?;
+    }
+    assert_eq!(rt; InteractionPattern::new(steps)?.len(), 50_000);
     Ok(())
 }
