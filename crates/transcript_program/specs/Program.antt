@@ -3,6 +3,8 @@ use Rattle.std.specs.Prelude.{◌≡◌, ℕ, List, [], ◌∷◌, ◌++◌, ◌
 use Rattle.std.specs.Str.Parse.{IsNumeral, digits_value}
 use Rattle.std.specs.Fmt.{decimal}
 use Rattle.std.specs.Io.KnownBytes.{Appends}
+use Rattle.std.specs.declared.io.ErrorKind.{ErrorKind}
+use Rattle.std.specs.declared.io.ErrorKind.TheVariants.{InvalidData}
 use Rattle.hex.specs.Hex.{encode_lower}
 use Rattle.sha2.specs.Sha256.{sha256}
 use Rattle.p3_challenger.specs.HashState.{HashState, function_of}
@@ -79,6 +81,12 @@ abbrev pub IsAnswer : List (List ℕ) → Answer → Type 0
 IsAnswer words (Done text) = (request : Request) × Asks words request × Answers request (string_bytes text)
 IsAnswer words (Refused e) = (request : Request) × Asks words request × Refuses request e
 IsAnswer words Usage = (request : Request) → Asks words request → ⊥
+
+-- what is answered where the words could not be read: a word that is no text asks for nothing; else memory was
+-- wanting
+abbrev pub unread : ErrorKind → Answer
+unread InvalidData = Usage
+unread _ = Refused OutOfMemory
 
 abbrev pub status_of : Answer → ℕ
 status_of (Done text) = 0

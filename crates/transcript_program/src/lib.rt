@@ -5,4 +5,4 @@ mod demo;
 pub mod first;
 mod program;
 
-pub use program::{Answer, Request, answer_to, reason, run};
+pub use program::{Answer, Request, answer_to, answer_unread, reason, run, write_answer};

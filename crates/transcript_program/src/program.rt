@@ -3,6 +3,8 @@ ghost use Rattle.p3_challenger.specs.BabyBearResidues.{BabyBear};
 ghost use Rattle.transcript_program.specs.Program.{IsScalarText, Asks, Answers, Refuses, IsAnswer, Tells};
 ghost use Rattle.transcript_program.specs.Program.{IsFirstText, lines, status_of, text_of, reason_of};
 ghost use Rattle.transcript_program.specs.Demo.{demo_text};
+ghost use Rattle.transcript_program.specs.Program.{unread};
+ghost use Rattle.std.specs.IoError.{error_kind};
 
 use crate::{demo, first};
 use p3_challenger::fs::TranscriptError;
@@ -11,7 +13,8 @@ use p3_field::{BabyBear, PrimeField32, PrimeField64};
 use p3_symmetric::Sha256Hasher;
 use std::alloc::{AllocError, Global};
 use std::fmt;
-use std::io::{Read, Write};
+use std::io;
+use std::io::{ErrorKind, Read, Write};
 
 // The exit statuses.
 const DONE: u8 = 0;
@@ -71,10 +74,27 @@ pub fn run<R: Read, W: Write>(alloc: Global, words: &[&str], _reader: &mut R, wr
     ensures { (answer : Answer) × IsAnswer (map (λ word. word.now) words.now) answer
         × Tells answer result (W.contents writer.old) (W.contents writer.new) }
 {
-    let answer = answer_to(alloc, words);
+    write_answer(&answer_to(alloc, words), writer)
+}
+
+/// Writes the answer, and gives its status; but 1 where the write failed.
+pub fn write_answer<W: Write>(answer: &Answer, writer: &mut W) -> u8
+    ensures { Tells answer.now result (W.contents writer.old) (W.contents writer.new) }
+{
     match write!(writer, "{answer}") {
         Ok(()) => answer.status(),
         Err(_) => REFUSED,
+    }
+}
+
+/// The answer where the words of the command line could not be read: the usage line where one of them is no text,
+/// and else a refusal, since nothing but memory can be wanting.
+pub fn answer_unread(error: &io::Error) -> Answer
+    ensures { result ≡ unread (error_kind error.now) }
+{
+    match error.kind() {
+        ErrorKind::InvalidData => Answer::Usage,
+        _ => Answer::Refused(TranscriptError::OutOfMemory),
     }
 }
 
