@@ -12,9 +12,8 @@ use p3_challenger::{ChallengerError, HashChallenger};
 use p3_field::{BabyBear, PrimeField32, PrimeField64};
 use p3_symmetric::Sha256Hasher;
 use std::alloc::{AllocError, Global};
-use std::fmt;
-use std::io;
 use std::io::{ErrorKind, Read, Write};
+use std::{fmt, io};
 
 // The exit statuses.
 const DONE: u8 = 0;
