@@ -12,9 +12,9 @@
 //! | `field F` | [`fields::FieldCall`], on the field `bb` (BabyBear), `gl` (Goldilocks) or `f257` (F257) |
 //! | `field32 F` | the same by the functions of 32 bits, on `bb` or `f257` |
 //! | `algebra A` | [`fields::AlgebraCall`], on a field or on `bb4`, its elements of four coefficients |
-//! | `type T` | `name`, and `constant`, the same as the constant has it; T is `u8`, `usize`, `()`, a field, `bb4` or `f257_3` |
+//! | `type T` | `name`, and `constant`, its constant; T is `u8`, `usize`, `()`, a field, `bb4` or `f257_3` |
 //! | `turn K` | `v..`: what the permutation by K places makes of these cells of F257 |
-//! | `duplex F K W R` | [`conformance_calls::challenger_call::ChallengerCall`], on a new challenger of W cells, R of them the rate |
+//! | `duplex F K W R` | the calls of `conformance_calls`, on a new challenger of W cells, R of them the rate |
 //! | `hash H [HEX]` | the same, on a new challenger with these bytes pending; H is `len`, `sum` or `sha256` |
 //! | `by-reference duplex ..`, `by-reference hash ..` | the same, each made on a reference to the challenger |
 //! | `codec`, `codec elements` | [`codecs::CodecCall`], through challengers of bytes, or of elements |

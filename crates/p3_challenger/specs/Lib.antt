@@ -6,6 +6,7 @@ pub use Rattle.p3_symmetric.specs.DigestLaws
 pub use Rattle.p3_symmetric.specs.Digests
 pub use Rattle.p3_symmetric.specs.DigestLaws
 pub use Rattle.p3_symmetric.specs.HashValues
+pub use Rattle.p3_symmetric.specs.HashValueLaws
 pub use Rattle.p3_challenger_core.specs.BitLaws
 pub use Rattle.p3_challenger_core.specs.Bits
 pub use Rattle.p3_challenger_core.specs.CallLaws
@@ -69,11 +70,14 @@ pub use Rattle.p3_field.specs.Residues
 pub use Rattle.p3_field.specs.ResidueLaws
 pub use Rattle.p3_field.specs.Coefficients
 pub use Rattle.p3_field.specs.CoeffsCoefficients
+pub use Rattle.p3_field.specs.CoefficientLaws
 pub use Rattle.p3_field.specs.Equality
 pub use Rattle.p3_field.specs.SmallPrimes
+pub use Rattle.p3_field.specs.SmallPrimeLaws
 pub use Rattle.p3_field.specs.BabyBearResidues
 pub use Rattle.p3_field.specs.F257Residues
 pub use Rattle.p3_field.specs.GoldilocksResidues
+pub use Rattle.p3_field.specs.GoldilocksLaws
 pub use Rattle.p3_small_primes.specs.declared.small_prime.SmallPrime
 pub use Rattle.p3_goldilocks.specs.declared.goldilocks.Goldilocks
 pub use Rattle.p3_field_core.specs.declared.coeffs.Coeffs

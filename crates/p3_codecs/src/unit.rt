@@ -45,8 +45,7 @@ pub trait Unit {
         ensures err { IfErr result (λ e. RefusesBytes (is_too_long (length bytes.now))
             (LeavesItems C.observation C.slice_may_leave (C.state challenger.old) (items bytes.now))
             (C.state challenger.old) e (C.state challenger.new)) }
-        // What is observed is what the items feed; exactly so, where the challenger feeds
-        // them as a prefix code.
+        // What is observed is what the items feed; exactly so, where the challenger feeds them as a prefix code.
         ensures fed { OnOk result (IsFed C.fed (C.state challenger.old)
             (flat_map C.observation.symbols (items bytes.now)) (C.state challenger.new)) }
         ensures fed_exactly { IsPrefixCodeOn is_item C.observation.symbols → OnOk result (C.state challenger.new

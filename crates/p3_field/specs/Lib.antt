@@ -2,8 +2,11 @@ pub use Rattle.p3_field_core.specs.Residues
 pub use Rattle.p3_field_core.specs.ResidueLaws
 pub use Rattle.p3_field_core.specs.Coefficients
 pub use Rattle.p3_field_core.specs.CoeffsCoefficients
+pub use Rattle.p3_field_core.specs.CoefficientLaws
 pub use Rattle.p3_field_core.specs.Equality
 pub use Rattle.p3_small_primes.specs.SmallPrimes
+pub use Rattle.p3_small_primes.specs.SmallPrimeLaws
 pub use Rattle.p3_small_primes.specs.BabyBearResidues
 pub use Rattle.p3_small_primes.specs.F257Residues
 pub use Rattle.p3_goldilocks.specs.GoldilocksResidues
+pub use Rattle.p3_goldilocks.specs.GoldilocksLaws

@@ -1,4 +1,5 @@
--- Comparisons that find equal exactly what is one value. Lists compare so where their items do, by std's `pointwise_decides`.
+-- Comparisons that find equal exactly what is one value. Lists compare so where their items do, by std's
+-- `pointwise_decides`.
 use Rattle.std.specs.Prelude.{◌≡◌, Bool, true, ◌↔◌}
 use Rattle.std.proofs.Common.{ap}
 

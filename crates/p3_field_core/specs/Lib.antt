@@ -1,5 +1,6 @@
 pub mod Coefficients
 pub mod CoeffsCoefficients
+pub mod CoefficientLaws
 pub mod Equality
 pub mod ResidueLaws
 pub mod Residues

@@ -77,7 +77,8 @@ pub trait BinomiallyExtendable<const D: usize>: Field {
 impl<F: Field> BasedVectorSpace<F> for F {
     ghost use Rattle.std.specs.Prelude.{[], refl};
     ghost use Rattle.std.proofs.Common.{lit<, lit≤};
-    ghost use Rattle.p3_field_core.specs.Coefficients.{one_coefficient, element_of_one, coefficients-element_of_one};
+    ghost use Rattle.p3_field_core.specs.Coefficients.{element_of_one};
+    ghost use Rattle.p3_field_core.specs.CoefficientLaws.{one_coefficient, coefficients-element_of_one};
 
     const DIMENSION: usize = 1;
 
@@ -113,7 +114,7 @@ impl<F: Field> BasedVectorSpace<F> for F {
 }
 
 impl<F: Field> Algebra<F> for F {
-    ghost use Rattle.p3_field_core.specs.Coefficients.{of_itself};
+    ghost use Rattle.p3_field_core.specs.CoefficientLaws.{of_itself};
 
     ghost from_law = { of_itself };
 }

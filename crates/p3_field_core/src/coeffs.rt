@@ -47,6 +47,7 @@ impl<F: Field, const D: usize> Coeffs<F, D> {
 impl<F: Field> BasedVectorSpace<F> for Coeffs<F, 4> {
     ghost use Rattle.std.proofs.Common.{lit<, lit≤};
     ghost use Rattle.p3_field_core.specs.CoeffsCoefficients as coeffs;
+    ghost use Rattle.p3_field_core.specs.CoefficientLaws as laws;
 
     const DIMENSION: usize = 4;
 
@@ -60,13 +61,13 @@ impl<F: Field> BasedVectorSpace<F> for Coeffs<F, 4> {
 
     ghost at_most = { lit≤ tt };
 
-    ghost length_coefficients = { coeffs.length-coefficients };
+    ghost length_coefficients = { laws.length-coefficients };
 
-    ghost same_coefficients = { coeffs.coefficients-injective };
+    ghost same_coefficients = { laws.coefficients-injective };
 
-    ghost eq_law = { coeffs.compared-by-coefficients F.eq_law };
+    ghost eq_law = { laws.compared-by-coefficients F.eq_law };
 
-    ghost coefficients_element = { coeffs.coefficients-element_of (F.residues.of 0) };
+    ghost coefficients_element = { laws.coefficients-element_of (F.residues.of 0) };
 
     fn as_basis_coefficients_slice(&self) -> &[F] {
         &self.coefficients[..]

@@ -48,8 +48,7 @@ pub trait TranscriptField: PrimeField64 {
             (LeavesInCalls C.observation.observed C.observation.may_leave (C.state challenger.old)
             (packed Self.residues (chunk_bytes Self.bit_length) bytes.now))
             (C.state challenger.old) e (C.state challenger.new)) }
-        // What is observed is what the elements feed; exactly so, where the challenger feeds
-        // them as a prefix code.
+        // What is observed is what the elements feed; exactly so, where the challenger feeds them as a prefix code.
         ensures fed { OnOk result (IsFed C.fed (C.state challenger.old)
             (flat_map C.observation.symbols (packed Self.residues (chunk_bytes Self.bit_length) bytes.now))
             (C.state challenger.new)) }

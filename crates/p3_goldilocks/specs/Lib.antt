@@ -1,1 +1,2 @@
 pub mod GoldilocksResidues
+pub mod GoldilocksLaws

@@ -93,6 +93,7 @@ impl Mul for Goldilocks {
 impl PrimeCharacteristicRing for Goldilocks {
     ghost use Rattle.std.specs.Prelude.{refl};
     ghost use Rattle.p3_goldilocks.specs.GoldilocksResidues as goldilocks;
+    ghost use Rattle.p3_goldilocks.specs.GoldilocksLaws as laws;
 
     const ZERO: Goldilocks = Goldilocks { value: 0 };
 
@@ -110,9 +111,9 @@ impl PrimeCharacteristicRing for Goldilocks {
 
     ghost residues = { goldilocks.residues };
 
-    ghost are_residues = { goldilocks.laws };
+    ghost are_residues = { laws.laws };
 
-    ghost eq_law = { goldilocks.compared-by-numbers };
+    ghost eq_law = { laws.compared-by-numbers };
 
     ghost zero_is = { refl };
 

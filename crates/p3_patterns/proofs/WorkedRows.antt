@@ -4,7 +4,8 @@ use Rattle.std.specs.Fmt.{digits}
 use Rattle.p3_fs_core.specs.Steps.{Step, step_with, marker_of, Closes, plain_text, alternate_text}
 use Rattle.p3_patterns.specs.Rendering.{rendering}
 use Rattle.p3_fs_core.specs.Errors.{missing_begin, invalid_kind, mismatched_begin_end, missing_end}
-use Rattle.p3_patterns.specs.PatternGrammar.{nothing, container, IsViable, IsFirstFault}
+use Rattle.p3_patterns.specs.PatternGrammar.{nothing, leaf, container, IsViable, IsFirstFault}
+use Rattle.p3_patterns.specs.OpenContainers.{AreOpen}
 use Rattle.p3_patterns.proofs.FirstFaults.{first-missing_begin, first-invalid_kind, first-mismatched, first-missing_end}
 use Rattle.p3_fs_core.specs.declared.step.Hierarchy.{Hierarchy}
 use Rattle.p3_fs_core.specs.declared.step.Hierarchy.TheVariants.{Atomic, Begin, End}
@@ -134,3 +135,33 @@ mismatched =
     refl
     (λ closes. let first : 111 ≡ 105 = ap (λ (label : List ℕ). get_or label 0 0) closes.label in
     absurd (omega (arith, first)))
+
+-- ---- open containers
+
+-- after an opener, a leaf and an opener these two are open, at positions 0 and 2
+two_positions : AreOpen (outer Begin ∷ commit ∷ inner ∷ []) (0 ∷ 2 ∷ [])
+unfolding inner
+two_positions = (
+  inner ∷ outer Begin ∷ [],
+  (
+    outer Begin ∷ commit ∷ [],
+    [],
+    0 ∷ [],
+    refl,
+    refl,
+    refl,
+    inl refl,
+    nothing Protocol,
+    (
+      [],
+      commit ∷ [],
+      [],
+      refl,
+      refl,
+      refl,
+      inl refl,
+      leaf Protocol commit [] refl (inl refl) (nothing Protocol),
+      (refl, nothing Protocol),
+    ),
+  ),
+)

@@ -26,7 +26,8 @@ OpensAt (opener ∷ below) positions steps =
 abbrev pub AreOpen : List Step → List ℕ → Type 0
 AreOpen steps positions = (openers : List Step) × OpensAt openers positions steps
 
--- what a step at the position makes of the positions of the openers: an opener adds its own, a closer takes the last away
+-- what a step at the position makes of the positions of the openers: an opener adds its own, a closer takes the
+-- last away
 abbrev pub opened_by : Hierarchy → ℕ → List ℕ → List ℕ
 opened_by Atomic position places = places
 opened_by Begin position places = places ++ (position ∷ [])

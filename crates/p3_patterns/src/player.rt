@@ -116,8 +116,8 @@ impl PatternPlayer {
         }
     }
 
-    // The step is the next one, and none was refused. This is asked of each step, and makes no error, so that a
-    // step that is played costs none.
+    // The step is the next one, and none was refused. This is asked of each step and makes no error, since an
+    // error has to have its room cleared.
     fn may_take(&self, received: &Interaction) -> bool
         ensures { IsTrue result ↔ (self.now.finished ≡ false) × (next_step self.now ≡ Some (step_of received.now)) }
     {

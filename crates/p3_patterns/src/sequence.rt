@@ -177,8 +177,8 @@ fn check_end(steps: &[Interaction], containers: &OpenContainers) -> Result<(), T
     }
 }
 
-// The step may stand after those before it. This is asked of each step, and makes no error, so that a pattern costs
-// none.
+// The step may stand after those before it. This is asked of each step and makes no error, since an error has to
+// have its room cleared.
 pub(crate) fn may_follow(
     before: &[Interaction],
     containers: &OpenContainers,

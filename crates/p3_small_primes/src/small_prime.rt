@@ -147,6 +147,7 @@ where
 {
     ghost use Rattle.std.specs.Prelude.{◌-◌, refl};
     ghost use Rattle.p3_small_primes.specs.SmallPrimes as small;
+    ghost use Rattle.p3_small_primes.specs.SmallPrimeLaws as laws;
 
     const ZERO: Self = SmallPrime { value: 0 };
 
@@ -162,9 +163,9 @@ where
 
     ghost residues = { small.residues_below ORDER ⟦<Self as SmallOrder<ORDER>>⟧.above_one };
 
-    ghost are_residues = { small.laws ORDER ⟦<Self as SmallOrder<ORDER>>⟧.above_one };
+    ghost are_residues = { laws.laws ORDER ⟦<Self as SmallOrder<ORDER>>⟧.above_one };
 
-    ghost eq_law = { small.compared-by-numbers };
+    ghost eq_law = { laws.compared-by-numbers };
 
     ghost zero_is = { refl };
 
@@ -172,11 +173,11 @@ where
 
     ghost neg_one_is = { refl };
 
-    ghost number_zero = { small.zero-canonical ⟦<Self as SmallOrder<ORDER>>⟧.above_one };
+    ghost number_zero = { laws.zero-canonical ⟦<Self as SmallOrder<ORDER>>⟧.above_one };
 
-    ghost number_one = { small.one-canonical ⟦<Self as SmallOrder<ORDER>>⟧.above_one };
+    ghost number_one = { laws.one-canonical ⟦<Self as SmallOrder<ORDER>>⟧.above_one };
 
-    ghost number_neg_one = { small.last-canonical ⟦<Self as SmallOrder<ORDER>>⟧.above_one };
+    ghost number_neg_one = { laws.last-canonical ⟦<Self as SmallOrder<ORDER>>⟧.above_one };
 
     ghost can_add_law = { λ _ _. tt };
 
@@ -242,7 +243,7 @@ where
     Self: SmallOrder<ORDER>,
 {
     ghost use Rattle.std.specs.Prelude.{refl};
-    ghost use Rattle.p3_small_primes.specs.SmallPrimes as small;
+    ghost use Rattle.p3_small_primes.specs.SmallPrimeLaws as laws;
 
     const ORDER_U64: u64 = ORDER as u64;
 
@@ -250,7 +251,7 @@ where
 
     ghost order_u64_is = { refl };
 
-    ghost fits_u64 = { small.fits_64 ⟦<Self as SmallOrder<ORDER>>⟧.fits_u32 };
+    ghost fits_u64 = { laws.fits_64 ⟦<Self as SmallOrder<ORDER>>⟧.fits_u32 };
 
     fn from_canonical(value: u64) -> Self {
         SmallPrime {

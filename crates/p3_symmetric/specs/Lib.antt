@@ -2,3 +2,4 @@ pub mod Turn
 pub mod Digests
 pub mod DigestLaws
 pub mod HashValues
+pub mod HashValueLaws

@@ -181,8 +181,7 @@ impl<U: Unit, D: DigestHasher> DomainSeparator<U, D> {
             IfErr result (λ e. RefusesSeed (U.is_too_long (length seed))
             (LeavesItems C.observation C.slice_may_leave (C.state challenger.old) (U.items seed))
             (C.state challenger.old) e (C.state challenger.new)) }
-        // What is observed is what the items feed; exactly so, where the challenger feeds
-        // them as a prefix code.
+        // What is observed is what the items feed; exactly so, where the challenger feeds them as a prefix code.
         ensures fed { let seed = seed_of D.digest_of self.now.protocol_id self.now.pattern.value
             self.now.instance_label.items in
             OnOk result (IsFed C.fed (C.state challenger.old)

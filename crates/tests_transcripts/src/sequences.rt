@@ -145,7 +145,10 @@ fn faults_show_their_steps_and_positions(rt: HostRuntime) -> Result<(), Fail> {
             ),
             (
                 another_kind,
-                "invalid kind Atomic Hint hint None opaque at 1 for sub-protocol Begin Message round None opaque opened at 0",
+                concat!(
+                    "invalid kind Atomic Hint hint None opaque at 1 ",
+                    "for sub-protocol Begin Message round None opaque opened at 0",
+                ),
             ),
             (
                 another_closer,

@@ -1,6 +1,6 @@
 use Rattle.std.proofs.Common.{◌≡◌, ℕ, ◌-◌, ◌*◌, ◌%◌, ◌<◌, ◌≤◌, ◌∙◌, sym, ap, arith}
 use Rattle.std.proofs.Math.Nat.{mod-eq_of_lt, mod-eq-sub-mod}
-use Rattle.p3_small_primes.specs.SmallPrimes.{number-injective}
+use Rattle.p3_small_primes.specs.SmallPrimeLaws.{number-injective}
 use Rattle.p3_small_primes.proofs.small_prime.SmallPrime.reduced_once.Goals as goal
 use Rattle.p3_small_primes.proofs.small_prime.SmallPrime.reduced_once.Goals.{then-value-order, else-value-order}
 

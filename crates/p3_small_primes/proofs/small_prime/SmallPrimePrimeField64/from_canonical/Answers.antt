@@ -1,4 +1,4 @@
-use Rattle.p3_small_primes.specs.SmallPrimes.{of_number}
+use Rattle.p3_small_primes.specs.SmallPrimeLaws.{of_number}
 use Rattle.p3_small_primes.proofs.small_prime.SmallPrimePrimeField64.from_canonical.Goals as goal
 
 -- the number is below the order, so it is the canonical one

@@ -1,4 +1,4 @@
-use Rattle.p3_symmetric.specs.HashValues.{values-injective}
+use Rattle.p3_symmetric.specs.HashValueLaws.{values-injective}
 use Rattle.p3_symmetric.proofs.hash.Hash.is_its_values.Goals as goal
 
 pub returns-clause-same : goal.returns-clause-same
