@@ -18,7 +18,13 @@ const LONG: u32 = 50_000;
 /// Times each operation at several lengths.
 pub fn measure(rt: &HostRuntime, runs: u32) -> Result<u64> {
     let mut sum = 0u64;
-    for (length, count) in [(10u32, 10_000u32), (100, 1000), (1000, 100), (10_000, 10)] {
+    for (length, count) in [
+        (10u32, 10_000u32),
+        (100, 1000),
+        (1000, 100),
+        (10_000, 10),
+        (100_000, 1),
+    ] {
         sum = sum.wrapping_add(measure_recordings(rt, runs, length, count)?);
         sum = sum.wrapping_add(measure_renderings(rt, runs, length, count)?);
         sum = sum.wrapping_add(measure_checks(rt, runs, length, count)?);
