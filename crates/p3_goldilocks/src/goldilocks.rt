@@ -21,19 +21,15 @@ pub struct Goldilocks {
 const ORDER: u64 = 18446744069414584321;
 
 impl Goldilocks {
-    ghost use Rattle.std.specs.Prelude.{◌≡◌, ◌*◌, ◌<◌};
-    ghost use Rattle.p3_goldilocks.specs.GoldilocksResidues.{order, residues};
+    ghost use Rattle.std.specs.Prelude.{◌≡◌};
+    ghost use Rattle.p3_goldilocks.specs.GoldilocksResidues.{residues};
 
-    // The element that a number below twice the order is modulo the order.
-    fn reduced_once(value: u128) -> Goldilocks
-        requires { value < 2 * order }
+    // The element that a number is modulo the order, which is below the order with one subtraction.
+    fn reduced(value: u64) -> Goldilocks
         ensures { result ≡ residues.of value }
     {
-        let order = u128::from(ORDER);
-        let value = if value < order { value } else { value - order };
-        Goldilocks {
-            value: value as u64,
-        }
+        let value = if value < ORDER { value } else { value - ORDER };
+        Goldilocks { value }
     }
 }
 
@@ -58,7 +54,13 @@ impl Add for Goldilocks {
     ghost add_gives = { λ x y r. r ≡ sum_of residues x y };
 
     fn add(self, rhs: Goldilocks) -> Goldilocks {
-        Goldilocks::reduced_once(u128::from(self.value) + u128::from(rhs.value))
+        // The sum is `self - room`, and where that is below 0 the order more: 2^32 - 1 less, modulo 2^64. Written as
+        // `self + rhs` there, a compiler makes it a branch that is taken at random.
+        let room = ORDER - rhs.value;
+        let borrowed = if self.value < room { 0xffff_ffff } else { 0 };
+        Goldilocks {
+            value: self.value.wrapping_sub(room).wrapping_sub(borrowed),
+        }
     }
 }
 
@@ -72,7 +74,12 @@ impl Sub for Goldilocks {
     ghost sub_gives = { λ x y r. r ≡ difference_of residues x y };
 
     fn sub(self, rhs: Goldilocks) -> Goldilocks {
-        Goldilocks::reduced_once(u128::from(self.value) + u128::from(ORDER - rhs.value))
+        let value = if self.value < rhs.value {
+            self.value + (ORDER - rhs.value)
+        } else {
+            self.value - rhs.value
+        };
+        Goldilocks { value }
     }
 }
 
@@ -86,7 +93,9 @@ impl Mul for Goldilocks {
     ghost mul_gives = { λ x y r. r ≡ product_of residues x y };
 
     fn mul(self, rhs: Goldilocks) -> Goldilocks {
-        Goldilocks::reduced_once(folded(u128::from(self.value) * u128::from(rhs.value)))
+        Goldilocks {
+            value: folded(u128::from(self.value) * u128::from(rhs.value)),
+        }
     }
 }
 
@@ -140,19 +149,19 @@ impl PrimeCharacteristicRing for Goldilocks {
     ghost mul_law = { λ _ _ _ given. given };
 
     fn from_u8(value: u8) -> Goldilocks {
-        Goldilocks::reduced_once(u128::from(value))
+        Goldilocks::reduced(u64::from(value))
     }
 
     fn from_u16(value: u16) -> Goldilocks {
-        Goldilocks::reduced_once(u128::from(value))
+        Goldilocks::reduced(u64::from(value))
     }
 
     fn from_u32(value: u32) -> Goldilocks {
-        Goldilocks::reduced_once(u128::from(value))
+        Goldilocks::reduced(u64::from(value))
     }
 
     fn from_u64(value: u64) -> Goldilocks {
-        Goldilocks::reduced_once(u128::from(value))
+        Goldilocks::reduced(value)
     }
 }
 
@@ -193,7 +202,7 @@ impl PrimeField64 for Goldilocks {
     ghost fits_u64 = { lit< tt };
 
     fn from_canonical(value: u64) -> Goldilocks {
-        Goldilocks::reduced_once(u128::from(value))
+        Goldilocks { value }
     }
 
     fn as_canonical_u64(&self) -> u64 {

@@ -15,6 +15,9 @@ pub struct SmallPrime<const ORDER: u32> {
     ghost canonical: { value < ORDER },
 }
 
+// The largest order of which 32 bits hold each sum of two numbers below it.
+const LARGEST_OF_SHORT_SUMS: u32 = 1 << 31;
+
 /// An order of a prime field: what [`SmallPrime`] of this order has to know of it. A field is its order, an
 /// `impl` of this, and the texts that name it.
 pub trait SmallOrder<const ORDER: u32> {
@@ -53,7 +56,16 @@ where
     }
 
     // The element that a number below twice the order is modulo the order.
-    fn reduced_once(value: u64) -> Self
+    fn reduced_once(value: u32) -> Self
+        requires { value < 2 * ORDER }
+        ensures { result ≡ element ORDER ⟦<Self as SmallOrder<ORDER>>⟧.above_one value }
+    {
+        let value = if value < ORDER { value } else { value - ORDER };
+        SmallPrime { value }
+    }
+
+    // The same of a number that 32 bits may not hold.
+    fn reduced_once_wide(value: u64) -> Self
         requires { value < 2 * ORDER }
         ensures { result ≡ element ORDER ⟦<Self as SmallOrder<ORDER>>⟧.above_one value }
     {
@@ -103,7 +115,12 @@ where
     ghost add_gives = { λ x y r. r ≡ sum_of (residues_below ORDER ⟦<Self as SmallOrder<ORDER>>⟧.above_one) x y };
 
     fn add(self, rhs: Self) -> Self {
-        Self::reduced_once(u64::from(self.value) + u64::from(rhs.value))
+        // The order is a constant, so of this test nothing is left when the program runs.
+        if ORDER <= LARGEST_OF_SHORT_SUMS {
+            Self::reduced_once(self.value + rhs.value)
+        } else {
+            Self::reduced_once_wide(u64::from(self.value) + u64::from(rhs.value))
+        }
     }
 }
 
@@ -120,7 +137,12 @@ where
     ghost sub_gives = { λ x y r. r ≡ difference_of (residues_below ORDER ⟦<Self as SmallOrder<ORDER>>⟧.above_one) x y };
 
     fn sub(self, rhs: Self) -> Self {
-        Self::reduced_once(u64::from(self.value) + u64::from(ORDER - rhs.value))
+        let value = if self.value < rhs.value {
+            self.value + (ORDER - rhs.value)
+        } else {
+            self.value - rhs.value
+        };
+        SmallPrime { value }
     }
 }
 

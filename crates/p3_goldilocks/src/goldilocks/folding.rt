@@ -3,10 +3,9 @@ ghost use Rattle.p3_goldilocks.specs.GoldilocksResidues.{order};
 
 use super::ORDER;
 
-// A number below twice the order that leaves what a number of 128 bits leaves modulo the order.
-pub(crate) fn folded(value: u128) -> u128
-    ensures below { result < 2 * order }
-    ensures same { result % order ≡ value % order }
+// What a number of 128 bits leaves modulo the order.
+pub(crate) fn folded(value: u128) -> u64
+    ensures { result ≡ value % order }
 {
     let low = (value & 0xffff_ffff_ffff_ffff) as u64;
     let upper = (value >> 64) as u64;
@@ -14,16 +13,21 @@ pub(crate) fn folded(value: u128) -> u128
 }
 
 // The same of the parts of a number: modulo the order 2^64 is 2^32 - 1, and 2^96 is -1.
-fn folded_parts(low: u64, middle: u64, high: u64) -> u128
+fn folded_parts(low: u64, middle: u64, high: u64) -> u64
     requires middle_fits { middle < 2 ^ 32 }
     requires high_fits { high < 2 ^ 32 }
-    ensures below { result < 2 * order }
-    ensures same { result % order ≡ (low + 2 ^ 64 * middle + 2 ^ 96 * high) % order }
+    ensures { result ≡ (low + 2 ^ 64 * middle + 2 ^ 96 * high) % order }
 {
     let lowered = if low < high {
         low + (ORDER - high)
     } else {
         low - high
     };
-    u128::from(lowered) + u128::from(middle * 0xffff_ffff)
+    let raised = middle * 0xffff_ffff;
+    let room = ORDER - raised;
+    if lowered < room {
+        lowered + raised
+    } else {
+        lowered - room
+    }
 }
