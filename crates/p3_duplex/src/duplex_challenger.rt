@@ -1,4 +1,4 @@
-ghost use Rattle.std.specs.Prelude.{◌≡◌, ◌<◌, ◌≤◌, ℕ, List, Some, length, replicate, take};
+ghost use Rattle.std.specs.Prelude.{◌≡◌, ◌<◌, ◌≤◌, ◌+◌, ℕ, List, [], Some, length, replicate, take};
 ghost use Rattle.std.specs.List.{All};
 ghost use Rattle.p3_field_core.specs.Residues.{plus};
 ghost use Rattle.p3_challenger_core.specs.Segments.{Call, segments, run_calls, run_calls_to_digest};
@@ -239,12 +239,65 @@ impl<
         }
     }
 
-    // Makes values pending, one after another.
+    // How many values more fill the rate.
+    fn room(&self) -> usize
+        ensures fills { result + length self.now.sponge.pending ≡ RATE }
+        ensures some { 0 < result }
+    {
+        RATE - self.inputs
+    }
+
+    // Makes values pending that at most fill the rate, and absorbs what is pending if they do.
+    fn push_within(&mut self, values: &[F])
+        requires { length self.old.sponge.pending + length values.now ≤ RATE }
+        ensures fed { self.new ≡ duplex_state.fed F.residues P.permutation RATE self.old values.now }
+        ensures full { length self.old.sponge.pending + length values.now ≡ RATE → self.new.sponge.pending ≡ [] }
+    {
+        let end = self.inputs + values.len();
+        if values.is_empty() {
+            return;
+        }
+        let buffer = &mut self.input_buffer[..];
+        buffer[self.inputs..end].copy_from_slice(values);
+        if end == RATE {
+            absorb::<F, P, WIDTH, RATE>(
+                &mut self.sponge_state,
+                &self.input_buffer[..end],
+                &self.permutation,
+            );
+            self.inputs = 0;
+            self.outputs_left = RATE;
+        } else {
+            self.inputs = end;
+            self.outputs_left = 0;
+        }
+    }
+
+    // Absorbs a block that fills the rate, where nothing is pending: straight from where it stands.
+    fn absorb_block(&mut self, block: &[F])
+        requires none { self.old.sponge.pending ≡ [] }
+        requires whole { length block.now ≡ RATE }
+        ensures fed { self.new ≡ duplex_state.fed F.residues P.permutation RATE self.old block.now }
+        ensures none_left { self.new.sponge.pending ≡ [] }
+    {
+        absorb::<F, P, WIDTH, RATE>(&mut self.sponge_state, block, &self.permutation);
+        self.outputs_left = RATE;
+    }
+
+    // Makes values pending in order, and absorbs each block that they fill. The first values fill up what is
+    // pending, and the blocks after them are not copied into it.
     pub(crate) fn push_all(&mut self, values: &[F])
         ensures { self.new ≡ duplex_state.fed F.residues P.permutation RATE self.old values.now }
     {
-        for i in 0..values.len() {
-            self.push(values[i]);
+        let (front, mut rest) = values.split_at(self.room().min(values.len()));
+        self.push_within(front);
+        while rest.len() >= RATE {
+            let (block, after) = rest.split_at(RATE);
+            self.absorb_block(block);
+            rest = after;
+        }
+        if !rest.is_empty() {
+            self.push_within(rest);
         }
     }
 }

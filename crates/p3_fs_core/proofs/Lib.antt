@@ -1,7 +1,9 @@
 pub mod Counting
 pub mod ErrorEquality
 pub mod HexDigits
+pub mod LowFirst
 pub mod Packed
+pub mod SliceCalls
 pub mod StepEquality
 pub mod Variants
 pub mod Widths

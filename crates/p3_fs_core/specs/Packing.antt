@@ -24,9 +24,13 @@ first_chunks size (suc n) bytes = take size bytes ∷ first_chunks size n (drop 
 abbrev pub chunks : ℕ → List ℕ → List (List ℕ)
 chunks size bytes = first_chunks size (chunk_count size (length bytes)) bytes
 
+-- the elements of the chunks of bytes
+abbrev pub packed_chunks : {F : Type 0} → Residues F → ℕ → List ℕ → List F
+packed_chunks r size bytes = map (λ chunk. r.of (little_endian chunk)) (chunks size bytes)
+
 -- the elements of a byte string
 abbrev pub packed : {F : Type 0} → Residues F → ℕ → List ℕ → List F
-packed r size bytes = r.of (length bytes) ∷ map (λ chunk. r.of (little_endian chunk)) (chunks size bytes)
+packed r size bytes = r.of (length bytes) ∷ packed_chunks r size bytes
 
 -- a byte string is one of these where its length is an element
 abbrev pub IsPackable : {F : Type 0} → Residues F → List ℕ → Type 0

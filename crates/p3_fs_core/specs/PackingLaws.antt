@@ -195,7 +195,7 @@ chunks-end size all positive none =
     let below : length all + (size - 1) < size = omega (arith, none, positive) in
     ap (λ k. first_chunks size k all) (div-eq_of_lt below)
 
-power_grows : (i j : ℕ) → i ≤ j → 256 ^ i ≤ 256 ^ j
+pub power_grows : (i j : ℕ) → i ≤ j → 256 ^ i ≤ 256 ^ j
 power_grows i j less =
     let bits : 8 * i ≤ 8 * j = omega (arith, less) in
     let grown : 2 ^ (8 * i) ≤ 2 ^ (8 * j) = pow_mono bits in

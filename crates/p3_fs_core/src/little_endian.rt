@@ -7,7 +7,9 @@ pub(crate) fn number_of_chunk(bytes: &[u8]) -> u64
     requires { length bytes.now ≤ 8 }
     ensures { result ≡ little_endian bytes.now }
 {
-    let mut padded = [0; 8];
-    padded[..bytes.len()].copy_from_slice(bytes);
-    u64::from_le_bytes(padded)
+    let mut number = 0u64;
+    for i in 0..bytes.len() {
+        number = number * 256 + u64::from(bytes[bytes.len() - 1 - i]);
+    }
+    number
 }

@@ -1,10 +1,11 @@
-use Rattle.std.proofs.Common.{ℕ, ◌<◌, List, length, map, min, sym, ap, ◌∙◌, subst}
-use Rattle.std.specs.Slice.Iter.{chunks_rest}
+use Rattle.std.proofs.Common.{◌≡◌, ℕ, ◌<◌, List, length, map, min, sym, ap, ◌∙◌, subst}
+use Rattle.std.specs.Slice.Iter.{chunks_rest, chunks_size}
 use Rattle.std.proofs.lemmas.Result.{err_from_is_err_and}
 use Rattle.p3_challenger_core.specs.Observation.{RefusesObserve}
 use Rattle.p3_challenger_core.specs.CallLaws.{GoesOn, calls-done, call-made, call-refused}
-use Rattle.p3_fs_core.specs.Packing.{packed, chunks, chunk_bytes, little_endian}
+use Rattle.p3_fs_core.specs.Packing.{packed, packed_chunks, chunks, chunk_bytes, little_endian}
 use Rattle.p3_fs_core.specs.PackingLaws.{chunks-step, chunks-end}
+use Rattle.p3_fs_core.proofs.SliceCalls.{goes_on-none, goes_on-then, rest-refused}
 use Rattle.p3_fs_core.proofs.packing.observe_packed.Goals as goal
 
 -- a chunk more is observed
@@ -29,7 +30,7 @@ loop-chunk-preserved g c =
     let on =
     subst (λ (l : List (List ℕ)). GoesOn m.observation.observed m.observation.may_leave start values here
     (map element l)) split kept.3 in
-    let value = c.from_u64-in-loop-chunk.ensures ∙ ap r.of c.number_of_chunk.ensures in
+    let value = c.element_of_chunk.ensures in
     let moved = c.in_ok-observe-2.ensures.ok ∙ ap (m.observation.observed here) value in (
       subst (λ (k : ℕ). 0 < k) (sym steps.0) kept.0,
       tt,
@@ -63,7 +64,7 @@ returns-in_err-observe-2-clause-err g c =
     let on =
     subst (λ (l : List (List ℕ)). GoesOn m.observation.observed m.observation.may_leave start values here
     (map element l)) split kept.3 in
-    let value = c.from_u64-in-loop-chunk.ensures ∙ ap r.of c.number_of_chunk.ensures in
+    let value = c.element_of_chunk.ensures in
     let refused = subst (λ x. RefusesObserve (m.observation.may_leave here x) e end) value
     c.in_err-observe-2.ensures.err in
     rw (p.1, p.2) (call-refused m.observation.observed m.observation.may_leave start values here end (element chunk)
@@ -86,3 +87,54 @@ returns-clause-ok g c =
     calls-done m.observation.observed m.observation.may_leave start values here
     (subst (λ (l : List (List ℕ)). GoesOn m.observation.observed m.observation.may_leave start values here
     (map element l)) none kept.3)
+
+-- before the loop the whole chunks are observed in blocks
+pub loop-chunk-init : goal.loop-chunk-init
+loop-chunk-init g c =
+    let r = g.F.PrimeCharacteristicRing.residues in
+    let m = g.C.CanObserve in
+    let state = g.C.Sponge.state in
+    let size = chunk_bytes g.F.Field.bit_length in
+    let start = state c.args.challenger.now in
+    let bytes = c.args.bytes.now in
+    let values = packed r size bytes in
+    let here = state c.observe.new.self in
+    let there = state c.observe_blocks.new.challenger in
+    let rest : List ℕ = c.in_ok-rest.rest.now in
+    let moved = c.in_ok-observe.ensures.ok ∙ ap (m.observation.observed start) c.from_u64.ensures in
+    let begun = call-made m.observation.observed m.observation.may_leave start values start here (r.of (length bytes))
+    (packed_chunks r size bytes) moved (goes_on-none m.observation.observed m.observation.may_leave start values) in
+    let on = goes_on-then m.observation.observed m.observation.may_leave start here there values
+    (packed_chunks r size bytes) (packed_chunks r size rest) begun c.in_ok-rest.ensures.ok in
+    let made = c.into_iter-chunk-iterator.ensures.into_iter_gives in
+    let size_is : chunks_size c.into_iter-chunk-iterator.result ≡ size =
+    ap chunks_size made ∙ c.chunks-chunk-items.ensures.size ∙ c.bytes_per_element.ensures.size in
+    let rest_is : chunks_rest c.into_iter-chunk-iterator.result ≡ rest =
+    ap chunks_rest made ∙ c.chunks-chunk-items.ensures.rest in
+    let positive : 0 < size =
+    subst (λ (k : ℕ). 0 < k) c.bytes_per_element.ensures.size c.bytes_per_element.ensures.positive in (
+      subst (λ (k : ℕ). 0 < k) (sym size_is) positive,
+      tt,
+      size_is,
+      subst (λ (l : List ℕ). GoesOn m.observation.observed m.observation.may_leave start values there
+          (packed_chunks r size l)) (sym rest_is) on,
+    )
+
+-- a block is refused
+pub returns-in_err-rest-clause-err : goal.returns-in_err-rest-clause-err
+returns-in_err-rest-clause-err g c =
+    let p = err_from_is_err_and c.from_residual-in_err-rest.result c.from_residual-in_err-rest.ensures.1 in
+    let r = g.F.PrimeCharacteristicRing.residues in
+    let m = g.C.CanObserve in
+    let state = g.C.Sponge.state in
+    let size = chunk_bytes g.F.Field.bit_length in
+    let start = state c.args.challenger.now in
+    let bytes = c.args.bytes.now in
+    let values = packed r size bytes in
+    let here = state c.observe.new.self in
+    let moved = c.in_ok-observe.ensures.ok ∙ ap (m.observation.observed start) c.from_u64.ensures in
+    let begun = call-made m.observation.observed m.observation.may_leave start values start here (r.of (length bytes))
+    (packed_chunks r size bytes) moved (goes_on-none m.observation.observed m.observation.may_leave start values) in
+    rw (p.1, p.2) (rest-refused m.observation.observed m.observation.may_leave start here values
+    (packed_chunks r size bytes) begun c.in_err-rest.field-0.0 (state c.observe_blocks.new.challenger)
+    c.in_err-rest.ensures.err)
