@@ -221,24 +221,6 @@ impl<
         self.sponge_state[self.outputs_left]
     }
 
-    // Makes a value pending, and absorbs what is pending once that fills the rate.
-    fn push(&mut self, value: F)
-        ensures { self.new ≡ duplex_state.observed F.residues P.permutation RATE self.old value }
-    {
-        self.input_buffer[self.inputs] = value;
-        self.inputs += 1;
-        self.outputs_left = 0;
-        if self.inputs == RATE {
-            absorb::<F, P, WIDTH, RATE>(
-                &mut self.sponge_state,
-                &self.input_buffer[..],
-                &self.permutation,
-            );
-            self.inputs = 0;
-            self.outputs_left = RATE;
-        }
-    }
-
     // How many values more fill the rate.
     fn room(&self) -> usize
         ensures fills { result + length self.now.sponge.pending ≡ RATE }
@@ -271,6 +253,14 @@ impl<
             self.inputs = end;
             self.outputs_left = 0;
         }
+    }
+
+    // Makes a value pending, and absorbs what is pending if it fills the rate.
+    fn push(&mut self, value: F)
+        ensures { self.new ≡ duplex_state.observed F.residues P.permutation RATE self.old value }
+    {
+        prove!(self.room() > 0);
+        self.push_within(&[value]);
     }
 
     // Absorbs a block that fills the rate, where nothing is pending: straight from where it stands.
