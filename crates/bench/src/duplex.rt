@@ -1,5 +1,5 @@
 // How long the calls of a duplex sponge take.
-use crate::timing::least;
+use crate::timing::{Left, least};
 use anyhow::Result;
 use p3_challenger::{CanObserve, CanSample, CanSampleBits, ChallengerError, DuplexChallenger};
 use p3_field::{BabyBear, PrimeCharacteristicRing, PrimeField64};
@@ -95,9 +95,14 @@ fn observe_and_draw(mut duplex: Duplex) -> Result<u64> {
     Ok(sum)
 }
 
-fn draw_list(alloc: Global, mut duplex: Duplex) -> Result<u64> {
-    let drawn: Vec<BabyBear> = duplex.sample_vec(alloc, DRAWS as usize)?;
-    Ok(drawn.last().map_or(0, |last| last.as_canonical_u64()))
+impl Left for Vec<BabyBear> {
+    fn shown(&self) -> u64 {
+        self.last().map_or(0, |last| last.as_canonical_u64())
+    }
+}
+
+fn draw_list(alloc: Global, mut duplex: Duplex) -> Result<Vec<BabyBear>> {
+    Ok(duplex.sample_vec(alloc, DRAWS as usize)?)
 }
 
 fn draw_bits(mut duplex: Duplex) -> Result<u64> {

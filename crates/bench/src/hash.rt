@@ -1,5 +1,5 @@
 // How long the calls of a challenger over SHA-256 take, and SHA-256 itself.
-use crate::timing::least;
+use crate::timing::{Left, least};
 use anyhow::Result;
 use p3_challenger::{CanObserve, CanSample, ChallengerError, HashChallenger};
 use p3_symmetric::{CryptographicHasher, Sha256Hasher};
@@ -89,20 +89,32 @@ pub fn new_chain(alloc: Global) -> Chain {
     Chain::new(Vec::new(alloc), Sha256Hasher)
 }
 
-fn observe_bytes(mut chain: Chain) -> Result<u64> {
+impl Left for Chain {
+    fn shown(&self) -> u64 {
+        self.input().last().map_or(0, |byte| u64::from(*byte))
+    }
+}
+
+impl Left for Vec<u8> {
+    fn shown(&self) -> u64 {
+        self.last().map_or(0, |last| u64::from(*last))
+    }
+}
+
+fn observe_bytes(mut chain: Chain) -> Result<Chain> {
     for i in 0..OBSERVES {
         chain.observe((i % 256) as u8)?;
     }
-    Ok(chain.input().last().map_or(0, |byte| u64::from(*byte)))
+    Ok(chain)
 }
 
 // What is observed is pending, and nothing is hashed.
-fn observe_slices(mut chain: Chain) -> Result<u64> {
+fn observe_slices(mut chain: Chain) -> Result<Chain> {
     let piece = [1u8; PIECE];
     for _ in 0..PIECES {
         chain.observe_slice(&piece[..])?;
     }
-    Ok(chain.input().last().map_or(0, |byte| u64::from(*byte)))
+    Ok(chain)
 }
 
 fn first_byte(text: &[u8]) -> u64 {
@@ -126,9 +138,8 @@ fn observe_and_draw(mut chain: Chain, text: &[u8]) -> Result<u64, ChallengerErro
     Ok(sum)
 }
 
-fn draw_list(alloc: Global, mut chain: Chain) -> Result<u64, ChallengerError> {
-    let drawn: Vec<u8> = chain.sample_vec(alloc, MEBIBYTE as usize)?;
-    Ok(drawn.last().map_or(0, |last| u64::from(*last)))
+fn draw_list(alloc: Global, mut chain: Chain) -> Result<Vec<u8>, ChallengerError> {
+    chain.sample_vec(alloc, MEBIBYTE as usize)
 }
 
 fn draw(mut chain: Chain) -> Result<u64, ChallengerError> {

@@ -110,7 +110,7 @@ fn seed_goldilocks(separator: &Separator<FieldUnit<Goldilocks>>, mut duplex: Lar
 }
 
 // The bytes are pending, and nothing is hashed.
-fn seed_bytes(separator: &Separator<u8>, mut chain: Chain) -> Result<u64> {
+fn seed_bytes(separator: &Separator<u8>, mut chain: Chain) -> Result<Chain> {
     separator.seed(&mut chain)?;
-    Ok(chain.input().last().map_or(0, |byte| u64::from(*byte)))
+    Ok(chain)
 }

@@ -2,10 +2,22 @@
 use anyhow::Result;
 use std::time::Instant;
 
+/// What a run leaves: it is dropped once the time is taken.
+pub trait Left: Drop {
+    /// Something of it, so that no part of it can be left out.
+    fn shown(&self) -> u64;
+}
+
+impl Left for u64 {
+    fn shown(&self) -> u64 {
+        *self
+    }
+}
+
 /// Prints how many nanoseconds each of so many operations takes, the least of several runs, and gives the sum of
-/// what the runs answer. Each run gets what `setup` makes, and that is not timed. The sums are shown at the end,
-/// so that nothing of what makes them can be left out.
-pub fn least<S: Drop, M, R>(
+/// what the runs show. Each run gets what `setup` makes, and that is not timed, nor is what a run leaves dropped in its
+/// time. The sums are shown at the end, so that nothing of what makes them can be left out.
+pub fn least<S: Drop, L: Left, M, R>(
     rt: &HostRuntime,
     name: &str,
     runs: u32,
@@ -15,7 +27,7 @@ pub fn least<S: Drop, M, R>(
 ) -> Result<u64>
 where
     M: FnMut() -> Result<S>,
-    R: FnMut(S) -> Result<u64>,
+    R: FnMut(S) -> Result<L>,
     requires makes { (state : M) → M.pre state }
     requires runs { (state : R) (made : _) → R.pre state made }
 {
@@ -24,8 +36,9 @@ where
     for _ in 0..runs {
         let made = setup()?;
         let start = Instant::now(rt)?;
-        sum = sum.wrapping_add(run(made)?);
+        let left = run(made)?;
         let nanoseconds = start.elapsed(rt)?.as_secs_f64() * 1e9;
+        sum = sum.wrapping_add(left.shown());
         if nanoseconds < least {
             least = nanoseconds;
         }
