@@ -1,0 +1,12 @@
+//! What both drivers of a transcript share: what a step means, how it is held against the pattern, and how its values
+//! reach the challenger.
+#![tactic(auto)]
+
+mod algebras;
+mod bound;
+mod steps;
+mod turn;
+
+pub use bound::{TranscriptBound, bind};
+pub use steps::Steps;
+pub use turn::DriverTurn;
