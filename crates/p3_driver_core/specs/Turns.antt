@@ -1,14 +1,16 @@
 -- Steps as drivers play them, whichever driver it is.
-use Rattle.std.specs.Prelude.{◌≡◌, ℕ, ◌+◌, ◌⊎◌, true, false, List, [], ◌++◌, Some, take}
+use Rattle.std.specs.Prelude.{◌≡◌, ℕ, ◌+◌, ◌⊎◌, ◌<◌, true, false, List, [], ◌++◌, Some, take, codes, Result, MatchResult}
 use Rattle.p3_challenger_core.specs.declared.error.ChallengerError.{ChallengerError}
 use Rattle.p3_challenger_core.specs.declared.error.ChallengerError.TheVariants as challenger
 use Rattle.p3_fs_core.specs.Steps.{Step, step_with}
+use Rattle.p3_fs_core.specs.declared.error.PatternError.TheVariants.{Finished, OverCap}
 use Rattle.p3_fs_core.specs.declared.error.TranscriptError.{TranscriptError}
 use Rattle.p3_fs_core.specs.declared.error.TranscriptError.TheVariants.{Pattern, Challenger, OutOfMemory}
 use Rattle.p3_fs_core.specs.declared.step.Hierarchy.TheVariants.{Atomic}
 use Rattle.p3_fs_core.specs.declared.step.Kind.{Kind}
+use Rattle.p3_fs_core.specs.declared.step.Kind.TheVariants as kind
 use Rattle.p3_fs_core.specs.declared.step.Length.{Length}
-use Rattle.p3_fs_core.specs.declared.step.TypeTag.TheVariants.{Algebra}
+use Rattle.p3_fs_core.specs.declared.step.TypeTag.TheVariants.{Algebra, Bytes, Opaque, Bits}
 use Rattle.p3_patterns.specs.Playing.{Playing, RefusesToPlay, next_step}
 use Rattle.p3_driver_core.specs.Effects.{Effect}
 
@@ -23,6 +25,18 @@ pub record Meaning (S Symbol A : Type 0) : Type 1 where
 abbrev pub algebra_step : Kind → List ℕ → ℕ → ℕ → List ℕ → List ℕ → Length → Step
 algebra_step kind label order degree digest name length =
     step_with Atomic kind label (Algebra order degree digest) name length
+
+-- the step that carries bytes
+abbrev pub bytes_step : Kind → List ℕ → Length → Step
+bytes_step kind label length = step_with Atomic kind label Bytes (codes "u8") length
+
+-- the step whose value the challenger alone knows how to observe
+abbrev pub opaque_step : Kind → List ℕ → Length → Step
+opaque_step kind label length = step_with Atomic kind label Opaque (codes "opaque") length
+
+-- the steps that draw numbers of so many bits
+abbrev pub bits_step : List ℕ → ℕ → Length → Step
+bits_step label width length = step_with Atomic kind.Challenge label (Bits width) (codes "usize") length
 
 -- the step has this effect, and no bytes in the proof
 abbrev pub without_wire : {S Symbol A : Type 0} → Step → Effect S Symbol A → Meaning S Symbol A
@@ -46,6 +60,7 @@ step_on playing = record { pattern = playing.pattern; position = playing.positio
 -- the step is played: it was the next one, this comes of it, and the challenger took part in it
 pub record Plays {S Symbol A : Type 0} (m : Meaning S Symbol A) (before : Turn S) (x : A) (after : Turn S) : Type 0 where
   pub is_next : IsNext before.playing m.interaction
+  pub fits : m.effect.fits
   pub gives : m.effect.gives before.challenger ≡ Some x
   pub challenger : after.challenger ≡ m.effect.after before.challenger
   pub playing : after.playing ≡ step_on before.playing
@@ -71,6 +86,19 @@ Refuses m before (Pattern e) after = RefusesTurn m.interaction before (Pattern e
 Refuses m before (Challenger e) after = GivesUp m.interaction before (m.effect.refuses e) after
 Refuses m before OutOfMemory after = GivesUp m.interaction before (LeavesBeginning m.effect) after
 Refuses m before _ after = ⊥
+
+-- a list that is longer than its step lets it be, or any list once a step was refused: nothing was done, and no step
+-- may follow
+pub record RefusesLength (len max : ℕ) (before : Playing) (e : TranscriptError) (after : Playing) : Type 0 where
+  pub fault : ((before.finished ≡ true) × (e ≡ Pattern Finished))
+      ⊎ ((before.finished ≡ false) × (max < len) × (e ≡ Pattern (OverCap len max)))
+  pub finished : after.finished ≡ true
+
+-- the step is played, and the answer is what came of it; or it is refused
+abbrev pub PlaysOrRefuses : {S Symbol A R : Type 0} → Meaning S Symbol A → Turn S → (R → A) → Result R TranscriptError →
+    Turn S → Type 0
+PlaysOrRefuses m before value result after =
+    MatchResult result (λ r. Plays m before (value r) after) (λ e. Refuses m before e after)
 
 -- what a refused step leaves of the bytes written so far: with want of memory a beginning of its own is added
 abbrev pub LeavesWire : List ℕ → TranscriptError → List ℕ → List ℕ → Type 0

@@ -1,4 +1,5 @@
 ghost use Rattle.std.specs.Prelude.{◌≡◌};
+ghost use Rattle.p3_driver_core.specs.Bound.{value_of};
 
 /// A value that went through the transcript: it was absorbed, or drawn.
 ///
@@ -9,14 +10,14 @@ pub struct TranscriptBound<T>(T);
 impl<T> TranscriptBound<T> {
     /// The value.
     pub fn as_inner(&self) -> &T
-        ensures { result.now ≡ self.now.0 }
+        ensures { result.now ≡ value_of self.now }
     {
         &self.0
     }
 
     /// The value alone.
     pub fn into_inner(self) -> T
-        ensures { result ≡ self.0 }
+        ensures { result ≡ value_of self }
     {
         self.0
     }
@@ -24,7 +25,7 @@ impl<T> TranscriptBound<T> {
 
 /// The value as one that went through the transcript. For drivers.
 pub fn bind<T>(value: T) -> TranscriptBound<T>
-    ensures { result.0 ≡ value }
+    ensures { value_of result ≡ value }
 {
     TranscriptBound(value)
 }

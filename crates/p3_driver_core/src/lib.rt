@@ -4,9 +4,12 @@
 
 mod algebras;
 mod bound;
+mod counts;
+mod lists;
 mod steps;
 mod turn;
 
 pub use bound::{TranscriptBound, bind};
+pub use counts::{count_width, counted, observe_count};
 pub use steps::Steps;
 pub use turn::DriverTurn;

@@ -1,12 +1,12 @@
 // The pattern as a driver plays it: each step is held against the next one before anything else is done.
-ghost use Rattle.std.specs.Prelude.{◌≡◌, false, IfErr, OnOk, IsOk};
+ghost use Rattle.std.specs.Prelude.{◌≡◌, ◌≤◌, false, IfErr, OnOk, IsOk};
 ghost use Rattle.std.specs.Option.{option_map};
 ghost use Rattle.p3_fs_core.specs.Errors.{misfit_of};
 ghost use Rattle.p3_fs_core.specs.Interactions.{step_of};
 ghost use Rattle.p3_fs_core.specs.Steps.{step_with};
 ghost use Rattle.p3_patterns.specs.Playing.{RefusesToPlay, FaultOfPlayEnd, IsPatternError, IsPlayed, next_step};
 ghost use Rattle.p3_driver_core.specs.Opened.{playing_of, Opens};
-ghost use Rattle.p3_driver_core.specs.Turns.{algebra_step};
+ghost use Rattle.p3_driver_core.specs.Turns.{algebra_step, RefusesLength};
 
 use crate::algebras::Algebras;
 use p3_field_core::{AlgebraIdentity, Named};
@@ -74,6 +74,31 @@ impl<D: DigestHasher> Steps<D> {
     {
         let interaction = self.algebras.step::<F, A>(kind, label, length);
         self.take(interaction)
+    }
+
+    /// Lets a list through that is no longer than its step lets it be, before the step is held against the pattern.
+    ///
+    /// The errors are [`PatternError::Finished`] where a step was refused before, and then [`PatternError::OverCap`]
+    /// where the list is longer. None is taken from then on.
+    pub fn within(&mut self, len: usize, max: usize) -> Result<(), TranscriptError>
+        ensures ok { OnOk result ((len ≤ max) × (self.new ≡ self.old)) }
+        ensures err { IfErr result (λ e. RefusesLength len max (playing_of self.old) e (playing_of self.new)) }
+    {
+        if self.is_finished() {
+            return Err(TranscriptError::Pattern(PatternError::Finished));
+        }
+        if len > max {
+            self.closed = true;
+            return Err(TranscriptError::Pattern(PatternError::OverCap { len, max }));
+        }
+        Ok(())
+    }
+
+    /// A step was refused, so none is taken any more.
+    pub fn is_finished(&self) -> bool
+        ensures { result ≡ (playing_of self.now).finished }
+    {
+        self.closed || self.player.is_finalized()
     }
 
     /// Spends it. It answers `Ok` exactly where no step was refused and none is left.

@@ -1,0 +1,6 @@
+//! The prover's side of a transcript.
+#![tactic(auto)]
+
+mod prover;
+
+pub use prover::ProverState;

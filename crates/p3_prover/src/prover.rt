@@ -1,0 +1,205 @@
+// The prover's driver: it plays a pattern, and writes the proof.
+ghost use Rattle.std.specs.Prelude.{◌≡◌, ◌≤◌, ◌++◌, [], false, length, OnOk, IfOk, IfErr, IsOk};
+ghost use Rattle.p3_challenger_core.specs.Observation.{observed_all};
+ghost use Rattle.p3_fs_core.specs.Errors.{misfit_of};
+ghost use Rattle.p3_fs_core.specs.Steps.{marker_of};
+ghost use Rattle.p3_patterns.specs.Playing.{FaultOfPlayEnd, IsPatternError, IsPlayed};
+ghost use Rattle.p3_turn.specs.SeparatorSeed.{seed_of_separator, pattern_of};
+ghost use Rattle.p3_driver_core.specs.Bound.{value_of};
+ghost use Rattle.p3_driver_core.specs.Effects.{untouched, observing, observing_bytes, alphabet_of, drawing};
+ghost use Rattle.p3_driver_core.specs.Turns.{Plays, Refuses, without_wire, algebra_step, bytes_step, opaque_step};
+ghost use Rattle.p3_prover.specs.Proving.{proving_of, Writes, RefusesToWrite, RefusesStart};
+
+use p3_challenger_core::{CanObserve, Sponge};
+use p3_codecs::{Codec, ExtensionFieldCodec, ScalarCodec, Unit};
+use p3_driver_core::{DriverTurn, Steps, TranscriptBound, bind};
+use p3_field_core::{AlgebraIdentity, Named};
+use p3_fs_core::{Hierarchy, Interaction, Kind, Label, Length, TranscriptError, TranscriptField};
+use p3_symmetric::DigestHasher;
+use p3_turn::DomainSeparator;
+use std::alloc::Global;
+use std::marker::PhantomData;
+
+/// The prover's side of a transcript: it plays a pattern step by step, and writes the proof.
+///
+/// `C` is the challenger, `U` the alphabet in which it observes bytes, and `D` the hash function of the digests of
+/// algebras and of the pattern.
+///
+/// Each step must be the next one of the pattern, and a step that is refused leaves the prover finished: every later
+/// one answers [`PatternError::Finished`](p3_fs_core::PatternError::Finished). A prover must be spent, by
+/// [`finalize`](ProverState::finalize), [`finish`](ProverState::finish) or [`abort`](ProverState::abort).
+#[derive_where(Debug; C)]
+pub struct ProverState<C, U, D: DigestHasher> {
+    turn: DriverTurn<C, D>,
+    narg: Vec<u8>,
+    unit: PhantomData<U>,
+}
+
+impl<U: Unit, C: CanObserve<U::Item> + Drop, D: DigestHasher> ProverState<C, U, D> {
+    /// A prover of which no step was played yet, with a challenger that has observed the seed of the separator.
+    ///
+    /// Condition: `U` is an alphabet. The errors are
+    /// [`ChallengerError::TooLong`](p3_challenger_core::ChallengerError::TooLong) in
+    /// [`TranscriptError::Challenger`], where the seed is too long for the alphabet, and
+    /// [`TranscriptError::OutOfMemory`]. The challenger is gone then.
+    pub fn new(
+        alloc: Global,
+        mut challenger: C,
+        separator: &DomainSeparator<U, D>,
+    ) -> Result<Self, TranscriptError>
+        requires { U.is_alphabet }
+        ensures ok { let seed = seed_of_separator D.digest_of separator.now in
+            IfOk result (λ prover. proving_of C.state prover ≡ record {
+              turn = record {
+                challenger = observed_all C.observation.observed (C.state challenger) (U.items seed);
+                playing = record { pattern = pattern_of separator.now; position = 0; finished = false };
+              };
+              narg = [];
+            }) }
+        ensures fits { let seed = seed_of_separator D.digest_of separator.now in
+            OnOk result (U.is_too_long (length seed) → ⊥) }
+        ensures err { let seed = seed_of_separator D.digest_of separator.now in
+            IfErr result (RefusesStart (U.is_too_long (length seed))) }
+    {
+        separator.seed(&mut challenger)?;
+        let steps = Steps::new(alloc, separator.pattern().clone()?);
+        Ok(ProverState {
+            turn: DriverTurn { challenger, steps },
+            narg: Vec::new(alloc),
+            unit: PhantomData,
+        })
+    }
+
+    /// Sends bytes that hide what is sent later.
+    ///
+    /// Condition: `U` is an alphabet. The errors are those of every step;
+    /// [`ChallengerError::TooLong`](p3_challenger_core::ChallengerError::TooLong) in [`TranscriptError::Challenger`],
+    /// where there are more bytes than the alphabet can spell, with nothing absorbed and nothing written; and
+    /// [`TranscriptError::OutOfMemory`], which leaves a beginning of the bytes absorbed and written.
+    pub fn add_salt(&mut self, label: Label, bytes: &[u8]) -> Result<(), TranscriptError>
+        requires { U.is_alphabet }
+        ensures ok { OnOk result (Writes (record {
+          interaction = bytes_step Kind.Salt label.now (Length.Fixed (length bytes.now));
+          effect = observing_bytes (alphabet_of U.items U.is_too_long C.observation C.slice_may_leave) bytes.now;
+          wire = bytes.now;
+        }) (proving_of C.state self.old) bytes.now (proving_of C.state self.new)) }
+        ensures err { IfErr result (λ e. RefusesToWrite (record {
+          interaction = bytes_step Kind.Salt label.now (Length.Fixed (length bytes.now));
+          effect = observing_bytes (alphabet_of U.items U.is_too_long C.observation C.slice_may_leave) bytes.now;
+          wire = bytes.now;
+        }) (proving_of C.state self.old) e (proving_of C.state self.new)) }
+    {
+        self.turn.steps.take(Interaction::bytes(
+            Hierarchy::Atomic,
+            Kind::Salt,
+            label,
+            Length::Fixed(bytes.len()),
+        ))?;
+        U::observe_bytes(&mut self.turn.challenger, bytes)?;
+        self.narg.extend_from_slice(bytes)?;
+        self.turn.steps.done();
+        Ok(())
+    }
+}
+
+impl<C: Sponge + Drop, U, D: DigestHasher> ProverState<C, U, D> {
+    /// The challenger.
+    pub fn challenger(&self) -> &C
+        ensures { C.state result.now ≡ (proving_of C.state self.now).turn.challenger }
+    {
+        &self.turn.challenger
+    }
+
+    /// The bytes of the proof so far.
+    pub fn narg(&self) -> &[u8]
+        ensures { result.now ≡ (proving_of C.state self.now).narg }
+    {
+        &self.narg
+    }
+
+    /// Sends one scalar.
+    pub fn add_scalar<F: TranscriptField + AlgebraIdentity<F> + Named, Cdc: Codec<C, F>>(
+        &mut self,
+        label: Label,
+        value: &F,
+    ) -> Result<TranscriptBound<F>, TranscriptError>
+        ensures ok { IfOk result (λ bound. Writes (record {
+          interaction = algebra_step Kind.Message label.now F.residues.order F.DIMENSION (D.digest_of F.identity)
+              F.name_bytes Length.Scalar;
+          effect = observing Cdc.observation value.now;
+          wire = Cdc.encoding.wire value.now;
+        }) (proving_of C.state self.old) (value_of bound) (proving_of C.state self.new)) }
+        ensures err { IfErr result (λ e. RefusesToWrite (record {
+          interaction = algebra_step Kind.Message label.now F.residues.order F.DIMENSION (D.digest_of F.identity)
+              F.name_bytes Length.Scalar;
+          effect = observing Cdc.observation value.now;
+          wire = Cdc.encoding.wire value.now;
+        }) (proving_of C.state self.old) e (proving_of C.state self.new)) }
+    {
+        self.turn
+            .steps
+            .take_algebra::<F, F>(Kind::Message, label, Length::Scalar)?;
+        Cdc::observe(&mut self.turn.challenger, value)?;
+        Cdc::encode(value, &mut self.narg)?;
+        self.turn.steps.done();
+        Ok(bind(*value))
+    }
+
+    /// Spends the prover, for the bytes of the proof. It answers `Ok` exactly where no step was refused and none is left.
+    ///
+    /// Else the error is [`PatternError::Finished`](p3_fs_core::PatternError::Finished) where a step was refused, and
+    /// [`PatternError::Unplayed`](p3_fs_core::PatternError::Unplayed) with the next step where there is one. It takes no
+    /// memory.
+    pub fn finalize(self) -> Result<Vec<u8>, TranscriptError>
+        ensures ok { IfOk result (λ narg. IsPlayed (proving_of C.state self).turn.playing
+            × (narg.items ≡ (proving_of C.state self).narg)) }
+        ensures err { IfErr result (λ e.
+            IsPatternError (λ m. FaultOfPlayEnd (proving_of C.state self).turn.playing (misfit_of m)) e) }
+        ensures only { IsPlayed (proving_of C.state self).turn.playing → IsOk result }
+    {
+        let ProverState {
+            turn,
+            narg,
+            unit: _,
+        } = self;
+        let DriverTurn {
+            challenger: _,
+            steps,
+        } = turn;
+        steps.finalize()?;
+        Ok(narg)
+    }
+
+    /// Spends the prover as [`finalize`](ProverState::finalize) does, for the bytes of the proof and the challenger.
+    pub fn finish(self) -> Result<(Vec<u8>, C), TranscriptError>
+        ensures ok { IfOk result (λ end. IsPlayed (proving_of C.state self).turn.playing
+            × (end.0.items ≡ (proving_of C.state self).narg)
+            × (C.state end.1 ≡ (proving_of C.state self).turn.challenger)) }
+        ensures err { IfErr result (λ e.
+            IsPatternError (λ m. FaultOfPlayEnd (proving_of C.state self).turn.playing (misfit_of m)) e) }
+        ensures only { IsPlayed (proving_of C.state self).turn.playing → IsOk result }
+    {
+        let ProverState {
+            turn,
+            narg,
+            unit: _,
+        } = self;
+        let DriverTurn { challenger, steps } = turn;
+        steps.finalize()?;
+        Ok((narg, challenger))
+    }
+
+    /// Gives up. What was played so far is not checked.
+    pub fn abort(self) {
+        let ProverState {
+            turn,
+            narg: _,
+            unit: _,
+        } = self;
+        let DriverTurn {
+            challenger: _,
+            steps,
+        } = turn;
+        steps.abort();
+    }
+}
