@@ -11,5 +11,6 @@ mod turn;
 
 pub use bound::{TranscriptBound, bind};
 pub use counts::{count_width, counted, observe_count};
+pub use lists::{bind_all, draw_numbers, draw_values, observe_values};
 pub use steps::Steps;
 pub use turn::DriverTurn;

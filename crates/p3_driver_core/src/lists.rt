@@ -10,8 +10,8 @@ use p3_challenger_core::{CanSampleBits, ChallengerError, Sponge};
 use p3_codecs::Codec;
 use std::alloc::{AllocError, Global};
 
-// Observes values one after another.
-pub(crate) fn observe_values<T, C: Sponge, Cdc: Codec<C, T>>(
+/// Observes values one after another.
+pub fn observe_values<T, C: Sponge, Cdc: Codec<C, T>>(
     challenger: &mut C,
     values: &[T],
 ) -> Result<(), ChallengerError>
@@ -26,11 +26,8 @@ pub(crate) fn observe_values<T, C: Sponge, Cdc: Codec<C, T>>(
     Ok(())
 }
 
-// The values as ones that went through the transcript.
-pub(crate) fn bind_all<T: Copy>(
-    alloc: Global,
-    values: &[T],
-) -> Result<Vec<TranscriptBound<T>>, AllocError>
+/// The values as ones that went through the transcript.
+pub fn bind_all<T: Copy>(alloc: Global, values: &[T]) -> Result<Vec<TranscriptBound<T>>, AllocError>
     ensures { IfOk result (λ bounds. values_of bounds ≡ values.now) }
 {
     let mut bounds = Vec::with_capacity(alloc, values.len())?;
@@ -40,8 +37,8 @@ pub(crate) fn bind_all<T: Copy>(
     Ok(bounds)
 }
 
-// Draws so many values one after another. Their memory is asked for first.
-pub(crate) fn draw_values<T: Copy, C: Sponge, Cdc: Codec<C, T>>(
+/// Draws so many values one after another. Their memory is asked for first.
+pub fn draw_values<T: Copy, C: Sponge, Cdc: Codec<C, T>>(
     challenger: &mut C,
     alloc: Global,
     n: usize,
@@ -61,8 +58,8 @@ pub(crate) fn draw_values<T: Copy, C: Sponge, Cdc: Codec<C, T>>(
     Ok(bounds)
 }
 
-// Draws so many numbers of so many bits one after another. Their memory is asked for first.
-pub(crate) fn draw_numbers<C: CanSampleBits<usize>>(
+/// Draws so many numbers of so many bits one after another. Their memory is asked for first.
+pub fn draw_numbers<C: CanSampleBits<usize>>(
     challenger: &mut C,
     alloc: Global,
     width: usize,

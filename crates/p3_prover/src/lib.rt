@@ -2,5 +2,6 @@
 #![tactic(auto)]
 
 mod prover;
+mod writing;
 
 pub use prover::ProverState;
