@@ -456,9 +456,9 @@ impl<'a, C: Sponge + Drop, U, D: DigestHasher> VerifierState<'a, C, U, D> {
     /// [`TranscriptError::BadProofShape`] with `trailing NARG bytes after final verifier step` where bytes are left. It
     /// takes no memory.
     pub fn finalize(self) -> Result<(), TranscriptError>
-        ensures ok { OnOk result (EndsReading (verifying_of C.state self)) }
-        ensures err { IfErr result (RefusesEnd (verifying_of C.state self)) }
-        ensures only { EndsReading (verifying_of C.state self) → IsOk result }
+        ensures ok { OnOk result (EndsReading (verifying_of C.state self.entry)) }
+        ensures err { IfErr result (RefusesEnd (verifying_of C.state self.entry)) }
+        ensures only { EndsReading (verifying_of C.state self.entry) → IsOk result }
     {
         let VerifierState {
             turn,
@@ -476,10 +476,10 @@ impl<'a, C: Sponge + Drop, U, D: DigestHasher> VerifierState<'a, C, U, D> {
 
     /// Spends the verifier as [`finalize`](VerifierState::finalize) does, for the challenger.
     pub fn finish(self) -> Result<C, TranscriptError>
-        ensures ok { IfOk result (λ challenger. EndsReading (verifying_of C.state self)
-            × (C.state challenger ≡ (verifying_of C.state self).turn.challenger)) }
-        ensures err { IfErr result (RefusesEnd (verifying_of C.state self)) }
-        ensures only { EndsReading (verifying_of C.state self) → IsOk result }
+        ensures ok { IfOk result (λ challenger. EndsReading (verifying_of C.state self.entry)
+            × (C.state challenger ≡ (verifying_of C.state self.entry).turn.challenger)) }
+        ensures err { IfErr result (RefusesEnd (verifying_of C.state self.entry)) }
+        ensures only { EndsReading (verifying_of C.state self.entry) → IsOk result }
     {
         let VerifierState {
             turn,
