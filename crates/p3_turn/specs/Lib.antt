@@ -2,4 +2,5 @@ pub mod Seed
 pub mod SeedLaws
 pub mod SeparatorLaws
 pub mod SeparatorParts
+pub mod SeparatorSeed
 pub mod Separators

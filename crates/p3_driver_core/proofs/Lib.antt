@@ -1,0 +1,2 @@
+pub mod BoundLists
+pub mod Widths

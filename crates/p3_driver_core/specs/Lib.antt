@@ -1,0 +1,6 @@
+pub mod Bound
+pub mod Counts
+pub mod Effects
+pub mod Meanings
+pub mod Opened
+pub mod Turns

@@ -1,0 +1,95 @@
+-- What the steps of a transcript mean, each computed from the step and its values.
+use Rattle.std.specs.Prelude.{ℕ, List, ◌++◌, length, flat_map}
+use Rattle.p3_challenger_core.specs.Observation.{Observation}
+use Rattle.p3_challenger_core.specs.Sampling.{Sampling}
+use Rattle.p3_fs_core.specs.Encoding.{Encoding}
+use Rattle.p3_fs_core.specs.Steps.{Step}
+use Rattle.p3_fs_core.specs.declared.step.Kind.{Kind}
+use Rattle.p3_fs_core.specs.declared.step.Kind.TheVariants.{Hint}
+use Rattle.p3_fs_core.specs.declared.step.Length.TheVariants.{Fixed, Bounded}
+use Rattle.p3_driver_core.specs.Counts.{count_bytes}
+use Rattle.p3_driver_core.specs.Effects.{Alphabet, untouched, observing, observing_all, observing_bytes, drawing}
+use Rattle.p3_driver_core.specs.Effects.{drawing_all, in_turn}
+use Rattle.p3_driver_core.specs.Turns.{Meaning, without_wire, bytes_step}
+
+-- a container is opened or closed
+abbrev pub marked : {S Symbol : Type 0} → Step → Meaning S Symbol (Unit {0})
+marked interaction = without_wire interaction (untouched tt)
+
+-- a value is observed that does not stand in the proof
+abbrev pub observed : {S Symbol A : Type 0} → Step → Observation S Symbol A → A → Meaning S Symbol A
+observed interaction o x = without_wire interaction (observing o x)
+
+-- a value is sent
+abbrev pub sent : {S Symbol A : Type 0} → Step → Observation S Symbol A → Encoding A → A → Meaning S Symbol A
+sent interaction o e x = record { interaction = interaction; effect = observing o x; wire = e.wire x }
+
+-- bytes are sent as they are
+abbrev pub sent_bytes : {S Symbol I : Type 0} → Kind → List ℕ → Alphabet S Symbol I → List ℕ →
+    Meaning S Symbol (List ℕ)
+sent_bytes kind label alphabet bytes =
+    record {
+      interaction = bytes_step kind label (Fixed (length bytes));
+      effect = observing_bytes alphabet bytes;
+      wire = bytes;
+    }
+
+-- bytes are sent that the challenger takes no part in
+abbrev pub hinted : {S Symbol : Type 0} → List ℕ → List ℕ → Meaning S Symbol (List ℕ)
+hinted label bytes =
+    record { interaction = bytes_step Hint label (Fixed (length bytes)); effect = untouched bytes; wire = bytes }
+
+-- a value is drawn
+abbrev pub drawn : {S Symbol A : Type 0} → Step → Sampling S A → Meaning S Symbol A
+drawn interaction d = without_wire interaction (drawing d)
+
+-- ---- lists
+
+-- the values of a list are observed that do not stand in the proof
+abbrev pub observed_all : {S Symbol A : Type 0} → Step → Observation S Symbol A → List A → Meaning S Symbol (List A)
+observed_all interaction o xs = without_wire interaction (observing_all o xs)
+
+-- the same after their count, of a list of at most so many
+abbrev pub observed_bounded : {S Symbol I A : Type 0} → Step → Alphabet S Symbol I → ℕ → Observation S Symbol A →
+    List A → Meaning S Symbol (List A)
+observed_bounded interaction alphabet max o xs =
+    without_wire interaction (in_turn (observing_bytes alphabet (count_bytes max (length xs))) (observing_all o xs))
+
+-- the values of a list are sent
+abbrev pub sent_all : {S Symbol A : Type 0} → Step → Observation S Symbol A → Encoding A → List A →
+    Meaning S Symbol (List A)
+sent_all interaction o e xs =
+    record { interaction = interaction; effect = observing_all o xs; wire = flat_map e.wire xs }
+
+-- the same after their count, of a list of at most so many
+abbrev pub sent_bounded : {S Symbol I A : Type 0} → Step → Alphabet S Symbol I → ℕ → Observation S Symbol A →
+    Encoding A → List A → Meaning S Symbol (List A)
+sent_bounded interaction alphabet max o e xs =
+    record {
+      interaction = interaction;
+      effect = in_turn (observing_bytes alphabet (count_bytes max (length xs))) (observing_all o xs);
+      wire = count_bytes max (length xs) ++ flat_map e.wire xs;
+    }
+
+-- bytes are sent after their count, at most so many
+abbrev pub sent_bytes_bounded : {S Symbol I : Type 0} → Kind → List ℕ → Alphabet S Symbol I → ℕ → List ℕ →
+    Meaning S Symbol (List ℕ)
+sent_bytes_bounded kind label alphabet max bytes =
+    record {
+      interaction = bytes_step kind label (Bounded max);
+      effect = in_turn (observing_bytes alphabet (count_bytes max (length bytes))) (observing_bytes alphabet bytes);
+      wire = count_bytes max (length bytes) ++ bytes;
+    }
+
+-- bytes are sent after their count that the challenger takes no part in, at most so many
+abbrev pub hinted_bounded : {S Symbol : Type 0} → List ℕ → ℕ → List ℕ → Meaning S Symbol (List ℕ)
+hinted_bounded label max bytes =
+    record {
+      interaction = bytes_step Hint label (Bounded max);
+      effect = untouched bytes;
+      wire = count_bytes max (length bytes) ++ bytes;
+    }
+
+-- so many values are drawn
+abbrev pub drawn_all : {S Symbol A : Type 0} → Step → Sampling S A → ℕ → Meaning S Symbol (List A)
+drawn_all interaction d n = without_wire interaction (drawing_all d n)

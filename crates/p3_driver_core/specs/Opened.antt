@@ -1,0 +1,28 @@
+-- A step that is open: it was held against the pattern, and is not played yet.
+use Rattle.std.specs.Prelude.{◌≡◌, ◌||◌, true, false}
+use Rattle.p3_fs_core.specs.Steps.{Step}
+use Rattle.p3_patterns.specs.Playing.{Playing}
+use Rattle.p3_symmetric.specs.declared.digest_hasher.DigestHasher.{Ghosts}
+use Rattle.p3_driver_core.specs.Turns.{Turn, IsNext, step_on}
+use Rattle.p3_driver_core.specs.declared.steps.Steps.{Steps}
+use Rattle.p3_driver_core.specs.declared.turn.DriverTurn.{DriverTurn}
+
+-- a driver's pattern as it is played: nothing may follow while a step is open, or after one was given up
+abbrev pub playing_of : {D : Type 0} {hasher : Ghosts D} → Steps D hasher → Playing
+playing_of s =
+    record {
+      pattern = s.player.pattern;
+      position = s.player.position;
+      finished = s.closed || s.player.finished;
+    }
+
+-- the step is the next one, and it is open now
+pub record Opens {D : Type 0} {hasher : Ghosts D} (before : Steps D hasher) (s : Step)
+    (after : Steps D hasher) : Type 0 where
+  pub is_next : IsNext (playing_of before) s
+  pub player : after.player ≡ step_on (playing_of before)
+  pub closed : after.closed ≡ true
+
+-- what both drivers have, as contracts see it, where this is the state of a challenger
+abbrev pub turn_of : {C D S : Type 0} {hasher : Ghosts D} → (C → S) → DriverTurn C D hasher → Turn S
+turn_of state t = record { challenger = state t.challenger; playing = playing_of t.steps }

@@ -1,0 +1,106 @@
+-- Steps as drivers play them, whichever driver it is.
+use Rattle.std.specs.Prelude.{◌≡◌, ℕ, ◌+◌, ◌⊎◌, ◌<◌, true, false, List, [], ◌++◌, Some, take, codes, Result, MatchResult}
+use Rattle.p3_challenger_core.specs.declared.error.ChallengerError.{ChallengerError}
+use Rattle.p3_challenger_core.specs.declared.error.ChallengerError.TheVariants as challenger
+use Rattle.p3_fs_core.specs.Steps.{Step, step_with}
+use Rattle.p3_fs_core.specs.declared.error.PatternError.TheVariants.{Finished, OverCap}
+use Rattle.p3_fs_core.specs.declared.error.TranscriptError.{TranscriptError}
+use Rattle.p3_fs_core.specs.declared.error.TranscriptError.TheVariants.{Pattern, Challenger, OutOfMemory}
+use Rattle.p3_fs_core.specs.declared.step.Hierarchy.TheVariants.{Atomic}
+use Rattle.p3_fs_core.specs.declared.step.Kind.{Kind}
+use Rattle.p3_fs_core.specs.declared.step.Kind.TheVariants as kind
+use Rattle.p3_fs_core.specs.declared.step.Length.{Length}
+use Rattle.p3_fs_core.specs.declared.step.TypeTag.TheVariants.{Algebra, Bytes, Opaque, Bits}
+use Rattle.p3_patterns.specs.Playing.{Playing, RefusesToPlay, next_step}
+use Rattle.p3_driver_core.specs.Effects.{Effect}
+
+-- what a step means: what the pattern must have next, what is done to the challenger, and its bytes in the proof
+pub record Meaning (S Symbol A : Type 0) : Type 1 where
+  pub interaction : Step
+  pub effect : Effect S Symbol A
+  pub wire : List ℕ
+
+-- the step that carries elements of an algebra, of which it names the order of the field, how many coefficients an
+-- element has, the digest of its identity, and its name in the program
+abbrev pub algebra_step : Kind → List ℕ → ℕ → ℕ → List ℕ → List ℕ → Length → Step
+algebra_step kind label order degree digest name length =
+    step_with Atomic kind label (Algebra order degree digest) name length
+
+-- the step that carries bytes
+abbrev pub bytes_step : Kind → List ℕ → Length → Step
+bytes_step kind label length = step_with Atomic kind label Bytes (codes "u8") length
+
+-- the step whose value the challenger alone knows how to observe
+abbrev pub opaque_step : Kind → List ℕ → Length → Step
+opaque_step kind label length = step_with Atomic kind label Opaque (codes "opaque") length
+
+-- the steps that draw numbers of so many bits
+abbrev pub bits_step : List ℕ → ℕ → Length → Step
+bits_step label width length = step_with Atomic kind.Challenge label (Bits width) (codes "usize") length
+
+-- the step has this effect, and no bytes in the proof
+abbrev pub without_wire : {S Symbol A : Type 0} → Step → Effect S Symbol A → Meaning S Symbol A
+without_wire interaction effect = record { interaction = interaction; effect = effect; wire = [] }
+
+-- ---- what both drivers are between two steps
+
+-- a challenger, and the pattern as far as it was played
+pub record Turn (S : Type 0) : Type 0 where
+  pub challenger : S
+  pub playing : Playing
+
+-- the step may be played: none was refused before, and it is the next one of the pattern
+abbrev pub IsNext : Playing → Step → Type 0
+IsNext playing s = (playing.finished ≡ false) × (next_step playing ≡ Some s)
+
+-- the player after a step more
+abbrev pub step_on : Playing → Playing
+step_on playing = record { pattern = playing.pattern; position = playing.position + 1; finished = false }
+
+-- the step is played: it was the next one, this comes of it, and the challenger took part in it
+pub record Plays {S Symbol A : Type 0} (m : Meaning S Symbol A) (before : Turn S) (x : A) (after : Turn S) : Type 0 where
+  pub is_next : IsNext before.playing m.interaction
+  pub fits : m.effect.fits
+  pub gives : m.effect.gives before.challenger ≡ Some x
+  pub challenger : after.challenger ≡ m.effect.after before.challenger
+  pub playing : after.playing ≡ step_on before.playing
+
+-- the step was not the next one, or one was refused before: nothing was done, and no step may follow
+pub record RefusesTurn {S : Type 0} (s : Step) (before : Turn S) (e : TranscriptError) (after : Turn S) : Type 0 where
+  pub playing : RefusesToPlay before.playing s e after.playing
+  pub challenger : after.challenger ≡ before.challenger
+
+-- the step was the next one, and was given up later: the challenger is left so, and no step may follow
+pub record GivesUp {S : Type 0} (s : Step) (before : Turn S) (Leaves : S → S → Type 0) (after : Turn S) : Type 0 where
+  pub is_next : IsNext before.playing s
+  pub leaves : Leaves before.challenger after.challenger
+  pub finished : after.playing.finished ≡ true
+
+-- what want of memory leaves of the challenger: it took no part in the step, or all of it, or a beginning
+abbrev pub LeavesBeginning : {S Symbol A : Type 0} → Effect S Symbol A → S → S → Type 0
+LeavesBeginning effect s t = (t ≡ s) ⊎ (t ≡ effect.after s) ⊎ effect.refuses challenger.OutOfMemory s t
+
+-- why a step is refused, and what is left: it may not be played, the challenger refused it, or memory was refused
+abbrev pub Refuses : {S Symbol A : Type 0} → Meaning S Symbol A → Turn S → TranscriptError → Turn S → Type 0
+Refuses m before (Pattern e) after = RefusesTurn m.interaction before (Pattern e) after
+Refuses m before (Challenger e) after = GivesUp m.interaction before (m.effect.refuses e) after
+Refuses m before OutOfMemory after = GivesUp m.interaction before (LeavesBeginning m.effect) after
+Refuses m before _ after = ⊥
+
+-- a list that is longer than its step lets it be, or any list once a step was refused: nothing was done, and no step
+-- may follow
+pub record RefusesLength (len max : ℕ) (before : Playing) (e : TranscriptError) (after : Playing) : Type 0 where
+  pub fault : ((before.finished ≡ true) × (e ≡ Pattern Finished))
+      ⊎ ((before.finished ≡ false) × (max < len) × (e ≡ Pattern (OverCap len max)))
+  pub finished : after.finished ≡ true
+
+-- the step is played, and the answer is what came of it; or it is refused
+abbrev pub PlaysOrRefuses : {S Symbol A R : Type 0} → Meaning S Symbol A → Turn S → (R → A) → Result R TranscriptError →
+    Turn S → Type 0
+PlaysOrRefuses m before value result after =
+    MatchResult result (λ r. Plays m before (value r) after) (λ e. Refuses m before e after)
+
+-- what a refused step leaves of the bytes written so far: with want of memory a beginning of its own is added
+abbrev pub LeavesWire : List ℕ → TranscriptError → List ℕ → List ℕ → Type 0
+LeavesWire wire OutOfMemory before after = (n : ℕ) × (after ≡ before ++ take n wire)
+LeavesWire wire _ before after = after ≡ before

@@ -1,0 +1,81 @@
+// The algebras that steps were of: each identity is hashed once.
+ghost use Rattle.std.specs.Prelude.{◌≡◌, IsTrue, IfSome};
+ghost use Rattle.p3_fs_core.specs.Interactions.{step_of};
+ghost use Rattle.p3_fs_core.specs.Steps.{step_with};
+ghost use Rattle.p3_fs_core.specs.declared.step.TypeTag.TheVariants.{Algebra};
+
+use p3_field_core::{AlgebraIdentity, Named};
+use p3_fs_core::{Hierarchy, Interaction, Kind, Label, Length, TranscriptField};
+use p3_symmetric::DigestHasher;
+use std::alloc::Global;
+use std::marker::PhantomData;
+
+// The algebras that steps were of, with the digests of their identities.
+#[derive(Drop)]
+#[derive_where(Debug)]
+pub(crate) struct Algebras<D: DigestHasher> {
+    known: Vec<KnownAlgebra<D>>,
+}
+
+// An algebra with a step of it, from which others of the same type are made.
+#[derive(Drop)]
+#[derive_where(Debug)]
+struct KnownAlgebra<D: DigestHasher> {
+    identity: &'static [u8],
+    modulus: u64,
+    degree: usize,
+    step: Interaction,
+    hasher: PhantomData<D>,
+    ghost tag: { (step_of step).type_tag ≡ Algebra modulus degree (D.digest_of identity.now) },
+}
+
+impl<D: DigestHasher> Algebras<D> {
+    pub(crate) fn new(alloc: Global) -> Self {
+        Algebras {
+            known: Vec::new(alloc),
+        }
+    }
+
+    // A step that carries elements of an algebra. An identity is hashed where no step before was of this algebra, or
+    // no memory was given to keep its digest.
+    pub(crate) fn step<F: TranscriptField, A: AlgebraIdentity<F> + Named>(
+        &mut self,
+        kind: Kind,
+        label: Label,
+        length: Length,
+    ) -> Interaction
+        ensures { step_of result ≡ step_with Hierarchy.Atomic kind label.now
+            (Algebra F.residues.order A.DIMENSION (D.digest_of A.identity)) A.name_bytes length }
+    {
+        for known in &self.known {
+            if known.is_of::<F, A>() {
+                return known
+                    .step
+                    .of_same_type(Hierarchy::Atomic, kind, label, length);
+            }
+        }
+        let step = Interaction::algebra::<F, A, D>(Hierarchy::Atomic, kind, label, length);
+        let _ = self.known.push(KnownAlgebra {
+            identity: A::algebra_id(),
+            modulus: F::ORDER_U64,
+            degree: A::DIMENSION,
+            step,
+            hasher: PhantomData,
+        });
+        step
+    }
+}
+
+impl<D: DigestHasher> KnownAlgebra<D> {
+    // It is this algebra.
+    fn is_of<F: TranscriptField, A: AlgebraIdentity<F> + Named>(&self) -> bool
+        ensures tag { IsTrue result → (step_of self.now.step).type_tag
+            ≡ Algebra F.residues.order A.DIMENSION (D.digest_of A.identity) }
+        ensures name { IsTrue result → (step_of self.now.step).type_name ≡ A.name_bytes }
+    {
+        self.identity == A::algebra_id()
+            && self.modulus == F::ORDER_U64
+            && self.degree == A::DIMENSION
+            && self.step.type_name() == A::type_name()
+    }
+}

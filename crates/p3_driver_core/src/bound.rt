@@ -1,0 +1,31 @@
+ghost use Rattle.std.specs.Prelude.{◌≡◌};
+ghost use Rattle.p3_driver_core.specs.Bound.{value_of};
+
+/// A value that went through the transcript: it was absorbed, or drawn.
+///
+/// Drivers alone make one.
+#[derive(Clone, Copy, Debug, PartialEq, Eq, PartialOrd, Ord, Hash)]
+pub struct TranscriptBound<T>(T);
+
+impl<T> TranscriptBound<T> {
+    /// The value.
+    pub fn as_inner(&self) -> &T
+        ensures { result.now ≡ value_of self.now }
+    {
+        &self.0
+    }
+
+    /// The value alone.
+    pub fn into_inner(self) -> T
+        ensures { result ≡ value_of self }
+    {
+        self.0
+    }
+}
+
+/// The value as one that went through the transcript. For drivers.
+pub fn bind<T>(value: T) -> TranscriptBound<T>
+    ensures { value_of result ≡ value }
+{
+    TranscriptBound(value)
+}

@@ -1,0 +1,44 @@
+// The count of a bounded step.
+ghost use Rattle.std.specs.Prelude.{◌≡◌, ◌≤◌, ◌<◌, ◌^◌, take};
+ghost use Rattle.p3_driver_core.specs.Counts.{count_width, count_bytes};
+ghost use Rattle.p3_driver_core.specs.Effects.{alphabet_of, observing_bytes, Does};
+
+use p3_challenger_core::{CanObserve, ChallengerError};
+use p3_codecs::Unit;
+use p3_fs_core::{bound_byte_width, encode_len_be};
+
+/// How many bytes the count of a step takes that carries at most so many values.
+pub fn count_width(max: usize) -> usize
+    ensures width { result ≡ count_width max }
+    ensures enough { max < 256 ^ result }
+    ensures most { result ≤ 8 }
+{
+    bound_byte_width(max)
+}
+
+/// The count of a step that carries so many values of at most so many, and how many of the bytes it takes.
+pub fn counted(count: usize, max: usize) -> ([u8; 8], usize)
+    requires { count ≤ max }
+    ensures bytes { take result.1 result.0 ≡ count_bytes max count }
+    ensures most { result.1 ≤ 8 }
+{
+    let width = count_width(max);
+    (encode_len_be(count, width), width)
+}
+
+/// Observes the count of a step that carries so many values of at most so many.
+///
+/// The one error is [`ChallengerError::OutOfMemory`]: a count has at most 8 bytes, and no alphabet refuses so few.
+pub fn observe_count<U: Unit, C: CanObserve<U::Item>>(
+    challenger: &mut C,
+    count: usize,
+    max: usize,
+) -> Result<(), ChallengerError>
+    requires alphabet { U.is_alphabet }
+    requires within { count ≤ max }
+    ensures { Does (observing_bytes (alphabet_of U.items U.is_too_long C.observation C.slice_may_leave)
+        (count_bytes max count)) (C.state challenger.old) result (C.state challenger.new) }
+{
+    let (bytes, width) = counted(count, max);
+    U::observe_bytes(challenger, &bytes[..width])
+}

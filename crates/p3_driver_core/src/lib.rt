@@ -1,0 +1,16 @@
+//! What both drivers of a transcript share: what a step means, how it is held against the pattern, and how its values
+//! reach the challenger.
+#![tactic(auto)]
+
+mod algebras;
+mod bound;
+mod counts;
+mod lists;
+mod steps;
+mod turn;
+
+pub use bound::{TranscriptBound, bind};
+pub use counts::{count_width, counted, observe_count};
+pub use lists::{bind_all, draw_numbers, draw_values, observe_values};
+pub use steps::Steps;
+pub use turn::DriverTurn;

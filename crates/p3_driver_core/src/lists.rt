@@ -1,0 +1,81 @@
+// Values in a list: observed one after another, drawn one after another, and handed out as ones that went through the
+// transcript.
+ghost use Rattle.std.specs.Prelude.{◌≡◌, ◌≤◌, Some, OnOk, IfOk, IfErr};
+ghost use Rattle.p3_challenger_core.specs.Observation.{observed_all, LeavesInCalls, RefusesObserve};
+ghost use Rattle.p3_challenger_core.specs.Sampling.{draws, after_draws, RefusesDrawVec};
+ghost use Rattle.p3_driver_core.specs.Bound.{values_of};
+
+use crate::{TranscriptBound, bind};
+use p3_challenger_core::{CanSampleBits, ChallengerError, Sponge};
+use p3_codecs::Codec;
+use std::alloc::{AllocError, Global};
+
+/// Observes values one after another.
+pub fn observe_values<T, C: Sponge, Cdc: Codec<C, T>>(
+    challenger: &mut C,
+    values: &[T],
+) -> Result<(), ChallengerError>
+    ensures ok { OnOk result (C.state challenger.new
+        ≡ observed_all Cdc.observation.observed (C.state challenger.old) values.now) }
+    ensures err { IfErr result (λ e. RefusesObserve (LeavesInCalls Cdc.observation.observed Cdc.observation.may_leave
+        (C.state challenger.old) values.now) e (C.state challenger.new)) }
+{
+    for value in values {
+        Cdc::observe(challenger, value)?;
+    }
+    Ok(())
+}
+
+/// The values as ones that went through the transcript.
+pub fn bind_all<T: Copy>(alloc: Global, values: &[T]) -> Result<Vec<TranscriptBound<T>>, AllocError>
+    ensures { IfOk result (λ bounds. values_of bounds ≡ values.now) }
+{
+    let mut bounds = Vec::with_capacity(alloc, values.len())?;
+    for value in values {
+        bounds.push_reserved(bind(*value));
+    }
+    Ok(bounds)
+}
+
+/// Draws so many values one after another. Their memory is asked for first.
+pub fn draw_values<T: Copy, C: Sponge, Cdc: Codec<C, T>>(
+    challenger: &mut C,
+    alloc: Global,
+    n: usize,
+) -> Result<Vec<TranscriptBound<T>>, ChallengerError>
+    requires { 128 ≤ Cdc.SECURITY_BITS }
+    ensures drawn { IfOk result (λ bounds.
+        draws Cdc.sampling n (C.state challenger.old) ≡ Some (values_of bounds)) }
+    ensures after { OnOk result (
+        C.state challenger.new ≡ after_draws Cdc.sampling n (C.state challenger.old)) }
+    ensures err { IfErr result (λ e.
+        RefusesDrawVec Cdc.sampling n e (C.state challenger.old) (C.state challenger.new)) }
+{
+    let mut bounds = Vec::with_capacity(alloc, n)?;
+    for _ in 0..n {
+        bounds.push_reserved(bind(Cdc::sample(challenger)?));
+    }
+    Ok(bounds)
+}
+
+/// Draws so many numbers of so many bits one after another. Their memory is asked for first.
+pub fn draw_numbers<C: CanSampleBits<usize>>(
+    challenger: &mut C,
+    alloc: Global,
+    width: usize,
+    n: usize,
+) -> Result<Vec<TranscriptBound<usize>>, ChallengerError>
+    requires { width ≤ C.most_bits }
+    ensures drawn { IfOk result (λ bounds.
+        draws (C.bits_sampling width) n (C.state challenger.old) ≡ Some (values_of bounds)) }
+    ensures after { OnOk result (
+        C.state challenger.new ≡ after_draws (C.bits_sampling width) n (C.state challenger.old)) }
+    ensures err { IfErr result (λ e.
+        RefusesDrawVec (C.bits_sampling width) n e (C.state challenger.old) (C.state challenger.new)) }
+{
+    let mut bounds = Vec::with_capacity(alloc, n)?;
+    for _ in 0..n {
+        bounds.push_reserved(bind(challenger.sample_bits(width)?));
+    }
+    Ok(bounds)
+}

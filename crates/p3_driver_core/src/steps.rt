@@ -1,0 +1,141 @@
+// The pattern as a driver plays it: each step is held against the next one before anything else is done.
+ghost use Rattle.std.specs.Prelude.{◌≡◌, ◌≤◌, false, IfErr, OnOk, IsOk};
+ghost use Rattle.std.specs.Option.{option_map};
+ghost use Rattle.p3_fs_core.specs.Errors.{misfit_of};
+ghost use Rattle.p3_fs_core.specs.Interactions.{step_of};
+ghost use Rattle.p3_fs_core.specs.Steps.{step_with};
+ghost use Rattle.p3_patterns.specs.Playing.{RefusesToPlay, FaultOfPlayEnd, IsPatternError, IsPlayed, next_step};
+ghost use Rattle.p3_driver_core.specs.Opened.{playing_of, Opens};
+ghost use Rattle.p3_driver_core.specs.Turns.{algebra_step, RefusesLength};
+
+use crate::algebras::Algebras;
+use p3_field_core::{AlgebraIdentity, Named};
+use p3_fs_core::{
+    Hierarchy, Interaction, Kind, Label, Length, PatternError, TranscriptError, TranscriptField,
+};
+use p3_patterns::{InteractionPattern, Pattern, PatternPlayer};
+use p3_symmetric::DigestHasher;
+use std::alloc::Global;
+use std::rc::Rc;
+
+/// The pattern as a driver plays it.
+///
+/// A step is opened by [`take`](Steps::take) once it is the next one of the pattern, and closed by
+/// [`done`](Steps::done). Between the two no other step is taken, so that a step which is given up in the middle
+/// leaves the driver finished.
+#[derive_where(Debug)]
+pub struct Steps<D: DigestHasher> {
+    player: PatternPlayer,
+    // A step is open, or was given up.
+    closed: bool,
+    algebras: Algebras<D>,
+}
+
+impl<D: DigestHasher> Steps<D> {
+    /// The steps of a pattern, of which none was taken yet.
+    pub fn new(alloc: Global, pattern: Rc<InteractionPattern>) -> Self
+        ensures { playing_of result ≡ record { pattern = pattern.value; position = 0; finished = false } }
+    {
+        Steps {
+            player: PatternPlayer::new(pattern),
+            closed: false,
+            algebras: Algebras::new(alloc),
+        }
+    }
+
+    /// Opens a step, which must be the next one of the pattern.
+    ///
+    /// The errors are those of [`PatternPlayer`]: none is taken from then on.
+    pub fn take(&mut self, interaction: Interaction) -> Result<(), TranscriptError>
+        ensures ok { OnOk result (Opens self.old (step_of interaction) self.new) }
+        ensures err { IfErr result (λ e. RefusesToPlay (playing_of self.old) (step_of interaction) e
+            (playing_of self.new)) }
+    {
+        if self.closed {
+            return Err(TranscriptError::Pattern(PatternError::Finished));
+        }
+        self.player.interact(interaction)?;
+        self.closed = true;
+        Ok(())
+    }
+
+    /// Opens a step that carries elements of an algebra, as [`take`](Steps::take) does.
+    pub fn take_algebra<F: TranscriptField, A: AlgebraIdentity<F> + Named>(
+        &mut self,
+        kind: Kind,
+        label: Label,
+        length: Length,
+    ) -> Result<(), TranscriptError>
+        ensures ok { OnOk result (Opens self.old (algebra_step kind label.now F.residues.order A.DIMENSION
+            (D.digest_of A.identity) A.name_bytes length) self.new) }
+        ensures err { IfErr result (λ e. RefusesToPlay (playing_of self.old)
+            (algebra_step kind label.now F.residues.order A.DIMENSION
+            (D.digest_of A.identity) A.name_bytes length) e (playing_of self.new)) }
+    {
+        let interaction = self.algebras.step::<F, A>(kind, label, length);
+        self.take(interaction)
+    }
+
+    /// Lets a list through that is no longer than its step lets it be, before the step is held against the pattern.
+    ///
+    /// The errors are [`PatternError::Finished`] where a step was refused before, and then [`PatternError::OverCap`]
+    /// where the list is longer. None is taken from then on.
+    pub fn within(&mut self, len: usize, max: usize) -> Result<(), TranscriptError>
+        ensures ok { OnOk result ((len ≤ max) × (self.new ≡ self.old)) }
+        ensures err { IfErr result (λ e. RefusesLength len max (playing_of self.old) e (playing_of self.new)) }
+    {
+        if self.is_finished() {
+            return Err(TranscriptError::Pattern(PatternError::Finished));
+        }
+        if len > max {
+            self.closed = true;
+            return Err(TranscriptError::Pattern(PatternError::OverCap { len, max }));
+        }
+        Ok(())
+    }
+
+    /// A step was refused, so none is taken any more.
+    pub fn is_finished(&self) -> bool
+        ensures { result ≡ (playing_of self.now).finished }
+    {
+        self.closed || self.player.is_finalized()
+    }
+
+    /// Spends it. It answers `Ok` exactly where no step was refused and none is left.
+    ///
+    /// Else the error is [`PatternError::Finished`] where a step was refused, and [`PatternError::Unplayed`] with the
+    /// next step where there is one. It takes no memory.
+    pub fn finalize(self) -> Result<(), TranscriptError>
+        ensures ok { OnOk result (IsPlayed (playing_of self)) }
+        ensures err { IfErr result (λ e. IsPatternError (λ m. FaultOfPlayEnd (playing_of self) (misfit_of m)) e) }
+        ensures only { IsPlayed (playing_of self) → IsOk result }
+    {
+        let Steps {
+            player,
+            closed,
+            algebras: _,
+        } = self;
+        if closed {
+            player.abort();
+            return Err(TranscriptError::Pattern(PatternError::Finished));
+        }
+        player.finalize()
+    }
+
+    /// Gives up. What was played so far is not checked.
+    pub fn abort(self) {
+        let Steps {
+            player,
+            closed: _,
+            algebras: _,
+        } = self;
+        player.abort();
+    }
+
+    /// Closes the step that is open: it was played.
+    pub fn done(&mut self)
+        ensures { self.new ≡ record self.old { closed = false } }
+    {
+        self.closed = false;
+    }
+}

@@ -1,0 +1,70 @@
+-- A prover as contracts see it, and what a step makes of it.
+use Rattle.std.specs.Prelude.{◌≡◌, ◌≤◌, ◌⊎◌, ◌++◌, List, ℕ, Result, MatchResult}
+use Rattle.p3_fs_core.specs.declared.error.TranscriptError.{TranscriptError}
+use Rattle.p3_fs_core.specs.declared.error.TranscriptError.TheVariants.{Challenger, OutOfMemory}
+use Rattle.p3_challenger_core.specs.declared.error.ChallengerError.TheVariants as challenger
+use Rattle.p3_symmetric.specs.declared.digest_hasher.DigestHasher.{Ghosts}
+use Rattle.p3_driver_core.specs.Opened.{turn_of}
+use Rattle.p3_driver_core.specs.Turns.{Meaning, Turn, Plays, Refuses, RefusesLength, LeavesWire, PlaysOrRefuses}
+use Rattle.p3_prover.specs.declared.prover.ProverState.{ProverState}
+
+-- its challenger and its pattern as it is played, and the bytes of the proof so far
+pub record Proving (S : Type 0) : Type 0 where
+  pub turn : Turn S
+  pub narg : List ℕ
+
+-- a prover, where this is the state of a challenger
+abbrev pub proving_of : {C U D S : Type 0} {hasher : Ghosts D} → (C → S) → ProverState C U D hasher → Proving S
+proving_of state p = record { turn = turn_of state p.turn; narg = p.narg.items }
+
+-- the step is played, and its bytes are added
+pub record Writes {S Symbol A : Type 0} (m : Meaning S Symbol A) (before : Proving S) (x : A) (after : Proving S) :
+    Type 0 where
+  pub plays : Plays m before.turn x after.turn
+  pub wire : after.narg ≡ before.narg ++ m.wire
+
+-- the step is refused; where memory was, a beginning of its bytes is added
+pub record RefusesToWrite {S Symbol A : Type 0} (m : Meaning S Symbol A) (before : Proving S) (e : TranscriptError)
+    (after : Proving S) : Type 0 where
+  pub refuses : Refuses m before.turn e after.turn
+  pub wire : LeavesWire m.wire e before.narg after.narg
+
+-- the step is played, and the answer is what came of it; or it is refused
+abbrev pub WritesOrRefuses : {S Symbol A R : Type 0} → Meaning S Symbol A → Proving S → (R → A) →
+    Result R TranscriptError → Proving S → Type 0
+WritesOrRefuses m before value result after =
+    MatchResult result (λ r. Writes m before (value r) after) (λ e. RefusesToWrite m before e after)
+
+-- the same of a step that has no bytes in the proof: those so far stay as they are
+abbrev pub KeepsOrRefuses : {S Symbol A R : Type 0} → Meaning S Symbol A → Proving S → (R → A) →
+    Result R TranscriptError → Proving S → Type 0
+KeepsOrRefuses m before value result after =
+    PlaysOrRefuses m before.turn value result after.turn × (after.narg ≡ before.narg)
+
+-- ---- lists that a step lets be of some length at most
+
+-- a list that is too long is refused first: nothing was done then
+pub record RefusesList {S : Type 0} (len max : ℕ) (before : Proving S) (e : TranscriptError) (after : Proving S) :
+    Type 0 where
+  pub playing : RefusesLength len max before.turn.playing e after.turn.playing
+  pub challenger : after.turn.challenger ≡ before.turn.challenger
+  pub narg : after.narg ≡ before.narg
+
+abbrev pub WritesWithin : {S Symbol A R : Type 0} → ℕ → ℕ → Meaning S Symbol A → Proving S → (R → A) →
+    Result R TranscriptError → Proving S → Type 0
+WritesWithin len max m before value result after =
+    MatchResult result (λ r. (len ≤ max) × Writes m before (value r) after)
+    (λ e. RefusesList len max before e after ⊎ ((len ≤ max) × RefusesToWrite m before e after))
+
+abbrev pub KeepsWithin : {S Symbol A R : Type 0} → ℕ → ℕ → Meaning S Symbol A → Proving S → (R → A) →
+    Result R TranscriptError → Proving S → Type 0
+KeepsWithin len max m before value result after =
+    MatchResult result (λ r. (len ≤ max) × Plays m before.turn (value r) after.turn)
+    (λ e. RefusesList len max before e after ⊎ ((len ≤ max) × Refuses m before.turn e after.turn))
+    × (after.narg ≡ before.narg)
+
+-- why a driver could not be made: its seed is too long for the alphabet, or memory was refused
+abbrev pub RefusesStart : Type 0 → TranscriptError → Type 0
+RefusesStart IsTooLong (Challenger challenger.TooLong) = IsTooLong
+RefusesStart IsTooLong OutOfMemory = Unit {0}
+RefusesStart IsTooLong _ = ⊥

@@ -1,0 +1,72 @@
+use Rattle.std.proofs.Common.{Some, length, inl, inr, subst, ap, ◌∙◌, ◌||◌}
+use Rattle.std.proofs.lemmas.Result.{err_from_is_err_and}
+use Rattle.p3_driver_core.specs.Counts.{count_bytes}
+use Rattle.p3_driver_core.specs.Effects.{alphabet_of, observing_bytes, in_turn}
+use Rattle.p3_driver_core.specs.Turns.{bytes_step}
+use Rattle.p3_fs_core.specs.declared.step.Kind.TheVariants.{Message}
+use Rattle.p3_fs_core.specs.declared.step.Length.TheVariants.{Bounded}
+use Rattle.p3_verifier.proofs.Refusals.{not-read, refused-after_read}
+use Rattle.p3_verifier.specs.Reads as reads
+use Rattle.p3_verifier.specs.Verifying.{verifying_of}
+use Rattle.p3_verifier.proofs.verifier.VerifierState.next_bytes_bounded.Goals as goal
+
+pub returns-in_err-bytes : goal.returns-in_err-bytes
+returns-in_err-bytes g c =
+    let p = err_from_is_err_and c.from_residual-in_err-bytes.result c.from_residual-in_err-bytes.ensures.1 in
+    let state = g.C.Sponge.state in
+    let opened = c.in_ok-take.ensures.ok in
+    let same = c.in_err-bytes.ensures.turn in
+    rw (p.1, p.2) (not-read
+    (reads.received_bytes_bounded c.args.label.now
+    (alphabet_of g.U.Unit.items g.U.Unit.is_too_long g.C.CanObserve.observation g.C.CanObserve.slice_may_leave) c.args.max)
+    (verifying_of state c.args.self.now) (verifying_of state c.read_counted.new.self) c.in_err-bytes.field-0.0
+    (opened.is_next.0, opened.is_next.1 ∙ ap Some c.bytes.ensures) c.in_err-bytes.ensures.read (ap (λ t. state t.challenger) same)
+    (ap (λ t. t.steps.closed || t.steps.player.finished) same ∙ ap (λ b. b || c.take.new.self.player.finished) opened.closed))
+
+pub returns-in_err-observe_count : goal.returns-in_err-observe_count
+returns-in_err-observe_count g c =
+    let p = err_from_is_err_and c.from_residual-in_err-observe_count.result
+    c.from_residual-in_err-observe_count.ensures.1 in
+    let state = g.C.Sponge.state in
+    let opened = c.in_ok-take.ensures.ok in
+    let same = c.in_ok-bytes.ensures.turn in
+    let bytes = c.in_ok-bytes.bytes.now in
+    let alphabet = alphabet_of g.U.Unit.items g.U.Unit.is_too_long g.C.CanObserve.observation
+    g.C.CanObserve.slice_may_leave in
+    let counted = observing_bytes alphabet (count_bytes c.args.max (length bytes)) in
+    let before = verifying_of state c.args.self.now in
+    let here = state c.read_counted.new.self.turn.challenger in
+    rw (p.1, p.2) (refused-after_read (bytes_step Message c.args.label.now (Bounded c.args.max))
+    (reads.read_counted_bytes reads.message_too_long c.args.max)
+    (λ bs. in_turn (observing_bytes alphabet (count_bytes c.args.max (length bs))) (observing_bytes alphabet bs))
+    before _ bytes c.in_err-observe_count.field-0.0 here
+    (opened.is_next.0, opened.is_next.1 ∙ ap Some c.bytes.ensures) c.in_ok-bytes.ensures.read
+    (ap (λ t. state t.challenger) same) (inl c.in_err-observe_count.ensures)
+    (ap (λ t. t.steps.closed || t.steps.player.finished) same
+    ∙ ap (λ b. b || c.take.new.self.player.finished) opened.closed))
+
+pub returns-in_err-observe_bytes : goal.returns-in_err-observe_bytes
+returns-in_err-observe_bytes g c =
+    let p = err_from_is_err_and c.from_residual-in_err-observe_bytes.result
+    c.from_residual-in_err-observe_bytes.ensures.1 in
+    let state = g.C.Sponge.state in
+    let opened = c.in_ok-take.ensures.ok in
+    let same = c.in_ok-bytes.ensures.turn in
+    let bytes = c.in_ok-bytes.bytes.now in
+    let alphabet = alphabet_of g.U.Unit.items g.U.Unit.is_too_long g.C.CanObserve.observation
+    g.C.CanObserve.slice_may_leave in
+    let counted = observing_bytes alphabet (count_bytes c.args.max (length bytes)) in
+    let before = verifying_of state c.args.self.now in
+    let here = state c.read_counted.new.self.turn.challenger in
+    let e = c.in_err-observe_bytes.field-0.0 in
+    let end = state c.observe_bytes.new.challenger in
+    rw (p.1, p.2) (refused-after_read (bytes_step Message c.args.label.now (Bounded c.args.max))
+    (reads.read_counted_bytes reads.message_too_long c.args.max)
+    (λ bs. in_turn (observing_bytes alphabet (count_bytes c.args.max (length bs))) (observing_bytes alphabet bs))
+    before _ bytes e here
+    (opened.is_next.0, opened.is_next.1 ∙ ap Some c.bytes.ensures) c.in_ok-bytes.ensures.read
+    (ap (λ t. state t.challenger) same)
+    (inr (subst (λ u. (observing_bytes alphabet bytes).refuses e u end) c.in_ok-observe_count.ensures.1
+    c.in_err-observe_bytes.ensures.err))
+    (ap (λ t. t.steps.closed || t.steps.player.finished) same
+    ∙ ap (λ b. b || c.take.new.self.player.finished) opened.closed))

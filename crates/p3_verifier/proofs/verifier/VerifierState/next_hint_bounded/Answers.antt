@@ -1,0 +1,18 @@
+use Rattle.std.proofs.Common.{Some, ap, ◌∙◌, ◌||◌}
+use Rattle.std.proofs.lemmas.Result.{err_from_is_err_and}
+use Rattle.p3_verifier.proofs.Refusals.{not-read}
+use Rattle.p3_verifier.specs.Reads as reads
+use Rattle.p3_verifier.specs.Verifying.{verifying_of}
+use Rattle.p3_verifier.proofs.verifier.VerifierState.next_hint_bounded.Goals as goal
+
+pub returns-in_err-bytes : goal.returns-in_err-bytes
+returns-in_err-bytes g c =
+    let p = err_from_is_err_and c.from_residual-in_err-bytes.result c.from_residual-in_err-bytes.ensures.1 in
+    let state = g.C.Sponge.state in
+    let opened = c.in_ok-take.ensures.ok in
+    let same = c.in_err-bytes.ensures.turn in
+    rw (p.1, p.2) (not-read
+    (reads.hint_received_bounded {S = g.row.C-State.Denot} {Symbol = g.row.C-Symbol.Denot} c.args.label.now c.args.max)
+    (verifying_of state c.args.self.now) (verifying_of state c.read_counted.new.self) c.in_err-bytes.field-0.0
+    (opened.is_next.0, opened.is_next.1 ∙ ap Some c.bytes.ensures) c.in_err-bytes.ensures.read (ap (λ t. state t.challenger) same)
+    (ap (λ t. t.steps.closed || t.steps.player.finished) same ∙ ap (λ b. b || c.take.new.self.player.finished) opened.closed))

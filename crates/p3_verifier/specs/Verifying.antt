@@ -1,0 +1,91 @@
+-- A verifier as contracts see it, and what a step makes of it.
+use Rattle.std.specs.Prelude.{◌≡◌, ◌≤◌, ◌⊎◌, true, List, [], ℕ, Some, Ok, Err, Result, MatchResult}
+use Rattle.p3_fs_core.specs.Steps.{Step}
+use Rattle.p3_fs_core.specs.declared.error.TranscriptError.{TranscriptError}
+use Rattle.p3_fs_core.specs.declared.error.TranscriptError.TheVariants.{Pattern, BadProofShape, Challenger, OutOfMemory}
+use Rattle.p3_challenger_core.specs.declared.error.ChallengerError.TheVariants as challenger
+use Rattle.p3_symmetric.specs.declared.digest_hasher.DigestHasher.{Ghosts}
+use Rattle.p3_driver_core.specs.Opened.{turn_of}
+use Rattle.p3_driver_core.specs.Turns.{Meaning, Turn, Plays, Refuses, RefusesTurn, GivesUp, PlaysOrRefuses, IsNext, step_on}
+use Rattle.p3_fs_core.specs.Errors.{misfit_of}
+use Rattle.p3_patterns.specs.Playing.{FaultOfPlayEnd, IsPlayed}
+use Rattle.p3_verifier.specs.Reads.{Reading, Unreadable, trailing_bytes}
+use Rattle.p3_verifier.specs.declared.verifier.VerifierState.{VerifierState}
+
+-- its challenger and its pattern as it is played, and the bytes of the proof that are left to read
+pub record Verifying (S : Type 0) : Type 0 where
+  pub turn : Turn S
+  pub unread : List ℕ
+
+-- a verifier, where this is the state of a challenger
+abbrev pub verifying_of : {C U D S : Type 0} {hasher : Ghosts D} → (C → S) → VerifierState C U D hasher → Verifying S
+verifying_of state v = record { turn = turn_of state v.turn; unread = v.unread.now }
+
+-- the step is played: this is read, and is done
+pub record Receives {S Symbol A : Type 0} (r : Reading S Symbol A) (before : Verifying S) (x : A)
+    (after : Verifying S) : Type 0 where
+  pub is_next : IsNext before.turn.playing r.interaction
+  pub read : r.read before.unread ≡ Ok (x, after.unread)
+  pub fits : (r.effect x).fits
+  pub gives : (r.effect x).gives before.turn.challenger ≡ Some x
+  pub challenger : after.turn.challenger ≡ (r.effect x).after before.turn.challenger
+  pub playing : after.turn.playing ≡ step_on before.turn.playing
+
+-- nothing is read, for the reason
+pub record ReadsNothing {S Symbol A : Type 0} (r : Reading S Symbol A) (before : Verifying S) (reason : List ℕ)
+    (after : Verifying S) : Type 0 where
+  pub failure : Unreadable S
+  pub is_next : IsNext before.turn.playing r.interaction
+  pub read : r.read before.unread ≡ Err failure
+  pub told : reason ≡ failure.reason
+  pub unread : after.unread ≡ failure.left
+  pub challenger : after.turn.challenger ≡ failure.absorbed before.turn.challenger
+  pub finished : after.turn.playing.finished ≡ true
+
+-- this was read, and the challenger refuses it
+pub record RefusesRead {S Symbol A : Type 0} (r : Reading S Symbol A) (before : Verifying S)
+    (Leaves : A → S → S → Type 0) (after : Verifying S) : Type 0 where
+  pub value : A
+  pub read : r.read before.unread ≡ Ok (value, after.unread)
+  pub gives_up : GivesUp r.interaction before.turn (Leaves value) after.turn
+
+-- why a step that reads is refused, and what is left
+abbrev pub RefusesToRead : {S Symbol A : Type 0} → Reading S Symbol A → Verifying S → TranscriptError → Verifying S →
+    Type 0
+RefusesToRead r before (Pattern e) after =
+    RefusesTurn r.interaction before.turn (Pattern e) after.turn × (after.unread ≡ before.unread)
+RefusesToRead r before (BadProofShape reason) after = ReadsNothing r before reason.now after
+RefusesToRead r before (Challenger e) after = RefusesRead r before (λ x. (r.effect x).refuses e) after
+RefusesToRead r before OutOfMemory after =
+    GivesUp r.interaction before.turn (r.may_leave before.unread) after.turn
+RefusesToRead r before _ after = ⊥
+
+-- the step is played, and the answer is what was read; or it is refused
+abbrev pub ReceivesOrRefuses : {S Symbol A R : Type 0} → Reading S Symbol A → Verifying S → (R → A) →
+    Result R TranscriptError → Verifying S → Type 0
+ReceivesOrRefuses r before value result after =
+    MatchResult result (λ y. Receives r before (value y) after) (λ e. RefusesToRead r before e after)
+
+-- the same of a step that reads nothing: the bytes that are left stay as they are
+abbrev pub KeepsOrRefuses : {S Symbol A R : Type 0} → Meaning S Symbol A → Verifying S → (R → A) →
+    Result R TranscriptError → Verifying S → Type 0
+KeepsOrRefuses m before value result after =
+    PlaysOrRefuses m before.turn value result after.turn × (after.unread ≡ before.unread)
+
+-- all steps are played, none was refused, and no byte is left
+pub record EndsReading {S : Type 0} (v : Verifying S) : Type 0 where
+  pub played : IsPlayed v.turn.playing
+  pub whole : v.unread ≡ []
+
+-- why a verifier does not end: a step was refused, or is left; or all were played, and bytes are left
+abbrev pub RefusesEnd : {S : Type 0} → Verifying S → TranscriptError → Type 0
+RefusesEnd v (Pattern e) = FaultOfPlayEnd v.turn.playing (misfit_of e)
+RefusesEnd v (BadProofShape reason) =
+    IsPlayed v.turn.playing × (v.unread ≡ [] → ⊥) × (reason.now ≡ trailing_bytes)
+RefusesEnd v _ = ⊥
+
+-- why a driver could not be made: its seed is too long for the alphabet, or memory was refused
+abbrev pub RefusesStart : Type 0 → TranscriptError → Type 0
+RefusesStart IsTooLong (Challenger challenger.TooLong) = IsTooLong
+RefusesStart IsTooLong OutOfMemory = Unit {0}
+RefusesStart IsTooLong _ = ⊥

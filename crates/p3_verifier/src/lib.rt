@@ -1,0 +1,6 @@
+//! The verifier's side of a transcript.
+#![tactic(auto)]
+
+mod verifier;
+
+pub use verifier::VerifierState;
