@@ -1,11 +1,11 @@
 // What both drivers have, and the steps that both play alike: those that take no part in the bytes of the proof.
-ghost use Rattle.std.specs.Prelude.{◌≡◌, ◌≤◌, length};
+ghost use Rattle.std.specs.Prelude.{◌≡◌, ◌≤◌, length, IsOk};
 ghost use Rattle.p3_fs_core.specs.Steps.{marker_of};
 ghost use Rattle.p3_driver_core.specs.Bound.{value_of, values_of};
 ghost use Rattle.p3_driver_core.specs.Effects.{alphabet_of};
 ghost use Rattle.p3_driver_core.specs.Meanings as meaning;
 ghost use Rattle.p3_driver_core.specs.Opened.{turn_of};
-ghost use Rattle.p3_driver_core.specs.Turns.{PlaysOrRefuses, algebra_step, opaque_step, bits_step};
+ghost use Rattle.p3_driver_core.specs.Turns.{PlaysOrRefuses, IsNext, algebra_step, opaque_step, bits_step};
 
 use crate::counts::observe_count;
 use crate::lists::{bind_all, draw_numbers, draw_values, observe_values};
@@ -39,9 +39,11 @@ impl<C: Sponge, D: DigestHasher> DriverTurn<C, D> {
         kind: Kind,
         label: Label,
     ) -> Result<(), TranscriptError>
-        ensures { PlaysOrRefuses
+        ensures exact { PlaysOrRefuses
             (meaning.marked {Symbol = C.Symbol} (marker_of hierarchy kind label.now T.name_bytes))
             (turn_of C.state self.old) (λ _. tt {0}) result (turn_of C.state self.new) }
+        ensures only { IsNext (turn_of C.state self.old).playing (marker_of hierarchy kind label.now T.name_bytes)
+            → IsOk result }
     {
         self.steps
             .take(Interaction::marker::<T>(hierarchy, kind, label))?;

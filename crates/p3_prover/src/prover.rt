@@ -8,7 +8,7 @@ ghost use Rattle.p3_turn.specs.SeparatorSeed.{seed_of_separator, pattern_of};
 ghost use Rattle.p3_driver_core.specs.Bound.{value_of, values_of};
 ghost use Rattle.p3_driver_core.specs.Effects.{alphabet_of};
 ghost use Rattle.p3_driver_core.specs.Meanings as meaning;
-ghost use Rattle.p3_driver_core.specs.Turns.{algebra_step, opaque_step, bits_step};
+ghost use Rattle.p3_driver_core.specs.Turns.{IsNext, algebra_step, opaque_step, bits_step};
 ghost use Rattle.p3_prover.specs.Proving.{proving_of, WritesOrRefuses, WritesWithin, KeepsOrRefuses, KeepsWithin};
 ghost use Rattle.p3_prover.specs.Proving.{RefusesStart};
 
@@ -274,27 +274,33 @@ impl<C: Sponge + Drop, U, D: DigestHasher> ProverState<C, U, D> {
 
     /// Opens a container of the kind. `T` names the container for those who read its steps. It takes no memory.
     pub fn begin<T: Named>(&mut self, label: Label, kind: Kind) -> Result<(), TranscriptError>
-        ensures { KeepsOrRefuses (meaning.marked {Symbol = C.Symbol}
+        ensures exact { KeepsOrRefuses (meaning.marked {Symbol = C.Symbol}
             (marker_of Hierarchy.Begin kind label.now T.name_bytes))
             (proving_of C.state self.old) (λ _. tt {0}) result (proving_of C.state self.new) }
+        ensures only { IsNext (proving_of C.state self.old).turn.playing
+            (marker_of Hierarchy.Begin kind label.now T.name_bytes) → IsOk result }
     {
         self.turn.marker::<T>(Hierarchy::Begin, kind, label)
     }
 
     /// Closes a container of the kind, with the label and the `T` of its opener. It takes no memory.
     pub fn end<T: Named>(&mut self, label: Label, kind: Kind) -> Result<(), TranscriptError>
-        ensures { KeepsOrRefuses (meaning.marked {Symbol = C.Symbol}
+        ensures exact { KeepsOrRefuses (meaning.marked {Symbol = C.Symbol}
             (marker_of Hierarchy.End kind label.now T.name_bytes))
             (proving_of C.state self.old) (λ _. tt {0}) result (proving_of C.state self.new) }
+        ensures only { IsNext (proving_of C.state self.old).turn.playing
+            (marker_of Hierarchy.End kind label.now T.name_bytes) → IsOk result }
     {
         self.turn.marker::<T>(Hierarchy::End, kind, label)
     }
 
     /// Opens a container that may hold steps of any kind. It takes no memory.
     pub fn begin_protocol<T: Named>(&mut self, label: Label) -> Result<(), TranscriptError>
-        ensures { KeepsOrRefuses (meaning.marked {Symbol = C.Symbol}
+        ensures exact { KeepsOrRefuses (meaning.marked {Symbol = C.Symbol}
             (marker_of Hierarchy.Begin Kind.Protocol label.now T.name_bytes))
             (proving_of C.state self.old) (λ _. tt {0}) result (proving_of C.state self.new) }
+        ensures only { IsNext (proving_of C.state self.old).turn.playing
+            (marker_of Hierarchy.Begin Kind.Protocol label.now T.name_bytes) → IsOk result }
     {
         self.turn
             .marker::<T>(Hierarchy::Begin, Kind::Protocol, label)
@@ -302,9 +308,11 @@ impl<C: Sponge + Drop, U, D: DigestHasher> ProverState<C, U, D> {
 
     /// Closes a container that may hold steps of any kind. It takes no memory.
     pub fn end_protocol<T: Named>(&mut self, label: Label) -> Result<(), TranscriptError>
-        ensures { KeepsOrRefuses (meaning.marked {Symbol = C.Symbol}
+        ensures exact { KeepsOrRefuses (meaning.marked {Symbol = C.Symbol}
             (marker_of Hierarchy.End Kind.Protocol label.now T.name_bytes))
             (proving_of C.state self.old) (λ _. tt {0}) result (proving_of C.state self.new) }
+        ensures only { IsNext (proving_of C.state self.old).turn.playing
+            (marker_of Hierarchy.End Kind.Protocol label.now T.name_bytes) → IsOk result }
     {
         self.turn.marker::<T>(Hierarchy::End, Kind::Protocol, label)
     }
