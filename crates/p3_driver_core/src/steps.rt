@@ -6,7 +6,7 @@ ghost use Rattle.p3_fs_core.specs.Interactions.{step_of};
 ghost use Rattle.p3_fs_core.specs.Steps.{step_with};
 ghost use Rattle.p3_patterns.specs.Playing.{RefusesToPlay, FaultOfPlayEnd, IsPatternError, IsPlayed, next_step};
 ghost use Rattle.p3_driver_core.specs.Opened.{playing_of, Opens};
-ghost use Rattle.p3_driver_core.specs.Turns.{algebra_step, RefusesLength};
+ghost use Rattle.p3_driver_core.specs.Turns.{algebra_step, bytes_step, RefusesLength};
 
 use crate::algebras::Algebras;
 use p3_field_core::{AlgebraIdentity, Named};
@@ -74,6 +74,20 @@ impl<D: DigestHasher> Steps<D> {
     {
         let interaction = self.algebras.step::<F, A>(kind, label, length);
         self.take(interaction)
+    }
+
+    /// Opens a step that carries bytes, as [`take`](Steps::take) does.
+    pub fn take_bytes(
+        &mut self,
+        kind: Kind,
+        label: Label,
+        length: Length,
+    ) -> Result<(), TranscriptError>
+        ensures ok { OnOk result (Opens self.old (bytes_step kind label.now length) self.new) }
+        ensures err { IfErr result (λ e. RefusesToPlay (playing_of self.old) (bytes_step kind label.now length) e
+            (playing_of self.new)) }
+    {
+        self.take(Interaction::bytes(Hierarchy::Atomic, kind, label, length))
     }
 
     /// Lets a list through that is no longer than its step lets it be, before the step is held against the pattern.

@@ -19,7 +19,7 @@ use p3_driver_core::{
     DriverTurn, Steps, TranscriptBound, bind, bind_all, observe_count, observe_values,
 };
 use p3_field_core::{AlgebraIdentity, Named};
-use p3_fs_core::{Hierarchy, Interaction, Kind, Label, Length, TranscriptError, TranscriptField};
+use p3_fs_core::{Hierarchy, Kind, Label, Length, TranscriptError, TranscriptField};
 use p3_symmetric::DigestHasher;
 use p3_turn::DomainSeparator;
 use std::alloc::Global;
@@ -191,12 +191,9 @@ impl<U: Unit, C: CanObserve<U::Item> + Drop, D: DigestHasher> ProverState<C, U, 
             (alphabet_of U.items U.is_too_long C.observation C.slice_may_leave) bytes.now)
             (proving_of C.state self.old) (λ _. bytes.now) result (proving_of C.state self.new) }
     {
-        self.turn.steps.take(Interaction::bytes(
-            Hierarchy::Atomic,
-            kind,
-            label,
-            Length::Fixed(bytes.len()),
-        ))?;
+        self.turn
+            .steps
+            .take_bytes(kind, label, Length::Fixed(bytes.len()))?;
         U::observe_bytes(&mut self.turn.challenger, bytes)?;
         write_bytes(&mut self.narg, bytes)?;
         self.turn.steps.done();
@@ -216,12 +213,9 @@ impl<U: Unit, C: CanObserve<U::Item> + Drop, D: DigestHasher> ProverState<C, U, 
             (alphabet_of U.items U.is_too_long C.observation C.slice_may_leave) max bytes.now)
             (proving_of C.state self.old) (λ _. bytes.now) result (proving_of C.state self.new) }
     {
-        self.turn.steps.take(Interaction::bytes(
-            Hierarchy::Atomic,
-            Kind::Message,
-            label,
-            Length::Bounded(max),
-        ))?;
+        self.turn
+            .steps
+            .take_bytes(Kind::Message, label, Length::Bounded(max))?;
         observe_count::<U, C>(&mut self.turn.challenger, bytes.len(), max)?;
         U::observe_bytes(&mut self.turn.challenger, bytes)?;
         write_counted_bytes(&mut self.narg, bytes, max)?;
@@ -450,12 +444,9 @@ impl<C: Sponge + Drop, U, D: DigestHasher> ProverState<C, U, D> {
         ensures { WritesOrRefuses (meaning.hinted {Symbol = C.Symbol} label.now bytes.now)
             (proving_of C.state self.old) (λ _. bytes.now) result (proving_of C.state self.new) }
     {
-        self.turn.steps.take(Interaction::bytes(
-            Hierarchy::Atomic,
-            Kind::Hint,
-            label,
-            Length::Fixed(bytes.len()),
-        ))?;
+        self.turn
+            .steps
+            .take_bytes(Kind::Hint, label, Length::Fixed(bytes.len()))?;
         write_bytes(&mut self.narg, bytes)?;
         self.turn.steps.done();
         Ok(())
@@ -474,12 +465,9 @@ impl<C: Sponge + Drop, U, D: DigestHasher> ProverState<C, U, D> {
             (proving_of C.state self.old) (λ _. bytes.now) result (proving_of C.state self.new) }
     {
         self.turn.steps.within(bytes.len(), max)?;
-        self.turn.steps.take(Interaction::bytes(
-            Hierarchy::Atomic,
-            Kind::Hint,
-            label,
-            Length::Bounded(max),
-        ))?;
+        self.turn
+            .steps
+            .take_bytes(Kind::Hint, label, Length::Bounded(max))?;
         write_counted_bytes(&mut self.narg, bytes, max)?;
         self.turn.steps.done();
         Ok(())
