@@ -5,3 +5,4 @@ pub mod PatternEquality
 pub mod PatternGrammarLaws
 pub mod Rendered
 pub mod WorkedRows
+pub mod Walking

@@ -8,3 +8,4 @@ pub mod PlayingLaws
 pub mod Recording
 pub mod Rendering
 pub mod RenderingLaws
+pub mod Walks

@@ -1,5 +1,5 @@
 // The containers that steps leave open.
-ghost use Rattle.std.specs.Prelude.{◌≡◌, [], map, IfSome, IfNone, OnOk, OnErr};
+ghost use Rattle.std.specs.Prelude.{◌≡◌, ◌↔◌, [], map, IfSome, IfNone, IsTrue, OnOk, OnErr};
 ghost use Rattle.p3_fs_core.specs.Interactions.{step_of};
 ghost use Rattle.p3_patterns.specs.PatternGrammar.{IsPattern, IsInnermost};
 ghost use Rattle.p3_patterns.specs.OpenContainers.{AreOpen, opened_by};
@@ -22,6 +22,13 @@ impl OpenContainers {
         OpenContainers {
             openers: Vec::new(alloc),
         }
+    }
+
+    // None is open.
+    pub(crate) fn is_empty(&self) -> bool
+        ensures { IsTrue result ↔ self.now.openers.items ≡ [] }
+    {
+        self.openers.is_empty()
     }
 
     // The innermost opener that the steps leave open, and where it stands.

@@ -5,12 +5,13 @@ ghost use Rattle.p3_field_core.specs.Equality.{IsExact};
 ghost use Rattle.p3_fs_core.specs.declared.step.Kind.TheVariants.{Protocol};
 ghost use Rattle.p3_fs_core.specs.Errors.{Fault};
 ghost use Rattle.p3_fs_core.specs.Interactions.{step_of};
-ghost use Rattle.p3_fs_core.specs.Steps.{Step};
+ghost use Rattle.p3_fs_core.specs.Steps.{Step, Closes};
 ghost use Rattle.p3_patterns.specs.PatternGrammar.{Allows, IsPattern, IsViable, IsFirstFault};
 ghost use Rattle.p3_patterns.specs.PatternFaults.{NamesFirstFault};
 ghost use Rattle.p3_patterns.specs.PatternSteps.{steps_of};
 ghost use Rattle.p3_patterns.specs.OpenContainers.{AreOpen};
 ghost use Rattle.p3_patterns.specs.Recording.{NamesMissingEnd};
+ghost use Rattle.p3_patterns.specs.Walks.{WalksTo};
 ghost use Rattle.p3_fs_core.specs.declared.error.TranscriptError.TheVariants as error;
 
 use crate::open_containers::OpenContainers;
@@ -70,22 +71,29 @@ impl InteractionPattern {
         // A list of steps has one first fault at most.
         ensures one_fault { (steps : List Step) (f g : Fault) → IsFirstFault steps f → IsFirstFault steps g → f ≡ g }
     {
-        validate(*interactions.allocator(), &interactions)?;
-        Ok(InteractionPattern { interactions })
+        let mut containers = OpenContainers::new(*interactions.allocator());
+        match walk(&interactions, &mut containers) {
+            Ok(walked) if walked == interactions.len() => Self::recorded(interactions, containers),
+            walked => refuse_next(interactions, containers, walked),
+        }
     }
 
     // The pattern of steps that were checked one by one, which is refused where a container is still open.
     pub(crate) fn recorded(
         interactions: Vec<Interaction>,
-        containers: &OpenContainers,
+        containers: OpenContainers,
     ) -> Result<Self, TranscriptError>
-        requires { AreOpen (map step_of interactions.items) containers.now.openers.items }
+        requires { AreOpen (map step_of interactions.items) containers.openers.items }
         ensures ok { IfOk result (λ pattern. (steps_of pattern ≡ map step_of interactions.items)
             × IsPattern Kind.Protocol (steps_of pattern)) }
         ensures err { IfErr result (λ e. NamesMissingEnd (map step_of interactions.items) e) }
         ensures only { IsPattern Kind.Protocol (map step_of interactions.items) → IsOk result }
     {
-        check_end(&interactions, containers)?;
+        if !containers.is_empty() {
+            return refuse_end(interactions, containers);
+        }
+        // The containers go first, so that the pattern can be made where the caller wants it.
+        drop(containers);
         Ok(InteractionPattern { interactions })
     }
 
@@ -145,31 +153,55 @@ impl InteractionPattern {
     }
 }
 
-// The steps are a pattern, or the error names their first fault, or memory was refused.
-fn validate(alloc: Global, steps: &[Interaction]) -> Result<(), TranscriptError>
-    ensures ok { OnOk result (IsPattern Kind.Protocol (map step_of steps.now)) }
-    ensures err { IfErr result (λ e. NamesFirstFault (map step_of steps.now) e ⊎ (e ≡ error.OutOfMemory)) }
+// How many of the steps may stand where they do, up to the first one that may not; `containers` are then those that
+// they leave open. It makes no error of a fault, so that a pattern costs none.
+fn walk(steps: &[Interaction], containers: &mut OpenContainers) -> Result<usize, AllocError>
+    requires { AreOpen [] containers.old.openers.items }
+    ensures { IfOk result (λ walked. WalksTo steps.now walked containers.new.openers.items) }
 {
-    let mut containers = OpenContainers::new(alloc);
     for position in 0..steps.len() {
         let next = &steps[position];
-        let before = &steps[..position];
-        if !may_follow(before, &containers, next) {
-            return Err(fault_of_next(before, &containers, next));
+        if !may_follow(&steps[..position], containers, next) {
+            return Ok(position);
         }
         containers.follow(position, next)?;
     }
-    check_end(steps, &containers)
+    Ok(steps.len())
 }
 
-// The steps leave no container open.
-fn check_end(steps: &[Interaction], containers: &OpenContainers) -> Result<(), TranscriptError>
-    requires { AreOpen (map step_of steps.now) containers.now.openers.items }
-    ensures ok { OnOk result (IsPattern Kind.Protocol (map step_of steps.now)) }
-    ensures err { IfErr result (λ e. NamesMissingEnd (map step_of steps.now) e) }
+// Why a walk over the steps ended before their end: the first fault, or the refusal of memory.
+#[cold]
+#[inline(never)]
+fn refuse_next(
+    interactions: Vec<Interaction>,
+    containers: OpenContainers,
+    walked: Result<usize, AllocError>,
+) -> Result<InteractionPattern, TranscriptError>
+    requires walks { IfOk walked (λ n. WalksTo interactions.items n containers.openers.items) }
+    requires more { IfOk walked (λ n. n < length interactions.items) }
+    ensures ok { OnOk result ⊥ }
+    ensures err { IfErr result (λ e.
+        NamesFirstFault (map step_of interactions.items) e ⊎ (e ≡ error.OutOfMemory)) }
 {
-    match containers.innermost(steps) {
-        None => Ok(()),
+    let walked = walked?;
+    let before = &interactions[..walked];
+    Err(fault_of_next(before, &containers, &interactions[walked]))
+}
+
+// The fault of steps that leave a container open.
+#[cold]
+#[inline(never)]
+fn refuse_end(
+    interactions: Vec<Interaction>,
+    containers: OpenContainers,
+) -> Result<InteractionPattern, TranscriptError>
+    requires open { AreOpen (map step_of interactions.items) containers.openers.items }
+    requires some { containers.openers.items ≡ [] → ⊥ }
+    ensures ok { OnOk result ⊥ }
+    ensures err { IfErr result (λ e. NamesMissingEnd (map step_of interactions.items) e) }
+{
+    match containers.innermost(&interactions) {
+        None => unreachable!(),
         Some((position, begin)) => Err(TranscriptError::MissingEnd(MissingEndInfo {
             position,
             begin: *begin,
@@ -179,6 +211,7 @@ fn check_end(steps: &[Interaction], containers: &OpenContainers) -> Result<(), T
 
 // The step may stand after those before it. This is asked of each step and makes no error, since an error has to
 // have its room cleared.
+#[inline(always)]
 pub(crate) fn may_follow(
     before: &[Interaction],
     containers: &OpenContainers,
@@ -191,7 +224,7 @@ pub(crate) fn may_follow(
         None => !is_closer(next),
         Some((_, begin)) => {
             if is_closer(next) {
-                next.closes(begin)
+                closes(next, begin)
             } else {
                 allows(begin.kind(), next)
             }
@@ -238,6 +271,15 @@ fn is_closer(step: &Interaction) -> bool
     ensures { IsTrue result ↔ (step_of step.now).hierarchy ≡ Hierarchy.End }
 {
     step.hierarchy() == Hierarchy::End
+}
+
+// The step closes the container that the other one opens. It stands apart, so that what is asked of all other steps is
+// short.
+#[inline(never)]
+fn closes(step: &Interaction, begin: &Interaction) -> bool
+    ensures { IsTrue result ↔ Closes (step_of step.now) (step_of begin.now) }
+{
+    step.closes(begin)
 }
 
 // A container of the kind may hold the step.

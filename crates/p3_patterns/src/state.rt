@@ -72,7 +72,7 @@ impl<U> PatternState<U> {
         if finished {
             return Err(TranscriptError::Pattern(PatternError::Finished));
         }
-        InteractionPattern::recorded(interactions, &containers)
+        InteractionPattern::recorded(interactions, containers)
     }
 }
 

@@ -1,0 +1,38 @@
+-- What open containers say of whole patterns.
+use Rattle.std.proofs.Common.{◌≡◌, ◌⊎◌, ℕ, List, [], ◌∷◌, length, refl, ⊎_elim}
+use Rattle.std.specs.Prelude.{Result, Ok, Err, IfErr}
+use Rattle.p3_fs_core.specs.declared.error.TranscriptError.{TranscriptError}
+use Rattle.p3_fs_core.specs.declared.error.TranscriptError.TheVariants.{OutOfMemory}
+use Rattle.p3_fs_core.specs.declared.step.Kind.TheVariants.{Protocol}
+use Rattle.p3_fs_core.specs.Steps.{Step}
+use Rattle.p3_patterns.specs.PatternGrammar.{IsPattern}
+use Rattle.p3_patterns.specs.OpenContainers.{OpensAt, AreOpen}
+use Rattle.p3_patterns.specs.PatternFaults.{NamesFirstFault}
+use Rattle.p3_patterns.proofs.FirstFaults.{names-no_pattern}
+use Rattle.p3_patterns.proofs.PatternGrammarLaws.{pattern-none_open}
+use Rattle.p3_patterns.proofs.OpenPositions.{open-pattern}
+
+-- steps that leave none open are a pattern
+pub closed-pattern : (steps : List Step) (positions : List ℕ) → AreOpen steps positions → positions ≡ []
+    → IsPattern Protocol steps
+closed-pattern steps positions h none = open-pattern steps positions h (rw none refl)
+
+unclosed : (openers steps : List Step) (positions : List ℕ) → OpensAt openers positions steps → (positions ≡ [] → ⊥)
+    → IsPattern Protocol steps → ⊥
+unclosed [] steps positions h some pattern = some h.0
+unclosed (opener ∷ below) steps positions h some pattern =
+    pattern-none_open steps pattern (length h.0) opener
+    (record { before = h.0; inside = h.1; split = h.3; place = refl; begins = h.5; pattern = h.7 })
+
+-- steps that leave one open are none
+pub open-no_pattern : (steps : List Step) (positions : List ℕ) → AreOpen steps positions → (positions ≡ [] → ⊥)
+    → IsPattern Protocol steps → ⊥
+open-no_pattern steps positions h some pattern = unclosed h.0 steps positions h.1 some pattern
+
+-- a first fault or the refusal of memory, of steps that are a pattern, is the refusal of memory
+pub refused-pattern : {T : Type 0} (steps : List Step) (result : Result T TranscriptError)
+    → IfErr result (λ e. NamesFirstFault steps e ⊎ (e ≡ OutOfMemory)) → IsPattern Protocol steps
+    → IfErr result (λ e. e ≡ OutOfMemory)
+refused-pattern steps (Ok x) h pattern = tt
+refused-pattern steps (Err e) h pattern =
+    ⊎_elim (λ fault. absurd (names-no_pattern steps e fault pattern)) (λ refused. refused) h
