@@ -270,7 +270,8 @@ impl<
         ensures fed { self.new ≡ duplex_state.fed F.residues P.permutation RATE self.old block.now }
         ensures none_left { self.new.sponge.pending ≡ [] }
     {
-        absorb::<F, P, WIDTH, RATE>(&mut self.sponge_state, block, &self.permutation);
+        overwrite(&mut self.sponge_state[..], block, RATE);
+        self.permutation.permute_mut(&mut self.sponge_state);
         self.outputs_left = RATE;
     }
 
@@ -446,7 +447,9 @@ fn plus_number<F: PrimeField64>(x: F, n: u64) -> F
     x + F::from_u64(n)
 }
 
-// Writes a block over the rate, and how many values it has into the cell after it.
+// Writes a block over the rate, and adds how many values it has to the cell after it. It is written out at each call:
+// the length of a whole block is known there.
+#[inline(always)]
 fn overwrite<F: PrimeField64>(cells: &mut [F], block: &[F], rate: usize)
     requires fits { length block.now ≤ rate }
     requires capacity { rate < length cells.old }

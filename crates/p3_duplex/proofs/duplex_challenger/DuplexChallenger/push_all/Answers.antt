@@ -1,6 +1,6 @@
-use Rattle.std.proofs.Common.{◌≡◌, ◌<◌, ◌≤◌, ◌+◌, ◌-◌, [], ◌++◌, length, take, drop, sym, ap, ◌∙◌, arith}
+use Rattle.std.proofs.Common.{◌≡◌, ◌++◌, ap, ◌∙◌, arith}
 use Rattle.std.proofs.lemmas.List.{take-append-drop}
-use Rattle.p3_duplex.specs.DuplexState.{DuplexState, fed}
+use Rattle.p3_duplex.specs.DuplexState.{fed}
 use Rattle.p3_duplex.specs.DuplexStateLaws.{fed-append}
 use Rattle.p3_duplex.proofs.duplex_challenger.DuplexChallenger.push_all.Goals as goal
 
