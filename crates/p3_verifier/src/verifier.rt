@@ -7,7 +7,7 @@ ghost use Rattle.p3_turn.specs.SeparatorSeed.{seed_of_separator, pattern_of};
 ghost use Rattle.p3_driver_core.specs.Bound.{value_of, values_of};
 ghost use Rattle.p3_driver_core.specs.Effects.{alphabet_of};
 ghost use Rattle.p3_driver_core.specs.Meanings as meaning;
-ghost use Rattle.p3_driver_core.specs.Turns.{algebra_step, opaque_step, bits_step};
+ghost use Rattle.p3_driver_core.specs.Turns.{IsNext, algebra_step, opaque_step, bits_step};
 ghost use Rattle.p3_verifier.specs.Reads as reads;
 ghost use Rattle.p3_verifier.specs.Reads.{TellsRead, TellsList, trailing_bytes};
 ghost use Rattle.p3_verifier.specs.Verifying.{verifying_of, ReceivesOrRefuses, KeepsOrRefuses, RefusesStart};
@@ -254,27 +254,33 @@ impl<'a, C: Sponge + Drop, U, D: DigestHasher> VerifierState<'a, C, U, D> {
 
     /// Opens a container of the kind. `T` names the container for those who read its steps. It takes no memory.
     pub fn begin<T: Named>(&mut self, label: Label, kind: Kind) -> Result<(), TranscriptError>
-        ensures { KeepsOrRefuses (meaning.marked {Symbol = C.Symbol}
+        ensures exact { KeepsOrRefuses (meaning.marked {Symbol = C.Symbol}
             (marker_of Hierarchy.Begin kind label.now T.name_bytes))
             (verifying_of C.state self.old) (λ _. tt {0}) result (verifying_of C.state self.new) }
+        ensures only { IsNext (verifying_of C.state self.old).turn.playing
+            (marker_of Hierarchy.Begin kind label.now T.name_bytes) → IsOk result }
     {
         self.turn.marker::<T>(Hierarchy::Begin, kind, label)
     }
 
     /// Closes a container of the kind, with the label and the `T` of its opener. It takes no memory.
     pub fn end<T: Named>(&mut self, label: Label, kind: Kind) -> Result<(), TranscriptError>
-        ensures { KeepsOrRefuses (meaning.marked {Symbol = C.Symbol}
+        ensures exact { KeepsOrRefuses (meaning.marked {Symbol = C.Symbol}
             (marker_of Hierarchy.End kind label.now T.name_bytes))
             (verifying_of C.state self.old) (λ _. tt {0}) result (verifying_of C.state self.new) }
+        ensures only { IsNext (verifying_of C.state self.old).turn.playing
+            (marker_of Hierarchy.End kind label.now T.name_bytes) → IsOk result }
     {
         self.turn.marker::<T>(Hierarchy::End, kind, label)
     }
 
     /// Opens a container that may hold steps of any kind. It takes no memory.
     pub fn begin_protocol<T: Named>(&mut self, label: Label) -> Result<(), TranscriptError>
-        ensures { KeepsOrRefuses (meaning.marked {Symbol = C.Symbol}
+        ensures exact { KeepsOrRefuses (meaning.marked {Symbol = C.Symbol}
             (marker_of Hierarchy.Begin Kind.Protocol label.now T.name_bytes))
             (verifying_of C.state self.old) (λ _. tt {0}) result (verifying_of C.state self.new) }
+        ensures only { IsNext (verifying_of C.state self.old).turn.playing
+            (marker_of Hierarchy.Begin Kind.Protocol label.now T.name_bytes) → IsOk result }
     {
         self.turn
             .marker::<T>(Hierarchy::Begin, Kind::Protocol, label)
@@ -282,9 +288,11 @@ impl<'a, C: Sponge + Drop, U, D: DigestHasher> VerifierState<'a, C, U, D> {
 
     /// Closes a container that may hold steps of any kind. It takes no memory.
     pub fn end_protocol<T: Named>(&mut self, label: Label) -> Result<(), TranscriptError>
-        ensures { KeepsOrRefuses (meaning.marked {Symbol = C.Symbol}
+        ensures exact { KeepsOrRefuses (meaning.marked {Symbol = C.Symbol}
             (marker_of Hierarchy.End Kind.Protocol label.now T.name_bytes))
             (verifying_of C.state self.old) (λ _. tt {0}) result (verifying_of C.state self.new) }
+        ensures only { IsNext (verifying_of C.state self.old).turn.playing
+            (marker_of Hierarchy.End Kind.Protocol label.now T.name_bytes) → IsOk result }
     {
         self.turn.marker::<T>(Hierarchy::End, Kind::Protocol, label)
     }
@@ -421,8 +429,9 @@ impl<'a, C: Sponge + Drop, U, D: DigestHasher> VerifierState<'a, C, U, D> {
 
     /// Reads `len` bytes in which the challenger takes no part, and lends them. It takes no memory.
     pub fn next_hint(&mut self, label: Label, len: usize) -> Result<&'a [u8], TranscriptError>
-        ensures { ReceivesOrRefuses (reads.hint_received {Symbol = C.Symbol} label.now len)
+        ensures exact { ReceivesOrRefuses (reads.hint_received {Symbol = C.Symbol} label.now len)
             (verifying_of C.state self.old) (λ bytes. bytes.now) result (verifying_of C.state self.new) }
+        ensures no_memory { IfErr result (λ e. e ≡ TranscriptError.OutOfMemory → ⊥) }
     {
         self.turn.steps.take(Interaction::bytes(
             Hierarchy::Atomic,
@@ -444,8 +453,9 @@ impl<'a, C: Sponge + Drop, U, D: DigestHasher> VerifierState<'a, C, U, D> {
         label: Label,
         max: usize,
     ) -> Result<&'a [u8], TranscriptError>
-        ensures { ReceivesOrRefuses (reads.hint_received_bounded {Symbol = C.Symbol} label.now max)
+        ensures exact { ReceivesOrRefuses (reads.hint_received_bounded {Symbol = C.Symbol} label.now max)
             (verifying_of C.state self.old) (λ bytes. bytes.now) result (verifying_of C.state self.new) }
+        ensures no_memory { IfErr result (λ e. e ≡ TranscriptError.OutOfMemory → ⊥) }
     {
         self.turn.steps.take(Interaction::bytes(
             Hierarchy::Atomic,
