@@ -9,5 +9,5 @@ not_taken false taken is refused = is
 
 pub returns-clause-err : goal.returns-clause-err
 returns-clause-err c =
-    let stuck = c.requires.stuck (not_taken c.in_ok-taken.field-0 c.args.taken c.in_ok-taken.was c.requires.not_taken) in
-    inl (stuck, c.fault_of_next.ensures [])
+    let is = not_taken c.in_ok-taken.field-0 c.args.taken c.in_ok-taken.was c.requires.not_taken in
+    inl (c.requires.stuck is, c.fault_of_next.ensures [])
