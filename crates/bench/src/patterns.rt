@@ -192,7 +192,10 @@ fn copies_of(alloc: Global, steps: &[Interaction], count: u32) -> Result<Vec<Vec
 fn checks(lists: Vec<Vec<Interaction>>) -> Result<u64> {
     let mut sum = 0u64;
     for steps in lists {
-        sum = sum.wrapping_add(pattern_of(steps)?.len() as u64);
+        match InteractionPattern::new(steps) {
+            Ok(pattern) => sum = sum.wrapping_add(pattern.len() as u64),
+            Err(error) => return Err(error.into()),
+        }
     }
     Ok(sum)
 }

@@ -1,13 +1,17 @@
 -- What open containers say of whole patterns.
-use Rattle.std.proofs.Common.{◌≡◌, ◌⊎◌, ℕ, List, [], ◌∷◌, length, refl, ⊎_elim}
+use Rattle.std.proofs.Common.{◌≡◌, ◌⊎◌, ℕ, ◌≤◌, List, [], ◌∷◌, map, length, take, refl, subst, ⊎_elim}
+use Rattle.std.proofs.lemmas.List.{take_all}
 use Rattle.std.specs.Prelude.{Result, Ok, Err, IfErr}
 use Rattle.p3_fs_core.specs.declared.error.TranscriptError.{TranscriptError}
 use Rattle.p3_fs_core.specs.declared.error.TranscriptError.TheVariants.{OutOfMemory}
 use Rattle.p3_fs_core.specs.declared.step.Kind.TheVariants.{Protocol}
+use Rattle.p3_fs_core.specs.declared.interaction.Interaction.{Interaction}
+use Rattle.p3_fs_core.specs.Interactions.{step_of}
 use Rattle.p3_fs_core.specs.Steps.{Step}
 use Rattle.p3_patterns.specs.PatternGrammar.{IsPattern}
 use Rattle.p3_patterns.specs.OpenContainers.{OpensAt, AreOpen}
 use Rattle.p3_patterns.specs.PatternFaults.{NamesFirstFault}
+use Rattle.p3_patterns.specs.Walks.{WalksTo}
 use Rattle.p3_patterns.proofs.FirstFaults.{names-no_pattern}
 use Rattle.p3_patterns.proofs.PatternGrammarLaws.{pattern-none_open}
 use Rattle.p3_patterns.proofs.OpenPositions.{open-pattern}
@@ -36,3 +40,10 @@ pub refused-pattern : {T : Type 0} (steps : List Step) (result : Result T Transc
 refused-pattern steps (Ok x) h pattern = tt
 refused-pattern steps (Err e) h pattern =
     ⊎_elim (λ fault. absurd (names-no_pattern steps e fault pattern)) (λ refused. refused) h
+
+-- steps that were all walked over, and leave none open, are a pattern
+pub walked-pattern : (steps : List Interaction) (walked : ℕ) (positions : List ℕ) → WalksTo steps walked positions
+    → length steps ≤ walked → positions ≡ [] → IsPattern Protocol (map step_of steps)
+walked-pattern steps walked positions walks all none =
+    subst (λ (xs : List Interaction). IsPattern Protocol (map step_of xs)) (take_all walked steps all)
+    (closed-pattern (map step_of (take walked steps)) positions walks.opens none)

@@ -72,10 +72,18 @@ impl InteractionPattern {
         ensures one_fault { (steps : List Step) (f g : Fault) → IsFirstFault steps f → IsFirstFault steps g → f ≡ g }
     {
         let mut containers = OpenContainers::new(*interactions.allocator());
-        match walk(&interactions, &mut containers) {
-            Ok(walked) if walked == interactions.len() => Self::recorded(interactions, containers),
-            walked => refuse_next(interactions, containers, walked),
+        let Ok(walked) = walk(&interactions, &mut containers) else {
+            return refuse_next(interactions, containers, Err(AllocError));
+        };
+        if walked < interactions.len() {
+            return refuse_next(interactions, containers, Ok(walked));
         }
+        if !containers.is_empty() {
+            return refuse_end(interactions, containers);
+        }
+        // The containers go first, so that the pattern is made where the caller wants it, and not copied there.
+        drop(containers);
+        Ok(InteractionPattern { interactions })
     }
 
     // The pattern of steps that were checked one by one, which is refused where a container is still open.
@@ -89,12 +97,11 @@ impl InteractionPattern {
         ensures err { IfErr result (λ e. NamesMissingEnd (map step_of interactions.items) e) }
         ensures only { IsPattern Kind.Protocol (map step_of interactions.items) → IsOk result }
     {
-        if !containers.is_empty() {
-            return refuse_end(interactions, containers);
+        if containers.is_empty() {
+            drop(containers);
+            return Ok(InteractionPattern { interactions });
         }
-        // The containers go first, so that the pattern can be made where the caller wants it.
-        drop(containers);
-        Ok(InteractionPattern { interactions })
+        refuse_end(interactions, containers)
     }
 
     /// The pattern of no steps.

@@ -1,5 +1,7 @@
 // Recording a pattern step by step.
-ghost use Rattle.std.specs.Prelude.{◌≡◌, [], ◌∷◌, ◌++◌, false, map, IfOk, IfErr, OnOk, IsOk};
+ghost use Rattle.std.specs.Prelude.{◌≡◌, [], ◌∷◌, ◌++◌, true, false, map, Ok, IfOk, IfErr, OnOk, IsOk};
+ghost use Rattle.p3_fs_core.specs.declared.error.PatternError.TheVariants.{Finished};
+ghost use Rattle.p3_fs_core.specs.declared.error.TranscriptError.TheVariants as error;
 ghost use Rattle.p3_fs_core.specs.Interactions.{step_of};
 ghost use Rattle.p3_patterns.specs.PatternGrammar.{IsPattern, IsViable};
 ghost use Rattle.p3_patterns.specs.OpenContainers.{AreOpen};
@@ -11,7 +13,7 @@ use crate::sequence::{fault_of_next, may_follow};
 use crate::{InteractionPattern, Pattern};
 use p3_field_core::Named;
 use p3_fs_core::{Hierarchy, Interaction, Kind, Label, PatternError, TranscriptError};
-use std::alloc::Global;
+use std::alloc::{AllocError, Global};
 use std::marker::{Model, PhantomData};
 
 /// Records a pattern step by step, for a sponge of the alphabet `U`. Each step is checked as it comes.
@@ -28,6 +30,8 @@ pub struct PatternState<U> {
 
 impl<U> Model for PatternState<U> {
     ghost use Rattle.std.specs.Prelude.{map};
+    ghost use Rattle.p3_fs_core.specs.declared.error.PatternError.TheVariants.{Finished};
+    ghost use Rattle.p3_fs_core.specs.declared.error.TranscriptError.TheVariants as error;
     ghost use Rattle.p3_fs_core.specs.Interactions.{step_of};
     ghost use Rattle.p3_patterns.specs.OpenContainers.{AreOpen};
     ghost use Rattle.p3_patterns.specs.Recording.{Recording};
@@ -95,11 +99,14 @@ impl<U> Pattern for PatternState<U> {
         ensures err { IfErr result (λ e. RefusesToRecord self.old (step_of interaction) e self.new) }
     {
         if self.finished {
-            return Err(TranscriptError::Pattern(PatternError::Finished));
+            return refuse_all();
         }
-        let taken = take(&mut self.interactions, &mut self.containers, interaction);
-        self.finished = taken.is_err();
-        taken
+        let taken = take(&mut self.interactions, &mut self.containers, &interaction);
+        let Ok(true) = taken else {
+            self.finished = true;
+            return refuse(&self.interactions, &self.containers, &interaction, taken);
+        };
+        Ok(())
     }
 
     // These four are the bodies of the trait, which the borrow checker does not take over for a `U` that may
@@ -121,25 +128,58 @@ impl<U> Pattern for PatternState<U> {
     }
 }
 
-// Takes the step where it may come next. A refused one leaves the steps as they were.
+// Takes the step where it may come next, and says whether it did. A refused one leaves the steps as they were. No error
+// is made, so that a step costs none.
 fn take(
     steps: &mut Vec<Interaction>,
     containers: &mut OpenContainers,
-    next: Interaction,
-) -> Result<(), TranscriptError>
+    next: &Interaction,
+) -> Result<bool, AllocError>
     requires { AreOpen (map step_of steps.old.items) containers.old.openers.items }
-    ensures ok { OnOk result (IsViable (map step_of steps.old.items ++ (step_of next ∷ []))
+    ensures taken { result ≡ Ok true → IsViable (map step_of steps.old.items ++ (step_of next.now ∷ []))
         × AreOpen (map step_of steps.new.items) containers.new.openers.items
-        × (map step_of steps.new.items ≡ map step_of steps.old.items ++ (step_of next ∷ []))) }
-    ensures err { IfErr result (λ e. FaultOfNext (map step_of steps.old.items) (step_of next) e
-        × (steps.new.items ≡ steps.old.items) × (containers.new.openers.items ≡ containers.old.openers.items)) }
+        × (map step_of steps.new.items ≡ map step_of steps.old.items ++ (step_of next.now ∷ [])) }
+    ensures other { (result ≡ Ok true → ⊥) → (steps.new.items ≡ steps.old.items)
+        × (containers.new.openers.items ≡ containers.old.openers.items) }
+    ensures stuck { result ≡ Ok false → IsViable (map step_of steps.old.items ++ (step_of next.now ∷ [])) → ⊥ }
+    ensures memory { IfErr result (λ _. IsViable (map step_of steps.old.items ++ (step_of next.now ∷ []))) }
 {
-    if !may_follow(steps, containers, &next) {
-        return Err(fault_of_next(steps, containers, &next));
+    if !may_follow(steps, containers, next) {
+        return Ok(false);
     }
     // Room for the step first, so that nothing has changed where there is none.
     steps.reserve(1)?;
-    containers.follow(steps.len(), &next)?;
-    steps.push_reserved(next);
-    Ok(())
+    containers.follow(steps.len(), next)?;
+    steps.push_reserved(*next);
+    Ok(true)
+}
+
+// Why the step was not taken.
+#[cold]
+#[inline(never)]
+fn refuse(
+    steps: &[Interaction],
+    containers: &OpenContainers,
+    next: &Interaction,
+    taken: Result<bool, AllocError>,
+) -> Result<(), TranscriptError>
+    requires open { AreOpen (map step_of steps.now) containers.now.openers.items }
+    requires not_taken { taken ≡ Ok true → ⊥ }
+    requires stuck { taken ≡ Ok false → IsViable (map step_of steps.now ++ (step_of next.now ∷ [])) → ⊥ }
+    requires memory { IfErr taken (λ _. IsViable (map step_of steps.now ++ (step_of next.now ∷ []))) }
+    ensures ok { OnOk result ⊥ }
+    ensures err { IfErr result (λ e. FaultOfNext (map step_of steps.now) (step_of next.now) e) }
+{
+    taken?;
+    Err(fault_of_next(steps, containers, next))
+}
+
+// Nothing is taken after a refusal.
+#[cold]
+#[inline(never)]
+fn refuse_all() -> Result<(), TranscriptError>
+    ensures ok { OnOk result ⊥ }
+    ensures err { IfErr result (λ e. e ≡ error.Pattern Finished) }
+{
+    Err(TranscriptError::Pattern(PatternError::Finished))
 }

@@ -10,12 +10,12 @@ invariant_of-result c =
     let steps = c.args.interactions.items in
     let few : length (map step_of steps) < 2 ^ 64 = rw (length-map steps step_of) (search rules) in
     let pattern = closed-pattern (map step_of steps) c.args.containers.openers.items c.requires
-    (c.is_empty.ensures.0 c.if-not-is_empty.false) in
+    (c.is_empty.ensures.0 c.if-is_empty.true) in
     (∣ pattern ∣₁, (few, tt))
 
-pub returns-clause-ok : goal.returns-clause-ok
-returns-clause-ok c = (
+pub returns-then-is_empty-clause-ok : goal.returns-then-is_empty-clause-ok
+returns-then-is_empty-clause-ok c = (
   refl,
   closed-pattern (map step_of c.args.interactions.items) c.args.containers.openers.items c.requires
-      (c.is_empty.ensures.0 c.if-not-is_empty.false),
+      (c.is_empty.ensures.0 c.if-is_empty.true),
 )
