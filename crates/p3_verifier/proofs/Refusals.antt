@@ -196,3 +196,8 @@ values-received interaction o enc alphabet max before after n rest xs here is_ne
           ((observing_bytes alphabet (count_bytes max m)).after before.turn.challenger) xs) (sym many);
       playing = playing;
     }
+
+-- no memory is asked for where nothing is read
+pub fails-with-memory : {S A : Type 0} (read : Read S A) (left : List ℕ) (e : TranscriptError) → FailsFor read left e →
+    e ≡ OutOfMemory → ⊥
+fails-with-memory read left e fails is = subst (λ (m : TranscriptError). FailsFor read left m) is fails
