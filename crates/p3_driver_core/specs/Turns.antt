@@ -1,6 +1,5 @@
 -- Steps as drivers play them, whichever driver it is.
 use Rattle.std.specs.Prelude.{◌≡◌, ℕ, ◌+◌, ◌⊎◌, ◌<◌, true, false, List, [], ◌++◌, Option, Some, None, take, codes, Result, MatchResult}
-use Rattle.p3_challenger_core.specs.declared.error.ChallengerError.{ChallengerError}
 use Rattle.p3_challenger_core.specs.declared.error.ChallengerError.TheVariants as challenger
 use Rattle.p3_fs_core.specs.Steps.{Step, step_with}
 use Rattle.p3_fs_core.specs.declared.error.PatternError.TheVariants.{Finished, OverCap}
