@@ -1,8 +1,8 @@
 -- Lists of values that went through the transcript, as they grow.
-use Rattle.std.proofs.Common.{◌≡◌, ℕ, ◌+◌, ◌-◌, ◌<◌, ◌≤◌, List, [], ◌∷◌, ◌++◌, Some, length, take, get_or, refl, sym, ap, ◌∙◌}
-use Rattle.std.proofs.Common.{map, add-one}
+use Rattle.std.proofs.Common.{◌≡◌, ℕ, ◌+◌, ◌-◌, ◌<◌, List, [], ◌∷◌, ◌++◌, Some}
+use Rattle.std.proofs.Common.{map}
 use Rattle.p3_challenger_core.specs.Sampling.{Sampling}
-use Rattle.p3_challenger_core.specs.DrawLaws.{Drew, drew-none, drew-one_more, drew-as}
+use Rattle.p3_challenger_core.specs.DrawLaws.{Drew, drew-one_more, drew-as}
 use Rattle.p3_driver_core.specs.Bound.{value_of}
 use Rattle.p3_driver_core.specs.BoundLaws.{values-more}
 use Rattle.p3_driver_core.specs.declared.bound.TranscriptBound.{TranscriptBound}

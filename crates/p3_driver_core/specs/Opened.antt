@@ -1,5 +1,5 @@
 -- A step that is open: it was held against the pattern, and is not played yet.
-use Rattle.std.specs.Prelude.{◌≡◌, ◌||◌, true, false}
+use Rattle.std.specs.Prelude.{◌≡◌, ◌||◌, true}
 use Rattle.p3_fs_core.specs.Steps.{Step}
 use Rattle.p3_patterns.specs.Playing.{Playing}
 use Rattle.p3_symmetric.specs.declared.digest_hasher.DigestHasher.{Ghosts}

@@ -1,6 +1,6 @@
 -- Steps as drivers play them, whichever driver it is.
-use Rattle.std.specs.Prelude.{◌≡◌, ℕ, ◌+◌, ◌⊎◌, ◌<◌, true, false, List, [], ◌++◌, Option, Some, None, take, codes, Result, MatchResult}
-use Rattle.p3_challenger_core.specs.declared.error.ChallengerError.{ChallengerError}
+use Rattle.std.specs.Prelude.{◌≡◌, ℕ, ◌+◌, ◌⊎◌, ◌<◌, true, false, List, [], ◌++◌, Option, Some, None, take, codes}
+use Rattle.std.specs.Prelude.{Result, MatchResult}
 use Rattle.p3_challenger_core.specs.declared.error.ChallengerError.TheVariants as challenger
 use Rattle.p3_fs_core.specs.Steps.{Step, step_with}
 use Rattle.p3_fs_core.specs.declared.error.PatternError.TheVariants.{Finished, OverCap}
@@ -60,12 +60,13 @@ abbrev pub step_on : Playing → Playing
 step_on playing = record { pattern = playing.pattern; position = playing.position + 1; finished = false }
 
 -- the step is played: it was the next one, this comes of it, and the challenger took part in it
-pub record Plays {S Symbol A : Type 0} (m : Meaning S Symbol A) (before : Turn S) (x : A) (after : Turn S) : Type 0 where
-  pub is_next : IsNext before.playing m.interaction
-  pub fits : m.effect.fits
-  pub gives : m.effect.gives before.challenger ≡ Some x
-  pub challenger : after.challenger ≡ m.effect.after before.challenger
-  pub playing : after.playing ≡ step_on before.playing
+pub record Plays {S Symbol A : Type 0} (m : Meaning S Symbol A) (before : Turn S) (x : A) (after : Turn S) : Type 0
+  where
+    pub is_next : IsNext before.playing m.interaction
+    pub fits : m.effect.fits
+    pub gives : m.effect.gives before.challenger ≡ Some x
+    pub challenger : after.challenger ≡ m.effect.after before.challenger
+    pub playing : after.playing ≡ step_on before.playing
 
 -- the step was not the next one, or one was refused before: nothing was done, and no step may follow
 pub record RefusesTurn {S : Type 0} (s : Step) (before : Turn S) (e : TranscriptError) (after : Turn S) : Type 0 where

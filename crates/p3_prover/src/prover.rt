@@ -114,7 +114,8 @@ impl<U: Unit, C: CanObserve<U::Item> + Drop, D: DigestHasher> ProverState<C, U, 
 
     /// Sends at most `max` bytes, after their count.
     ///
-    /// More are refused with [`PatternError::OverCap`](p3_fs_core::PatternError::OverCap), with nothing done. Condition:
+    /// More are refused with [`PatternError::OverCap`](p3_fs_core::PatternError::OverCap), with nothing done.
+    /// Condition:
     /// `U` is an alphabet. Bytes that are too long for it are refused with
     /// [`ChallengerError::TooLong`](p3_challenger_core::ChallengerError::TooLong): their count is absorbed then.
     pub fn add_bytes_bounded(
@@ -134,7 +135,8 @@ impl<U: Unit, C: CanObserve<U::Item> + Drop, D: DigestHasher> ProverState<C, U, 
 
     /// Sends at most `max` scalars, after their count.
     ///
-    /// More are refused with [`PatternError::OverCap`](p3_fs_core::PatternError::OverCap), with nothing done. Condition:
+    /// More are refused with [`PatternError::OverCap`](p3_fs_core::PatternError::OverCap), with nothing done.
+    /// Condition:
     /// `U` is an alphabet.
     pub fn add_scalars_bounded<F: TranscriptField + AlgebraIdentity<F> + Named, Cdc: Codec<C, F>>(
         &mut self,
@@ -146,7 +148,8 @@ impl<U: Unit, C: CanObserve<U::Item> + Drop, D: DigestHasher> ProverState<C, U, 
         ensures { let step = algebra_step Kind.Message label.now F.residues.order F.DIMENSION (D.digest_of F.identity)
             F.name_bytes (Length.Bounded max) in
             WritesWithin (length values.now) max (meaning.sent_bounded step
-            (alphabet_of U.items U.is_too_long C.observation C.slice_may_leave) max Cdc.observation Cdc.encoding values.now)
+            (alphabet_of U.items U.is_too_long C.observation C.slice_may_leave) max Cdc.observation Cdc.encoding
+            values.now)
             (proving_of C.state self.old) values_of result (proving_of C.state self.new) }
     {
         self.turn.steps.within(values.len(), max)?;
@@ -155,7 +158,8 @@ impl<U: Unit, C: CanObserve<U::Item> + Drop, D: DigestHasher> ProverState<C, U, 
 
     /// Observes at most `max` elements of an extension, after their count, which the proof does not carry.
     ///
-    /// More are refused with [`PatternError::OverCap`](p3_fs_core::PatternError::OverCap), with nothing done. Condition:
+    /// More are refused with [`PatternError::OverCap`](p3_fs_core::PatternError::OverCap), with nothing done.
+    /// Condition:
     /// `U` is an alphabet.
     pub fn observe_extensions_bounded<
         F: TranscriptField,
@@ -171,7 +175,8 @@ impl<U: Unit, C: CanObserve<U::Item> + Drop, D: DigestHasher> ProverState<C, U, 
         ensures { let step = algebra_step Kind.Message label.now F.residues.order EF.DIMENSION (D.digest_of EF.identity)
             EF.name_bytes (Length.Bounded max) in
             KeepsWithin (length values.now) max (meaning.observed_bounded step
-            (alphabet_of U.items U.is_too_long C.observation C.slice_may_leave) max ⟦<ExtensionFieldCodec<F, EF, Cdc> as Codec<C, EF>>⟧.observation values.now)
+            (alphabet_of U.items U.is_too_long C.observation C.slice_may_leave) max
+            ⟦<ExtensionFieldCodec<F, EF, Cdc> as Codec<C, EF>>⟧.observation values.now)
             (proving_of C.state self.old) values_of result (proving_of C.state self.new) }
     {
         self.turn.steps.within(values.len(), max)?;
@@ -236,7 +241,8 @@ impl<U: Unit, C: CanObserve<U::Item> + Drop, D: DigestHasher> ProverState<C, U, 
         ensures { let step = algebra_step Kind.Message label.now F.residues.order F.DIMENSION (D.digest_of F.identity)
             F.name_bytes (Length.Bounded max) in
             WritesOrRefuses (meaning.sent_bounded step
-            (alphabet_of U.items U.is_too_long C.observation C.slice_may_leave) max Cdc.observation Cdc.encoding values.now)
+            (alphabet_of U.items U.is_too_long C.observation C.slice_may_leave) max Cdc.observation Cdc.encoding
+            values.now)
             (proving_of C.state self.old) values_of result (proving_of C.state self.new) }
     {
         self.turn
@@ -399,7 +405,8 @@ impl<C: Sponge + Drop, U, D: DigestHasher> ProverState<C, U, D> {
     >(&mut self, label: Label, value: &EF) -> Result<TranscriptBound<EF>, TranscriptError>
         ensures { let step = algebra_step Kind.Message label.now F.residues.order EF.DIMENSION (D.digest_of EF.identity)
             EF.name_bytes Length.Scalar in
-            KeepsOrRefuses (meaning.observed step ⟦<ExtensionFieldCodec<F, EF, Cdc> as Codec<C, EF>>⟧.observation value.now)
+            KeepsOrRefuses (meaning.observed step ⟦<ExtensionFieldCodec<F, EF, Cdc> as Codec<C, EF>>⟧.observation
+            value.now)
             (proving_of C.state self.old) value_of result (proving_of C.state self.new) }
     {
         self.turn
@@ -414,7 +421,8 @@ impl<C: Sponge + Drop, U, D: DigestHasher> ProverState<C, U, D> {
     >(&mut self, label: Label, values: &[EF]) -> Result<Vec<TranscriptBound<EF>>, TranscriptError>
         ensures { let step = algebra_step Kind.Message label.now F.residues.order EF.DIMENSION (D.digest_of EF.identity)
             EF.name_bytes (Length.Fixed (length values.now)) in
-            KeepsOrRefuses (meaning.observed_all step ⟦<ExtensionFieldCodec<F, EF, Cdc> as Codec<C, EF>>⟧.observation values.now)
+            KeepsOrRefuses (meaning.observed_all step ⟦<ExtensionFieldCodec<F, EF, Cdc> as Codec<C, EF>>⟧.observation
+            values.now)
             (proving_of C.state self.old) values_of result (proving_of C.state self.new) }
     {
         self.turn
@@ -461,7 +469,8 @@ impl<C: Sponge + Drop, U, D: DigestHasher> ProverState<C, U, D> {
         bytes: &[u8],
         max: usize,
     ) -> Result<(), TranscriptError>
-        ensures { WritesWithin (length bytes.now) max (meaning.hinted_bounded {Symbol = C.Symbol} label.now max bytes.now)
+        ensures { WritesWithin (length bytes.now) max (meaning.hinted_bounded {Symbol = C.Symbol} label.now max
+            bytes.now)
             (proving_of C.state self.old) (λ _. bytes.now) result (proving_of C.state self.new) }
     {
         self.turn.steps.within(bytes.len(), max)?;
@@ -518,9 +527,10 @@ impl<C: Sponge + Drop, U, D: DigestHasher> ProverState<C, U, D> {
         Cdc: ScalarCodec<C, F>,
     >(&mut self, label: Label) -> Result<TranscriptBound<EF>, TranscriptError>
         requires { 128 ≤ Cdc.SECURITY_BITS }
-        ensures { let step = algebra_step Kind.Challenge label.now F.residues.order EF.DIMENSION (D.digest_of EF.identity)
-            EF.name_bytes Length.Scalar in
-            KeepsOrRefuses (meaning.drawn {Symbol = C.Symbol} step ⟦<ExtensionFieldCodec<F, EF, Cdc> as Codec<C, EF>>⟧.sampling)
+        ensures { let step = algebra_step Kind.Challenge label.now F.residues.order EF.DIMENSION
+            (D.digest_of EF.identity) EF.name_bytes Length.Scalar in
+            KeepsOrRefuses (meaning.drawn {Symbol = C.Symbol} step
+            ⟦<ExtensionFieldCodec<F, EF, Cdc> as Codec<C, EF>>⟧.sampling)
             (proving_of C.state self.old) value_of result (proving_of C.state self.new) }
     {
         self.turn
@@ -537,9 +547,10 @@ impl<C: Sponge + Drop, U, D: DigestHasher> ProverState<C, U, D> {
         Cdc: ScalarCodec<C, F>,
     >(&mut self, label: Label, n: usize) -> Result<Vec<TranscriptBound<EF>>, TranscriptError>
         requires { 128 ≤ Cdc.SECURITY_BITS }
-        ensures { let step = algebra_step Kind.Challenge label.now F.residues.order EF.DIMENSION (D.digest_of EF.identity)
-            EF.name_bytes (Length.Fixed n) in
-            KeepsOrRefuses (meaning.drawn_all {Symbol = C.Symbol} step ⟦<ExtensionFieldCodec<F, EF, Cdc> as Codec<C, EF>>⟧.sampling n)
+        ensures { let step = algebra_step Kind.Challenge label.now F.residues.order EF.DIMENSION
+            (D.digest_of EF.identity) EF.name_bytes (Length.Fixed n) in
+            KeepsOrRefuses (meaning.drawn_all {Symbol = C.Symbol} step
+            ⟦<ExtensionFieldCodec<F, EF, Cdc> as Codec<C, EF>>⟧.sampling n)
             (proving_of C.state self.old) values_of result (proving_of C.state self.new) }
     {
         self.turn
@@ -565,10 +576,12 @@ impl<C: Sponge + Drop, U, D: DigestHasher> ProverState<C, U, D> {
         self.turn.draw_bits(label, width, n)
     }
 
-    /// Spends the prover, for the bytes of the proof. It answers `Ok` exactly where no step was refused and none is left.
+    /// Spends the prover, for the bytes of the proof. It answers `Ok` exactly where no step was refused and none is
+    /// left.
     ///
     /// Else the error is [`PatternError::Finished`](p3_fs_core::PatternError::Finished) where a step was refused, and
-    /// [`PatternError::Unplayed`](p3_fs_core::PatternError::Unplayed) with the next step where there is one. It takes no
+    /// [`PatternError::Unplayed`](p3_fs_core::PatternError::Unplayed) with the next step where there is one. It takes
+    /// no
     /// memory.
     pub fn finalize(self) -> Result<Vec<u8>, TranscriptError>
         ensures ok { IfOk result (λ narg. IsPlayed (proving_of C.state self).turn.playing

@@ -1,2 +1,3 @@
+pub mod MirrorLaws
 pub mod Refusals
 pub mod ValuesInTurn

@@ -1,2 +1,3 @@
+pub mod Mirrors
 pub mod Reads
 pub mod Verifying

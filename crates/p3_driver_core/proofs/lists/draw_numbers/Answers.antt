@@ -1,4 +1,4 @@
-use Rattle.std.proofs.Common.{◌+◌, ◌-◌, [], ◌∷◌, ◌++◌, refl, ◌∙◌, arith, rules, inr, ap, map}
+use Rattle.std.proofs.Common.{◌+◌, ◌-◌, [], refl, ◌∙◌, arith, rules, inr, ap, map}
 use Rattle.p3_challenger_core.specs.DrawLaws.{drew-none, drew-as, drew-values, drew-state, drew-stops}
 use Rattle.p3_driver_core.specs.Bound.{value_of}
 use Rattle.p3_driver_core.proofs.BoundLists.{drew-bound}
@@ -34,7 +34,8 @@ loop-preserved g c =
       drew = drew-bound d c.args.n (g.C.Sponge.state c.args.challenger.now) c.loop.bounds.items
           c.push_reserved.new.self.items c.loop.counter (g.C.Sponge.state c.loop.challenger)
           (g.C.Sponge.state c.sample_bits.new.self) c.bind.result c.in_ok-sample_bits.field-0 c.loop-test.true
-          c.in_ok-sample_bits.ensures.drawn c.in_ok-sample_bits.ensures.after c.bind.ensures c.push_reserved.ensures.items
+          c.in_ok-sample_bits.ensures.drawn c.in_ok-sample_bits.ensures.after c.bind.ensures
+          c.push_reserved.ensures.items
           c.loop.invariant.drew;
       count = c.push_reserved.ensures.len ∙ ap (λ k. k + 1) c.loop.invariant.count;
       room = c.push_reserved.ensures.capacity ∙ c.loop.invariant.room;

@@ -1,4 +1,4 @@
-use Rattle.std.proofs.Common.{◌+◌, ◌-◌, [], ◌∷◌, ◌++◌, refl, ◌∙◌, arith, rules, inr, ap, map}
+use Rattle.std.proofs.Common.{◌+◌, ◌-◌, [], refl, ◌∙◌, arith, rules, inr, ap, map}
 use Rattle.p3_challenger_core.specs.DrawLaws.{drew-none, drew-as, drew-values, drew-state, drew-stops}
 use Rattle.p3_driver_core.specs.Bound.{value_of}
 use Rattle.p3_driver_core.proofs.BoundLists.{drew-bound}
