@@ -8,6 +8,7 @@ mod counts;
 mod lists;
 mod rejecting;
 mod steps;
+mod symmetric;
 mod turn;
 
 pub use bound::{TranscriptBound, bind};
@@ -15,4 +16,5 @@ pub use counts::{count_width, counted, observe_count};
 pub use lists::{bind_all, draw_numbers, draw_values, observe_values};
 pub use rejecting::draw_accepted;
 pub use steps::Steps;
+pub use symmetric::{Driver, SymmetricSteps};
 pub use turn::DriverTurn;

@@ -9,7 +9,7 @@ ghost use Rattle.p3_driver_core.specs.Bound.{value_of, values_of};
 ghost use Rattle.p3_driver_core.specs.Effects.{alphabet_of};
 ghost use Rattle.p3_driver_core.specs.Meanings as meaning;
 ghost use Rattle.p3_driver_core.specs.Rejecting.{Rule, Computes, drawn_rejecting};
-ghost use Rattle.p3_driver_core.specs.Turns.{algebra_step, opaque_step, bits_step};
+ghost use Rattle.p3_driver_core.specs.Turns.{PlaysOrRefuses, algebra_step, opaque_step, bits_step};
 ghost use Rattle.p3_prover.specs.Proving.{proving_of, WritesOrRefuses, WritesWithin, KeepsOrRefuses, KeepsWithin};
 ghost use Rattle.p3_prover.specs.Proving.{RefusesStart};
 
@@ -679,12 +679,13 @@ impl<C: Sponge, U, D: DigestHasher> ProverState<C, U, D> {
     ) -> Result<Vec<TranscriptBound<EF>>, TranscriptError>
         requires secure { 128 ≤ Cdc.SECURITY_BITS }
         requires callable { R.IsAlwaysCallable accept.now }
-        ensures { (rule : Rule EF) → Computes R.Fn accept.now rule →
+        ensures played { (rule : Rule EF) → Computes R.Fn accept.now rule →
             let step = algebra_step Kind.Challenge label.now F.residues.order EF.DIMENSION (D.digest_of EF.identity)
             EF.name_bytes (Length.Fixed n) in
-            KeepsOrRefuses (drawn_rejecting {Symbol = C.Symbol} step
+            PlaysOrRefuses (drawn_rejecting {Symbol = C.Symbol} step
             ⟦<ExtensionFieldCodec<F, EF, Cdc> as Codec<C, EF>>⟧.sampling rule limit n)
-            (proving_of C.state self.old) values_of result (proving_of C.state self.new) }
+            (proving_of C.state self.old).turn values_of result (proving_of C.state self.new).turn }
+        ensures narg { (proving_of C.state self.new).narg ≡ (proving_of C.state self.old).narg }
     {
         self.turn
             .draw_rejecting::<F, EF, ExtensionFieldCodec<F, EF, Cdc>, R>(label, n, accept, limit)
