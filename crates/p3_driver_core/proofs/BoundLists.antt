@@ -1,17 +1,11 @@
 -- Lists of values that went through the transcript, as they grow.
 use Rattle.std.proofs.Common.{◌≡◌, ℕ, ◌+◌, ◌-◌, ◌<◌, ◌≤◌, List, [], ◌∷◌, ◌++◌, Some, length, take, get_or, refl, sym, ap, ◌∙◌}
 use Rattle.std.proofs.Common.{map, add-one}
-use Rattle.std.proofs.lemmas.List.{map-append}
 use Rattle.p3_challenger_core.specs.Sampling.{Sampling}
 use Rattle.p3_challenger_core.specs.DrawLaws.{Drew, drew-none, drew-one_more, drew-as}
 use Rattle.p3_driver_core.specs.Bound.{value_of}
+use Rattle.p3_driver_core.specs.BoundLaws.{values-more}
 use Rattle.p3_driver_core.specs.declared.bound.TranscriptBound.{TranscriptBound}
-
--- the values with one more
-pub values-more : {T : Type 0} (bounds new : List (TranscriptBound T)) (b : TranscriptBound T) (x : T) →
-    new ≡ bounds ++ (b ∷ []) → value_of b ≡ x → map value_of new ≡ map value_of bounds ++ (x ∷ [])
-values-more bounds new b x grown is =
-    ap (map value_of) grown ∙ map-append value_of bounds (b ∷ []) ∙ ap (λ y. map value_of bounds ++ (y ∷ [])) is
 
 -- a value more was drawn
 pub drew-bound : {S T : Type 0} (d : Sampling S T) (n : ℕ) (start : S) (bounds new : List (TranscriptBound T)) (i : ℕ)

@@ -1,4 +1,5 @@
 pub mod Bound
+pub mod BoundLaws
 pub mod Counts
 pub mod Effects
 pub mod Meanings

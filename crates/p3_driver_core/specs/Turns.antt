@@ -1,5 +1,5 @@
 -- Steps as drivers play them, whichever driver it is.
-use Rattle.std.specs.Prelude.{◌≡◌, ℕ, ◌+◌, ◌⊎◌, ◌<◌, true, false, List, [], ◌++◌, Some, take, codes, Result, MatchResult}
+use Rattle.std.specs.Prelude.{◌≡◌, ℕ, ◌+◌, ◌⊎◌, ◌<◌, true, false, List, [], ◌++◌, Option, Some, None, take, codes, Result, MatchResult}
 use Rattle.p3_challenger_core.specs.declared.error.ChallengerError.{ChallengerError}
 use Rattle.p3_challenger_core.specs.declared.error.ChallengerError.TheVariants as challenger
 use Rattle.p3_fs_core.specs.Steps.{Step, step_with}
@@ -10,6 +10,8 @@ use Rattle.p3_fs_core.specs.declared.step.Hierarchy.TheVariants.{Atomic}
 use Rattle.p3_fs_core.specs.declared.step.Kind.{Kind}
 use Rattle.p3_fs_core.specs.declared.step.Kind.TheVariants as kind
 use Rattle.p3_fs_core.specs.declared.step.Length.{Length}
+use Rattle.p3_fs_core.specs.declared.step.Length.TheVariants.{Fixed}
+use Rattle.p3_fs_core.specs.Errors.{IsBadShape}
 use Rattle.p3_fs_core.specs.declared.step.TypeTag.TheVariants.{Algebra, Bytes, Opaque, Bits}
 use Rattle.p3_patterns.specs.Playing.{Playing, RefusesToPlay, next_step}
 use Rattle.p3_driver_core.specs.Effects.{Effect}
@@ -92,6 +94,29 @@ Refuses m before _ after = ⊥
 pub record RefusesLength (len max : ℕ) (before : Playing) (e : TranscriptError) (after : Playing) : Type 0 where
   pub fault : ((before.finished ≡ true) × (e ≡ Pattern Finished))
       ⊎ ((before.finished ≡ false) × (max < len) × (e ≡ Pattern (OverCap len max)))
+  pub finished : after.finished ≡ true
+
+-- the next step has a list of a length that is not this one
+abbrev pub IsOtherFixed : ℕ → Length → Type 0
+IsOtherFixed len (Fixed recorded) = recorded ≡ len → ⊥
+IsOtherFixed len _ = ⊥
+
+abbrev pub IsOtherLength : ℕ → Option Step → Type 0
+IsOtherLength len None = ⊥
+IsOtherLength len (Some s) = IsOtherFixed len s.length
+
+abbrev pub longer_list : List ℕ
+longer_list = codes "list length exceeds the recorded maximum"
+
+abbrev pub another_length : List ℕ
+another_length = codes "list length differs from the recorded shape"
+
+-- a list that a caller carries and that may not be so long, or any list once a step was refused: nothing was done, and
+-- no step may follow
+pub record RefusesCarried (IsWrong : Type 0) (reason : List ℕ) (before : Playing) (e : TranscriptError)
+    (after : Playing) : Type 0 where
+  pub fault : ((before.finished ≡ true) × (e ≡ Pattern Finished))
+      ⊎ ((before.finished ≡ false) × IsWrong × IsBadShape reason e)
   pub finished : after.finished ≡ true
 
 -- the step is played, and the answer is what came of it; or it is refused

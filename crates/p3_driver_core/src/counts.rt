@@ -1,5 +1,5 @@
 // The count of a bounded step.
-ghost use Rattle.std.specs.Prelude.{◌≡◌, ◌≤◌, ◌<◌, ◌^◌, take};
+ghost use Rattle.std.specs.Prelude.{◌≡◌, ◌≤◌, ◌<◌, ◌^◌, take, IfErr};
 ghost use Rattle.p3_driver_core.specs.Counts.{count_width, count_bytes};
 ghost use Rattle.p3_driver_core.specs.Effects.{alphabet_of, observing_bytes, Does};
 
@@ -36,8 +36,9 @@ pub fn observe_count<U: Unit, C: CanObserve<U::Item>>(
 ) -> Result<(), ChallengerError>
     requires alphabet { U.is_alphabet }
     requires within { count ≤ max }
-    ensures { Does (observing_bytes (alphabet_of U.items U.is_too_long C.observation C.slice_may_leave)
+    ensures does { Does (observing_bytes (alphabet_of U.items U.is_too_long C.observation C.slice_may_leave)
         (count_bytes max count)) (C.state challenger.old) result (C.state challenger.new) }
+    ensures memory { IfErr result (λ e. e ≡ ChallengerError.OutOfMemory) }
 {
     let (bytes, width) = counted(count, max);
     U::observe_bytes(challenger, &bytes[..width])

@@ -1,12 +1,13 @@
 // The pattern as a driver plays it: each step is held against the next one before anything else is done.
-ghost use Rattle.std.specs.Prelude.{◌≡◌, ◌≤◌, false, IfErr, OnOk, IsOk};
+ghost use Rattle.std.specs.Prelude.{◌≡◌, ◌≤◌, ◌<◌, ◌↔◌, false, IfErr, OnOk, IsOk, IsTrue};
 ghost use Rattle.std.specs.Option.{option_map};
 ghost use Rattle.p3_fs_core.specs.Errors.{misfit_of};
 ghost use Rattle.p3_fs_core.specs.Interactions.{step_of};
 ghost use Rattle.p3_fs_core.specs.Steps.{step_with};
 ghost use Rattle.p3_patterns.specs.Playing.{RefusesToPlay, FaultOfPlayEnd, IsPatternError, IsPlayed, next_step};
 ghost use Rattle.p3_driver_core.specs.Opened.{playing_of, Opens};
-ghost use Rattle.p3_driver_core.specs.Turns.{algebra_step, RefusesLength};
+ghost use Rattle.p3_driver_core.specs.Turns.{algebra_step, RefusesLength, RefusesCarried};
+ghost use Rattle.p3_driver_core.specs.Turns.{IsOtherLength, longer_list, another_length};
 
 use crate::algebras::Algebras;
 use p3_field_core::{AlgebraIdentity, Named};
@@ -92,6 +93,61 @@ impl<D: DigestHasher> Steps<D> {
             return Err(TranscriptError::Pattern(PatternError::OverCap { len, max }));
         }
         Ok(())
+    }
+
+    /// Lets a list through that a caller carries, which is no longer than its step lets it be.
+    ///
+    /// The errors are [`PatternError::Finished`] where a step was refused before, and then
+    /// [`TranscriptError::BadProofShape`] where the list is longer. None is taken from then on.
+    pub fn carried_within(&mut self, len: usize, max: usize) -> Result<(), TranscriptError>
+        ensures ok { OnOk result ((len ≤ max) × (self.new ≡ self.old)) }
+        ensures err { IfErr result (λ e. RefusesCarried (max < len) longer_list (playing_of self.old) e
+            (playing_of self.new)) }
+    {
+        if self.is_finished() {
+            return Err(TranscriptError::Pattern(PatternError::Finished));
+        }
+        if len > max {
+            self.closed = true;
+            return Err(TranscriptError::BadProofShape {
+                reason: "list length exceeds the recorded maximum",
+            });
+        }
+        Ok(())
+    }
+
+    /// Lets a list through that a caller carries, but for one where the next step has a list of another length.
+    ///
+    /// The errors are [`PatternError::Finished`] where a step was refused before, and then
+    /// [`TranscriptError::BadProofShape`] where the next step has another length. None is taken from then on.
+    pub fn carried_as_recorded(&mut self, len: usize) -> Result<(), TranscriptError>
+        ensures ok { OnOk result ((IsOtherLength len (next_step (playing_of self.old)) → ⊥) × (self.new ≡ self.old)) }
+        ensures err { IfErr result (λ e. RefusesCarried (IsOtherLength len (next_step (playing_of self.old)))
+            another_length (playing_of self.old) e (playing_of self.new)) }
+    {
+        if self.is_finished() {
+            return Err(TranscriptError::Pattern(PatternError::Finished));
+        }
+        if self.has_other_length(len) {
+            self.closed = true;
+            return Err(TranscriptError::BadProofShape {
+                reason: "list length differs from the recorded shape",
+            });
+        }
+        Ok(())
+    }
+
+    // The next step has a list of a length that is not this one.
+    fn has_other_length(&self, len: usize) -> bool
+        ensures { IsTrue result ↔ IsOtherLength len (next_step (playing_of self.now)) }
+    {
+        match self.player.next_interaction() {
+            None => false,
+            Some(step) => match step.length() {
+                Length::Fixed(recorded) => recorded != len,
+                Length::None | Length::Scalar | Length::Bounded(_) => false,
+            },
+        }
     }
 
     /// A step was refused, so none is taken any more.

@@ -1,5 +1,5 @@
 -- Why a step that reads is refused.
-use Rattle.std.proofs.Common.{◌≡◌, ℕ, List, true, Result, Ok, Err, refl, inl, inr, subst}
+use Rattle.std.proofs.Common.{◌≡◌, ◌∙◌, sym, ap, ℕ, List, length, true, Result, Ok, Err, refl, inl, inr, subst}
 use Rattle.p3_challenger_core.specs.declared.error.ChallengerError.{ChallengerError}
 use Rattle.p3_challenger_core.specs.declared.error.ChallengerError.TheVariants as challenger
 use Rattle.p3_fs_core.specs.Errors.{transcript_error}
@@ -8,10 +8,15 @@ use Rattle.p3_fs_core.specs.declared.error.TranscriptError.{TranscriptError}
 use Rattle.p3_fs_core.specs.declared.error.TranscriptError.TheVariants.{MissingBegin, InvalidKind, MismatchedBeginEnd}
 use Rattle.p3_fs_core.specs.declared.error.TranscriptError.TheVariants.{MissingEnd, BadProofShape, Pattern}
 use Rattle.p3_fs_core.specs.declared.error.TranscriptError.TheVariants.{Challenger, LabelTooLong, OutOfMemory}
-use Rattle.p3_driver_core.specs.Effects.{Effect}
-use Rattle.p3_driver_core.specs.Turns.{IsNext, GivesUp}
-use Rattle.p3_verifier.specs.Reads.{Read, Reading, FailsFor, reading_first}
-use Rattle.p3_verifier.specs.Verifying.{Verifying, RefusesToRead}
+use Rattle.p3_challenger_core.specs.Observation.{Observation, observed_all}
+use Rattle.p3_fs_core.specs.Encoding.{Encoding}
+use Rattle.p3_driver_core.specs.Counts.{count_bytes}
+use Rattle.p3_driver_core.specs.Effects.{Effect, Alphabet, observing_bytes}
+use Rattle.p3_driver_core.specs.Turns.{IsNext, GivesUp, step_on}
+use Rattle.p3_verifier.proofs.ValuesInTurn.{values-as_many}
+use Rattle.p3_verifier.specs.Reads.{Read, Reading, FailsFor, FailsForList, reading_first, then_read, absorbed_first}
+use Rattle.p3_verifier.specs.Reads.{read_values, read_count, LeavesEach, received_all, received_bounded, message_too_long}
+use Rattle.p3_verifier.specs.Verifying.{Verifying, Receives, RefusesToRead}
 
 -- nothing was read, and nothing done
 pub not-read : {S Symbol A : Type 0} (r : Reading S Symbol A) (before after : Verifying S) (e : TranscriptError) →
@@ -65,3 +70,129 @@ refused-after_read {S} interaction read effect before after x e here is_next fou
     let gives_up : GivesUp interaction before.turn ((effect x).refuses e) after.turn =
     record { is_next = is_next; leaves = from_before; finished = finished } in
     by_error interaction read effect before after x e found gives_up
+
+-- ---- lists
+
+module _ {S Symbol A : Type 0} (interaction : Step) (o : Observation S Symbol A) (enc : Encoding A) (before after :
+    Verifying S) (is_next : IsNext before.turn.playing interaction) (finished : after.turn.playing.finished ≡ true) where
+  -- a list is refused
+  pub list-refused : (n : ℕ) (err : TranscriptError) →
+      FailsForList (read_values enc o.observed n before.unread) (LeavesEach enc o n before.unread)
+      before.turn.challenger after.unread after.turn.challenger err →
+      RefusesToRead (received_all interaction o enc n) before err after
+  list-refused n (MissingBegin info) fails = absurd fails
+  list-refused n (InvalidKind info) fails = absurd fails
+  list-refused n (MismatchedBeginEnd info) fails = absurd fails
+  list-refused n (MissingEnd info) fails = absurd fails
+  list-refused n (BadProofShape reason) fails =
+      record {
+        failure = fails.0;
+        is_next = is_next;
+        read = fails.1;
+        told = fails.2;
+        unread = fails.3;
+        challenger = fails.4;
+        finished = finished;
+      }
+  list-refused n (Pattern e) fails = absurd fails
+  list-refused n (Challenger e) fails = absurd fails
+  list-refused n LabelTooLong fails = absurd fails
+  list-refused n OutOfMemory fails = record { is_next = is_next; leaves = fails; finished = finished }
+
+  module _ {I : Type 0} (alphabet : Alphabet S Symbol I) (max : ℕ) where
+    -- a count that is none is why there is no list
+    pub count-fails : (left : List ℕ) (err : TranscriptError) →
+        FailsFor (read_count {S = S} message_too_long max before.unread) left err →
+        FailsFor ((received_bounded interaction alphabet max o enc).read before.unread) left err
+    count-fails left (MissingBegin info) fails = absurd fails
+    count-fails left (InvalidKind info) fails = absurd fails
+    count-fails left (MismatchedBeginEnd info) fails = absurd fails
+    count-fails left (MissingEnd info) fails = absurd fails
+    count-fails left (BadProofShape reason) fails =
+        ap (then_read (λ n rest. absorbed_first (observing_bytes alphabet (count_bytes max n)).after
+        (read_values enc o.observed n rest))) fails
+    count-fails left (Pattern e) fails = absurd fails
+    count-fails left (Challenger e) fails = absurd fails
+    count-fails left LabelTooLong fails = absurd fails
+    count-fails left OutOfMemory fails = absurd fails
+
+    module _ (n : ℕ) (rest : List ℕ) (found : read_count {S = S} message_too_long max before.unread ≡ Ok (n, rest)) where
+      -- the count is refused for memory
+      pub count-refused : (e : ChallengerError) → e ≡ challenger.OutOfMemory →
+          (observing_bytes alphabet (count_bytes max n)).refuses e before.turn.challenger after.turn.challenger →
+          RefusesToRead (received_bounded interaction alphabet max o enc) before (transcript_error e) after
+      count-refused challenger.OutOfMemory is refuses =
+          record { is_next = is_next; leaves = inr (n, rest, found, inl refuses); finished = finished }
+      count-refused challenger.DrawLimit is refuses = absurd (cc)
+      count-refused challenger.NoWitness is refuses = absurd (cc)
+      count-refused challenger.TooLong is refuses = absurd (cc)
+
+      whole : (r : Read S (List A)) → read_values enc o.observed n rest ≡ r →
+          (received_bounded interaction alphabet max o enc).read before.unread
+          ≡ absorbed_first (observing_bytes alphabet (count_bytes max n)).after r
+      whole r is =
+          ap (then_read (λ m bs. absorbed_first (observing_bytes alphabet (count_bytes max m)).after
+          (read_values enc o.observed m bs))) found
+          ∙ ap (absorbed_first (observing_bytes alphabet (count_bytes max n)).after) is
+
+      -- the values after it are refused
+      pub values-refused : (here : S) (err : TranscriptError) →
+          here ≡ (observing_bytes alphabet (count_bytes max n)).after before.turn.challenger →
+          FailsForList (read_values enc o.observed n rest) (LeavesEach enc o n rest) here after.unread
+          after.turn.challenger err →
+          RefusesToRead (received_bounded interaction alphabet max o enc) before err after
+      values-refused here (MissingBegin info) is fails = absurd fails
+      values-refused here (InvalidKind info) is fails = absurd fails
+      values-refused here (MismatchedBeginEnd info) is fails = absurd fails
+      values-refused here (MissingEnd info) is fails = absurd fails
+      values-refused here (BadProofShape reason) is fails =
+          record {
+            failure = record {
+              reason = fails.0.reason;
+              left = fails.0.left;
+              absorbed = λ s. fails.0.absorbed ((observing_bytes alphabet (count_bytes max n)).after s);
+            };
+            is_next = is_next;
+            read = whole (Err fails.0) fails.1;
+            told = fails.2;
+            unread = fails.3;
+            challenger = fails.4 ∙ ap fails.0.absorbed is;
+            finished = finished;
+          }
+      values-refused here (Pattern e) is fails = absurd fails
+      values-refused here (Challenger e) is fails = absurd fails
+      values-refused here LabelTooLong is fails = absurd fails
+      values-refused here OutOfMemory is fails =
+          record {
+            is_next = is_next;
+            leaves = inr (n, rest, found, inr (subst (λ s. LeavesEach enc o n rest s after.turn.challenger) is fails));
+            finished = finished;
+          }
+
+-- a list is received after its count
+pub values-received : {S Symbol I A : Type 0} (interaction : Step) (o : Observation S Symbol A) (enc : Encoding A)
+    (alphabet : Alphabet S Symbol I) (max : ℕ) (before after : Verifying S) (n : ℕ) (rest : List ℕ) (xs : List A)
+    (here : S) → IsNext before.turn.playing interaction →
+    read_count {S = S} message_too_long max before.unread ≡ Ok (n, rest) →
+    (alphabet.is_too_long (length (count_bytes max n)) → ⊥) →
+    here ≡ (observing_bytes alphabet (count_bytes max n)).after before.turn.challenger →
+    read_values enc o.observed n rest ≡ Ok (xs, after.unread) → after.turn.challenger ≡ observed_all o.observed here xs →
+    after.turn.playing ≡ step_on before.turn.playing →
+    Receives (received_bounded interaction alphabet max o enc) before xs after
+values-received interaction o enc alphabet max before after n rest xs here is_next found fits is read observed playing =
+    let many : length xs ≡ n = values-as_many enc o n rest xs after.unread read in
+    record {
+      is_next = is_next;
+      read =
+          ap (then_read (λ m bs. absorbed_first (observing_bytes alphabet (count_bytes max m)).after
+          (read_values enc o.observed m bs))) found
+          ∙ ap (absorbed_first (observing_bytes alphabet (count_bytes max n)).after) read;
+      fits = (subst (λ m. alphabet.is_too_long (length (count_bytes max m)) → ⊥) (sym many) fits, tt);
+      gives = refl;
+      challenger =
+          observed
+          ∙ ap (λ s. observed_all o.observed s xs) is
+          ∙ ap (λ m. observed_all o.observed
+          ((observing_bytes alphabet (count_bytes max m)).after before.turn.challenger) xs) (sym many);
+      playing = playing;
+    }

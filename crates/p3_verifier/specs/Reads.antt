@@ -1,8 +1,8 @@
 -- What a step that reads the proof means.
-use Rattle.std.specs.Prelude.{◌≡◌, ℕ, ◌⊎◌, List, take, drop, length, codes, nat_lt, Result, Ok, Err, MatchResult}
+use Rattle.std.specs.Prelude.{◌≡◌, ℕ, zero, suc, ◌*◌, ◌⊎◌, List, [], ◌∷◌, take, drop, length, codes, nat_lt, Result, Ok, Err, MatchResult}
 use Rattle.std.specs.Prelude.{if◌then◌else◌}
 use Rattle.p3_fs_core.specs.declared.error.TranscriptError.{TranscriptError}
-use Rattle.p3_fs_core.specs.declared.error.TranscriptError.TheVariants.{BadProofShape}
+use Rattle.p3_fs_core.specs.declared.error.TranscriptError.TheVariants.{BadProofShape, OutOfMemory}
 use Rattle.p3_challenger_core.specs.Observation.{Observation}
 use Rattle.p3_fs_core.specs.BigEndian.{big_endian}
 use Rattle.p3_fs_core.specs.Encoding.{Encoding}
@@ -11,7 +11,9 @@ use Rattle.p3_fs_core.specs.declared.step.Kind.{Kind}
 use Rattle.p3_fs_core.specs.declared.step.Kind.TheVariants.{Message, Hint}
 use Rattle.p3_fs_core.specs.declared.step.Length.TheVariants.{Fixed, Bounded}
 use Rattle.p3_driver_core.specs.Counts.{count_width, count_bytes}
-use Rattle.p3_driver_core.specs.Effects.{Effect, Alphabet, untouched, observing, observing_bytes, in_turn}
+use Rattle.p3_driver_core.specs.Effects.{Effect, Alphabet, untouched, observing, observing_all, observing_bytes}
+use Rattle.p3_driver_core.specs.Effects.{in_turn}
+use Rattle.p3_challenger_core.specs.declared.error.ChallengerError.TheVariants as challenger
 use Rattle.p3_driver_core.specs.Turns.{bytes_step, LeavesBeginning}
 
 -- why nothing is read, the bytes that are left then, and what the challenger has absorbed
@@ -90,14 +92,57 @@ read_count over max bytes =
     then unreadable over (drop (count_width max) bytes)
     else Ok (big_endian (take (count_width max) bytes), drop (count_width max) bytes))
 
--- what is read after a count
-abbrev pub after_count : {S A : Type 0} → (ℕ → List ℕ → Read S A) → Read S ℕ → Read S A
-after_count next (Ok found) = next found.0 found.1
-after_count next (Err failure) = Err failure
+-- what is read after a value
+abbrev pub then_read : {S A B : Type 0} → (A → List ℕ → Read S B) → Read S A → Read S B
+then_read next (Ok found) = next found.0 found.1
+then_read next (Err failure) = Err failure
 
 -- at most so many bytes, after their count
 abbrev pub read_counted_bytes : {S : Type 0} → List ℕ → ℕ → List ℕ → Read S (List ℕ)
-read_counted_bytes over max bytes = after_count read_bytes (read_count over max bytes)
+read_counted_bytes over max bytes = then_read read_bytes (read_count over max bytes)
+
+-- ---- lists, of which each value is observed before the next one is read
+
+-- where what is read later is unreadable, this was absorbed before
+abbrev pub absorbed_first : {S A : Type 0} → (S → S) → Read S A → Read S A
+absorbed_first before (Ok found) = Ok found
+absorbed_first before (Err failure) =
+    Err (record {
+      reason = failure.reason;
+      left = failure.left;
+      absorbed = λ s. failure.absorbed (before s);
+    })
+
+-- a value in front of those that are read after it
+abbrev pub in_front : {S A : Type 0} → A → Read S (List A) → Read S (List A)
+in_front x (Ok found) = Ok (x ∷ found.0, found.1)
+in_front x (Err failure) = Err failure
+
+-- so many values one after another
+unfoldable pub read_each : {S A : Type 0} → Encoding A → (S → A → S) → ℕ → List ℕ → Read S (List A)
+read_each e observed zero bytes = Ok ([], bytes)
+read_each e observed (suc n) bytes =
+    then_read (λ x rest. absorbed_first (λ s. observed s x) (in_front x (read_each e observed n rest)))
+    (read_value e bytes)
+
+-- the same, where none is read if their spellings take more bytes than are left
+abbrev pub read_values : {S A : Type 0} → Encoding A → (S → A → S) → ℕ → List ℕ → Read S (List A)
+read_values e observed n bytes =
+    if nat_lt (length bytes) (n * e.width) then unreadable too_many_values bytes else read_each e observed n bytes
+
+-- at most so many values, after their count, which is absorbed so before any of them is read
+abbrev pub read_counted_values : {S A : Type 0} → Encoding A → (S → A → S) → (ℕ → S → S) → ℕ → List ℕ →
+    Read S (List A)
+read_counted_values e observed counted max bytes =
+    then_read (λ n rest. absorbed_first (counted n) (read_values e observed n rest))
+    (read_count message_too_long max bytes)
+
+-- what want of memory may leave of the challenger: it observed a beginning of the values
+unfoldable pub LeavesEach : {S Symbol A : Type 0} → Encoding A → Observation S Symbol A → ℕ → List ℕ → S → S → Type 0
+LeavesEach e o zero bytes s t = t ≡ s
+LeavesEach {S} {Symbol} {A} e o (suc n) bytes s t =
+    (t ≡ s) ⊎ ((x : A) × (rest : List ℕ) × (read_value {S = S} e bytes ≡ Ok (x, rest))
+    × (o.may_leave s x t ⊎ LeavesEach e o n rest (o.observed s x) t))
 
 -- an answer is what is read, and the bytes that are left then are these
 abbrev pub FailsFor : {S A : Type 0} → Read S A → List ℕ → TranscriptError → Type 0
@@ -107,6 +152,20 @@ FailsFor read left _ = ⊥
 abbrev pub TellsRead : {S A R : Type 0} → Read S A → (R → A) → Result R TranscriptError → List ℕ → Type 0
 TellsRead read value result left =
     MatchResult result (λ y. read ≡ Ok (value y, left)) (λ e. FailsFor read left e)
+
+-- the same of a list whose values are observed as they are read, where the challenger is left so
+abbrev pub FailsForList : {S A : Type 0} → Read S A → (S → S → Type 0) → S → List ℕ → S → TranscriptError → Type 0
+FailsForList {S} read MayLeave s left t (BadProofShape reason) =
+    (failure : Unreadable S) × (read ≡ Err failure) × (reason.now ≡ failure.reason) × (left ≡ failure.left)
+    × (t ≡ failure.absorbed s)
+FailsForList read MayLeave s left t OutOfMemory = MayLeave s t
+FailsForList read MayLeave s left t _ = ⊥
+
+abbrev pub TellsList : {S A R : Type 0} → Read S A → (S → A → S) → (S → S → Type 0) → (R → A) → S →
+    Result R TranscriptError → List ℕ → S → Type 0
+TellsList read observed MayLeave value s result left t =
+    MatchResult result (λ y. (read ≡ Ok (value y, left)) × (t ≡ observed s (value y)))
+    (λ e. FailsForList read MayLeave s left t e)
 
 -- ---- the steps
 
@@ -135,3 +194,28 @@ hint_received label n = reading_first (bytes_step Hint label (Fixed n)) (read_by
 abbrev pub hint_received_bounded : {S Symbol : Type 0} → List ℕ → ℕ → Reading S Symbol (List ℕ)
 hint_received_bounded label max =
     reading_first (bytes_step Hint label (Bounded max)) (read_counted_bytes hint_too_long max) untouched
+
+-- so many values are received
+abbrev pub received_all : {S Symbol A : Type 0} → Step → Observation S Symbol A → Encoding A → ℕ →
+    Reading S Symbol (List A)
+received_all interaction o e n =
+    record {
+      interaction = interaction;
+      read = read_values e o.observed n;
+      effect = observing_all o;
+      may_leave = LeavesEach e o n;
+    }
+
+-- at most so many values are received, after their count
+abbrev pub received_bounded : {S Symbol I A : Type 0} → Step → Alphabet S Symbol I → ℕ → Observation S Symbol A →
+    Encoding A → Reading S Symbol (List A)
+received_bounded {S} interaction alphabet max o e =
+    let counted = λ (n : ℕ). observing_bytes alphabet (count_bytes max n) in
+    record {
+      interaction = interaction;
+      read = read_counted_values e o.observed (λ n. (counted n).after) max;
+      effect = λ xs. in_turn (counted (length xs)) (observing_all o xs);
+      may_leave = λ bytes s t.
+          (t ≡ s) ⊎ ((n : ℕ) × (rest : List ℕ) × (read_count {S = S} message_too_long max bytes ≡ Ok (n, rest))
+          × ((counted n).refuses challenger.OutOfMemory s t ⊎ LeavesEach e o n rest ((counted n).after s) t));
+    }

@@ -1,5 +1,5 @@
 -- A verifier as contracts see it, and what a step makes of it.
-use Rattle.std.specs.Prelude.{◌≡◌, ◌≤◌, ◌⊎◌, true, List, [], ℕ, Some, Ok, Err, Result, MatchResult}
+use Rattle.std.specs.Prelude.{◌≡◌, ◌≤◌, ◌<◌, ◌⊎◌, true, List, [], ℕ, Some, Ok, Err, Result, MatchResult}
 use Rattle.p3_fs_core.specs.Steps.{Step}
 use Rattle.p3_fs_core.specs.declared.error.TranscriptError.{TranscriptError}
 use Rattle.p3_fs_core.specs.declared.error.TranscriptError.TheVariants.{Pattern, BadProofShape, Challenger, OutOfMemory}
@@ -7,8 +7,9 @@ use Rattle.p3_challenger_core.specs.declared.error.ChallengerError.TheVariants a
 use Rattle.p3_symmetric.specs.declared.digest_hasher.DigestHasher.{Ghosts}
 use Rattle.p3_driver_core.specs.Opened.{turn_of}
 use Rattle.p3_driver_core.specs.Turns.{Meaning, Turn, Plays, Refuses, RefusesTurn, GivesUp, PlaysOrRefuses, IsNext, step_on}
+use Rattle.p3_driver_core.specs.Turns.{RefusesCarried, IsOtherLength, longer_list, another_length}
 use Rattle.p3_fs_core.specs.Errors.{misfit_of}
-use Rattle.p3_patterns.specs.Playing.{FaultOfPlayEnd, IsPlayed}
+use Rattle.p3_patterns.specs.Playing.{FaultOfPlayEnd, IsPlayed, next_step}
 use Rattle.p3_verifier.specs.Reads.{Reading, Unreadable, trailing_bytes}
 use Rattle.p3_verifier.specs.declared.verifier.VerifierState.{VerifierState}
 
@@ -71,6 +72,31 @@ abbrev pub KeepsOrRefuses : {S Symbol A R : Type 0} → Meaning S Symbol A → V
     Result R TranscriptError → Verifying S → Type 0
 KeepsOrRefuses m before value result after =
     PlaysOrRefuses m before.turn value result after.turn × (after.unread ≡ before.unread)
+
+-- ---- lists that the caller carries
+
+-- a list of a wrong length is refused first: nothing was done then
+pub record RefusesList {S : Type 0} (IsWrong : Type 0) (reason : List ℕ) (before : Verifying S) (e : TranscriptError)
+    (after : Verifying S) : Type 0 where
+  pub playing : RefusesCarried IsWrong reason before.turn.playing e after.turn.playing
+  pub challenger : after.turn.challenger ≡ before.turn.challenger
+
+-- a list that may have so many elements
+abbrev pub KeepsWithin : {S Symbol A R : Type 0} → ℕ → ℕ → Meaning S Symbol A → Verifying S → (R → A) →
+    Result R TranscriptError → Verifying S → Type 0
+KeepsWithin len max m before value result after =
+    MatchResult result (λ r. (len ≤ max) × Plays m before.turn (value r) after.turn)
+    (λ e. RefusesList (max < len) longer_list before e after ⊎ ((len ≤ max) × Refuses m before.turn e after.turn))
+    × (after.unread ≡ before.unread)
+
+-- a list that has as many elements as the next step says, where it says so
+abbrev pub KeepsAsRecorded : {S Symbol A R : Type 0} → ℕ → Meaning S Symbol A → Verifying S → (R → A) →
+    Result R TranscriptError → Verifying S → Type 0
+KeepsAsRecorded len m before value result after =
+    MatchResult result (λ r. Plays m before.turn (value r) after.turn)
+    (λ e. RefusesList (IsOtherLength len (next_step before.turn.playing)) another_length before e after
+    ⊎ ((IsOtherLength len (next_step before.turn.playing) → ⊥) × Refuses m before.turn e after.turn))
+    × (after.unread ≡ before.unread)
 
 -- all steps are played, none was refused, and no byte is left
 pub record EndsReading {S : Type 0} (v : Verifying S) : Type 0 where

@@ -1,5 +1,5 @@
 // The verifier's driver: it plays a pattern, and reads the proof.
-ghost use Rattle.std.specs.Prelude.{◌≡◌, ◌≤◌, [], false, length, OnOk, IfOk, IfErr, IsOk};
+ghost use Rattle.std.specs.Prelude.{◌≡◌, ◌≤◌, ◌↔◌, ◌*◌, [], false, IsTrue, length, OnOk, IfOk, IfErr, IsOk};
 ghost use Rattle.p3_challenger_core.specs.Observation.{observed_all};
 ghost use Rattle.p3_fs_core.specs.Errors.{IsBadShape};
 ghost use Rattle.p3_fs_core.specs.Steps.{marker_of};
@@ -9,9 +9,9 @@ ghost use Rattle.p3_driver_core.specs.Effects.{alphabet_of};
 ghost use Rattle.p3_driver_core.specs.Meanings as meaning;
 ghost use Rattle.p3_driver_core.specs.Turns.{algebra_step, opaque_step, bits_step};
 ghost use Rattle.p3_verifier.specs.Reads as reads;
-ghost use Rattle.p3_verifier.specs.Reads.{TellsRead, trailing_bytes};
+ghost use Rattle.p3_verifier.specs.Reads.{TellsRead, TellsList, trailing_bytes};
 ghost use Rattle.p3_verifier.specs.Verifying.{verifying_of, ReceivesOrRefuses, KeepsOrRefuses, RefusesStart};
-ghost use Rattle.p3_verifier.specs.Verifying.{EndsReading, RefusesEnd};
+ghost use Rattle.p3_verifier.specs.Verifying.{EndsReading, RefusesEnd, KeepsAsRecorded, KeepsWithin};
 
 use p3_challenger_core::{CanObserve, CanSampleBits, Sponge};
 use p3_codecs::{Codec, ExtensionFieldCodec, ScalarCodec, Unit};
@@ -145,6 +145,66 @@ impl<'a, U: Unit, C: CanObserve<U::Item> + Drop, D: DigestHasher> VerifierState<
         Ok(bytes)
     }
 
+    /// Reads at most `max` scalars, after their count.
+    ///
+    /// A count above `max` is passed. The count is absorbed before any scalar is read. Where the scalars' spellings take
+    /// more bytes than are left, they are refused before any is read; and the scalars before one that is none are
+    /// absorbed.
+    ///
+    /// Condition: `U` is an alphabet.
+    pub fn next_scalars_bounded<F: TranscriptField + AlgebraIdentity<F> + Named, Cdc: Codec<C, F>>(
+        &mut self,
+        label: Label,
+        max: usize,
+    ) -> Result<Vec<TranscriptBound<F>>, TranscriptError>
+        requires { U.is_alphabet }
+        ensures { let step = algebra_step Kind.Message label.now F.residues.order F.DIMENSION (D.digest_of F.identity)
+            F.name_bytes (Length.Bounded max) in
+            ReceivesOrRefuses (reads.received_bounded step
+            (alphabet_of U.items U.is_too_long C.observation C.slice_may_leave) max Cdc.observation Cdc.encoding)
+            (verifying_of C.state self.old) values_of result (verifying_of C.state self.new) }
+    {
+        self.turn
+            .steps
+            .take_algebra::<F, F>(Kind::Message, label, Length::Bounded(max))?;
+        let count = self.read_count(max, "message length exceeds declared maximum")?;
+        observe_count::<U, C>(&mut self.turn.challenger, count, max)?;
+        let bounds = self.receive_values::<F, Cdc>(count)?;
+        self.turn.steps.done();
+        Ok(bounds)
+    }
+
+    /// Observes at most `max` elements of an extension, after their count, which the proof does not carry.
+    ///
+    /// More are refused with [`TranscriptError::BadProofShape`] and `list length exceeds the recorded maximum`, whatever
+    /// the next step is. Condition: `U` is an alphabet.
+    pub fn observe_extensions_bounded<
+        F: TranscriptField,
+        EF: AlgebraIdentity<F> + Named,
+        Cdc: ScalarCodec<C, F>,
+    >(
+        &mut self,
+        label: Label,
+        values: &[EF],
+        max: usize,
+    ) -> Result<Vec<TranscriptBound<EF>>, TranscriptError>
+        requires { U.is_alphabet }
+        ensures { let step = algebra_step Kind.Message label.now F.residues.order EF.DIMENSION (D.digest_of EF.identity)
+            EF.name_bytes (Length.Bounded max) in
+            KeepsWithin (length values.now) max (meaning.observed_bounded step
+            (alphabet_of U.items U.is_too_long C.observation C.slice_may_leave) max ⟦<ExtensionFieldCodec<F, EF, Cdc> as Codec<C, EF>>⟧.observation values.now)
+            (verifying_of C.state self.old) values_of result (verifying_of C.state self.new) }
+    {
+        self.turn.steps.carried_within(values.len(), max)?;
+        self.turn
+            .observe_bounded::<F, EF, ExtensionFieldCodec<F, EF, Cdc>, U>(
+                Kind::Message,
+                label,
+                values,
+                max,
+            )
+    }
+
     // Reads bytes in a step of the kind.
     fn receive_bytes(
         &mut self,
@@ -268,6 +328,47 @@ impl<'a, C: Sponge + Drop, U, D: DigestHasher> VerifierState<'a, C, U, D> {
             (verifying_of C.state self.old) value_of result (verifying_of C.state self.new) }
     {
         self.receive::<F, F, Cdc>(label)
+    }
+
+    /// Reads `n` scalars.
+    ///
+    /// Where their spellings take more bytes than are left, they are refused before any is read. The scalars before one
+    /// that is none are absorbed.
+    pub fn next_scalars<F: TranscriptField + AlgebraIdentity<F> + Named, Cdc: Codec<C, F>>(
+        &mut self,
+        label: Label,
+        n: usize,
+    ) -> Result<Vec<TranscriptBound<F>>, TranscriptError>
+        ensures { let step = algebra_step Kind.Message label.now F.residues.order F.DIMENSION (D.digest_of F.identity)
+            F.name_bytes (Length.Fixed n) in
+            ReceivesOrRefuses (reads.received_all step Cdc.observation Cdc.encoding n)
+            (verifying_of C.state self.old) values_of result (verifying_of C.state self.new) }
+    {
+        self.turn
+            .steps
+            .take_algebra::<F, F>(Kind::Message, label, Length::Fixed(n))?;
+        let bounds = self.receive_values::<F, Cdc>(n)?;
+        self.turn.steps.done();
+        Ok(bounds)
+    }
+
+    /// Observes so many elements of an extension as the step says, which the proof does not carry.
+    ///
+    /// Where the next step has a list of another length, the list is refused with [`TranscriptError::BadProofShape`] and
+    /// `list length differs from the recorded shape`, whatever that step is.
+    pub fn observe_extensions<
+        F: TranscriptField,
+        EF: AlgebraIdentity<F> + Named,
+        Cdc: ScalarCodec<C, F>,
+    >(&mut self, label: Label, values: &[EF]) -> Result<Vec<TranscriptBound<EF>>, TranscriptError>
+        ensures { let step = algebra_step Kind.Message label.now F.residues.order EF.DIMENSION (D.digest_of EF.identity)
+            EF.name_bytes (Length.Fixed (length values.now)) in
+            KeepsAsRecorded (length values.now) (meaning.observed_all step ⟦<ExtensionFieldCodec<F, EF, Cdc> as Codec<C, EF>>⟧.observation values.now)
+            (verifying_of C.state self.old) values_of result (verifying_of C.state self.new) }
+    {
+        self.turn.steps.carried_as_recorded(values.len())?;
+        self.turn
+            .observe_list::<F, EF, ExtensionFieldCodec<F, EF, Cdc>>(Kind::Message, label, values)
     }
 
     /// Reads one element of an extension, by its coefficients.
@@ -530,6 +631,32 @@ impl<'a, C: Sponge + Drop, U, D: DigestHasher> VerifierState<'a, C, U, D> {
         Ok(bind(value))
     }
 
+    // Reads so many values, and observes each before it reads the next one. Where their spellings take more bytes than
+    // are left, none is read, and no memory is asked for.
+    fn receive_values<A: Copy, Cdc: Codec<C, A>>(
+        &mut self,
+        n: usize,
+    ) -> Result<Vec<TranscriptBound<A>>, TranscriptError>
+        ensures read { TellsList (reads.read_values Cdc.encoding Cdc.observation.observed n self.old.unread.now)
+            (observed_all Cdc.observation.observed)
+            (reads.LeavesEach Cdc.encoding Cdc.observation n self.old.unread.now) values_of
+            (C.state self.old.turn.challenger) result self.new.unread.now (C.state self.new.turn.challenger) }
+        ensures steps { self.new.turn.steps ≡ self.old.turn.steps }
+    {
+        if !holds(self.unread.len(), n, Cdc::wire_len()) {
+            return Err(TranscriptError::BadProofShape {
+                reason: "step declares more values than the wire holds",
+            });
+        }
+        let mut bounds = Vec::with_capacity(self.turn.alloc, n)?;
+        for _ in 0..n {
+            let value = self.read_value::<A, Cdc>()?;
+            Cdc::observe(&mut self.turn.challenger, &value)?;
+            bounds.push_reserved(bind(value));
+        }
+        Ok(bounds)
+    }
+
     // Reads so many bytes. Where there are fewer, none is passed.
     fn read_bytes(&mut self, len: usize) -> Result<&'a [u8], TranscriptError>
         ensures read { TellsRead (reads.read_bytes {S = C.State} len self.old.unread.now) (λ bytes. bytes.now) result
@@ -580,6 +707,16 @@ impl<'a, C: Sponge + Drop, U, D: DigestHasher> VerifierState<'a, C, U, D> {
     {
         let count = self.read_count(max, over)?;
         self.read_bytes(count)
+    }
+}
+
+// So many bytes are enough for so many values.
+fn holds(len: usize, n: usize, width: usize) -> bool
+    ensures { IsTrue result ↔ n * width ≤ len }
+{
+    match n.checked_mul(width) {
+        None => false,
+        Some(total) => total <= len,
     }
 }
 
