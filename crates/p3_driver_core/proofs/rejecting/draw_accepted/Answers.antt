@@ -1,6 +1,6 @@
 use Rattle.std.proofs.Common.{◌+◌, [], ◌∷◌, ◌++◌, ◌∙◌, sym, rules, ap, map, inr}
 use Rattle.p3_driver_core.specs.Bound.{value_of}
-use Rattle.p3_driver_core.proofs.BoundLists.{values-more}
+use Rattle.p3_driver_core.specs.BoundLaws.{values-more}
 use Rattle.p3_driver_core.proofs.Rejections.{keeps-more, keeps-refused, keeps-all}
 use Rattle.p3_driver_core.proofs.rejecting.draw_accepted.Goals as goal
 
