@@ -1,2 +1,3 @@
 pub mod BoundLists
+pub mod Rejections
 pub mod Widths

@@ -4,4 +4,5 @@ pub mod Counts
 pub mod Effects
 pub mod Meanings
 pub mod Opened
+pub mod Rejecting
 pub mod Turns

@@ -6,11 +6,15 @@ mod algebras;
 mod bound;
 mod counts;
 mod lists;
+mod rejecting;
 mod steps;
+mod symmetric;
 mod turn;
 
 pub use bound::{TranscriptBound, bind};
 pub use counts::{count_width, counted, observe_count};
 pub use lists::{bind_all, draw_numbers, draw_values, observe_values};
+pub use rejecting::draw_accepted;
 pub use steps::Steps;
+pub use symmetric::{Driver, SymmetricSteps};
 pub use turn::DriverTurn;

@@ -2,6 +2,7 @@
 #![tactic(auto)]
 
 mod prover;
+mod symmetric;
 mod writing;
 
 pub use prover::ProverState;

@@ -8,7 +8,8 @@ ghost use Rattle.p3_turn.specs.SeparatorSeed.{seed_of_separator, pattern_of};
 ghost use Rattle.p3_driver_core.specs.Bound.{value_of, values_of};
 ghost use Rattle.p3_driver_core.specs.Effects.{alphabet_of};
 ghost use Rattle.p3_driver_core.specs.Meanings as meaning;
-ghost use Rattle.p3_driver_core.specs.Turns.{IsNext, algebra_step, opaque_step, bits_step};
+ghost use Rattle.p3_driver_core.specs.Rejecting.{Rule, Computes, drawn_rejecting};
+ghost use Rattle.p3_driver_core.specs.Turns.{PlaysOrRefuses, IsNext, algebra_step, opaque_step, bits_step};
 ghost use Rattle.p3_prover.specs.Proving.{proving_of, WritesOrRefuses, WritesWithin, KeepsOrRefuses, KeepsWithin};
 ghost use Rattle.p3_prover.specs.Proving.{RefusesStart};
 
@@ -660,5 +661,42 @@ impl<C: Sponge + Drop, U, D: DigestHasher> ProverState<C, U, D> {
         Cdc::encode(value, &mut self.narg)?;
         self.turn.steps.done();
         Ok(bind(*value))
+    }
+}
+
+impl<C: Sponge, U, D: DigestHasher> ProverState<C, U, D> {
+    /// Draws elements of an extension until the rule `accept` has taken `n`, and answers these in order.
+    ///
+    /// The rule is asked of each candidate beside those kept before it. Right after it has refused `limit` candidates in
+    /// a row, counted from the last kept one or the start, the step is refused with
+    /// [`ChallengerError::DrawLimit`](p3_challenger_core::ChallengerError::DrawLimit), as it is where the challenger meets
+    /// its own draw limit: what was drawn is consumed. To keep none, nothing is drawn.
+    ///
+    /// Conditions: the rule may be asked at any time, and the codec has at least
+    /// [`MIN_CHALLENGE_SECURITY_BITS`](p3_codecs::MIN_CHALLENGE_SECURITY_BITS) of security.
+    pub fn challenge_extensions_rejecting<
+        F: TranscriptField,
+        EF: AlgebraIdentity<F> + Named,
+        Cdc: ScalarCodec<C, F>,
+        R: Fn(&EF, &[EF]) -> bool,
+    >(
+        &mut self,
+        label: Label,
+        n: usize,
+        accept: &R,
+        limit: u64,
+    ) -> Result<Vec<TranscriptBound<EF>>, TranscriptError>
+        requires secure { 128 ≤ Cdc.SECURITY_BITS }
+        requires callable { R.IsAlwaysCallable accept.now }
+        ensures played { (rule : Rule EF) → Computes R.Fn accept.now rule →
+            let step = algebra_step Kind.Challenge label.now F.residues.order EF.DIMENSION (D.digest_of EF.identity)
+            EF.name_bytes (Length.Fixed n) in
+            PlaysOrRefuses (drawn_rejecting {Symbol = C.Symbol} step
+            ⟦<ExtensionFieldCodec<F, EF, Cdc> as Codec<C, EF>>⟧.sampling rule limit n)
+            (proving_of C.state self.old).turn values_of result (proving_of C.state self.new).turn }
+        ensures narg { (proving_of C.state self.new).narg ≡ (proving_of C.state self.old).narg }
+    {
+        self.turn
+            .draw_rejecting::<F, EF, ExtensionFieldCodec<F, EF, Cdc>, R>(label, n, accept, limit)
     }
 }

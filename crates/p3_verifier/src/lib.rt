@@ -2,6 +2,7 @@
 #![tactic(auto)]
 
 mod mirrors;
+mod symmetric;
 mod verifier;
 
 pub use mirrors::{hint_is_received, sent_bytes_are_received, sent_value_is_received};

@@ -1,0 +1,95 @@
+-- Drawing until a rule has taken so many of the candidates.
+use Rattle.std.specs.Prelude.{◌≡◌, ℕ, zero, suc, Bool, false, List, [], ◌∷◌, ◌++◌, ◌⊎◌, Option, Some, None, Result}
+use Rattle.std.specs.Prelude.{MatchResult, if◌then◌else◌}
+use Rattle.std.specs.Fn.{Shared}
+use denote.Ref.{Bor}
+use Rattle.p3_challenger_core.specs.Observation.{RefusesObserve}
+use Rattle.p3_challenger_core.specs.Sampling.{Sampling, RefusesDraw}
+use Rattle.p3_challenger_core.specs.declared.error.ChallengerError.{ChallengerError}
+use Rattle.p3_challenger_core.specs.declared.error.ChallengerError.TheVariants.{DrawLimit}
+use Rattle.p3_fs_core.specs.Steps.{Step}
+use Rattle.p3_driver_core.specs.Effects.{Effect}
+use Rattle.p3_driver_core.specs.Turns.{Meaning, without_wire}
+
+-- of a candidate and those kept so far, whether the candidate is kept too
+abbrev pub Rule : Type 0 → Type 0
+Rule T = T → List T → Bool
+
+-- a closure computes a rule
+abbrev pub Computes : {F T : Type 0} → Shared F (Bor T × (Bor (List T) × Unit {0})) Bool → F → Rule T → Type 0
+Computes {F} {T} g f rule =
+    (x : Bor T) (kept : Bor (List T)) (r : Bool) → g.post f (x, (kept, tt)) r → r ≡ rule x.now kept.now
+
+-- what draws give, which is none where they meet a limit, and the state after them
+pub record Outcome (S A : Type 0) : Type 0 where
+  pub gives : Option A
+  pub after : S
+
+abbrev pub given : {S A : Type 0} → A → S → Outcome S A
+given x s = record { gives = Some x; after = s }
+
+-- what comes next, where a value was given
+abbrev pub go_on : {S A B : Type 0} → (A → S → Outcome S B) → Option A → S → Outcome S B
+go_on next None s = record { gives = None; after = s }
+go_on next (Some x) s = next x s
+
+module _ {S T : Type 0} (d : Sampling S T) (rule : Rule T) where
+  -- The first candidate that the rule takes, of at most so many. Where it takes none of them, the limit is met with no
+  -- further draw.
+  unfoldable pub taken : ℕ → List T → S → Outcome S T
+  taken zero kept s = record { gives = None; after = s }
+  taken (suc more) kept s =
+      go_on (λ x t. if rule x kept then given x t else taken more kept t) (d.sampled s) (d.after s)
+
+  -- why that is refused, and what is left: the limit is met; or a draw is refused, and the rule took none of those
+  -- before it
+  unfoldable pub RefusesTaken : ℕ → List T → ChallengerError → S → S → Type 0
+  RefusesTaken zero kept e s t = (e ≡ DrawLimit) × (t ≡ s)
+  RefusesTaken (suc more) kept e s t =
+      RefusesDraw d e s t
+      ⊎ ((x : T) × (d.sampled s ≡ Some x) × (rule x kept ≡ false) × RefusesTaken more kept e (d.after s) t)
+
+  -- so many candidates more are kept, in order, where at most so many in a row may be refused; the count of these
+  -- begins anew with each that is kept
+  unfoldable pub keeps : ℕ → ℕ → List T → S → Outcome S (List T)
+  keeps limit zero kept s = given kept s
+  keeps limit (suc more) kept s =
+      let next = taken limit kept s in
+      go_on (λ x t. keeps limit more (kept ++ (x ∷ [])) t) next.gives next.after
+
+  -- why that is refused, and what is left
+  unfoldable pub RefusesKeeps : ℕ → ℕ → List T → ChallengerError → S → S → Type 0
+  RefusesKeeps limit zero kept e s t = ⊥
+  RefusesKeeps limit (suc more) kept e s t =
+      let next = taken limit kept s in
+      RefusesTaken limit kept e s t
+      ⊎ ((x : T) × (next.gives ≡ Some x) × RefusesKeeps limit more (kept ++ (x ∷ [])) e next.after t)
+
+-- Values are drawn until the rule has taken so many, and the memory for them is asked for first. So many refused in a
+-- row meet the limit.
+abbrev pub drawing_rejecting : {S Symbol T : Type 0} → Sampling S T → Rule T → ℕ → ℕ → Effect S Symbol (List T)
+drawing_rejecting d rule limit n =
+    record {
+      symbols = [];
+      fits = Unit {0};
+      gives = λ s. (keeps d rule limit n [] s).gives;
+      after = λ s. (keeps d rule limit n [] s).after;
+      refuses = λ e s t. RefusesObserve (λ u. u ≡ s) e t ⊎ RefusesKeeps d rule limit n [] e s t;
+    }
+
+-- values are drawn until the rule has taken so many
+abbrev pub drawn_rejecting : {S Symbol T : Type 0} → Step → Sampling S T → Rule T → ℕ → ℕ →
+    Meaning S Symbol (List T)
+drawn_rejecting interaction d rule limit n = without_wire interaction (drawing_rejecting d rule limit n)
+
+-- a call draws a candidate that the rule takes, or is refused
+abbrev pub Takes : {S T : Type 0} → Sampling S T → Rule T → ℕ → List T → S → Result T ChallengerError → S → Type 0
+Takes d rule limit kept s result t =
+    MatchResult result (λ x. taken d rule limit kept s ≡ given x t) (λ e. RefusesTaken d rule limit kept e s t)
+
+-- a call draws candidates until the rule has taken so many, or is refused; the memory for them is asked for first
+abbrev pub TakesAll : {S T R : Type 0} → Sampling S T → Rule T → ℕ → ℕ → (R → List T) → S → Result R ChallengerError →
+    S → Type 0
+TakesAll d rule limit n values s result t =
+    MatchResult result (λ r. keeps d rule limit n [] s ≡ given (values r) t)
+    (λ e. RefusesObserve (λ u. u ≡ s) e t ⊎ RefusesKeeps d rule limit n [] e s t)

@@ -1,0 +1,98 @@
+// Draws until a rule has taken so many of the candidates.
+ghost use Rattle.std.specs.Prelude.{◌≤◌};
+ghost use Rattle.p3_driver_core.specs.Bound.{values_of};
+ghost use Rattle.p3_driver_core.specs.Opened.{turn_of};
+ghost use Rattle.p3_driver_core.specs.Rejecting.{Rule, Computes, Takes, TakesAll, drawn_rejecting};
+ghost use Rattle.p3_driver_core.specs.Turns.{PlaysOrRefuses, algebra_step};
+
+use crate::{DriverTurn, TranscriptBound, bind};
+use p3_challenger_core::{ChallengerError, Sponge};
+use p3_codecs::Codec;
+use p3_field_core::{AlgebraIdentity, Named};
+use p3_fs_core::{Kind, Label, Length, TranscriptError, TranscriptField};
+use p3_symmetric::DigestHasher;
+use std::alloc::Global;
+
+// Draws until the rule takes a candidate, beside those kept before. The limit is met where it refuses so many.
+fn draw_taken<T: Copy, C: Sponge, Cdc: Codec<C, T>, R: Fn(&T, &[T]) -> bool>(
+    challenger: &mut C,
+    kept: &[T],
+    accept: &R,
+    limit: u64,
+) -> Result<T, ChallengerError>
+    requires secure { 128 ≤ Cdc.SECURITY_BITS }
+    requires callable { R.IsAlwaysCallable accept.now }
+    ensures { (rule : Rule T) → Computes R.Fn accept.now rule →
+        Takes Cdc.sampling rule limit kept.now (C.state challenger.old) result (C.state challenger.new) }
+{
+    for _ in 0..limit {
+        let candidate = Cdc::sample(challenger)?;
+        if accept(&candidate, kept) {
+            return Ok(candidate);
+        }
+    }
+    Err(ChallengerError::DrawLimit)
+}
+
+/// Draws values until the rule `accept` has taken `n`, and answers these in order. Their memory is asked for first.
+///
+/// The rule is asked of each candidate beside those kept before it. The errors are [`ChallengerError::OutOfMemory`],
+/// and [`ChallengerError::DrawLimit`] where the challenger meets its own draw limit, or right after the rule has
+/// refused `limit` candidates in a row, counted from the last kept one or the start. What was drawn is consumed.
+pub fn draw_accepted<T: Copy, C: Sponge, Cdc: Codec<C, T>, R: Fn(&T, &[T]) -> bool>(
+    challenger: &mut C,
+    alloc: Global,
+    n: usize,
+    accept: &R,
+    limit: u64,
+) -> Result<Vec<TranscriptBound<T>>, ChallengerError>
+    requires secure { 128 ≤ Cdc.SECURITY_BITS }
+    requires callable { R.IsAlwaysCallable accept.now }
+    ensures { (rule : Rule T) → Computes R.Fn accept.now rule →
+        TakesAll Cdc.sampling rule limit n values_of (C.state challenger.old) result (C.state challenger.new) }
+{
+    let mut bounds = Vec::with_capacity(alloc, n)?;
+    let mut kept = Vec::with_capacity(alloc, n)?;
+    for _ in 0..n {
+        let value = draw_taken::<T, C, Cdc, R>(challenger, &kept, accept, limit)?;
+        kept.push_reserved(value);
+        bounds.push_reserved(bind(value));
+    }
+    Ok(bounds)
+}
+
+impl<C: Sponge, D: DigestHasher> DriverTurn<C, D> {
+    /// Draws elements of an algebra until the rule `accept` has taken `n`, which refuses fewer than `limit` in a row.
+    pub fn draw_rejecting<
+        F: TranscriptField,
+        A: AlgebraIdentity<F> + Named,
+        Cdc: Codec<C, A>,
+        R: Fn(&A, &[A]) -> bool,
+    >(
+        &mut self,
+        label: Label,
+        n: usize,
+        accept: &R,
+        limit: u64,
+    ) -> Result<Vec<TranscriptBound<A>>, TranscriptError>
+        requires secure { 128 ≤ Cdc.SECURITY_BITS }
+        requires callable { R.IsAlwaysCallable accept.now }
+        ensures { (rule : Rule A) → Computes R.Fn accept.now rule →
+            let step = algebra_step Kind.Challenge label.now F.residues.order A.DIMENSION
+            (D.digest_of A.identity) A.name_bytes (Length.Fixed n) in
+            PlaysOrRefuses (drawn_rejecting {Symbol = C.Symbol} step Cdc.sampling rule limit n)
+            (turn_of C.state self.old) values_of result (turn_of C.state self.new) }
+    {
+        self.steps
+            .take_algebra::<F, A>(Kind::Challenge, label, Length::Fixed(n))?;
+        let bounds = draw_accepted::<A, C, Cdc, R>(
+            &mut self.challenger,
+            self.alloc,
+            n,
+            accept,
+            limit,
+        )?;
+        self.steps.done();
+        Ok(bounds)
+    }
+}

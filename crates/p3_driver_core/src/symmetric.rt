@@ -1,0 +1,124 @@
+// The steps that a prover and a verifier play alike, for code that plays either side.
+ghost use Rattle.std.specs.Prelude.{◌≡◌, ◌≤◌, ℕ, List};
+ghost use Rattle.p3_fs_core.specs.Steps.{marker_of};
+ghost use Rattle.p3_driver_core.specs.Bound.{value_of, values_of};
+ghost use Rattle.p3_driver_core.specs.Meanings as meaning;
+ghost use Rattle.p3_driver_core.specs.Rejecting.{Rule, Computes, drawn_rejecting};
+ghost use Rattle.p3_driver_core.specs.Turns.{Turn, PlaysOrRefuses, algebra_step, opaque_step};
+
+use crate::TranscriptBound;
+use p3_challenger_core::{CanObserve, Sponge};
+use p3_codecs::{Codec, ExtensionFieldCodec, ScalarCodec};
+use p3_field_core::{AlgebraIdentity, Named};
+use p3_fs_core::{Hierarchy, Kind, Label, Length, TranscriptError, TranscriptField};
+use p3_symmetric::DigestHasher;
+
+/// The mark of the two drivers. Users are not shown it, so that no other type of theirs plays steps.
+pub trait Driver {}
+
+/// Steps that a prover and a verifier play alike: those that take no part in the bytes of the proof.
+///
+/// Code that is written over this trait plays either side. Each method is the driver's own of the same name: the same
+/// answer, the same errors, and the same left after them.
+pub trait SymmetricSteps: Driver {
+    /// The challenger that the driver observes into and draws from.
+    type Challenger: Sponge;
+
+    /// The hash function of the digests of algebras.
+    type Digest: DigestHasher;
+
+    // Its challenger, and its pattern as it is played.
+    ghost turn: { Self → Turn Self.Challenger.State };
+
+    // The bytes of the proof that were written, or that are left to read.
+    ghost bytes: { Self → List ℕ };
+
+    /// Opens a container that may hold steps of any kind. It takes no memory.
+    fn begin_protocol<T: Named>(&mut self, label: Label) -> Result<(), TranscriptError>
+        ensures played { PlaysOrRefuses (meaning.marked {Symbol = Self.Challenger.Symbol}
+            (marker_of Hierarchy.Begin Kind.Protocol label.now T.name_bytes))
+            (turn self.old) (λ _. tt {0}) result (turn self.new) }
+        ensures bytes { bytes self.new ≡ bytes self.old };
+
+    /// Closes a container that may hold steps of any kind. It takes no memory.
+    fn end_protocol<T: Named>(&mut self, label: Label) -> Result<(), TranscriptError>
+        ensures played { PlaysOrRefuses (meaning.marked {Symbol = Self.Challenger.Symbol}
+            (marker_of Hierarchy.End Kind.Protocol label.now T.name_bytes))
+            (turn self.old) (λ _. tt {0}) result (turn self.new) }
+        ensures bytes { bytes self.new ≡ bytes self.old };
+
+    /// Observes a value as the challenger itself knows how.
+    ///
+    /// Condition: clones of the value equal it.
+    fn observe_opaque<T: Clone>(
+        &mut self,
+        label: Label,
+        value: T,
+    ) -> Result<TranscriptBound<T>, TranscriptError>
+    where
+        Self::Challenger: CanObserve<T>,
+        requires { (copy : T) → T.is_clone value copy → copy ≡ value }
+        ensures played { PlaysOrRefuses
+            (meaning.observed (opaque_step Kind.Message label.now Length.Scalar) Self.Challenger.observation value)
+            (turn self.old) value_of result (turn self.new) }
+        ensures bytes { bytes self.new ≡ bytes self.old };
+
+    /// Observes one element of an extension that the proof does not carry.
+    fn observe_extension<
+        F: TranscriptField,
+        EF: AlgebraIdentity<F> + Named,
+        Cdc: ScalarCodec<Self::Challenger, F>,
+    >(&mut self, label: Label, value: &EF) -> Result<TranscriptBound<EF>, TranscriptError>
+        ensures played { let step = algebra_step Kind.Message label.now F.residues.order EF.DIMENSION
+            (Self.Digest.digest_of EF.identity) EF.name_bytes Length.Scalar in
+            PlaysOrRefuses
+            (meaning.observed step ⟦<ExtensionFieldCodec<F, EF, Cdc> as Codec<Self::Challenger, EF>>⟧.observation value.now)
+            (turn self.old) value_of result (turn self.new) }
+        ensures bytes { bytes self.new ≡ bytes self.old };
+
+    /// Draws one element of an extension, coefficient 0 first.
+    ///
+    /// Condition: the codec has at least [`MIN_CHALLENGE_SECURITY_BITS`](p3_codecs::MIN_CHALLENGE_SECURITY_BITS) of
+    /// security.
+    fn challenge_extension<
+        F: TranscriptField,
+        EF: AlgebraIdentity<F> + Named,
+        Cdc: ScalarCodec<Self::Challenger, F>,
+    >(&mut self, label: Label) -> Result<TranscriptBound<EF>, TranscriptError>
+        requires { 128 ≤ Cdc.SECURITY_BITS }
+        ensures played { let step = algebra_step Kind.Challenge label.now F.residues.order EF.DIMENSION
+            (Self.Digest.digest_of EF.identity) EF.name_bytes Length.Scalar in
+            PlaysOrRefuses (meaning.drawn {Symbol = Self.Challenger.Symbol} step
+            ⟦<ExtensionFieldCodec<F, EF, Cdc> as Codec<Self::Challenger, EF>>⟧.sampling)
+            (turn self.old) value_of result (turn self.new) }
+        ensures bytes { bytes self.new ≡ bytes self.old };
+
+    /// Draws elements of an extension until the rule `accept` has taken `n`, and answers these in order.
+    ///
+    /// Right after the rule has refused `limit` candidates in a row the step is refused with
+    /// [`ChallengerError::DrawLimit`](p3_challenger_core::ChallengerError::DrawLimit).
+    ///
+    /// Conditions: the rule may be asked at any time, and the codec has at least
+    /// [`MIN_CHALLENGE_SECURITY_BITS`](p3_codecs::MIN_CHALLENGE_SECURITY_BITS) of security.
+    fn challenge_extensions_rejecting<
+        F: TranscriptField,
+        EF: AlgebraIdentity<F> + Named,
+        Cdc: ScalarCodec<Self::Challenger, F>,
+        R: Fn(&EF, &[EF]) -> bool,
+    >(
+        &mut self,
+        label: Label,
+        n: usize,
+        accept: &R,
+        limit: u64,
+    ) -> Result<Vec<TranscriptBound<EF>>, TranscriptError>
+        requires secure { 128 ≤ Cdc.SECURITY_BITS }
+        requires callable { R.IsAlwaysCallable accept.now }
+        ensures played { (rule : Rule EF) → Computes R.Fn accept.now rule →
+            let step = algebra_step Kind.Challenge label.now F.residues.order EF.DIMENSION
+            (Self.Digest.digest_of EF.identity) EF.name_bytes (Length.Fixed n) in
+            PlaysOrRefuses (drawn_rejecting {Symbol = Self.Challenger.Symbol} step
+            ⟦<ExtensionFieldCodec<F, EF, Cdc> as Codec<Self::Challenger, EF>>⟧.sampling rule limit n)
+            (turn self.old) values_of result (turn self.new) }
+        ensures bytes { bytes self.new ≡ bytes self.old };
+}

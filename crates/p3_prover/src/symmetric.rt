@@ -1,0 +1,73 @@
+// The steps that a prover plays as the other side does.
+ghost use Rattle.std.specs.Prelude.{◌≤◌};
+ghost use Rattle.p3_prover.specs.Proving.{proving_of};
+
+use crate::ProverState;
+use p3_challenger_core::{CanObserve, Sponge};
+use p3_codecs::ScalarCodec;
+use p3_driver_core::{Driver, SymmetricSteps, TranscriptBound};
+use p3_field_core::{AlgebraIdentity, Named};
+use p3_fs_core::{Label, TranscriptError, TranscriptField};
+use p3_symmetric::DigestHasher;
+
+impl<C: Sponge + Drop, U, D: DigestHasher> Driver for ProverState<C, U, D> {}
+
+impl<C: Sponge + Drop, U, D: DigestHasher> SymmetricSteps for ProverState<C, U, D> {
+    type Challenger = C;
+
+    type Digest = D;
+
+    ghost turn = { λ driver. (proving_of C.state driver).turn };
+
+    ghost bytes = { λ driver. (proving_of C.state driver).narg };
+
+    fn begin_protocol<T: Named>(&mut self, label: Label) -> Result<(), TranscriptError> {
+        ProverState::begin_protocol::<T>(self, label)
+    }
+
+    fn end_protocol<T: Named>(&mut self, label: Label) -> Result<(), TranscriptError> {
+        ProverState::end_protocol::<T>(self, label)
+    }
+
+    fn observe_opaque<T: Clone>(
+        &mut self,
+        label: Label,
+        value: T,
+    ) -> Result<TranscriptBound<T>, TranscriptError>
+    where
+        C: CanObserve<T>,
+    {
+        ProverState::observe_opaque::<T>(self, label, value)
+    }
+
+    fn observe_extension<
+        F: TranscriptField,
+        EF: AlgebraIdentity<F> + Named,
+        Cdc: ScalarCodec<C, F>,
+    >(&mut self, label: Label, value: &EF) -> Result<TranscriptBound<EF>, TranscriptError> {
+        ProverState::observe_extension::<F, EF, Cdc>(self, label, value)
+    }
+
+    fn challenge_extension<
+        F: TranscriptField,
+        EF: AlgebraIdentity<F> + Named,
+        Cdc: ScalarCodec<C, F>,
+    >(&mut self, label: Label) -> Result<TranscriptBound<EF>, TranscriptError> {
+        ProverState::challenge_extension::<F, EF, Cdc>(self, label)
+    }
+
+    fn challenge_extensions_rejecting<
+        F: TranscriptField,
+        EF: AlgebraIdentity<F> + Named,
+        Cdc: ScalarCodec<C, F>,
+        R: Fn(&EF, &[EF]) -> bool,
+    >(
+        &mut self,
+        label: Label,
+        n: usize,
+        accept: &R,
+        limit: u64,
+    ) -> Result<Vec<TranscriptBound<EF>>, TranscriptError> {
+        ProverState::challenge_extensions_rejecting::<F, EF, Cdc, R>(self, label, n, accept, limit)
+    }
+}
