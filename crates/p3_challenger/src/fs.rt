@@ -4,6 +4,7 @@ pub use p3_codecs::{
     BytesToFieldCodec, Codec, EXTRA_BYTES, ExtensionFieldCodec, FieldToFieldCodec, FieldUnit,
     MIN_CHALLENGE_SECURITY_BITS, ScalarCodec, Unit, symbols_begin,
 };
+pub use p3_driver_core::{SymmetricSteps, TranscriptBound};
 pub use p3_duplex::duplex_elements_are_prefix_code;
 pub use p3_fs_core::{
     Alternate, Hierarchy, Interaction, InvalidKindInfo, Kind, Label, Length,
@@ -15,7 +16,11 @@ pub use p3_hash_challenger::hash_values_are_prefix_code;
 pub use p3_patterns::{
     InteractionPattern, Pattern, PatternPlayer, PatternState, equal_renderings_are_equal_patterns,
 };
+pub use p3_prover::ProverState;
 pub use p3_turn::{
     DomainSeparator, PROTOCOL_ID_LEN, identifiers_are_injective, labels_are_injective,
     seeds_are_prefix_code,
+};
+pub use p3_verifier::{
+    VerifierState, hint_is_received, sent_bytes_are_received, sent_value_is_received,
 };

@@ -15,7 +15,8 @@ use Rattle.p3_driver_core.specs.Effects.{Effect, Alphabet, observing_bytes}
 use Rattle.p3_driver_core.specs.Turns.{IsNext, GivesUp, step_on}
 use Rattle.p3_verifier.proofs.ValuesInTurn.{values-as_many}
 use Rattle.p3_verifier.specs.Reads.{Read, Reading, FailsFor, FailsForList, reading_first, then_read, absorbed_first}
-use Rattle.p3_verifier.specs.Reads.{read_values, read_count, LeavesEach, received_all, received_bounded, message_too_long}
+use Rattle.p3_verifier.specs.Reads.{read_values, read_count, LeavesEach, received_all, received_bounded}
+use Rattle.p3_verifier.specs.Reads.{message_too_long}
 use Rattle.p3_verifier.specs.Verifying.{Verifying, Receives, RefusesToRead}
 
 -- nothing was read, and nothing done
@@ -74,7 +75,8 @@ refused-after_read {S} interaction read effect before after x e here is_next fou
 -- ---- lists
 
 module _ {S Symbol A : Type 0} (interaction : Step) (o : Observation S Symbol A) (enc : Encoding A) (before after :
-    Verifying S) (is_next : IsNext before.turn.playing interaction) (finished : after.turn.playing.finished ≡ true) where
+    Verifying S) (is_next : IsNext before.turn.playing interaction)
+    (finished : after.turn.playing.finished ≡ true) where
   -- a list is refused
   pub list-refused : (n : ℕ) (err : TranscriptError) →
       FailsForList (read_values enc o.observed n before.unread) (LeavesEach enc o n before.unread)
@@ -116,7 +118,8 @@ module _ {S Symbol A : Type 0} (interaction : Step) (o : Observation S Symbol A)
     count-fails left LabelTooLong fails = absurd fails
     count-fails left OutOfMemory fails = absurd fails
 
-    module _ (n : ℕ) (rest : List ℕ) (found : read_count {S = S} message_too_long max before.unread ≡ Ok (n, rest)) where
+    module _ (n : ℕ) (rest : List ℕ)
+        (found : read_count {S = S} message_too_long max before.unread ≡ Ok (n, rest)) where
       -- the count is refused for memory
       pub count-refused : (e : ChallengerError) → e ≡ challenger.OutOfMemory →
           (observing_bytes alphabet (count_bytes max n)).refuses e before.turn.challenger after.turn.challenger →
@@ -176,7 +179,8 @@ pub values-received : {S Symbol I A : Type 0} (interaction : Step) (o : Observat
     read_count {S = S} message_too_long max before.unread ≡ Ok (n, rest) →
     (alphabet.is_too_long (length (count_bytes max n)) → ⊥) →
     here ≡ (observing_bytes alphabet (count_bytes max n)).after before.turn.challenger →
-    read_values enc o.observed n rest ≡ Ok (xs, after.unread) → after.turn.challenger ≡ observed_all o.observed here xs →
+    read_values enc o.observed n rest ≡ Ok (xs, after.unread) → after.turn.challenger ≡ observed_all o.observed here
+    xs →
     after.turn.playing ≡ step_on before.turn.playing →
     Receives (received_bounded interaction alphabet max o enc) before xs after
 values-received interaction o enc alphabet max before after n rest xs here is_next found fits is read observed playing =

@@ -1,6 +1,8 @@
 -- Values that are read and observed one after another.
-use Rattle.std.proofs.Common.{◌≡◌, ℕ, zero, suc, ◌+◌, ◌-◌, ◌*◌, ◌<◌, ◌≤◌, ◌⊎◌, inl, inr, List, [], ◌∷◌, ◌++◌, length, map}
-use Rattle.std.proofs.Common.{Bool, true, false, nat_lt, if◌then◌else◌, Result, Ok, Err, refl, sym, ap, ◌∙◌, subst, arith}
+use Rattle.std.proofs.Common.{◌≡◌, ℕ, zero, suc, ◌+◌, ◌-◌, ◌*◌, ◌<◌, ◌≤◌, ◌⊎◌, inl, inr, List, [], ◌∷◌, ◌++◌, length}
+use Rattle.std.proofs.Common.{map}
+use Rattle.std.proofs.Common.{Bool, true, false, nat_lt, if◌then◌else◌, Result, Ok, Err, refl, sym, ap, ◌∙◌, subst}
+use Rattle.std.proofs.Common.{arith}
 use Rattle.std.proofs.Common.{append_assoc, append-nil}
 use Rattle.std.proofs.lemmas.Bool.Decides.{nat_tests}
 use Rattle.std.specs.Prelude.{IsTrue}
@@ -81,7 +83,8 @@ module _ {S Symbol A : Type 0} (e : Encoding A) (o : Observation S Symbol A) whe
       }
 
   -- the next one is refused for memory
-  pub reads_on-refused : (n : ℕ) (bytes : List ℕ) (s : S) (xs : List A) (left : ℕ) (here rest : List ℕ) (t u : S) (x : A) →
+  pub reads_on-refused : (n : ℕ) (bytes : List ℕ) (s : S) (xs : List A) (left : ℕ) (here rest : List ℕ) (t u : S)
+      (x : A) →
       read_value {S = S} e here ≡ Ok (x, rest) → o.may_leave t x u → ReadsOn n bytes s xs (suc left) here t →
       LeavesEach e o n bytes s u
   unfolding LeavesEach

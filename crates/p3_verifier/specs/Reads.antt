@@ -1,5 +1,6 @@
 -- What a step that reads the proof means.
-use Rattle.std.specs.Prelude.{◌≡◌, ℕ, zero, suc, ◌*◌, ◌⊎◌, List, [], ◌∷◌, take, drop, length, codes, nat_lt, Result, Ok, Err, MatchResult}
+use Rattle.std.specs.Prelude.{◌≡◌, ℕ, zero, suc, ◌*◌, ◌⊎◌, List, [], ◌∷◌, take, drop, length, codes, nat_lt, Result}
+use Rattle.std.specs.Prelude.{Ok, Err, MatchResult}
 use Rattle.std.specs.Prelude.{if◌then◌else◌}
 use Rattle.p3_fs_core.specs.declared.error.TranscriptError.{TranscriptError}
 use Rattle.p3_fs_core.specs.declared.error.TranscriptError.TheVariants.{BadProofShape, OutOfMemory}

@@ -6,7 +6,8 @@ use Rattle.p3_fs_core.specs.declared.error.TranscriptError.TheVariants.{Pattern,
 use Rattle.p3_challenger_core.specs.declared.error.ChallengerError.TheVariants as challenger
 use Rattle.p3_symmetric.specs.declared.digest_hasher.DigestHasher.{Ghosts}
 use Rattle.p3_driver_core.specs.Opened.{turn_of}
-use Rattle.p3_driver_core.specs.Turns.{Meaning, Turn, Plays, Refuses, RefusesTurn, GivesUp, PlaysOrRefuses, IsNext, step_on}
+use Rattle.p3_driver_core.specs.Turns.{Meaning, Turn, Plays, Refuses, RefusesTurn, GivesUp, PlaysOrRefuses, IsNext}
+use Rattle.p3_driver_core.specs.Turns.{step_on}
 use Rattle.p3_driver_core.specs.Turns.{RefusesCarried, IsOtherLength, longer_list, another_length}
 use Rattle.p3_fs_core.specs.Errors.{misfit_of}
 use Rattle.p3_patterns.specs.Playing.{FaultOfPlayEnd, IsPlayed, next_step}

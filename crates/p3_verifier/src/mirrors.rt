@@ -10,7 +10,8 @@ use p3_challenger_core::{CanObserve, Sponge};
 use p3_codecs::{Codec, Unit};
 use p3_fs_core::Kind;
 
-/// What a prover writes of one value, a verifier reads: whatever follows it in the proof, the verifier's step reads that
+/// What a prover writes of one value, a verifier reads: whatever follows it in the proof, the verifier's step reads
+/// that
 /// value, leaves what follows, and does to the challenger what the prover's step does.
 ///
 /// A law: the body is empty, and a caller cites the clause.

@@ -118,7 +118,8 @@ impl<'a, U: Unit, C: CanObserve<U::Item> + Drop, D: DigestHasher> VerifierState<
 
     /// Reads at most `max` bytes, after their count, and lends them.
     ///
-    /// Nothing is absorbed until all of them are there. A count above `max` is passed, and one that names more bytes than
+    /// Nothing is absorbed until all of them are there. A count above `max` is passed, and one that names more bytes
+    /// than
     /// are left.
     ///
     /// Condition: `U` is an alphabet. Bytes that are too long for it are refused with
@@ -148,7 +149,8 @@ impl<'a, U: Unit, C: CanObserve<U::Item> + Drop, D: DigestHasher> VerifierState<
 
     /// Reads at most `max` scalars, after their count.
     ///
-    /// A count above `max` is passed. The count is absorbed before any scalar is read. Where the scalars' spellings take
+    /// A count above `max` is passed. The count is absorbed before any scalar is read. Where the scalars' spellings
+    /// take
     /// more bytes than are left, they are refused before any is read; and the scalars before one that is none are
     /// absorbed.
     ///
@@ -177,7 +179,8 @@ impl<'a, U: Unit, C: CanObserve<U::Item> + Drop, D: DigestHasher> VerifierState<
 
     /// Observes at most `max` elements of an extension, after their count, which the proof does not carry.
     ///
-    /// More are refused with [`TranscriptError::BadProofShape`] and `list length exceeds the recorded maximum`, whatever
+    /// More are refused with [`TranscriptError::BadProofShape`] and `list length exceeds the recorded maximum`,
+    /// whatever
     /// the next step is. Condition: `U` is an alphabet.
     pub fn observe_extensions_bounded<
         F: TranscriptField,
@@ -193,7 +196,8 @@ impl<'a, U: Unit, C: CanObserve<U::Item> + Drop, D: DigestHasher> VerifierState<
         ensures { let step = algebra_step Kind.Message label.now F.residues.order EF.DIMENSION (D.digest_of EF.identity)
             EF.name_bytes (Length.Bounded max) in
             KeepsWithin (length values.now) max (meaning.observed_bounded step
-            (alphabet_of U.items U.is_too_long C.observation C.slice_may_leave) max ⟦<ExtensionFieldCodec<F, EF, Cdc> as Codec<C, EF>>⟧.observation values.now)
+            (alphabet_of U.items U.is_too_long C.observation C.slice_may_leave) max
+            ⟦<ExtensionFieldCodec<F, EF, Cdc> as Codec<C, EF>>⟧.observation values.now)
             (verifying_of C.state self.old) values_of result (verifying_of C.state self.new) }
     {
         self.turn.steps.carried_within(values.len(), max)?;
@@ -363,7 +367,8 @@ impl<'a, C: Sponge + Drop, U, D: DigestHasher> VerifierState<'a, C, U, D> {
 
     /// Observes so many elements of an extension as the step says, which the proof does not carry.
     ///
-    /// Where the next step has a list of another length, the list is refused with [`TranscriptError::BadProofShape`] and
+    /// Where the next step has a list of another length, the list is refused with [`TranscriptError::BadProofShape`]
+    /// and
     /// `list length differs from the recorded shape`, whatever that step is.
     pub fn observe_extensions<
         F: TranscriptField,
@@ -372,7 +377,8 @@ impl<'a, C: Sponge + Drop, U, D: DigestHasher> VerifierState<'a, C, U, D> {
     >(&mut self, label: Label, values: &[EF]) -> Result<Vec<TranscriptBound<EF>>, TranscriptError>
         ensures { let step = algebra_step Kind.Message label.now F.residues.order EF.DIMENSION (D.digest_of EF.identity)
             EF.name_bytes (Length.Fixed (length values.now)) in
-            KeepsAsRecorded (length values.now) (meaning.observed_all step ⟦<ExtensionFieldCodec<F, EF, Cdc> as Codec<C, EF>>⟧.observation values.now)
+            KeepsAsRecorded (length values.now) (meaning.observed_all step
+            ⟦<ExtensionFieldCodec<F, EF, Cdc> as Codec<C, EF>>⟧.observation values.now)
             (verifying_of C.state self.old) values_of result (verifying_of C.state self.new) }
     {
         self.turn.steps.carried_as_recorded(values.len())?;
@@ -403,7 +409,8 @@ impl<'a, C: Sponge + Drop, U, D: DigestHasher> VerifierState<'a, C, U, D> {
     >(&mut self, label: Label, value: &EF) -> Result<TranscriptBound<EF>, TranscriptError>
         ensures { let step = algebra_step Kind.Message label.now F.residues.order EF.DIMENSION (D.digest_of EF.identity)
             EF.name_bytes Length.Scalar in
-            KeepsOrRefuses (meaning.observed step ⟦<ExtensionFieldCodec<F, EF, Cdc> as Codec<C, EF>>⟧.observation value.now)
+            KeepsOrRefuses (meaning.observed step ⟦<ExtensionFieldCodec<F, EF, Cdc> as Codec<C, EF>>⟧.observation
+            value.now)
             (verifying_of C.state self.old) value_of result (verifying_of C.state self.new) }
     {
         self.turn
@@ -514,9 +521,10 @@ impl<'a, C: Sponge + Drop, U, D: DigestHasher> VerifierState<'a, C, U, D> {
         Cdc: ScalarCodec<C, F>,
     >(&mut self, label: Label) -> Result<TranscriptBound<EF>, TranscriptError>
         requires { 128 ≤ Cdc.SECURITY_BITS }
-        ensures { let step = algebra_step Kind.Challenge label.now F.residues.order EF.DIMENSION (D.digest_of EF.identity)
-            EF.name_bytes Length.Scalar in
-            KeepsOrRefuses (meaning.drawn {Symbol = C.Symbol} step ⟦<ExtensionFieldCodec<F, EF, Cdc> as Codec<C, EF>>⟧.sampling)
+        ensures { let step = algebra_step Kind.Challenge label.now F.residues.order EF.DIMENSION
+            (D.digest_of EF.identity) EF.name_bytes Length.Scalar in
+            KeepsOrRefuses (meaning.drawn {Symbol = C.Symbol} step
+            ⟦<ExtensionFieldCodec<F, EF, Cdc> as Codec<C, EF>>⟧.sampling)
             (verifying_of C.state self.old) value_of result (verifying_of C.state self.new) }
     {
         self.turn
@@ -533,9 +541,10 @@ impl<'a, C: Sponge + Drop, U, D: DigestHasher> VerifierState<'a, C, U, D> {
         Cdc: ScalarCodec<C, F>,
     >(&mut self, label: Label, n: usize) -> Result<Vec<TranscriptBound<EF>>, TranscriptError>
         requires { 128 ≤ Cdc.SECURITY_BITS }
-        ensures { let step = algebra_step Kind.Challenge label.now F.residues.order EF.DIMENSION (D.digest_of EF.identity)
-            EF.name_bytes (Length.Fixed n) in
-            KeepsOrRefuses (meaning.drawn_all {Symbol = C.Symbol} step ⟦<ExtensionFieldCodec<F, EF, Cdc> as Codec<C, EF>>⟧.sampling n)
+        ensures { let step = algebra_step Kind.Challenge label.now F.residues.order EF.DIMENSION
+            (D.digest_of EF.identity) EF.name_bytes (Length.Fixed n) in
+            KeepsOrRefuses (meaning.drawn_all {Symbol = C.Symbol} step
+            ⟦<ExtensionFieldCodec<F, EF, Cdc> as Codec<C, EF>>⟧.sampling n)
             (verifying_of C.state self.old) values_of result (verifying_of C.state self.new) }
     {
         self.turn
@@ -561,7 +570,8 @@ impl<'a, C: Sponge + Drop, U, D: DigestHasher> VerifierState<'a, C, U, D> {
         self.turn.draw_bits(label, width, n)
     }
 
-    /// Spends the verifier. It answers `Ok` exactly where no step was refused, none is left, and the proof is read whole.
+    /// Spends the verifier. It answers `Ok` exactly where no step was refused, none is left, and the proof is read
+    /// whole.
     ///
     /// Else the error is [`PatternError::Finished`](p3_fs_core::PatternError::Finished) where a step was refused,
     /// [`PatternError::Unplayed`](p3_fs_core::PatternError::Unplayed) with the next step where there is one, and then

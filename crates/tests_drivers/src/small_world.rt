@@ -1,4 +1,5 @@
-// A world whose answers are easily worked out by hand: a duplex of three cells of the field of 257 elements, two of them
+// A world whose answers are easily worked out by hand: a duplex of three cells of the field of 257 elements, two of
+// them
 // the rate, whose permutation turns them by two places; and a separator of a protocol with no label.
 use p3_codecs::{FieldToFieldCodec, FieldUnit};
 use p3_duplex::DuplexChallenger;

@@ -18,10 +18,13 @@ returns-in_err-bytes g c =
     let same = c.in_err-bytes.ensures.turn in
     rw (p.1, p.2) (not-read
     (reads.received_bytes_bounded c.args.label.now
-    (alphabet_of g.U.Unit.items g.U.Unit.is_too_long g.C.CanObserve.observation g.C.CanObserve.slice_may_leave) c.args.max)
+    (alphabet_of g.U.Unit.items g.U.Unit.is_too_long g.C.CanObserve.observation g.C.CanObserve.slice_may_leave)
+    c.args.max)
     (verifying_of state c.args.self.now) (verifying_of state c.read_counted.new.self) c.in_err-bytes.field-0.0
-    (opened.is_next.0, opened.is_next.1 ∙ ap Some c.bytes.ensures) c.in_err-bytes.ensures.read (ap (λ t. state t.challenger) same)
-    (ap (λ t. t.steps.closed || t.steps.player.finished) same ∙ ap (λ b. b || c.take.new.self.player.finished) opened.closed))
+    (opened.is_next.0, opened.is_next.1 ∙ ap Some c.bytes.ensures) c.in_err-bytes.ensures.read (ap (λ t. state
+    t.challenger) same)
+    (ap (λ t. t.steps.closed || t.steps.player.finished) same ∙ ap (λ b. b || c.take.new.self.player.finished)
+    opened.closed))
 
 pub returns-in_err-observe_count : goal.returns-in_err-observe_count
 returns-in_err-observe_count g c =

@@ -14,8 +14,10 @@ returns-in_err-bytes-clause-exact g c =
     rw (p.1, p.2) (not-read
     (reads.hint_received {S = g.row.C-State.Denot} {Symbol = g.row.C-Symbol.Denot} c.args.label.now c.args.len)
     (verifying_of state c.args.self.now) (verifying_of state c.read_bytes.new.self) c.in_err-bytes.field-0.0
-    (opened.is_next.0, opened.is_next.1 ∙ ap Some c.bytes.ensures) c.in_err-bytes.ensures.read (ap (λ t. state t.challenger) same)
-    (ap (λ t. t.steps.closed || t.steps.player.finished) same ∙ ap (λ b. b || c.take.new.self.player.finished) opened.closed))
+    (opened.is_next.0, opened.is_next.1 ∙ ap Some c.bytes.ensures) c.in_err-bytes.ensures.read (ap (λ t. state
+    t.challenger) same)
+    (ap (λ t. t.steps.closed || t.steps.player.finished) same ∙ ap (λ b. b || c.take.new.self.player.finished)
+    opened.closed))
 
 pub returns-in_err-bytes-clause-no_memory : goal.returns-in_err-bytes-clause-no_memory
 returns-in_err-bytes-clause-no_memory g c =

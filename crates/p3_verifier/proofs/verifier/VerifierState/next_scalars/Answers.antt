@@ -20,5 +20,6 @@ returns-in_err-bounds g c =
     g.Cdc.Codec.observation g.Cdc.Codec.encoding
     (verifying_of state c.args.self.now) (verifying_of state c.receive_values.new.self)
     opened.is_next
-    (ap (λ t. t.closed || t.player.finished) same ∙ ap (λ b. b || c.take_algebra.new.self.player.finished) opened.closed)
+    (ap (λ t. t.closed || t.player.finished) same ∙ ap (λ b. b || c.take_algebra.new.self.player.finished)
+    opened.closed)
     c.args.n c.in_err-bounds.field-0.0 c.in_err-bounds.ensures.read)

@@ -21,4 +21,5 @@ returns-in_err-value g c =
     g.Cdc.Codec.observation g.Cdc.Codec.encoding)
     (verifying_of state c.args.self.now) (verifying_of state c.read_value.new.self) c.in_err-value.field-0.0
     opened.is_next c.in_err-value.ensures.read (ap (λ t. state t.challenger) same)
-    (ap (λ t. t.steps.closed || t.steps.player.finished) same ∙ ap (λ b. b || c.take_algebra.new.self.player.finished) opened.closed))
+    (ap (λ t. t.steps.closed || t.steps.player.finished) same ∙ ap (λ b. b || c.take_algebra.new.self.player.finished)
+    opened.closed))

@@ -14,7 +14,10 @@ returns-in_err-bytes g c =
     let same = c.in_err-bytes.ensures.turn in
     rw (p.1, p.2) (not-read
     (reads.received_bytes c.args.kind c.args.label.now
-    (alphabet_of g.U.Unit.items g.U.Unit.is_too_long g.C.CanObserve.observation g.C.CanObserve.slice_may_leave) c.args.len)
+    (alphabet_of g.U.Unit.items g.U.Unit.is_too_long g.C.CanObserve.observation g.C.CanObserve.slice_may_leave)
+    c.args.len)
     (verifying_of state c.args.self.now) (verifying_of state c.read_bytes.new.self) c.in_err-bytes.field-0.0
-    (opened.is_next.0, opened.is_next.1 ∙ ap Some c.bytes.ensures) c.in_err-bytes.ensures.read (ap (λ t. state t.challenger) same)
-    (ap (λ t. t.steps.closed || t.steps.player.finished) same ∙ ap (λ b. b || c.take.new.self.player.finished) opened.closed))
+    (opened.is_next.0, opened.is_next.1 ∙ ap Some c.bytes.ensures) c.in_err-bytes.ensures.read (ap (λ t. state
+    t.challenger) same)
+    (ap (λ t. t.steps.closed || t.steps.player.finished) same ∙ ap (λ b. b || c.take.new.self.player.finished)
+    opened.closed))
