@@ -1,11 +1,14 @@
-//! Small callers, generic over the challenger, the codec and the alphabet, proved from public contracts alone.
+//! Small callers, proved from public contracts alone.
 //!
-//! They show what generic code may know: which symbols its calls fed, also where one of them is refused, and
-//! that those symbols bind the values.
+//! `line` is a protocol as a user would write it, with a prover and a verifier. The others are generic over the
+//! challenger, the codec and the alphabet, and show what generic code may know: which symbols its calls fed, also where
+//! one of them is refused, and that those symbols bind the values.
 #![tactic(auto)]
 
 mod bound_values;
+mod line;
 mod three_calls;
 
 pub use bound_values::{absorb_values, symbols_bind_values};
+pub use line::{Line, Opening, prove, verify};
 pub use three_calls::observe_and_draw;
