@@ -1,6 +1,5 @@
 // A step and then a challenge: the bytes of the proof, the challenge, and the next draw of the challenger, worked out
-// by
-// hand from the state [6, 2, 131] that the seed leaves.
+// by hand from the state [6, 2, 131] that the seed leaves.
 use crate::small_world::{
     Alphabet, Prover, Scalars, Separator, Sponge, Verifier, bytes, element, scalars, separator,
     sponge,

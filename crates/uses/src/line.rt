@@ -14,9 +14,13 @@ use p3_symmetric::Sha256Hasher;
 use std::alloc::Global;
 
 type Challenger = HashChallenger<u8, Sha256Hasher, 32>;
+
 type Codec = BytesToFieldCodec<BabyBear>;
+
 type Separator = DomainSeparator<u8, Sha256Hasher>;
+
 type Prover = ProverState<Challenger, u8, Sha256Hasher>;
+
 type Verifier<'a> = VerifierState<'a, Challenger, u8, Sha256Hasher>;
 
 /// A line over the field.
