@@ -35,7 +35,7 @@ fn a_value_and_arrays_are_observed_and_one_is_drawn(rt: HostRuntime) -> Result<(
     Ok(())
 }
 
-// Four bytes each for the slope, the offset and the value; and the value's last bit is another one.
+// Four bytes each for the slope, the offset and the value. The last byte is cut off, and then it is another one.
 #[test]
 fn a_proof_of_a_line_is_accepted_and_a_changed_one_is_not(rt: HostRuntime) -> Result<(), Fail> {
     let line = Line {
@@ -43,12 +43,12 @@ fn a_proof_of_a_line_is_accepted_and_a_changed_one_is_not(rt: HostRuntime) -> Re
         offset: BabyBear::from_u64(1952805748),
     };
     let mut proof = prove(rt.alloc(), line)?;
-    assert_eq!(rt; &proof[..8], b"\0\0\0\x03test".as_slice());
     assert_eq!(rt; proof.len(), 12);
     assert!(rt; verify(rt.alloc(), &proof)?.is_some());
-    proof[11] ^= 1;
+    let last = proof.pop().unwrap_or(0);
+    assert!(rt; verify(rt.alloc(), &proof).is_err());
+    proof.push(last ^ 1)?;
     assert!(rt; verify(rt.alloc(), &proof)?.is_none());
-    assert!(rt; verify(rt.alloc(), &proof[..11]).is_err());
     Ok(())
 }
 
