@@ -3,7 +3,6 @@
 #![tactic(auto)]
 
 mod duplex;
-mod fields;
 mod hash;
 mod patterns;
 mod seeds;
@@ -29,12 +28,11 @@ fn main(rt: HostRuntime) -> Result<()> {
         .and_then(|word| word.as_str().parse::<u32>().ok())
         .unwrap_or(RUNS);
     let text: Vec<u8> = (0..MEBIBYTE).map(|i| (i % 251) as u8).collect(rt.alloc())?;
-    let fields = fields::measure(&rt, runs)?;
     let duplex = duplex::measure(&rt, runs)?;
     let hash = hash::measure(&rt, runs, text.as_slice())?;
     let seeds = seeds::measure(&rt, runs, text.as_slice())?;
     let patterns = patterns::measure(&rt, runs)?;
     // The sums are shown so that nothing of what makes them can be left out.
-    println!(rt; "sums: {fields} {duplex} {hash} {seeds} {patterns}")?;
+    println!(rt; "sums: {duplex} {hash} {seeds} {patterns}")?;
     Ok(())
 }

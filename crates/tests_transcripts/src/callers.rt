@@ -5,7 +5,7 @@ use p3_field::{BabyBear, F257, PrimeCharacteristicRing, PrimeField64};
 use p3_symmetric::Sha256Hasher;
 use p3_test_support::{SmallSponge, element, small_sponge};
 use std::test::Fail;
-use uses::{Line, absorb_values, observe_and_draw, prove, symbols_bind_values, verify};
+use uses::{absorb_values, observe_and_draw, symbols_bind_values};
 
 type Bytes = HashChallenger<u8, Sha256Hasher, 32>;
 
@@ -32,23 +32,6 @@ fn a_value_and_arrays_are_observed_and_one_is_drawn(rt: HostRuntime) -> Result<(
         &[[element(0)]],
     )?;
     assert_eq!(rt; drawn.as_canonical_u64(), 4);
-    Ok(())
-}
-
-// Four bytes each for the slope, the offset and the value. The last byte is cut off, and then it is another one.
-#[test]
-fn a_proof_of_a_line_is_accepted_and_a_changed_one_is_not(rt: HostRuntime) -> Result<(), Fail> {
-    let line = Line {
-        slope: BabyBear::from_u64(3),
-        offset: BabyBear::from_u64(1952805748),
-    };
-    let mut proof = prove(rt.alloc(), line)?;
-    assert_eq!(rt; proof.len(), 12);
-    assert!(rt; verify(rt.alloc(), &proof)?.is_some());
-    let last = proof.pop().unwrap_or(0);
-    assert!(rt; verify(rt.alloc(), &proof).is_err());
-    proof.push(last ^ 1)?;
-    assert!(rt; verify(rt.alloc(), &proof)?.is_none());
     Ok(())
 }
 
