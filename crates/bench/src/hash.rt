@@ -21,17 +21,27 @@ pub type Chain = HashChallenger<u8, Sha256Hasher, 32>;
 
 /// Times each call, and gives a sum of what they draw.
 pub fn measure(rt: &HostRuntime, runs: u32, text: &[u8]) -> Result<u64> {
-    let alloc = rt.alloc();
-    let fresh = || Ok(Chain::new(Vec::new(alloc), Sha256Hasher));
+    let observes = measure_observes(rt, runs)?;
+    let hashes = measure_hashes(rt, runs, text)?;
+    let draws = measure_draws(rt, runs, text)?;
+    Ok(observes.wrapping_add(hashes).wrapping_add(draws))
+}
+
+fn measure_observes(rt: &HostRuntime, runs: u32) -> Result<u64> {
+    let fresh = || Ok(new_chain(rt.alloc()));
     let bytes = least(rt, "hash byte", runs, OBSERVES, fresh, observe_bytes)?;
     let slices = least(rt, "hash slice1000", runs, OBSERVES, fresh, observe_slices)?;
-    let raw = least(
+    Ok(bytes.wrapping_add(slices))
+}
+
+fn measure_hashes(rt: &HostRuntime, runs: u32, text: &[u8]) -> Result<u64> {
+    let long = least(
         rt,
         "raw sha256 1MiB per byte",
         runs,
         MEBIBYTE,
         || Ok(()),
-        |_| { Ok(first_byte(text)) },
+        |_| Ok(first_byte(text)),
     )?;
     let short = least(
         rt,
@@ -39,15 +49,21 @@ pub fn measure(rt: &HostRuntime, runs: u32, text: &[u8]) -> Result<u64> {
         runs,
         BLOCKS,
         || Ok(()),
-        |_| { Ok(hash_blocks(text)) },
+        |_| Ok(hash_blocks(text)),
     )?;
+    Ok(long.wrapping_add(short))
+}
+
+fn measure_draws(rt: &HostRuntime, runs: u32, text: &[u8]) -> Result<u64> {
+    let alloc = rt.alloc();
+    let fresh = || Ok(new_chain(alloc));
     let turns = least(
         rt,
         "hash 64-byte slice + sample",
         runs,
         BLOCKS,
         fresh,
-        |chain| { Ok(observe_and_draw(chain, text)?) },
+        |chain| Ok(observe_and_draw(chain, text)?),
     )?;
     let list = least(
         rt,
@@ -55,9 +71,9 @@ pub fn measure(rt: &HostRuntime, runs: u32, text: &[u8]) -> Result<u64> {
         runs,
         MEBIBYTE,
         fresh,
-        |chain| { Ok(draw_list(alloc, chain)?) },
+        |chain| Ok(draw_list(alloc, chain)?),
     )?;
-    let draws = least(
+    let bytes = least(
         rt,
         "hash sample per byte",
         runs,
@@ -65,11 +81,12 @@ pub fn measure(rt: &HostRuntime, runs: u32, text: &[u8]) -> Result<u64> {
         fresh,
         |chain| Ok(draw(chain)?),
     )?;
-    Ok(
-        [bytes, slices, raw, short, turns, list, draws]
-            .iter()
-            .fold(0, |sum: u64, part| sum.wrapping_add(*part)),
-    )
+    Ok(turns.wrapping_add(list).wrapping_add(bytes))
+}
+
+/// A challenger over SHA-256 that has observed nothing.
+pub fn new_chain(alloc: Global) -> Chain {
+    Chain::new(Vec::new(alloc), Sha256Hasher)
 }
 
 impl Left for Chain {

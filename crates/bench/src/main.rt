@@ -2,6 +2,7 @@
 //! least of several runs, and otherwise nothing. A second word, a number, says how many runs.
 #![tactic(auto)]
 
+mod drivers;
 mod duplex;
 mod hash;
 mod patterns;
@@ -32,7 +33,8 @@ fn main(rt: HostRuntime) -> Result<()> {
     let hash = hash::measure(&rt, runs, text.as_slice())?;
     let seeds = seeds::measure(&rt, runs, text.as_slice())?;
     let patterns = patterns::measure(&rt, runs)?;
+    let drivers = drivers::measure(&rt, runs)?;
     // The sums are shown so that nothing of what makes them can be left out.
-    println!(rt; "sums: {duplex} {hash} {seeds} {patterns}")?;
+    println!(rt; "sums: {duplex} {hash} {seeds} {patterns} {drivers}")?;
     Ok(())
 }

@@ -18,7 +18,13 @@ const LONG: u32 = 50_000;
 /// Times each operation at several lengths.
 pub fn measure(rt: &HostRuntime, runs: u32) -> Result<u64> {
     let mut sum = 0u64;
-    for (length, count) in [(10u32, 10_000u32), (100, 1000), (1000, 100), (10_000, 10)] {
+    for (length, count) in [
+        (10u32, 10_000u32),
+        (100, 1000),
+        (1000, 100),
+        (10_000, 10),
+        (100_000, 1),
+    ] {
         sum = sum.wrapping_add(measure_recordings(rt, runs, length, count)?);
         sum = sum.wrapping_add(measure_renderings(rt, runs, length, count)?);
         sum = sum.wrapping_add(measure_checks(rt, runs, length, count)?);
@@ -41,19 +47,7 @@ pub fn measure(rt: &HostRuntime, runs: u32) -> Result<u64> {
         || Ok(()),
         |_| Ok(elements()),
     )?;
-    let alike = least(
-        rt,
-        "algebra step of another's type",
-        runs,
-        STEPS,
-        || Ok(()),
-        |_| { Ok(elements_of_one()) },
-    )?;
-    Ok(
-        sum.wrapping_add(long)
-            .wrapping_add(made)
-            .wrapping_add(alike),
-    )
+    Ok(sum.wrapping_add(long).wrapping_add(made))
 }
 
 // A container is recorded step by step, and a list of steps that stand in none.
@@ -186,7 +180,10 @@ fn copies_of(alloc: Global, steps: &[Interaction], count: u32) -> Result<Vec<Vec
 fn checks(lists: Vec<Vec<Interaction>>) -> Result<u64> {
     let mut sum = 0u64;
     for steps in lists {
-        sum = sum.wrapping_add(pattern_of(steps)?.len() as u64);
+        match InteractionPattern::new(steps) {
+            Ok(pattern) => sum = sum.wrapping_add(pattern.len() as u64),
+            Err(error) => return Err(error.into()),
+        }
     }
     Ok(sum)
 }
@@ -304,17 +301,6 @@ fn elements() -> u64 {
     let mut sum = 0u64;
     for _ in 0..STEPS {
         sum = sum.wrapping_add(element().label().len() as u64);
-    }
-    sum
-}
-
-// The same of steps that are made of another one of the same type.
-fn elements_of_one() -> u64 {
-    let first = element();
-    let mut sum = 0u64;
-    for _ in 0..STEPS {
-        let step = first.of_same_type(Hierarchy::Atomic, Kind::Message, "value", Length::Scalar);
-        sum = sum.wrapping_add(step.label().len() as u64);
     }
     sum
 }

@@ -1,6 +1,6 @@
 // How long it takes to absorb the seed of a transcript.
 use crate::duplex::Duplex;
-use crate::hash::Chain;
+use crate::hash::{Chain, new_chain};
 use crate::patterns;
 use crate::timing::least;
 use anyhow::Result;
@@ -14,54 +14,79 @@ const MEBIBYTE: u32 = 1 << 20;
 
 const CONTAINER: u32 = 10;
 
-/// Times the seed of an instance of 1 MiB in each alphabet, and that of a small pattern.
+/// Times the seed of an instance of 1 MiB in each alphabet, and that of a small pattern, and gives a sum of what
+/// they leave.
 pub fn measure(rt: &HostRuntime, runs: u32, text: &[u8]) -> Result<u64> {
+    let baby = measure_baby(rt, runs, text)?;
+    let goldilocks = measure_goldilocks(rt, runs, text)?;
+    let bytes = measure_bytes(rt, runs, text)?;
+    let small = measure_small(rt, runs)?;
+    Ok(
+        [goldilocks, bytes, small]
+            .iter()
+            .fold(baby, |sum: u64, part| sum.wrapping_add(*part)),
+    )
+}
+
+fn measure_baby(rt: &HostRuntime, runs: u32, text: &[u8]) -> Result<u64> {
     let alloc = rt.alloc();
-    let fresh = || Ok(Duplex::new(Turn, 1));
-    let large = || Ok(DuplexChallenger::<Goldilocks, Turn<1>, 16, 8>::new(Turn, 1));
-    let chain = || Ok(Chain::new(Vec::new(alloc), Sha256Hasher));
-    let baby = separator::<FieldUnit<BabyBear>>(alloc, InteractionPattern::empty(alloc), text)?;
-    least(
-        rt,
-        "seed 1MiB FieldUnit<BabyBear> duplex per byte",
-        runs,
-        MEBIBYTE,
-        fresh,
-        |duplex| { seed_baby(&baby, duplex) },
-    )?;
-    let goldilocks = separator::<FieldUnit<Goldilocks>>(
+    let separator = separator::<FieldUnit<BabyBear>>(
         alloc,
         InteractionPattern::empty(alloc),
         text,
     )?;
     least(
         rt,
+        "seed 1MiB FieldUnit<BabyBear> duplex per byte",
+        runs,
+        MEBIBYTE,
+        || Ok(Duplex::new(Turn, 1)),
+        |duplex| seed_baby(&separator, duplex),
+    )
+}
+
+fn measure_goldilocks(rt: &HostRuntime, runs: u32, text: &[u8]) -> Result<u64> {
+    let alloc = rt.alloc();
+    let empty = InteractionPattern::empty(alloc);
+    let separator = separator::<FieldUnit<Goldilocks>>(alloc, empty, text)?;
+    least(
+        rt,
         "seed 1MiB FieldUnit<Goldilocks> duplex per byte",
         runs,
         MEBIBYTE,
-        large,
-        |duplex| { seed_goldilocks(&goldilocks, duplex) },
-    )?;
-    let bytes = separator::<u8>(alloc, InteractionPattern::empty(alloc), text)?;
+        || Ok(Large::new(Turn, 1)),
+        |duplex| seed_goldilocks(&separator, duplex),
+    )
+}
+
+fn measure_bytes(rt: &HostRuntime, runs: u32, text: &[u8]) -> Result<u64> {
+    let alloc = rt.alloc();
+    let separator = separator::<u8>(alloc, InteractionPattern::empty(alloc), text)?;
     least(
         rt,
         "seed 1MiB u8 hash per byte",
         runs,
         MEBIBYTE,
-        chain,
-        |hash| seed_bytes(&bytes, hash),
-    )?;
+        || Ok(new_chain(alloc)),
+        |chain| seed_bytes(&separator, chain),
+    )
+}
+
+fn measure_small(rt: &HostRuntime, runs: u32) -> Result<u64> {
+    let alloc = rt.alloc();
     let pattern = patterns::pattern_of(patterns::container(alloc, CONTAINER)?)?;
-    let small = separator::<FieldUnit<BabyBear>>(alloc, pattern, b"")?;
+    let separator = separator::<FieldUnit<BabyBear>>(alloc, pattern, b"")?;
     least(
         rt,
         "seed of 10-step pattern, whole",
         runs.saturating_mul(200),
         1,
-        fresh,
-        |duplex| seed_baby(&small, duplex),
+        || Ok(Duplex::new(Turn, 1)),
+        |duplex| seed_baby(&separator, duplex),
     )
 }
+
+type Large = DuplexChallenger<Goldilocks, Turn<1>, 16, 8>;
 
 type Separator<U> = DomainSeparator<U, Sha256Hasher>;
 
@@ -78,10 +103,7 @@ fn seed_baby(separator: &Separator<FieldUnit<BabyBear>>, mut duplex: Duplex) -> 
     Ok(drawn.as_canonical_u64())
 }
 
-fn seed_goldilocks(
-    separator: &Separator<FieldUnit<Goldilocks>>,
-    mut duplex: DuplexChallenger<Goldilocks, Turn<1>, 16, 8>,
-) -> Result<u64> {
+fn seed_goldilocks(separator: &Separator<FieldUnit<Goldilocks>>, mut duplex: Large) -> Result<u64> {
     separator.seed(&mut duplex)?;
     let drawn: Goldilocks = duplex.sample()?;
     Ok(drawn.as_canonical_u64())

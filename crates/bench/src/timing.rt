@@ -47,3 +47,36 @@ where
     println!(rt; "{name}: {each:.2}")?;
     Ok(sum)
 }
+
+/// How long a run took that took its time itself, and what it left.
+#[derive(Clone, Copy)]
+pub struct Lap {
+    pub nanoseconds: f64,
+    pub left: u64,
+}
+
+/// The same of runs that take their time themselves.
+pub fn least_lap<R>(
+    rt: &HostRuntime,
+    name: &str,
+    runs: u32,
+    operations: u32,
+    mut run: R,
+) -> Result<u64>
+where
+    R: FnMut() -> Result<Lap>,
+    requires runs { (state : R) → R.pre state }
+{
+    let mut least = f64::INFINITY;
+    let mut sum = 0u64;
+    for _ in 0..runs {
+        let lap = run()?;
+        sum = sum.wrapping_add(lap.left);
+        if lap.nanoseconds < least {
+            least = lap.nanoseconds;
+        }
+    }
+    let each = least / f64::from(operations);
+    println!(rt; "{name}: {each:.2}")?;
+    Ok(sum)
+}
