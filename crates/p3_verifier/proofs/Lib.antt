@@ -1,3 +1,4 @@
+pub mod Ends
 pub mod MirrorLaws
 pub mod Refusals
 pub mod ValuesInTurn
