@@ -1,6 +1,5 @@
 -- A verifier as contracts see it, and what a step makes of it.
 use Rattle.std.specs.Prelude.{◌≡◌, ◌≤◌, ◌<◌, ◌⊎◌, true, List, [], ℕ, Some, Ok, Err, Result, MatchResult}
-use Rattle.p3_fs_core.specs.Steps.{Step}
 use Rattle.p3_fs_core.specs.declared.error.TranscriptError.{TranscriptError}
 use Rattle.p3_fs_core.specs.declared.error.TranscriptError.TheVariants.{Pattern, BadProofShape, Challenger, OutOfMemory}
 use Rattle.p3_challenger_core.specs.declared.error.ChallengerError.TheVariants as challenger
