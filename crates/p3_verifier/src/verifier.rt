@@ -95,7 +95,8 @@ impl<'a, C: Sponge + Drop, U, D: DigestHasher> VerifierState<'a, C, U, D> {
     pub fn remaining_narg(&self) -> usize
         ensures { result ≡ length (verifying_of C.state self.now).unread }
     {
-        self.unread.len()
+        let unread = self.unread();
+        unread.len()
     }
 
     /// The bytes of the proof that are left to read.
@@ -117,18 +118,8 @@ impl<'a, C: Sponge + Drop, U, D: DigestHasher> VerifierState<'a, C, U, D> {
         ensures err { IfErr result (RefusesEnd (verifying_of C.state self.entry)) }
         ensures only { EndsReading (verifying_of C.state self.entry) → IsOk result }
     {
-        let VerifierState {
-            turn,
-            unread,
-            unit: _,
-        } = self;
-        let DriverTurn {
-            challenger: _,
-            steps,
-            alloc: _,
-        } = turn;
-        steps.finalize()?;
-        check_end(unread)
+        let _challenger = self.finish()?;
+        Ok(())
     }
 
     /// Spends the verifier as [`finalize`](VerifierState::finalize) does, for the challenger.

@@ -13,9 +13,7 @@ use p3_challenger_core::{CanObserve, Sponge};
 use p3_codecs::{Codec, ExtensionFieldCodec, ScalarCodec, Unit};
 use p3_driver_core::{TranscriptBound, bind, count_width, observe_count};
 use p3_field_core::{AlgebraIdentity, Named};
-use p3_fs_core::{
-    Hierarchy, Interaction, Kind, Label, Length, TranscriptError, TranscriptField, decode_len_be,
-};
+use p3_fs_core::{Kind, Label, Length, TranscriptError, TranscriptField, decode_len_be};
 use p3_symmetric::DigestHasher;
 
 impl<'a, U: Unit, C: CanObserve<U::Item> + Drop, D: DigestHasher> VerifierState<'a, C, U, D> {
@@ -62,12 +60,9 @@ impl<'a, U: Unit, C: CanObserve<U::Item> + Drop, D: DigestHasher> VerifierState<
             (alphabet_of U.items U.is_too_long C.observation C.slice_may_leave) max)
             (verifying_of C.state self.old) (λ bytes. bytes.now) result (verifying_of C.state self.new) }
     {
-        self.turn.steps.take(Interaction::bytes(
-            Hierarchy::Atomic,
-            Kind::Message,
-            label,
-            Length::Bounded(max),
-        ))?;
+        self.turn
+            .steps
+            .take_bytes(Kind::Message, label, Length::Bounded(max))?;
         let bytes = self.read_counted(max, "message length exceeds declared maximum")?;
         observe_count::<U, C>(&mut self.turn.challenger, bytes.len(), max)?;
         U::observe_bytes(&mut self.turn.challenger, bytes)?;
@@ -116,12 +111,7 @@ impl<'a, U: Unit, C: CanObserve<U::Item> + Drop, D: DigestHasher> VerifierState<
             (alphabet_of U.items U.is_too_long C.observation C.slice_may_leave) len)
             (verifying_of C.state self.old) (λ bytes. bytes.now) result (verifying_of C.state self.new) }
     {
-        self.turn.steps.take(Interaction::bytes(
-            Hierarchy::Atomic,
-            kind,
-            label,
-            Length::Fixed(len),
-        ))?;
+        self.turn.steps.take_bytes(kind, label, Length::Fixed(len))?;
         let bytes = self.read_bytes(len)?;
         U::observe_bytes(&mut self.turn.challenger, bytes)?;
         self.turn.steps.done();
@@ -186,12 +176,9 @@ impl<'a, C: Sponge + Drop, U, D: DigestHasher> VerifierState<'a, C, U, D> {
             (verifying_of C.state self.old) (λ bytes. bytes.now) result (verifying_of C.state self.new) }
         ensures no_memory { IfErr result (λ e. e ≡ TranscriptError.OutOfMemory → ⊥) }
     {
-        self.turn.steps.take(Interaction::bytes(
-            Hierarchy::Atomic,
-            Kind::Hint,
-            label,
-            Length::Fixed(len),
-        ))?;
+        self.turn
+            .steps
+            .take_bytes(Kind::Hint, label, Length::Fixed(len))?;
         let bytes = self.read_bytes(len)?;
         self.turn.steps.done();
         Ok(bytes)
@@ -210,12 +197,9 @@ impl<'a, C: Sponge + Drop, U, D: DigestHasher> VerifierState<'a, C, U, D> {
             (verifying_of C.state self.old) (λ bytes. bytes.now) result (verifying_of C.state self.new) }
         ensures no_memory { IfErr result (λ e. e ≡ TranscriptError.OutOfMemory → ⊥) }
     {
-        self.turn.steps.take(Interaction::bytes(
-            Hierarchy::Atomic,
-            Kind::Hint,
-            label,
-            Length::Bounded(max),
-        ))?;
+        self.turn
+            .steps
+            .take_bytes(Kind::Hint, label, Length::Bounded(max))?;
         let bytes = self.read_counted(max, "hint length exceeds declared maximum")?;
         self.turn.steps.done();
         Ok(bytes)
