@@ -76,6 +76,8 @@ pub use Rattle.p3_driver_core.specs.Opened
 pub use Rattle.p3_driver_core.specs.Rejecting
 pub use Rattle.p3_driver_core.specs.Turns
 pub use Rattle.p3_prover.specs.Proving
+pub use Rattle.p3_verifier.specs.Following
+pub use Rattle.p3_verifier.specs.FollowingLaws
 pub use Rattle.p3_verifier.specs.Mirrors
 pub use Rattle.p3_verifier.specs.Reads
 pub use Rattle.p3_verifier.specs.Verifying

@@ -22,5 +22,9 @@ pub use p3_turn::{
     seeds_are_prefix_code,
 };
 pub use p3_verifier::{
-    VerifierState, hint_is_received, sent_bytes_are_received, sent_value_is_received,
+    VerifierState, carried_lists_are_let_through, counted_hint_is_received, drawn_bits_agree,
+    drawn_values_agree, hint_is_received, markers_agree, observed_counted_values_agree,
+    observed_values_agree, opaque_values_agree, sent_bytes_are_received,
+    sent_counted_bytes_are_received, sent_counted_values_are_received, sent_value_is_received,
+    sent_values_are_received,
 };

@@ -1,10 +1,10 @@
 // The steps that a prover and a verifier play alike, for code that plays either side.
-ghost use Rattle.std.specs.Prelude.{◌≡◌, ◌≤◌, ℕ, List};
+ghost use Rattle.std.specs.Prelude.{◌≡◌, ◌≤◌, ℕ, List, IsOk};
 ghost use Rattle.p3_fs_core.specs.Steps.{marker_of};
 ghost use Rattle.p3_driver_core.specs.Bound.{value_of, values_of};
 ghost use Rattle.p3_driver_core.specs.Meanings as meaning;
 ghost use Rattle.p3_driver_core.specs.Rejecting.{Rule, Computes, drawn_rejecting};
-ghost use Rattle.p3_driver_core.specs.Turns.{Turn, PlaysOrRefuses, algebra_step, opaque_step};
+ghost use Rattle.p3_driver_core.specs.Turns.{Turn, PlaysOrRefuses, IsNext, algebra_step, opaque_step};
 
 use crate::TranscriptBound;
 use p3_challenger_core::{CanObserve, Sponge};
@@ -38,14 +38,18 @@ pub trait SymmetricSteps: Driver {
         ensures played { PlaysOrRefuses (meaning.marked {Symbol = Self.Challenger.Symbol}
             (marker_of Hierarchy.Begin Kind.Protocol label.now T.name_bytes))
             (turn self.old) (λ _. tt {0}) result (turn self.new) }
-        ensures bytes { bytes self.new ≡ bytes self.old };
+        ensures bytes { bytes self.new ≡ bytes self.old }
+        ensures only { IsNext (turn self.old).playing
+            (marker_of Hierarchy.Begin Kind.Protocol label.now T.name_bytes) → IsOk result };
 
     /// Closes a container that may hold steps of any kind. It takes no memory.
     fn end_protocol<T: Named>(&mut self, label: Label) -> Result<(), TranscriptError>
         ensures played { PlaysOrRefuses (meaning.marked {Symbol = Self.Challenger.Symbol}
             (marker_of Hierarchy.End Kind.Protocol label.now T.name_bytes))
             (turn self.old) (λ _. tt {0}) result (turn self.new) }
-        ensures bytes { bytes self.new ≡ bytes self.old };
+        ensures bytes { bytes self.new ≡ bytes self.old }
+        ensures only { IsNext (turn self.old).playing
+            (marker_of Hierarchy.End Kind.Protocol label.now T.name_bytes) → IsOk result };
 
     /// Observes a value as the challenger itself knows how.
     ///
@@ -71,8 +75,8 @@ pub trait SymmetricSteps: Driver {
     >(&mut self, label: Label, value: &EF) -> Result<TranscriptBound<EF>, TranscriptError>
         ensures played { let step = algebra_step Kind.Message label.now F.residues.order EF.DIMENSION
             (Self.Digest.digest_of EF.identity) EF.name_bytes Length.Scalar in
-            PlaysOrRefuses
-            (meaning.observed step ⟦<ExtensionFieldCodec<F, EF, Cdc> as Codec<Self::Challenger, EF>>⟧.observation value.now)
+            PlaysOrRefuses (meaning.observed step
+            ⟦<ExtensionFieldCodec<F, EF, Cdc> as Codec<Self::Challenger, EF>>⟧.observation value.now)
             (turn self.old) value_of result (turn self.new) }
         ensures bytes { bytes self.new ≡ bytes self.old };
 

@@ -1,3 +1,5 @@
+pub mod Ends
 pub mod MirrorLaws
+pub mod ReadBack
 pub mod Refusals
 pub mod ValuesInTurn

@@ -1,83 +1,96 @@
--- What is written is read back.
-use Rattle.std.proofs.Common.{◌≡◌, ℕ, ◌≤◌, List, [], ◌++◌, length, take, drop, Bool, false, nat_lt, if◌then◌else◌, Ok}
-use Rattle.std.proofs.Common.{refl, sym, ap, ◌∙◌, subst, arith, append-nil, length-append}
-use Rattle.std.proofs.Math.Seq.{take-append_seam, drop-append_seam}
-use Rattle.std.proofs.lemmas.Bool.Decides.{nat_tests}
+-- What a prover's step writes, a verifier's step reads.
+use Rattle.std.proofs.Common.{ℕ, ◌^◌, ◌<◌, ◌≤◌, List, length, refl}
 use Rattle.p3_challenger_core.specs.Observation.{Observation}
 use Rattle.p3_fs_core.specs.Encoding.{Encoding, IsEncoding}
 use Rattle.p3_fs_core.specs.Steps.{Step}
 use Rattle.p3_fs_core.specs.declared.step.Kind.{Kind}
-use Rattle.p3_driver_core.specs.Effects.{Alphabet}
-use Rattle.p3_driver_core.specs.Meanings.{sent, sent_bytes, hinted}
+use Rattle.p3_fs_core.specs.declared.step.Kind.TheVariants.{Message}
+use Rattle.p3_driver_core.specs.Counts.{count_bytes}
+use Rattle.p3_driver_core.specs.Effects.{Alphabet, observing_bytes}
+use Rattle.p3_driver_core.specs.Meanings.{sent, sent_all, sent_bounded, sent_bytes, sent_bytes_bounded, hinted}
+use Rattle.p3_driver_core.specs.Meanings.{hinted_bounded}
+use Rattle.p3_verifier.proofs.ReadBack.{bytes-back, value-back, values-back, counted_bytes-back, counted_values-back}
 use Rattle.p3_verifier.specs.Mirrors.{Mirrors}
-use Rattle.p3_verifier.specs.Reads.{Read, read_bytes, read_value, value_in, unreadable, ended_early, received}
-use Rattle.p3_verifier.specs.Reads.{received_bytes, hint_received}
+use Rattle.p3_verifier.specs.Reads.{received, received_all, received_bounded, received_bytes, received_bytes_bounded}
+use Rattle.p3_verifier.specs.Reads.{hint_received, hint_received_bounded, message_too_long, hint_too_long}
 
-not_below : (a b : ℕ) → b ≤ a → nat_lt a b ≡ false
-not_below a b h = grind (arith, nat_tests)
+module _ {S Symbol A : Type 0} (step : Step) (o : Observation S Symbol A) (e : Encoding A) (encodes : IsEncoding e)
+  where
+    -- a value that is sent is received
+    pub sent-mirrored : (x : A) → Mirrors (sent step o e x) (received step o e) x
+    sent-mirrored x =
+        record {
+          interaction = refl;
+          reads_back = value-back {S = S} e encodes x;
+          gives = λ _. refl;
+          after = λ _. refl;
+        }
 
-chosen : {R : Type 0} (b : Bool) (x y : R) → b ≡ false → (if b then x else y) ≡ y
-chosen b x y is = ap (λ c. if c then x else y) is
+    -- so are the values of a list
+    pub values-mirrored : (xs : List A) → Mirrors (sent_all step o e xs) (received_all step o e (length xs)) xs
+    values-mirrored xs =
+        record {
+          interaction = refl;
+          reads_back = values-back {S = S} e encodes o.observed xs;
+          gives = λ _. refl;
+          after = λ _. refl;
+        }
 
--- bytes are read back, whatever follows
-bytes-back : {S : Type 0} (bytes rest : List ℕ) → read_bytes {S = S} (length bytes) (bytes ++ rest) ≡ Ok (bytes, rest)
-bytes-back {S} bytes rest =
-    let enough : length bytes ≤ length (bytes ++ rest) = omega (arith, length-append bytes rest) in
-    let Here : Type 0 = Read S (List ℕ) in
-    chosen {R = Here} (nat_lt (length (bytes ++ rest)) (length bytes)) (unreadable ended_early (bytes ++ rest))
-    (Ok (take (length bytes) (bytes ++ rest), drop (length bytes) (bytes ++ rest)))
-    (not_below (length (bytes ++ rest)) (length bytes) enough)
-    ∙ (λ i. Ok (take-append_seam bytes rest i, drop-append_seam bytes rest i))
+    -- and the values of a list after their count
+    pub counted_values-mirrored : {I : Type 0} (alphabet : Alphabet S Symbol I) (max : ℕ) (xs : List A) →
+        length xs ≤ max → max < 2 ^ 64 →
+        Mirrors (sent_bounded step alphabet max o e xs) (received_bounded step alphabet max o e) xs
+    counted_values-mirrored alphabet max xs within fits =
+        record {
+          interaction = refl;
+          reads_back = λ rest. counted_values-back {S = S} e encodes o.observed
+              (λ n. (observing_bytes alphabet (count_bytes max n)).after) max xs rest within fits;
+          gives = λ _. refl;
+          after = λ _. refl;
+        }
 
-module _ {S A : Type 0} (e : Encoding A) (encodes : IsEncoding e) where
-  -- a value is read back, whatever follows
-  value-back : (x : A) (rest : List ℕ) → read_value {S = S} e (e.wire x ++ rest) ≡ Ok (x, rest)
-  value-back x rest =
-      let bytes = e.wire x ++ rest in
-      let width = encodes.fixed_width x in
-      let enough : e.width ≤ length bytes = omega (arith, length-append (e.wire x) rest, width) in
-      let front : take e.width bytes ≡ e.wire x
-      = ap (λ w. take w bytes) (sym width) ∙ take-append_seam (e.wire x) rest in
-      let after : drop e.width bytes ≡ rest
-      = ap (λ w. drop w bytes) (sym width) ∙ drop-append_seam (e.wire x) rest in
-      let found : e.read (take e.width bytes) ≡ Ok (x, [])
-      = ap e.read (front ∙ sym (append-nil (e.wire x))) ∙ encodes.reads_back x [] in
-      let Here : Type 0 = Read S A in
-      chosen {R = Here} (nat_lt (length bytes) e.width) (unreadable ended_early bytes)
-      (value_in (e.read (take e.width bytes)) (drop e.width bytes)) (not_below (length bytes) e.width enough)
-      ∙ ap (λ r. value_in {S = S} r (drop e.width bytes)) found
-      ∙ ap (λ l. Ok (x, l)) after
+module _ {S Symbol I : Type 0} (alphabet : Alphabet S Symbol I) (label : List ℕ) where
+  -- bytes that are sent are received
+  pub bytes-mirrored : (kind : Kind) (bytes : List ℕ) →
+      Mirrors (sent_bytes kind label alphabet bytes) (received_bytes kind label alphabet (length bytes)) bytes
+  bytes-mirrored kind bytes =
+      record {
+        interaction = refl;
+        reads_back = bytes-back {S = S} bytes;
+        gives = λ _. refl;
+        after = λ _. refl;
+      }
 
--- a value that is sent is received
-pub sent-mirrored : {S Symbol A : Type 0} (step : Step) (o : Observation S Symbol A) (e : Encoding A) →
-    IsEncoding e → (x : A) → Mirrors (sent step o e x) (received step o e) x
-sent-mirrored {S} step o e encodes x =
-    record {
-      interaction = refl;
-      reads_back = value-back {S = S} e encodes x;
-      gives = λ _. refl;
-      after = λ _. refl;
-    }
+  -- and bytes after their count
+  pub counted_bytes-mirrored : (max : ℕ) (bytes : List ℕ) → length bytes ≤ max → max < 2 ^ 64 →
+      Mirrors (sent_bytes_bounded Message label alphabet max bytes) (received_bytes_bounded label alphabet max) bytes
+  counted_bytes-mirrored max bytes within fits =
+      record {
+        interaction = refl;
+        reads_back = λ rest. counted_bytes-back {S = S} message_too_long max bytes rest within fits;
+        gives = λ _. refl;
+        after = λ _. refl;
+      }
 
--- so are bytes
-pub bytes-mirrored : {S Symbol I : Type 0} (kind : Kind) (label : List ℕ) (alphabet : Alphabet S Symbol I)
-    (bytes : List ℕ) →
-    Mirrors (sent_bytes kind label alphabet bytes) (received_bytes kind label alphabet (length bytes)) bytes
-bytes-mirrored {S} kind label alphabet bytes =
-    record {
-      interaction = refl;
-      reads_back = bytes-back {S = S} bytes;
-      gives = λ _. refl;
-      after = λ _. refl;
-    }
-
--- and hints
+-- a hint that is sent is received
 pub hint-mirrored : {S Symbol : Type 0} (label bytes : List ℕ) →
     Mirrors {S = S} {Symbol = Symbol} (hinted label bytes) (hint_received label (length bytes)) bytes
 hint-mirrored {S} label bytes =
     record {
       interaction = refl;
       reads_back = bytes-back {S = S} bytes;
+      gives = λ _. refl;
+      after = λ _. refl;
+    }
+
+-- and a hint after its count
+pub counted_hint-mirrored : {S Symbol : Type 0} (label : List ℕ) (max : ℕ) (bytes : List ℕ) → length bytes ≤ max →
+    max < 2 ^ 64 →
+    Mirrors {S = S} {Symbol = Symbol} (hinted_bounded label max bytes) (hint_received_bounded label max) bytes
+counted_hint-mirrored {S} label max bytes within fits =
+    record {
+      interaction = refl;
+      reads_back = λ rest. counted_bytes-back {S = S} hint_too_long max bytes rest within fits;
       gives = λ _. refl;
       after = λ _. refl;
     }

@@ -1,3 +1,5 @@
+pub mod Following
+pub mod FollowingLaws
 pub mod Mirrors
 pub mod Reads
 pub mod Verifying

@@ -17,6 +17,10 @@ use Rattle.p3_driver_core.specs.Effects.{in_turn}
 use Rattle.p3_challenger_core.specs.declared.error.ChallengerError.TheVariants as challenger
 use Rattle.p3_driver_core.specs.Turns.{bytes_step, LeavesBeginning}
 
+-- of bytes, these are an end
+abbrev pub IsEndOf : List ℕ → List ℕ → Type 0
+IsEndOf bytes left = (n : ℕ) × (left ≡ drop n bytes)
+
 -- why nothing is read, the bytes that are left then, and what the challenger has absorbed
 pub record Unreadable (S : Type 0) : Type 0 where
   pub reason : List ℕ

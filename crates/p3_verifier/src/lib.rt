@@ -1,9 +1,18 @@
 //! The verifier's side of a transcript.
 #![tactic(auto)]
 
+mod agreements;
 mod mirrors;
 mod symmetric;
 mod verifier;
 
-pub use mirrors::{hint_is_received, sent_bytes_are_received, sent_value_is_received};
+pub use agreements::{
+    carried_lists_are_let_through, drawn_bits_agree, drawn_values_agree, markers_agree,
+    observed_counted_values_agree, observed_values_agree, opaque_values_agree,
+};
+pub use mirrors::{
+    counted_hint_is_received, hint_is_received, sent_bytes_are_received,
+    sent_counted_bytes_are_received, sent_counted_values_are_received, sent_value_is_received,
+    sent_values_are_received,
+};
 pub use verifier::VerifierState;

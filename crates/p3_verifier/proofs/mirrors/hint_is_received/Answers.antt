@@ -1,5 +1,10 @@
 use Rattle.p3_verifier.proofs.MirrorLaws.{hint-mirrored}
+use Rattle.p3_verifier.specs.FollowingLaws.{mirror-follows}
 use Rattle.p3_verifier.proofs.mirrors.hint_is_received.Goals as goal
 
-pub returns : goal.returns
-returns g c = λ label bytes. hint-mirrored label bytes
+pub returns-clause-mirrors : goal.returns-clause-mirrors
+returns-clause-mirrors g c = λ label bytes. hint-mirrored label bytes
+
+pub returns-clause-follows : goal.returns-clause-follows
+returns-clause-follows g c = λ label bytes. mirror-follows _ _ _
+    (hint-mirrored label bytes)

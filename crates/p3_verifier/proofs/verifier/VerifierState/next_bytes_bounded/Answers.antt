@@ -1,4 +1,4 @@
-use Rattle.std.proofs.Common.{Some, length, inl, inr, subst, ap, ◌∙◌, ◌||◌}
+use Rattle.std.proofs.Common.{length, inl, inr, subst, ap, ◌∙◌, ◌||◌}
 use Rattle.std.proofs.lemmas.Result.{err_from_is_err_and}
 use Rattle.p3_driver_core.specs.Counts.{count_bytes}
 use Rattle.p3_driver_core.specs.Effects.{alphabet_of, observing_bytes, in_turn}
@@ -14,16 +14,16 @@ pub returns-in_err-bytes : goal.returns-in_err-bytes
 returns-in_err-bytes g c =
     let p = err_from_is_err_and c.from_residual-in_err-bytes.result c.from_residual-in_err-bytes.ensures.1 in
     let state = g.C.Sponge.state in
-    let opened = c.in_ok-take.ensures.ok in
+    let opened = c.in_ok-take_bytes.ensures.ok in
     let same = c.in_err-bytes.ensures.turn in
     rw (p.1, p.2) (not-read
     (reads.received_bytes_bounded c.args.label.now
     (alphabet_of g.U.Unit.items g.U.Unit.is_too_long g.C.CanObserve.observation g.C.CanObserve.slice_may_leave)
     c.args.max)
     (verifying_of state c.args.self.now) (verifying_of state c.read_counted.new.self) c.in_err-bytes.field-0.0
-    (opened.is_next.0, opened.is_next.1 ∙ ap Some c.bytes.ensures) c.in_err-bytes.ensures.read (ap (λ t. state
+    opened.is_next c.in_err-bytes.ensures.read (ap (λ t. state
     t.challenger) same)
-    (ap (λ t. t.steps.closed || t.steps.player.finished) same ∙ ap (λ b. b || c.take.new.self.player.finished)
+    (ap (λ t. t.steps.closed || t.steps.player.finished) same ∙ ap (λ b. b || c.take_bytes.new.self.player.finished)
     opened.closed))
 
 pub returns-in_err-observe_count : goal.returns-in_err-observe_count
@@ -31,7 +31,7 @@ returns-in_err-observe_count g c =
     let p = err_from_is_err_and c.from_residual-in_err-observe_count.result
     c.from_residual-in_err-observe_count.ensures.1 in
     let state = g.C.Sponge.state in
-    let opened = c.in_ok-take.ensures.ok in
+    let opened = c.in_ok-take_bytes.ensures.ok in
     let same = c.in_ok-bytes.ensures.turn in
     let bytes = c.in_ok-bytes.bytes.now in
     let alphabet = alphabet_of g.U.Unit.items g.U.Unit.is_too_long g.C.CanObserve.observation
@@ -43,17 +43,18 @@ returns-in_err-observe_count g c =
     (reads.read_counted_bytes reads.message_too_long c.args.max)
     (λ bs. in_turn (observing_bytes alphabet (count_bytes c.args.max (length bs))) (observing_bytes alphabet bs))
     before _ bytes c.in_err-observe_count.field-0.0 here
-    (opened.is_next.0, opened.is_next.1 ∙ ap Some c.bytes.ensures) c.in_ok-bytes.ensures.read
+    opened.is_next c.in_ok-bytes.ensures.read
+    c.in_ok-bytes.ensures.end
     (ap (λ t. state t.challenger) same) (inl c.in_err-observe_count.ensures.does)
     (ap (λ t. t.steps.closed || t.steps.player.finished) same
-    ∙ ap (λ b. b || c.take.new.self.player.finished) opened.closed))
+    ∙ ap (λ b. b || c.take_bytes.new.self.player.finished) opened.closed))
 
 pub returns-in_err-observe_bytes : goal.returns-in_err-observe_bytes
 returns-in_err-observe_bytes g c =
     let p = err_from_is_err_and c.from_residual-in_err-observe_bytes.result
     c.from_residual-in_err-observe_bytes.ensures.1 in
     let state = g.C.Sponge.state in
-    let opened = c.in_ok-take.ensures.ok in
+    let opened = c.in_ok-take_bytes.ensures.ok in
     let same = c.in_ok-bytes.ensures.turn in
     let bytes = c.in_ok-bytes.bytes.now in
     let alphabet = alphabet_of g.U.Unit.items g.U.Unit.is_too_long g.C.CanObserve.observation
@@ -67,9 +68,10 @@ returns-in_err-observe_bytes g c =
     (reads.read_counted_bytes reads.message_too_long c.args.max)
     (λ bs. in_turn (observing_bytes alphabet (count_bytes c.args.max (length bs))) (observing_bytes alphabet bs))
     before _ bytes e here
-    (opened.is_next.0, opened.is_next.1 ∙ ap Some c.bytes.ensures) c.in_ok-bytes.ensures.read
+    opened.is_next c.in_ok-bytes.ensures.read
+    c.in_ok-bytes.ensures.end
     (ap (λ t. state t.challenger) same)
     (inr (subst (λ u. (observing_bytes alphabet bytes).refuses e u end) c.in_ok-observe_count.ensures.does.1
     c.in_err-observe_bytes.ensures.err))
     (ap (λ t. t.steps.closed || t.steps.player.finished) same
-    ∙ ap (λ b. b || c.take.new.self.player.finished) opened.closed))
+    ∙ ap (λ b. b || c.take_bytes.new.self.player.finished) opened.closed))

@@ -1,4 +1,4 @@
-use Rattle.std.proofs.Common.{Some, ap, ◌∙◌, ◌||◌}
+use Rattle.std.proofs.Common.{ap, ◌∙◌, ◌||◌}
 use Rattle.std.proofs.lemmas.Result.{err_from_is_err_and}
 use Rattle.p3_verifier.proofs.Refusals.{not-read, fails-with-memory}
 use Rattle.p3_verifier.specs.Reads as reads
@@ -9,14 +9,14 @@ pub returns-in_err-bytes-clause-exact : goal.returns-in_err-bytes-clause-exact
 returns-in_err-bytes-clause-exact g c =
     let p = err_from_is_err_and c.from_residual-in_err-bytes.result c.from_residual-in_err-bytes.ensures.1 in
     let state = g.C.Sponge.state in
-    let opened = c.in_ok-take.ensures.ok in
+    let opened = c.in_ok-take_bytes.ensures.ok in
     let same = c.in_err-bytes.ensures.turn in
     rw (p.1, p.2) (not-read
     (reads.hint_received_bounded {S = g.row.C-State.Denot} {Symbol = g.row.C-Symbol.Denot} c.args.label.now c.args.max)
     (verifying_of state c.args.self.now) (verifying_of state c.read_counted.new.self) c.in_err-bytes.field-0.0
-    (opened.is_next.0, opened.is_next.1 ∙ ap Some c.bytes.ensures) c.in_err-bytes.ensures.read (ap (λ t. state
+    opened.is_next c.in_err-bytes.ensures.read (ap (λ t. state
     t.challenger) same)
-    (ap (λ t. t.steps.closed || t.steps.player.finished) same ∙ ap (λ b. b || c.take.new.self.player.finished)
+    (ap (λ t. t.steps.closed || t.steps.player.finished) same ∙ ap (λ b. b || c.take_bytes.new.self.player.finished)
     opened.closed))
 
 pub returns-in_err-bytes-clause-no_memory : goal.returns-in_err-bytes-clause-no_memory

@@ -1,4 +1,4 @@
-use Rattle.std.proofs.Common.{Some, ap, ◌∙◌, ◌||◌}
+use Rattle.std.proofs.Common.{ap, ◌∙◌, ◌||◌}
 use Rattle.std.proofs.lemmas.Result.{err_from_is_err_and}
 use Rattle.p3_driver_core.specs.Effects.{alphabet_of}
 use Rattle.p3_verifier.proofs.Refusals.{not-read}
@@ -10,14 +10,14 @@ pub returns-in_err-bytes : goal.returns-in_err-bytes
 returns-in_err-bytes g c =
     let p = err_from_is_err_and c.from_residual-in_err-bytes.result c.from_residual-in_err-bytes.ensures.1 in
     let state = g.C.Sponge.state in
-    let opened = c.in_ok-take.ensures.ok in
+    let opened = c.in_ok-take_bytes.ensures.ok in
     let same = c.in_err-bytes.ensures.turn in
     rw (p.1, p.2) (not-read
     (reads.received_bytes c.args.kind c.args.label.now
     (alphabet_of g.U.Unit.items g.U.Unit.is_too_long g.C.CanObserve.observation g.C.CanObserve.slice_may_leave)
     c.args.len)
     (verifying_of state c.args.self.now) (verifying_of state c.read_bytes.new.self) c.in_err-bytes.field-0.0
-    (opened.is_next.0, opened.is_next.1 ∙ ap Some c.bytes.ensures) c.in_err-bytes.ensures.read (ap (λ t. state
+    opened.is_next c.in_err-bytes.ensures.read (ap (λ t. state
     t.challenger) same)
-    (ap (λ t. t.steps.closed || t.steps.player.finished) same ∙ ap (λ b. b || c.take.new.self.player.finished)
+    (ap (λ t. t.steps.closed || t.steps.player.finished) same ∙ ap (λ b. b || c.take_bytes.new.self.player.finished)
     opened.closed))

@@ -4,6 +4,7 @@ use Rattle.p3_challenger_core.specs.Observation.{RefusesObserve}
 use Rattle.p3_driver_core.specs.Bound.{value_of}
 use Rattle.p3_driver_core.specs.BoundLaws.{values-more}
 use Rattle.p3_verifier.specs.Reads as reads
+use Rattle.p3_verifier.proofs.Ends.{end-all, end-then}
 use Rattle.p3_verifier.proofs.ValuesInTurn.{ReadsOn, reads_on-start, reads_on-next, reads_on-all, reads_on-one_left}
 use Rattle.p3_verifier.proofs.ValuesInTurn.{reads_on-none_left, enough-read, short-read, leaves-none, fails-in_list}
 use Rattle.p3_verifier.proofs.ValuesInTurn.{refused-in_list}
@@ -36,6 +37,7 @@ loop-init g c =
       on = subst (λ xs. ReadsOn e o c.args.n bytes s xs (c.args.n - 0) bytes s)
           (sym (ap (map value_of) c.in_ok-bounds.ensures.items))
           (subst (λ k. ReadsOn e o c.args.n bytes s [] k bytes s) all (reads_on-start e o c.args.n bytes s));
+      end = end-all bytes;
       steps = refl;
       count = c.in_ok-bounds.ensures.len;
       room = c.in_ok-bounds.ensures.exact;
@@ -101,6 +103,7 @@ loop-preserved g c =
           (state c.observe.new.challenger) x c.in_ok-value.ensures.read
           (c.in_ok-observe.ensures.ok ∙ ap (λ w. o.observed w x) same)
           (reads_on-one_left e o c.args.n bytes s xs i here t c.loop-test.true c.loop.invariant.on));
+      end = end-then bytes here c.read_value.new.self.unread.now c.loop.invariant.end c.in_ok-value.ensures.end;
       steps = ap (λ d. d.steps) c.in_ok-value.ensures.turn ∙ c.loop.invariant.steps;
       count = c.push_reserved.ensures.len ∙ ap (λ k. k + 1) c.loop.invariant.count;
       room = c.push_reserved.ensures.capacity ∙ c.loop.invariant.room;

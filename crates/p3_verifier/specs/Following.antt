@@ -1,0 +1,32 @@
+-- What a verifier does at a step that a prover has played: the same.
+use Rattle.std.specs.Prelude.{◌≡◌, ℕ, List, ◌++◌}
+use Rattle.p3_fs_core.specs.declared.error.TranscriptError.{TranscriptError}
+use Rattle.p3_fs_core.specs.declared.error.TranscriptError.TheVariants.{Challenger, OutOfMemory}
+use Rattle.p3_driver_core.specs.Turns.{Meaning, Turn, Plays, Refuses}
+use Rattle.p3_verifier.specs.Reads.{Reading}
+use Rattle.p3_verifier.specs.Verifying.{Verifying, Receives, RefusesToRead}
+
+-- the challenger refuses, or memory is refused: nothing is wrong with the step or with the proof
+abbrev pub IsOwnRefusal : TranscriptError → Type 0
+IsOwnRefusal (Challenger e) = Unit {0}
+IsOwnRefusal OutOfMemory = Unit {0}
+IsOwnRefusal _ = ⊥
+
+-- A prover has played the step, and a verifier stands at the same turn, with the step's bytes next. Then the verifier
+-- reads the prover's value, leaves what follows, and ends at the prover's turn; or it is refused for the sake of the
+-- challenger or of memory alone.
+pub record Follows {S Symbol A : Type 0} (m : Meaning S Symbol A) (r : Reading S Symbol A) (x : A) : Type 0 where
+  pub receives : (before after : Turn S) (rest : List ℕ) (start end : Verifying S) (y : A) → Plays m before x after →
+      start ≡ record { turn = before; unread = m.wire ++ rest } → Receives r start y end →
+      (y ≡ x) × (end ≡ record { turn = after; unread = rest })
+  pub refuses : (before after : Turn S) (rest : List ℕ) (start end : Verifying S) (e : TranscriptError) →
+      Plays m before x after → start ≡ record { turn = before; unread = m.wire ++ rest } → RefusesToRead r start e end →
+      IsOwnRefusal e
+
+-- The same of a step that both play alike, from one turn: what comes of it is the same, and so is the turn after it; or
+-- the second one is refused for the sake of the challenger or of memory alone.
+pub record Agrees {S Symbol A : Type 0} (m : Meaning S Symbol A) : Type 0 where
+  pub plays : (before after start end : Turn S) (x y : A) → Plays m before x after → start ≡ before →
+      Plays m start y end → (y ≡ x) × (end ≡ after)
+  pub refuses : (before after start end : Turn S) (x : A) (e : TranscriptError) → Plays m before x after →
+      start ≡ before → Refuses m start e end → IsOwnRefusal e
