@@ -1,3 +1,4 @@
 pub mod MirrorLaws
 pub mod Refusals
 pub mod ValuesInTurn
+pub mod WorkedRows
