@@ -11,15 +11,19 @@ use Rattle.p3_challenger_core.specs.ObservationLaws.{nothing-fed, in_row-is_obse
 use Rattle.p3_challenger_core.specs.Sampling.{Sampling, IsSampling, RefusesDraw, RefusesDrawVec, in_row}
 use Rattle.p3_challenger_core.specs.SamplingLaws.{no_steps, steps-then, in_row-is_sampling, refused-in_row}
 use Rattle.p3_challenger_core.specs.declared.error.ChallengerError.{ChallengerError}
-use Rattle.p3_challenger_core.specs.declared.error.ChallengerError.TheVariants.{OutOfMemory, DrawLimit, NoWitness}
-use Rattle.p3_challenger_core.specs.declared.error.ChallengerError.TheVariants.{TooLong}
+use Rattle.p3_challenger_core.specs.declared.error.ChallengerError.TheVariants.{DrawLimit, NoWitness, TooLong}
+use Rattle.p3_challenger_core.specs.declared.error.ChallengerError.TheVariants as challenger
 use Rattle.p3_fs_core.specs.Alphabet.{LeavesItems}
+use Rattle.p3_fs_core.specs.declared.error.TranscriptError.{TranscriptError}
+use Rattle.p3_fs_core.specs.declared.error.TranscriptError.TheVariants.{MissingBegin, InvalidKind, MismatchedBeginEnd}
+use Rattle.p3_fs_core.specs.declared.error.TranscriptError.TheVariants.{MissingEnd, BadProofShape, Pattern}
+use Rattle.p3_fs_core.specs.declared.error.TranscriptError.TheVariants.{Challenger, LabelTooLong, OutOfMemory}
 use Rattle.p3_driver_core.specs.Effects.{Effect, Alphabet, untouched, observing, observing_all, observing_bytes}
 use Rattle.p3_driver_core.specs.Effects.{drawing, drawing_all, in_turn}
 use Rattle.p3_driver_core.specs.Feeding.{Feeds, OnlyDraws}
 use Rattle.p3_driver_core.specs.Rejecting.{Rule, Outcome, given, go_on, taken, RefusesTaken, keeps, RefusesKeeps}
 use Rattle.p3_driver_core.specs.Rejecting.{drawing_rejecting}
-use Rattle.p3_driver_core.specs.Turns.{LeavesBeginning}
+use Rattle.p3_driver_core.specs.Turns.{Meaning, Turn, Plays, Refuses, LeavesBeginning}
 
 -- ---- steps that feed
 
@@ -47,14 +51,14 @@ module _ {S Symbol : Type 0} (fed : S → List Symbol → S) (fed_nothing : (s :
   module _ {T : Type 0} (o : Observation S Symbol T) (laws : IsObservation fed o) where
     value-leaves : (x : T) (e : ChallengerError) (s t : S) → RefusesObserve (o.may_leave s x) e t →
         LeavesFed fed s (o.symbols x) t
-    value-leaves x OutOfMemory s t h = laws.leaves s x t h
+    value-leaves x challenger.OutOfMemory s t h = laws.leaves s x t h
     value-leaves x DrawLimit s t h = absurd h
     value-leaves x NoWitness s t h = absurd h
     value-leaves x TooLong s t h = absurd h
 
     value-leaves_after : (x : T) (e : ChallengerError) (s : S) (y : Symbol) (ys : List Symbol) (t : S) →
         RefusesObserve (o.may_leave (fed s (y ∷ ys)) x) e t → LeavesAfter fed s (y ∷ ys) (o.symbols x) t
-    value-leaves_after x OutOfMemory s y ys t h = laws.leaves_after s y ys x t h
+    value-leaves_after x challenger.OutOfMemory s y ys t h = laws.leaves_after s y ys x t h
     value-leaves_after x DrawLimit s y ys t h = absurd h
     value-leaves_after x NoWitness s y ys t h = absurd h
     value-leaves_after x TooLong s y ys t h = absurd h
@@ -93,14 +97,14 @@ module _ {S Symbol : Type 0} (fed : S → List Symbol → S) (fed_nothing : (s :
 
     bytes-leave : (e : ChallengerError) (s t : S) → (observing_bytes a bytes).refuses e s t →
         LeavesFed fed s symbols_of_bytes t
-    bytes-leave OutOfMemory s t h = row.leaves s (a.items bytes) t (items-leave s (a.items bytes) t h.1)
+    bytes-leave challenger.OutOfMemory s t h = row.leaves s (a.items bytes) t (items-leave s (a.items bytes) t h.1)
     bytes-leave DrawLimit s t h = absurd h
     bytes-leave NoWitness s t h = absurd h
     bytes-leave TooLong s t h = unchanged-fed symbols_of_bytes s t h.1
 
     bytes-leave_after : (e : ChallengerError) (s : S) (y : Symbol) (ys : List Symbol) (t : S) →
         (observing_bytes a bytes).refuses e (fed s (y ∷ ys)) t → LeavesAfter fed s (y ∷ ys) symbols_of_bytes t
-    bytes-leave_after OutOfMemory s y ys t h =
+    bytes-leave_after challenger.OutOfMemory s y ys t h =
         row.leaves_after s y ys (a.items bytes) t (items-leave (fed s (y ∷ ys)) (a.items bytes) t h.1)
     bytes-leave_after DrawLimit s y ys t h = absurd h
     bytes-leave_after NoWitness s y ys t h = absurd h
@@ -188,14 +192,35 @@ module _ {S Symbol : Type 0} (fed : S → List Symbol → S) (fed_nothing : (s :
 
   -- ---- steps as drivers play them
 
-  module _ {A : Type 0} (effect : Effect S Symbol A) (is : Feeds fed effect) (s t : S) where
-    -- want of memory leaves a state to which a front of the symbols was fed
-    pub beginning-fed : LeavesBeginning effect s t → LeavesFed fed s effect.symbols t
-    beginning-fed (inl none) = unchanged-fed effect.symbols s t none
-    beginning-fed (inr (inl all)) =
-        let here : IsFed fed s effect.symbols t = subst (λ u. IsFed fed s effect.symbols u) (sym all) (is.feeds s) in
-        (length effect.symbols, subst (λ a. IsFed fed s a t) (sym (take-length effect.symbols)) here)
-    beginning-fed (inr (inr part)) = is.leaves OutOfMemory s t part
+  -- want of memory leaves a state to which a front of the symbols was fed
+  pub beginning-fed : {A : Type 0} (effect : Effect S Symbol A) → Feeds fed effect → (s t : S) →
+      LeavesBeginning effect s t → LeavesFed fed s effect.symbols t
+  beginning-fed effect is s t (inl none) = unchanged-fed effect.symbols s t none
+  beginning-fed effect is s t (inr (inl all)) =
+      let here : IsFed fed s effect.symbols t = subst (λ u. IsFed fed s effect.symbols u) (sym all) (is.feeds s) in
+      (length effect.symbols, subst (λ a. IsFed fed s a t) (sym (take-length effect.symbols)) here)
+  beginning-fed effect is s t (inr (inr part)) = is.leaves challenger.OutOfMemory s t part
+
+  module _ {A : Type 0} (m : Meaning S Symbol A) (is : Feeds fed m.effect) (before after : Turn S) where
+    -- a step that is played has fed its symbols
+    pub played-fed : (x : A) → Plays m before x after →
+        IsFed fed before.challenger m.effect.symbols after.challenger
+    played-fed x plays =
+        subst (λ t. IsFed fed before.challenger m.effect.symbols t) (sym plays.challenger)
+        (is.feeds before.challenger)
+
+    -- one that is refused, for whatever reason, has fed a front of them
+    pub refused-fed : (e : TranscriptError) → Refuses m before e after →
+        LeavesFed fed before.challenger m.effect.symbols after.challenger
+    refused-fed (Pattern e) h = unchanged-fed m.effect.symbols before.challenger after.challenger h.challenger
+    refused-fed (Challenger e) h = is.leaves e before.challenger after.challenger h.leaves
+    refused-fed OutOfMemory h = beginning-fed m.effect is before.challenger after.challenger h.leaves
+    refused-fed (MissingBegin info) h = absurd h
+    refused-fed (InvalidKind info) h = absurd h
+    refused-fed (MismatchedBeginEnd info) h = absurd h
+    refused-fed (MissingEnd info) h = absurd h
+    refused-fed (BadProofShape reason) h = absurd h
+    refused-fed LabelTooLong h = absurd h
 
 -- ---- steps that draw
 
@@ -208,14 +233,14 @@ module _ {S : Type 0} (next : S → S) where
 
   -- refused for memory with nothing drawn
   memory-steps : (e : ChallengerError) (s t : S) → RefusesObserve (λ u. u ≡ s) e t → IsStepsOn next s t
-  memory-steps OutOfMemory s t h = unchanged-steps s t h
+  memory-steps challenger.OutOfMemory s t h = unchanged-steps s t h
   memory-steps DrawLimit s t h = absurd h
   memory-steps NoWitness s t h = absurd h
   memory-steps TooLong s t h = absurd h
 
   module _ {T : Type 0} (d : Sampling S T) (laws : IsSampling next d) where
     draw-leaves : (e : ChallengerError) (s t : S) → RefusesDraw d e s t → IsStepsOn next s t
-    draw-leaves OutOfMemory s t h = laws.leaves s t h
+    draw-leaves challenger.OutOfMemory s t h = laws.leaves s t h
     draw-leaves DrawLimit s t h = subst (λ u. IsStepsOn next s u) (sym h.1) (laws.steps s)
     draw-leaves NoWitness s t h = absurd h
     draw-leaves TooLong s t h = absurd h
@@ -319,4 +344,23 @@ module _ {S : Type 0} (next : S → S) where
       LeavesBeginning effect s t → IsStepsOn next s t
   beginning-drawn effect is s t (inl none) = unchanged-steps s t none
   beginning-drawn effect is s t (inr (inl all)) = subst (λ u. IsStepsOn next s u) (sym all) (is.steps s)
-  beginning-drawn effect is s t (inr (inr part)) = is.leaves OutOfMemory s t part
+  beginning-drawn effect is s t (inr (inr part)) = is.leaves challenger.OutOfMemory s t part
+
+  module _ {Symbol A : Type 0} (m : Meaning S Symbol A) (is : OnlyDraws next m.effect) (before after : Turn S) where
+    -- a step that is played has made some number of the smallest draws
+    pub played-drawn : (x : A) → Plays m before x after → IsStepsOn next before.challenger after.challenger
+    played-drawn x plays =
+        subst (λ t. IsStepsOn next before.challenger t) (sym plays.challenger) (is.steps before.challenger)
+
+    -- so has one that is refused, for whatever reason
+    pub refused-drawn : (e : TranscriptError) → Refuses m before e after →
+        IsStepsOn next before.challenger after.challenger
+    refused-drawn (Pattern e) h = unchanged-steps before.challenger after.challenger h.challenger
+    refused-drawn (Challenger e) h = is.leaves e before.challenger after.challenger h.leaves
+    refused-drawn OutOfMemory h = beginning-drawn m.effect is before.challenger after.challenger h.leaves
+    refused-drawn (MissingBegin info) h = absurd h
+    refused-drawn (InvalidKind info) h = absurd h
+    refused-drawn (MismatchedBeginEnd info) h = absurd h
+    refused-drawn (MissingEnd info) h = absurd h
+    refused-drawn (BadProofShape reason) h = absurd h
+    refused-drawn LabelTooLong h = absurd h
