@@ -71,6 +71,8 @@ pub use Rattle.p3_driver_core.specs.Bound
 pub use Rattle.p3_driver_core.specs.BoundLaws
 pub use Rattle.p3_driver_core.specs.Counts
 pub use Rattle.p3_driver_core.specs.Effects
+pub use Rattle.p3_driver_core.specs.Feeding
+pub use Rattle.p3_driver_core.specs.FeedingLaws
 pub use Rattle.p3_driver_core.specs.Meanings
 pub use Rattle.p3_driver_core.specs.Opened
 pub use Rattle.p3_driver_core.specs.Rejecting

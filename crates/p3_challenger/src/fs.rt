@@ -4,7 +4,11 @@ pub use p3_codecs::{
     BytesToFieldCodec, Codec, EXTRA_BYTES, ExtensionFieldCodec, FieldToFieldCodec, FieldUnit,
     MIN_CHALLENGE_SECURITY_BITS, ScalarCodec, Unit, symbols_begin,
 };
-pub use p3_driver_core::{SymmetricSteps, TranscriptBound};
+pub use p3_driver_core::{
+    SymmetricSteps, TranscriptBound, bit_draws_feed_nothing, bytes_feed_their_symbols,
+    counted_values_feed_their_symbols, draws_feed_nothing, markers_and_hints_feed_nothing,
+    opaque_values_feed_their_symbols, values_feed_their_symbols,
+};
 pub use p3_duplex::duplex_elements_are_prefix_code;
 pub use p3_fs_core::{
     Alternate, Hierarchy, Interaction, InvalidKindInfo, Kind, Label, Length,

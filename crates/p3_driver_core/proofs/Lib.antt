@@ -1,3 +1,4 @@
 pub mod BoundLists
 pub mod Rejections
 pub mod Widths
+pub mod WorkedRows

@@ -2,6 +2,8 @@ pub mod Bound
 pub mod BoundLaws
 pub mod Counts
 pub mod Effects
+pub mod Feeding
+pub mod FeedingLaws
 pub mod Meanings
 pub mod Opened
 pub mod Rejecting

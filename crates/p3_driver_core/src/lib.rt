@@ -5,6 +5,7 @@
 mod algebras;
 mod bound;
 mod counts;
+mod feeding;
 mod lists;
 mod rejecting;
 mod steps;
@@ -13,6 +14,11 @@ mod turn;
 
 pub use bound::{TranscriptBound, bind};
 pub use counts::{count_width, counted, observe_count};
+pub use feeding::{
+    bit_draws_feed_nothing, bytes_feed_their_symbols, counted_values_feed_their_symbols,
+    draws_feed_nothing, markers_and_hints_feed_nothing, opaque_values_feed_their_symbols,
+    values_feed_their_symbols,
+};
 pub use lists::{bind_all, draw_numbers, draw_values, observe_values};
 pub use rejecting::draw_accepted;
 pub use steps::Steps;

@@ -1,4 +1,5 @@
 pub mod Digests
+pub mod DriverRows
 pub mod DuplexRows
 pub mod FieldRows
 pub mod HashRows

@@ -1,4 +1,4 @@
--- Implementations that lie about themselves: the laws of the traits refuse each.
+-- Implementations that lie about themselves, and effects that do: the laws refuse each.
 use Rattle.std.proofs.Common.{◌≡◌, ℕ, zero, suc, ◌<◌, ◌≤◌, List, [], ◌∷◌, ◌++◌, length, replicate, Some}
 use Rattle.std.proofs.Common.{Ok, refl, lit<, inl, inr, arith}
 use Rattle.p3_symmetric.specs.Digests.{IsDigest}
@@ -6,8 +6,11 @@ use Rattle.p3_challenger_core.specs.Reading.{IsByte, AreBytes, OneBegins}
 use Rattle.p3_challenger_core.specs.Sponge.{IsFed, after_steps}
 use Rattle.p3_challenger_core.specs.Observation.{Observation, IsObservation}
 use Rattle.p3_challenger_core.specs.Sampling.{Sampling, IsSampling}
+use Rattle.p3_challenger_core.specs.declared.error.ChallengerError.TheVariants.{OutOfMemory}
 use Rattle.p3_fs_core.specs.Alphabet.{AreItems}
 use Rattle.p3_fs_core.specs.Encoding.{Encoding, IsEncoding}
+use Rattle.p3_driver_core.specs.Effects.{Effect}
+use Rattle.p3_driver_core.specs.Feeding.{Feeds, OnlyDraws}
 
 heads : (x y : ℕ) (xs ys : List ℕ) → x ∷ xs ≡ y ∷ ys → x ≡ y
 heads x y xs ys e = cc
@@ -77,6 +80,68 @@ NumberTells number = (x y : ℕ) → number x ≡ number y → x ≡ y
 -- the numbers of drawn values are all 0, and so below every power of two
 counted_0-refused : NumberTells (λ _. 0) → ⊥
 counted_0-refused number_tells = absurd (omega (arith, number_tells 0 1 refl))
+
+-- ---- effects of steps
+
+-- bytes are kept, and are said to feed nothing
+abbrev unnamed : Effect (List ℕ) ℕ (List ℕ)
+unnamed =
+    record {
+      symbols = [];
+      fits = Unit {0};
+      gives = λ _. Some (1 ∷ []);
+      after = λ s. s ++ (1 ∷ []);
+      refuses = λ _ _ _. ⊥;
+    }
+
+unnamed-refused : Feeds kept unnamed → ⊥
+unnamed-refused is = silent-no_feeding (is.feeds [])
+
+-- of two values that are said to be fed, the second is dropped
+abbrev half : Effect (List ℕ) ℕ (List ℕ)
+half =
+    record {
+      symbols = 1 ∷ 2 ∷ [];
+      fits = Unit {0};
+      gives = λ _. Some (1 ∷ 2 ∷ []);
+      after = λ s. s ++ (1 ∷ []);
+      refuses = λ _ _ _. ⊥;
+    }
+
+half-refused : Feeds kept half → ⊥
+half-refused is = let fed = (is.feeds []).exactly tt in cc
+
+-- a refused step has fed what it does not name
+abbrev scribbling_step : Effect (List ℕ) ℕ ℕ
+scribbling_step =
+    record {
+      symbols = 2 ∷ [];
+      fits = Unit {0};
+      gives = λ _. Some 2;
+      after = λ s. s ++ (2 ∷ []);
+      refuses = λ _ s t. t ≡ 77 ∷ s;
+    }
+
+scribbling_step-refused : Feeds kept scribbling_step → ⊥
+scribbling_step-refused is =
+    let left = is.leaves_after OutOfMemory [] 1 [] (77 ∷ 1 ∷ []) refl in
+    absurd (omega (arith, heads 77 1 (1 ∷ []) _ left.1))
+
+-- a step that draws is said to feed
+abbrev feeding_draw : Effect ℕ ℕ ℕ
+feeding_draw =
+    record { symbols = 7 ∷ []; fits = Unit {0}; gives = λ s. Some s; after = suc; refuses = λ _ _ _. ⊥ }
+
+feeding_draw-refused : OnlyDraws suc feeding_draw → ⊥
+feeding_draw-refused is = let none = is.no_symbols in cc
+
+-- a step that draws begins anew
+abbrev restarting_step : Effect ℕ ℕ ℕ
+restarting_step =
+    record { symbols = []; fits = Unit {0}; gives = λ s. Some s; after = λ _. 0; refuses = λ _ _ _. ⊥ }
+
+restarting_step-refused : OnlyDraws suc restarting_step → ⊥
+restarting_step-refused is = let left = is.steps 1 in absurd (omega (arith, left.1, grows left.0 1))
 
 -- ---- spellings
 

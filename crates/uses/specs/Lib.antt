@@ -1,2 +1,3 @@
 pub mod BoundValues
+pub mod SentAndDrawn
 pub mod ThreeCalls

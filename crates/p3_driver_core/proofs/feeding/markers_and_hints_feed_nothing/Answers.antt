@@ -1,0 +1,9 @@
+use Rattle.p3_driver_core.specs.FeedingLaws.{untouched-feeds, untouched-draws}
+use Rattle.p3_driver_core.proofs.feeding.markers_and_hints_feed_nothing.Goals as goal
+
+pub returns : goal.returns
+returns g c =
+    record {
+      feeds = λ x. untouched-feeds g.C.Sponge.fed g.C.Sponge.fed_nothing g.C.Sponge.fed_more x;
+      draws = λ x. untouched-draws g.C.Sponge.next x;
+    }

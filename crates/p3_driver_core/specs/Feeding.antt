@@ -1,0 +1,23 @@
+-- What it is that a step feeds just the symbols that it names, and that one draws alone.
+use Rattle.std.specs.Prelude.{◌≡◌, List, [], ◌∷◌, ◌++◌}
+use Rattle.p3_challenger_core.specs.Sponge.{IsFed, IsStepsOn}
+use Rattle.p3_challenger_core.specs.Observation.{LeavesFed, LeavesAfter}
+use Rattle.p3_challenger_core.specs.declared.error.ChallengerError.{ChallengerError}
+use Rattle.p3_driver_core.specs.Effects.{Effect}
+
+-- The effect feeds its symbols: the state after it is one to which just these were fed, and where it is refused, a
+-- front of them was. After a symbol no outputs are left that could be dropped, so there both hold exactly.
+pub record Feeds {S Symbol A : Type 0} (fed : S → List Symbol → S) (effect : Effect S Symbol A) : Type 0 where
+  pub feeds : (s : S) → IsFed fed s effect.symbols (effect.after s)
+  pub feeds_after : (s : S) (y : Symbol) (ys : List Symbol) →
+      effect.after (fed s (y ∷ ys)) ≡ fed s ((y ∷ ys) ++ effect.symbols)
+  pub leaves : (e : ChallengerError) (s t : S) → effect.refuses e s t → LeavesFed fed s effect.symbols t
+  pub leaves_after : (e : ChallengerError) (s : S) (y : Symbol) (ys : List Symbol) (t : S) →
+      effect.refuses e (fed s (y ∷ ys)) t → LeavesAfter fed s (y ∷ ys) effect.symbols t
+
+-- The effect draws and feeds nothing: the state after it, also where it is refused, is one after some number of the
+-- smallest draws.
+pub record OnlyDraws {S Symbol A : Type 0} (next : S → S) (effect : Effect S Symbol A) : Type 0 where
+  pub no_symbols : effect.symbols ≡ []
+  pub steps : (s : S) → IsStepsOn next s (effect.after s)
+  pub leaves : (e : ChallengerError) (s t : S) → effect.refuses e s t → IsStepsOn next s t

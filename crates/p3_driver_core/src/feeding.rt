@@ -1,0 +1,76 @@
+// Each step feeds just the symbols that its meaning names: laws, of every challenger, codec and alphabet.
+ghost use Rattle.std.specs.Prelude.{ℕ, List, length};
+ghost use Rattle.p3_driver_core.specs.Counts.{count_bytes};
+ghost use Rattle.p3_driver_core.specs.Effects.{alphabet_of, untouched, observing, observing_all, observing_bytes};
+ghost use Rattle.p3_driver_core.specs.Effects.{drawing, drawing_all, in_turn};
+ghost use Rattle.p3_driver_core.specs.Feeding.{Feeds, OnlyDraws};
+ghost use Rattle.p3_driver_core.specs.Rejecting.{Rule, drawing_rejecting};
+
+use p3_challenger_core::{CanObserve, CanSampleBits, Sponge};
+use p3_codecs::{Codec, Unit};
+
+/// A step of one value feeds just the value's symbols, and a step of a list those of its values in order. Where it is
+/// refused, a front of these was fed.
+///
+/// A law: the body is empty, and a caller cites the clause.
+pub fn values_feed_their_symbols<A, C: Sponge, Cdc: Codec<C, A>>()
+    ensures value { (x : A) → Feeds C.fed (observing Cdc.observation x) }
+    ensures list { (xs : List A) → Feeds C.fed (observing_all Cdc.observation xs) }
+{}
+
+/// A step of a value that the challenger itself knows how to observe feeds just the symbols that the challenger names
+/// for it. Where it is refused, a front of these was fed.
+///
+/// A law: the body is empty, and a caller cites the clause.
+pub fn opaque_values_feed_their_symbols<T, C: CanObserve<T>>()
+    ensures { (x : T) → Feeds C.fed (observing C.observation x) }
+{}
+
+/// A step of bytes feeds just the symbols of their items; where they come after their count, those of the count's items
+/// first. Where it is refused, a front of these was fed: also where the bytes are too long for the alphabet.
+///
+/// A law: the body is empty, and a caller cites the clause.
+pub fn bytes_feed_their_symbols<U: Unit, C: CanObserve<U::Item>>()
+    ensures fixed { (bytes : List ℕ) → Feeds C.fed
+        (observing_bytes (alphabet_of U.items U.is_too_long C.observation C.slice_may_leave) bytes) }
+    ensures counted { (max : ℕ) (bytes : List ℕ) →
+        let alphabet = alphabet_of U.items U.is_too_long C.observation C.slice_may_leave in Feeds C.fed
+        (in_turn (observing_bytes alphabet (count_bytes max (length bytes))) (observing_bytes alphabet bytes)) }
+{}
+
+/// A step of a list that comes after its count feeds just the symbols of the count's items, and then those of the
+/// values in order. Where it is refused, a front of these was fed.
+///
+/// A law: the body is empty, and a caller cites the clause.
+pub fn counted_values_feed_their_symbols<A, U: Unit, C: CanObserve<U::Item>, Cdc: Codec<C, A>>()
+    ensures { (max : ℕ) (xs : List A) → Feeds C.fed (in_turn
+        (observing_bytes (alphabet_of U.items U.is_too_long C.observation C.slice_may_leave)
+        (count_bytes max (length xs))) (observing_all Cdc.observation xs)) }
+{}
+
+/// A step that draws feeds nothing, and makes some number of the challenger's smallest draws, also where it is refused:
+/// a step of one value, of so many, and of so many that a rule takes.
+///
+/// A law: the body is empty, and a caller cites the clause.
+pub fn draws_feed_nothing<A, C: Sponge, Cdc: Codec<C, A>>()
+    ensures value { OnlyDraws {Symbol = C.Symbol} C.next (drawing Cdc.sampling) }
+    ensures list { (n : ℕ) → OnlyDraws {Symbol = C.Symbol} C.next (drawing_all Cdc.sampling n) }
+    ensures rejecting { (rule : Rule A) (limit n : ℕ) →
+        OnlyDraws {Symbol = C.Symbol} C.next (drawing_rejecting Cdc.sampling rule limit n) }
+{}
+
+/// A step that draws numbers of so many bits feeds nothing, and makes some number of the challenger's smallest draws,
+/// also where it is refused.
+///
+/// A law: the body is empty, and a caller cites the clause.
+pub fn bit_draws_feed_nothing<C: CanSampleBits<usize>>()
+    ensures { (width n : ℕ) → OnlyDraws {Symbol = C.Symbol} C.next (drawing_all (C.bits_sampling width) n) }
+{}
+
+/// A step of a marker or of a hint, which the challenger takes no part in, feeds nothing and makes no draw.
+///
+/// A law: the body is empty, and a caller cites the clause.
+pub fn markers_and_hints_feed_nothing<A, C: Sponge>()
+    ensures feeds { (x : A) → Feeds C.fed (untouched x) }
+    ensures draws { (x : A) → OnlyDraws {Symbol = C.Symbol} C.next (untouched x) }
+{}

@@ -1,0 +1,41 @@
+// A round of a protocol, on a prover of any challenger and codec: a scalar is sent, and then one is drawn. The contracts
+// of the two steps, and the laws of what steps feed, alone say what the drawn one depends on.
+ghost use Rattle.std.specs.Prelude.{◌≤◌, IfOk, OnErr};
+ghost use Rattle.p3_challenger.specs.Bound.{value_of};
+ghost use Rattle.p3_challenger.specs.Proving.{proving_of};
+ghost use Rattle.uses.specs.SentAndDrawn.{LeavesRound};
+ghost use Rattle.uses.specs.ThreeCalls.{DrawsAfter};
+
+use p3_challenger::CanObserve;
+use p3_challenger::fs::{
+    Codec, ProverState, TranscriptBound, TranscriptError, TranscriptField, Unit,
+    draws_feed_nothing, values_feed_their_symbols,
+};
+use p3_field::{AlgebraIdentity, Named};
+use p3_symmetric::DigestHasher;
+
+/// Sends a scalar, and then draws one: the drawn one comes of a challenger that was fed just the symbols of the sent one.
+///
+/// The errors are those of the two steps. After one a front of the symbols was fed, or all of them were and then some of
+/// the challenger's smallest draws were made.
+///
+/// Condition: the codec has at least [`MIN_CHALLENGE_SECURITY_BITS`](p3_challenger::fs::MIN_CHALLENGE_SECURITY_BITS) of
+/// security.
+pub fn send_and_draw<
+    F: TranscriptField + AlgebraIdentity<F> + Named,
+    U: Unit,
+    C: CanObserve<U::Item> + Drop,
+    D: DigestHasher,
+    Cdc: Codec<C, F>,
+>(prover: &mut ProverState<C, U, D>, value: &F) -> Result<TranscriptBound<F>, TranscriptError>
+    requires { 128 ≤ Cdc.SECURITY_BITS }
+    ensures drawn { IfOk result (λ x. DrawsAfter C.fed Cdc.sampling (Cdc.observation.symbols value.now) (value_of x)
+        (proving_of C.state prover.old).turn.challenger (proving_of C.state prover.new).turn.challenger) }
+    ensures err { OnErr result (LeavesRound C.fed C.next (Cdc.observation.symbols value.now)
+        (proving_of C.state prover.old).turn.challenger (proving_of C.state prover.new).turn.challenger) }
+{
+    values_feed_their_symbols::<F, C, Cdc>();
+    draws_feed_nothing::<F, C, Cdc>();
+    prover.add_scalar::<F, Cdc>("sent", value)?;
+    prover.challenge_scalar::<F, Cdc>("drawn")
+}
