@@ -4,7 +4,7 @@ use crate::proving::{Proved, prove};
 use crate::recording::record;
 use crate::verifying::{Verdict, verify};
 use crate::world::{Separator, World};
-use anyhow::{Result, bail};
+use anyhow::{Context, Result, bail};
 use p3_challenger::CanSample;
 use p3_challenger::fs::TranscriptError;
 use p3_field::{F257, PrimeField64};
@@ -62,7 +62,8 @@ fn written(alloc: Global, verdict: Verdict) -> Result<String> {
             TranscriptError::BadProofShape { reason } => {
                 Ok(format!(in alloc; "refused {position} {reason}")?)
             }
-            _ => Ok(format!(in alloc; "refused {position} {error}")?),
+            // The other errors say nothing of a proof.
+            error => Err(error).context(format_args!("step {position}")),
         },
     }
 }
