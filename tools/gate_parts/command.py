@@ -18,6 +18,7 @@ USAGE = f"""
 The repository's test command. It runs, at the top of the repository,
 
   rt ci                           every crate proved from nothing, its tests, and its programs as two compilers build them
+  tools/misuse                    wrong programs that must not compile: they let go of what must be spent
   tools/wrong-bodies --self-test  that the next command holds the right edits for refused
   tools/wrong-bodies              every wrong body: an edit that the prover must refuse
 
@@ -31,7 +32,7 @@ def main(words):
     """Runs the gate and returns its exit status."""
     how = {"usage": "tools/gate [--only-wrong-bodies]", "formatter_class": argparse.RawDescriptionHelpFormatter}
     parser = argparse.ArgumentParser(description=USAGE, **how)
-    parser.add_argument("--only-wrong-bodies", action="store_true", help="leave out the first two parts")
+    parser.add_argument("--only-wrong-bodies", action="store_true", help="leave out all parts but the last")
     given = parser.parse_args(words)
     signal.signal(signal.SIGTERM, lambda number, _: sys.exit(128 + number))
     with tempfile.TemporaryDirectory(prefix="gate-") as room:
@@ -40,9 +41,11 @@ def main(words):
         if not given.only_wrong_bodies:
             proofs = Part("rt ci", ["rt", "ci"], is_watched=True)
             run_marked(proofs)
+            misuse = Part("tools/misuse", [f"{ROOT}/tools/misuse"])
+            misuse.run(ROOT)
             test = Part("tools/wrong-bodies --self-test", [f"{ROOT}/tools/wrong-bodies", "--self-test"])
             test.run(ROOT)
-            parts = [proofs, test, bodies]
+            parts = [proofs, misuse, test, bodies]
         bodies.run(ROOT)
         rows = rtlib.text_of(f"{room}/rows") or ""
     report(parts, rows)
