@@ -65,8 +65,8 @@ fn prover_of_a_round(alloc: Global) -> Result<Prover, Fail> {
     Ok(Prover::new(alloc, DuplexChallenger::new(Turn, 10), &separator)?)
 }
 
-// After the seed the cells are 6, 2 and 131. With 5 and 0 written over the first two, and 1 added to the third, the turn
-// makes 133, 7 and 3 of them, of which the second is drawn first.
+// After the seed the cells are 6, 2 and 131. With 5 and 0 written over the first two, and 1 added to the third, the
+// turn makes 133, 7 and 3 of them, of which the second is drawn first.
 #[test]
 fn a_scalar_is_sent_and_one_is_drawn(rt: HostRuntime) -> Result<(), Fail> {
     let mut prover = prover_of_a_round(rt.alloc())?;

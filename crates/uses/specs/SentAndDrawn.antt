@@ -3,8 +3,8 @@ use Rattle.std.specs.Prelude.{List, ◌⊎◌}
 use Rattle.p3_challenger.specs.Sponge.{IsFed, IsStepsOn}
 use Rattle.p3_challenger.specs.Observation.{LeavesFed}
 
--- what is left of the challenger where one of the two steps is refused: a front of the value's symbols was fed, or all of
--- them were and then some of the smallest draws were made
+-- what is left of the challenger where one of the two steps is refused: a front of the value's symbols was fed, or all
+-- of them were and then some of the smallest draws were made
 abbrev pub LeavesRound : {S Symbol : Type 0} → (S → List Symbol → S) → (S → S) → List Symbol → S → S → Type 0
 LeavesRound {S} fed next symbols s t =
     LeavesFed fed s symbols t ⊎ ((here : S) × IsFed fed s symbols here × IsStepsOn next here t)

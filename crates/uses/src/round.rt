@@ -1,5 +1,5 @@
-// A round of a protocol, on a prover of any challenger and codec: a scalar is sent, and then one is drawn. The contracts
-// of the two steps, and the laws of what steps feed, alone say what the drawn one depends on.
+// A round of a protocol, on a prover of any challenger and codec: a scalar is sent, and then one is drawn. The
+// contracts of the two steps, and the laws of what steps feed, alone say what the drawn one depends on.
 ghost use Rattle.std.specs.Prelude.{◌≤◌, IfOk, OnErr};
 ghost use Rattle.p3_challenger.specs.Bound.{value_of};
 ghost use Rattle.p3_challenger.specs.Proving.{proving_of};
@@ -14,10 +14,10 @@ use p3_challenger::fs::{
 use p3_field::{AlgebraIdentity, Named};
 use p3_symmetric::DigestHasher;
 
-/// Sends a scalar, and then draws one: the drawn one comes of a challenger that was fed just the symbols of the sent one.
+/// Sends a scalar, and then draws one. Between the two, the challenger was fed just the symbols of the sent one.
 ///
-/// The errors are those of the two steps. After one a front of the symbols was fed, or all of them were and then some of
-/// the challenger's smallest draws were made.
+/// The errors are those of the two steps. After one a front of the symbols was fed, or all of them were and then some
+/// of the challenger's smallest draws were made.
 ///
 /// Condition: the codec has at least [`MIN_CHALLENGE_SECURITY_BITS`](p3_challenger::fs::MIN_CHALLENGE_SECURITY_BITS) of
 /// security.
