@@ -1,7 +1,7 @@
 -- Worked rows, computed on the definitions: a challenger that keeps the numbers that it is fed, or whose state is the
 -- numbers that are still to be drawn.
 use Rattle.std.proofs.Common.{◌≡◌, ℕ, ◌%◌, ◌==◌, ◌||◌, Bool, false, not, List, [], ◌∷◌, ◌++◌, Option, Some, None}
-use Rattle.std.proofs.Common.{codes, refl}
+use Rattle.std.proofs.Common.{arith, codes, refl}
 use Rattle.p3_field_core.specs.Residues.{Residues}
 use Rattle.p3_challenger_core.specs.Observation.{Observation, unrefused_observe}
 use Rattle.p3_challenger_core.specs.Sampling.{Sampling, draws, after_draws}
@@ -10,13 +10,13 @@ use Rattle.p3_fs_core.specs.Packing.{packed, first_chunks}
 use Rattle.p3_fs_core.specs.Scalar as scalar
 use Rattle.p3_fs_core.specs.Steps.{Step}
 use Rattle.p3_fs_core.specs.declared.step.Kind.TheVariants.{Message, Salt}
-use Rattle.p3_fs_core.specs.declared.step.Length.TheVariants.{Bounded}
+use Rattle.p3_fs_core.specs.declared.step.Length.TheVariants.{Fixed, Bounded}
 use Rattle.p3_driver_core.specs.Counts.{count_width, count_bytes}
 use Rattle.p3_driver_core.specs.Effects.{Effect, Alphabet, alphabet_of, drawing, drawing_all}
 use Rattle.p3_driver_core.specs.Meanings.{sent, sent_bounded, observed_bounded, sent_bytes_bounded, hinted}
 use Rattle.p3_driver_core.specs.Meanings.{hinted_bounded, sent_bytes}
 use Rattle.p3_driver_core.specs.Rejecting.{Rule, taken, keeps, drawing_rejecting}
-use Rattle.p3_driver_core.specs.Turns.{Meaning, algebra_step}
+use Rattle.p3_driver_core.specs.Turns.{Meaning, IsOtherLength, algebra_step, bytes_step}
 
 -- ---- counts
 
@@ -187,3 +187,22 @@ none_asked_for = refl
 none_taken : comes (drawing_rejecting supply (λ _ _. false) 3 1) (4 ∷ 5 ∷ 6 ∷ 7 ∷ []) ≡ (None, 7 ∷ [])
 unfolding taken keeps
 none_taken = refl
+
+-- ---- lists that a caller carries
+
+-- the next step has three bytes: four values are another number, and three are not
+abbrev three_bytes : Option Step
+three_bytes = Some (bytes_step Salt (codes "salt") (Fixed 3))
+
+four_for_three : IsOtherLength 4 three_bytes
+four_for_three same = absurd (omega (arith, same))
+
+three_for_three : IsOtherLength 3 three_bytes → ⊥
+three_for_three other = other refl
+
+-- where the next step says no number, or there is none, no number is another one
+four_at_most_three : IsOtherLength 4 (Some list_step) → ⊥
+four_at_most_three other = other
+
+four_for_none : IsOtherLength 4 None → ⊥
+four_for_none other = other

@@ -1,12 +1,12 @@
 // Each step feeds just the symbols that its meaning names: laws, of every challenger, codec and alphabet.
-ghost use Rattle.std.specs.Prelude.{ℕ, List, length};
+ghost use Rattle.std.specs.Prelude.{◌≡◌, ℕ, List, length};
 ghost use Rattle.p3_driver_core.specs.Counts.{count_bytes};
 ghost use Rattle.p3_driver_core.specs.Effects.{alphabet_of, untouched, observing, observing_all, observing_bytes};
 ghost use Rattle.p3_driver_core.specs.Effects.{drawing, drawing_all, in_turn};
 ghost use Rattle.p3_driver_core.specs.Feeding.{Feeds, OnlyDraws};
 ghost use Rattle.p3_driver_core.specs.Rejecting.{Rule, drawing_rejecting};
 
-use p3_challenger_core::{CanObserve, CanSampleBits, Sponge};
+use p3_challenger_core::{CanObserve, CanSampleBits, ChallengerError, Sponge};
 use p3_codecs::{Codec, Unit};
 
 /// A step of one value feeds just the value's symbols, and a step of a list those of its values in order. Where it is
@@ -67,10 +67,12 @@ pub fn bit_draws_feed_nothing<C: CanSampleBits<usize>>()
     ensures { (width n : ℕ) → OnlyDraws {Symbol = C.Symbol} C.next (drawing_all (C.bits_sampling width) n) }
 {}
 
-/// A step of a marker or of a hint, which the challenger takes no part in, feeds nothing and makes no draw.
+/// A step of a marker or of a hint feeds nothing, and leaves the challenger as it is.
 ///
 /// A law: the body is empty, and a caller cites the clause.
 pub fn markers_and_hints_feed_nothing<A, C: Sponge>()
     ensures feeds { (x : A) → Feeds C.fed (untouched x) }
-    ensures draws { (x : A) → OnlyDraws {Symbol = C.Symbol} C.next (untouched x) }
+    ensures keeps { (x : A) (s : C.State) → (untouched {Symbol = C.Symbol} x).after s ≡ s }
+    ensures unrefused { (x : A) (e : ChallengerError) (s t : C.State) →
+        (untouched {Symbol = C.Symbol} x).refuses e s t → ⊥ }
 {}

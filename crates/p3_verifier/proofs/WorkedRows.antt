@@ -1,19 +1,23 @@
 -- Worked rows, computed on the definitions: elements of the field of 31 bits, and a challenger that keeps the numbers
 -- that it is fed, the last one first.
-use Rattle.std.proofs.Common.{◌≡◌, ℕ, ◌%◌, List, [], ◌∷◌, Ok, Err, codes, replicate, refl}
+use Rattle.std.proofs.Common.{◌≡◌, ℕ, ◌%◌, true, List, [], ◌∷◌, Ok, Err, codes, replicate, refl}
+use denote.Ref.{Bor}
 use Rattle.p3_field_core.specs.Residues.{Residues}
 use Rattle.p3_challenger_core.specs.Observation.{Observation, unrefused_observe}
 use Rattle.p3_fs_core.specs.Encoding.{Encoding}
 use Rattle.p3_fs_core.specs.Scalar as scalar
 use Rattle.p3_fs_core.specs.Steps.{Step}
+use Rattle.p3_fs_core.specs.declared.error.TranscriptError.TheVariants.{BadProofShape}
 use Rattle.p3_fs_core.specs.declared.step.Kind.TheVariants.{Message}
 use Rattle.p3_fs_core.specs.declared.step.Length.{Length}
 use Rattle.p3_fs_core.specs.declared.step.Length.TheVariants.{Scalar, Fixed, Bounded}
+use Rattle.p3_patterns.specs.Playing.{Playing, IsPlayed}
 use Rattle.p3_driver_core.specs.Counts.{count_width}
 use Rattle.p3_driver_core.specs.Effects.{Alphabet, alphabet_of}
-use Rattle.p3_driver_core.specs.Turns.{algebra_step}
+use Rattle.p3_driver_core.specs.Turns.{IsNext, step_on, algebra_step}
 use Rattle.p3_verifier.specs.Reads.{Read, Reading, read_each, received, received_all, received_bounded}
 use Rattle.p3_verifier.specs.Reads.{received_bytes, received_bytes_bounded, hint_received_bounded}
+use Rattle.p3_verifier.specs.Verifying.{Verifying, Receives, ReadsNothing, EndsReading, RefusesEnd}
 
 -- the numbers below the order, in four bytes each
 abbrev numbers : Residues ℕ
@@ -169,3 +173,64 @@ hint_over = refl
 salt_short : (received_bytes Message (codes "b") as_they_are 3).read (1 ∷ 2 ∷ [])
     ≡ nothing_read (codes "NARG ended before all expected bytes were read") (1 ∷ 2 ∷ []) (λ s. s)
 salt_short = refl
+
+-- ---- a verifier's steps
+
+-- a verifier whose challenger was fed 9, and what it has left to read
+abbrev verifying : Playing → List ℕ → List ℕ → Verifying (List ℕ)
+verifying playing challenger unread =
+    record { turn = record { challenger = challenger; playing = playing }; unread = unread }
+
+abbrev before : Playing → List ℕ → Verifying (List ℕ)
+before playing unread = verifying playing (9 ∷ []) unread
+
+-- where a step was refused, nothing may follow
+abbrev closed : Playing → Playing
+closed playing = record { pattern = playing.pattern; position = playing.position; finished = true }
+
+abbrev at_most_three : Reading (List ℕ) ℕ (List ℕ)
+at_most_three = received_bounded (step_of (Bounded 3)) as_they_are 3 kept spelled
+
+list_received : (playing : Playing) → IsNext playing at_most_three.interaction →
+    Receives at_most_three (before playing (2 ∷ 0 ∷ 0 ∷ 0 ∷ 7 ∷ 0x78 ∷ 0 ∷ 0 ∷ 0 ∷ 1 ∷ [])) (7 ∷ 2013265920 ∷ [])
+    (verifying (step_on playing) (2013265920 ∷ 7 ∷ 2 ∷ 9 ∷ []) (1 ∷ []))
+unfolding count_width read_each
+list_received playing next =
+    record {
+      is_next = next;
+      read = refl;
+      fits = (λ long. long, tt);
+      gives = refl;
+      challenger = refl;
+      playing = refl;
+    }
+
+-- a count of two and seven bytes
+list_unread : (playing : Playing) → IsNext playing at_most_three.interaction →
+    ReadsNothing at_most_three (before playing (2 ∷ 0 ∷ 0 ∷ 0 ∷ 7 ∷ 0x78 ∷ 0 ∷ 0 ∷ []))
+    (codes "step declares more values than the wire holds")
+    (verifying (closed playing) (2 ∷ 9 ∷ []) (0 ∷ 0 ∷ 0 ∷ 7 ∷ 0x78 ∷ 0 ∷ 0 ∷ []))
+unfolding count_width
+list_unread playing next =
+    record {
+      failure = record {
+        reason = codes "step declares more values than the wire holds";
+        left = 0 ∷ 0 ∷ 0 ∷ 7 ∷ 0x78 ∷ 0 ∷ 0 ∷ [];
+        absorbed = λ s. 2 ∷ s;
+      };
+      is_next = next;
+      read = refl;
+      told = refl;
+      unread = refl;
+      challenger = refl;
+      finished = refl;
+    }
+
+-- a byte is left once all steps are played
+byte_left : (playing : Playing) (reason : Bor (List ℕ)) → IsPlayed playing →
+    reason.now ≡ codes "trailing NARG bytes after final verifier step" →
+    RefusesEnd (before playing (1 ∷ [])) (BadProofShape reason)
+byte_left playing reason played is = (played, (λ none. cc), is)
+
+none_left : (playing : Playing) → IsPlayed playing → EndsReading (before playing [])
+none_left playing played = record { played = played; whole = refl }

@@ -1,11 +1,15 @@
 // The generic callers of the crate `uses`, at types that users have.
-use p3_challenger::fs::{BytesToFieldCodec, hash_values_are_prefix_code};
-use p3_challenger::{CanFinalizeDigest, CanObserve, HashChallenger};
+use p3_challenger::fs::{
+    BytesToFieldCodec, DomainSeparator, FieldToFieldCodec, FieldUnit, Hierarchy, Interaction,
+    InteractionPattern, Kind, Length, ProverState, hash_values_are_prefix_code,
+};
+use p3_challenger::{CanFinalizeDigest, CanObserve, DuplexChallenger, HashChallenger};
 use p3_field::{BabyBear, F257, PrimeCharacteristicRing, PrimeField64};
-use p3_symmetric::Sha256Hasher;
+use p3_symmetric::{Sha256Hasher, Turn};
 use p3_test_support::{SmallSponge, element, small_sponge};
+use std::alloc::Global;
 use std::test::Fail;
-use uses::{absorb_values, observe_and_draw, symbols_bind_values};
+use uses::{absorb_values, first_challenge, observe_and_draw, send_and_draw, symbols_bind_values};
 
 type Bytes = HashChallenger<u8, Sha256Hasher, 32>;
 
@@ -40,4 +44,60 @@ fn a_value_and_arrays_are_observed_and_one_is_drawn(rt: HostRuntime) -> Result<(
 fn symbols_of_scalars_bind_them(_rt: HostRuntime) {
     hash_values_are_prefix_code::<u8, Sha256Hasher, 32>();
     symbols_bind_values::<BabyBear, Scalars, u8, Bytes>();
+}
+
+type Sponge = DuplexChallenger<F257, Turn<2>, 3, 2>;
+
+type Prover = ProverState<Sponge, FieldUnit<F257>, Sha256Hasher>;
+
+type Separator = DomainSeparator<FieldUnit<F257>, Sha256Hasher>;
+
+type Elements = FieldToFieldCodec<F257>;
+
+fn sponge() -> Sponge {
+    DuplexChallenger::new(Turn, 10)
+}
+
+// The separator of the two steps of a round.
+fn separator_of_a_round(alloc: Global) -> Result<Separator, Fail> {
+    let leaf = Hierarchy::Atomic;
+    let sent = Interaction::algebra::<F257, F257, Sha256Hasher>(
+        leaf,
+        Kind::Message,
+        "sent",
+        Length::Scalar,
+    );
+    let drawn = sent.of_same_type(leaf, Kind::Challenge, "drawn", Length::Scalar);
+    let pattern = InteractionPattern::new(vec![in alloc; sent, drawn]?)?;
+    Ok(DomainSeparator::new(alloc, 1, b"round", pattern)?)
+}
+
+// After the seed the cells are 6, 2 and 131. With 5 and 0 written over the first two, and 1 added to the third, the
+// turn makes 133, 7 and 3 of them, of which the second is drawn first.
+#[test]
+fn a_scalar_is_sent_and_one_is_drawn(rt: HostRuntime) -> Result<(), Fail> {
+    let separator = separator_of_a_round(rt.alloc())?;
+    let mut prover = Prover::new(rt.alloc(), sponge(), &separator)?;
+    let drawn = send_and_draw::<F257, FieldUnit<F257>, Sponge, Sha256Hasher, Elements>(
+        &mut prover,
+        &element(5),
+    );
+    let proof = prover.finalize()?;
+    assert_eq!(rt; proof.as_slice(), [0, 5].as_slice());
+    assert_eq!(rt; drawn?.into_inner().as_canonical_u64(), 7);
+    Ok(())
+}
+
+// With 256 and 0 in place of them, the turn makes 133, 1 and 3.
+#[test]
+fn the_first_challenge_comes_after_the_scalar(rt: HostRuntime) -> Result<(), Fail> {
+    let separator = separator_of_a_round(rt.alloc())?;
+    let drawn = first_challenge::<F257, FieldUnit<F257>, Sponge, Sha256Hasher, Elements>(
+        rt.alloc(),
+        sponge(),
+        &separator,
+        &element(256),
+    )?;
+    assert_eq!(rt; drawn.into_inner().as_canonical_u64(), 1);
+    Ok(())
 }

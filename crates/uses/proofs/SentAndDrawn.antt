@@ -1,12 +1,16 @@
 -- What a round leaves where one of its steps is refused.
-use Rattle.std.proofs.Common.{◌≡◌, List, [], ◌++◌, inl, inr, Result, Ok, Err}
-use Rattle.std.specs.Result.{OnErr}
+use Rattle.std.proofs.Common.{◌≡◌, ℕ, List, [], ◌++◌, inl, inr, Result, Ok, Err, Some, sym, ap, ◌∙◌}
+use Rattle.std.specs.List.{flat_map}
+use Rattle.std.specs.Result.{IfOk, OnErr}
 use Rattle.p3_challenger.specs.TranscriptError.{TranscriptError}
+use Rattle.p3_challenger.specs.Effects.{Alphabet, observing, observing_bytes}
 use Rattle.p3_challenger.specs.Feeding.{Feeds, OnlyDraws}
-use Rattle.p3_challenger.specs.FeedingLaws.{played-fed, refused-fed, refused-drawn}
+use Rattle.p3_challenger.specs.FeedingLaws.{in_turn-feeds, played-fed, refused-fed, refused-drawn}
+use Rattle.p3_challenger.specs.Observation.{Observation}
 use Rattle.p3_challenger.specs.Proving.{Proving, Writes, RefusesToWrite, KeepsOrRefuses}
+use Rattle.p3_challenger.specs.Sampling.{Sampling}
 use Rattle.p3_challenger.specs.Turns.{Meaning}
-use Rattle.uses.specs.SentAndDrawn.{LeavesRound}
+use Rattle.uses.specs.SentAndDrawn.{DrawnAfter, LeavesRound}
 
 module _ {S Symbol A : Type 0} (fed : S → List Symbol → S) (fed_nothing : (s : S) → fed s [] ≡ s)
     (fed_more : (s : S) (a b : List Symbol) → fed (fed s a) b ≡ fed s (a ++ b)) (next : S → S)
@@ -26,3 +30,22 @@ module _ {S Symbol A : Type 0} (fed : S → List Symbol → S) (fed_nothing : (s
         played-fed fed fed_nothing fed_more sent feeds before.turn here.turn x first.plays,
         refused-drawn next drawn draws here.turn after.turn e h.0,
       )
+
+-- the seed and then the value, and the draw after them
+module _ {S Symbol I T R : Type 0} (fed : S → List Symbol → S) (fed_nothing : (s : S) → fed s [] ≡ s)
+    (fed_more : (s : S) (a b : List Symbol) → fed (fed s a) b ≡ fed s (a ++ b)) (alphabet : Alphabet S Symbol I)
+    (o : Observation S Symbol T) (d : Sampling S T) (seed : List ℕ) (x : T)
+    (seed_feeds : Feeds fed (observing_bytes alphabet seed)) (value_feeds : Feeds fed (observing o x)) where
+  pub drawn-first : (value : R → T) (s begun after : S) (result : Result R TranscriptError) →
+      begun ≡ (observing_bytes alphabet seed).after s →
+      IfOk result (λ r. (d.sampled (o.observed begun x) ≡ Some (value r)) × (after ≡ d.after (o.observed begun x))) →
+      IfOk result (λ r. DrawnAfter fed d (flat_map alphabet.item.symbols (alphabet.items seed) ++ o.symbols x) (value r)
+      s)
+  drawn-first value s begun after (Ok r) is h =
+      let both = in_turn-feeds fed fed_nothing fed_more (observing_bytes alphabet seed) (observing o x) seed_feeds
+      value_feeds in (
+        o.observed ((observing_bytes alphabet seed).after s) x,
+        both.feeds s,
+        ap (λ u. d.sampled (o.observed u x)) (sym is) ∙ h.0,
+      )
+  drawn-first value s begun after (Err e) is h = tt

@@ -12,5 +12,5 @@ mod three_calls;
 
 pub use bound_values::{absorb_values, symbols_bind_values};
 pub use line::{Line, Opening, prove, verify};
-pub use round::send_and_draw;
+pub use round::{first_challenge, send_and_draw};
 pub use three_calls::observe_and_draw;

@@ -1,23 +1,25 @@
-// A round of a protocol, on a prover of any challenger and codec: a scalar is sent, and then one is drawn. The contracts
-// of the two steps, and the laws of what steps feed, alone say what the drawn one depends on.
-ghost use Rattle.std.specs.Prelude.{◌≤◌, IfOk, OnErr};
+// A round of a protocol, on a prover of any challenger and codec: a scalar is sent, and then one is drawn. The
+// contracts of the two steps, and the laws of what steps feed, alone say what the drawn one depends on.
+ghost use Rattle.std.specs.Prelude.{◌≡◌, ◌≤◌, ◌++◌, Some, flat_map, IfOk, OnErr};
 ghost use Rattle.p3_challenger.specs.Bound.{value_of};
 ghost use Rattle.p3_challenger.specs.Proving.{proving_of};
-ghost use Rattle.uses.specs.SentAndDrawn.{LeavesRound};
+ghost use Rattle.p3_challenger.specs.SeparatorSeed.{seed_of_separator};
+ghost use Rattle.uses.specs.SentAndDrawn.{DrawnAfter, LeavesRound};
 ghost use Rattle.uses.specs.ThreeCalls.{DrawsAfter};
 
 use p3_challenger::CanObserve;
 use p3_challenger::fs::{
-    Codec, ProverState, TranscriptBound, TranscriptError, TranscriptField, Unit,
-    draws_feed_nothing, values_feed_their_symbols,
+    Codec, DomainSeparator, ProverState, TranscriptBound, TranscriptError, TranscriptField, Unit,
+    bytes_feed_their_symbols, draws_feed_nothing, values_feed_their_symbols,
 };
 use p3_field::{AlgebraIdentity, Named};
 use p3_symmetric::DigestHasher;
+use std::alloc::Global;
 
-/// Sends a scalar, and then draws one: the drawn one comes of a challenger that was fed just the symbols of the sent one.
+/// Sends a scalar, and then draws one. Between the two, the challenger was fed just the symbols of the sent one.
 ///
-/// The errors are those of the two steps. After one a front of the symbols was fed, or all of them were and then some of
-/// the challenger's smallest draws were made.
+/// The errors are those of the two steps. After one a front of the symbols was fed, or all of them were and then some
+/// of the challenger's smallest draws were made.
 ///
 /// Condition: the codec has at least [`MIN_CHALLENGE_SECURITY_BITS`](p3_challenger::fs::MIN_CHALLENGE_SECURITY_BITS) of
 /// security.
@@ -31,6 +33,11 @@ pub fn send_and_draw<
     requires { 128 ≤ Cdc.SECURITY_BITS }
     ensures drawn { IfOk result (λ x. DrawsAfter C.fed Cdc.sampling (Cdc.observation.symbols value.now) (value_of x)
         (proving_of C.state prover.old).turn.challenger (proving_of C.state prover.new).turn.challenger) }
+    // The two steps, by what the codec observes and draws.
+    ensures steps { IfOk result (λ x. let here = Cdc.observation.observed
+        (proving_of C.state prover.old).turn.challenger value.now in
+        (Cdc.sampling.sampled here ≡ Some (value_of x))
+        × ((proving_of C.state prover.new).turn.challenger ≡ Cdc.sampling.after here)) }
     ensures err { OnErr result (LeavesRound C.fed C.next (Cdc.observation.symbols value.now)
         (proving_of C.state prover.old).turn.challenger (proving_of C.state prover.new).turn.challenger) }
 {
@@ -38,4 +45,38 @@ pub fn send_and_draw<
     draws_feed_nothing::<F, C, Cdc>();
     prover.add_scalar::<F, Cdc>("sent", value)?;
     prover.challenge_scalar::<F, Cdc>("drawn")
+}
+
+/// The first challenge of a protocol that begins with a scalar: it is drawn from a challenger that was fed just the
+/// symbols of the separator's seed and of the scalar.
+///
+/// The errors are those of a new prover and of the two steps: what they leave is let go.
+///
+/// Conditions: `U` is an alphabet, and the codec has at least
+/// [`MIN_CHALLENGE_SECURITY_BITS`](p3_challenger::fs::MIN_CHALLENGE_SECURITY_BITS) of security.
+pub fn first_challenge<
+    F: TranscriptField + AlgebraIdentity<F> + Named,
+    U: Unit,
+    C: CanObserve<U::Item> + Drop,
+    D: DigestHasher,
+    Cdc: Codec<C, F>,
+>(
+    alloc: Global,
+    challenger: C,
+    separator: &DomainSeparator<U, D>,
+    value: &F,
+) -> Result<TranscriptBound<F>, TranscriptError>
+    requires alphabet { U.is_alphabet }
+    requires secure { 128 ≤ Cdc.SECURITY_BITS }
+    ensures { let seed = seed_of_separator D.digest_of separator.now in
+        IfOk result (λ x. DrawnAfter C.fed Cdc.sampling
+        (flat_map C.observation.symbols (U.items seed) ++ Cdc.observation.symbols value.now) (value_of x)
+        (C.state challenger)) }
+{
+    bytes_feed_their_symbols::<U, C>();
+    values_feed_their_symbols::<F, C, Cdc>();
+    let mut prover = ProverState::new(alloc, challenger, separator)?;
+    let drawn = send_and_draw::<F, U, C, D, Cdc>(&mut prover, value);
+    prover.abort();
+    drawn
 }
