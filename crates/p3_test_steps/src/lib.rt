@@ -1,0 +1,30 @@
+//! What the tests of both drivers share: a small world whose answers are worked out by hand, each step of either side
+//! as a value, tables of steps with the symbols and the bytes that they mean, and a world of extensions.
+#![tactic(auto)]
+
+mod alike;
+mod draws;
+mod extensions;
+mod known;
+mod markers;
+mod messages;
+mod rows;
+mod small_world;
+
+pub use alike::{alike_steps, play_alike};
+pub use draws::{Draw, prover_draws, verifier_draws};
+pub use extensions::{
+    Coefficients, Wide, WideAlphabet, WideSeparator, WideWorld, push_numbers, wide, wide_draws,
+    wide_separator, wide_world,
+};
+pub use known::{Known, prover_observes, verifier_observes};
+pub use markers::{Marker, prover_marks, verifier_marks};
+pub use messages::{Message, receive, send};
+pub use rows::{
+    DrawRow, KnownRow, MessageRow, WorkedRow, containers, draw_rows, known_rows, message_rows,
+    worked_rows,
+};
+pub use small_world::{
+    Alphabet, Prover, Scalars, Separator, Verifier, World, after, bytes, challenge, drawn,
+    prover_of, scalars, separator, verifier_of, world,
+};

@@ -1,0 +1,92 @@
+// The small world: a duplex challenger over the field of 257 elements, that field as its own extension, and a separator
+// without chunks. Right after the seed, whatever the pattern is, it draws 2, 6, 8, 132, 134, 6.
+use p3_challenger_core::{CanObserve, CanSample, ChallengerError};
+use p3_codecs::{FieldToFieldCodec, FieldUnit};
+use p3_duplex::DuplexChallenger;
+use p3_field::{F257, PrimeField64};
+use p3_fs_core::{Hierarchy, Interaction, Kind, Label, Length, TranscriptError};
+use p3_patterns::InteractionPattern;
+use p3_prover::ProverState;
+use p3_symmetric::{Sha256Hasher, Turn};
+use p3_test_support::element;
+use p3_turn::DomainSeparator;
+use p3_verifier::VerifierState;
+use std::alloc::Global;
+
+/// The challenger: three cells, of which two are the rate.
+pub type World = DuplexChallenger<F257, Turn<2>, 3, 2>;
+
+/// Byte strings are elements: their length, and each byte.
+pub type Alphabet = FieldUnit<F257>;
+
+/// An element is observed as it is, and is two bytes in the proof.
+pub type Scalars = FieldToFieldCodec<F257>;
+
+/// What a transcript of the world begins with.
+pub type Separator = DomainSeparator<Alphabet, Sha256Hasher>;
+
+/// A prover of the world, over its challenger or one that is lent.
+pub type Prover<C> = ProverState<C, Alphabet, Sha256Hasher>;
+
+/// A verifier of the world, over its challenger or one that is lent.
+pub type Verifier<'a, C> = VerifierState<'a, C, Alphabet, Sha256Hasher>;
+
+/// The challenger that observed nothing yet.
+pub fn world() -> World {
+    DuplexChallenger::new(Turn, 10)
+}
+
+/// The separator of a protocol of these steps.
+pub fn separator(alloc: Global, steps: Vec<Interaction>) -> Result<Separator, TranscriptError> {
+    let pattern = InteractionPattern::new(steps)?;
+    Ok(DomainSeparator::new(alloc, 1, b"world", pattern)?)
+}
+
+/// A prover of one step.
+pub fn prover_of(alloc: Global, step: Interaction) -> Result<Prover<World>, TranscriptError> {
+    ProverState::new(alloc, world(), &separator(alloc, vec![in alloc; step]?)?)
+}
+
+/// A verifier of one step.
+pub fn verifier_of(
+    alloc: Global,
+    step: Interaction,
+    narg: &[u8],
+) -> Result<Verifier<'_, World>, TranscriptError> {
+    VerifierState::new(
+        alloc,
+        world(),
+        &separator(alloc, vec![in alloc; step]?)?,
+        narg,
+    )
+}
+
+/// The challenger after the seed, which leaves it the same whatever the pattern is, and then these symbols, one by one.
+pub fn after(alloc: Global, symbols: &[u64]) -> Result<World, TranscriptError> {
+    let mut challenger = world();
+    separator(alloc, Vec::new(alloc))?.seed(&mut challenger)?;
+    for symbol in symbols {
+        challenger.observe(element(*symbol))?;
+    }
+    Ok(challenger)
+}
+
+/// The number of the next element that a challenger draws.
+pub fn drawn<C: CanSample<F257>>(challenger: &mut C) -> Result<u64, ChallengerError> {
+    Ok(challenger.sample()?.as_canonical_u64())
+}
+
+/// The step of elements of the field.
+pub fn scalars(kind: Kind, label: Label, length: Length) -> Interaction {
+    Interaction::algebra::<F257, F257, Sha256Hasher>(Hierarchy::Atomic, kind, label, length)
+}
+
+/// The step of bytes.
+pub fn bytes(kind: Kind, label: Label, length: Length) -> Interaction {
+    Interaction::bytes(Hierarchy::Atomic, kind, label, length)
+}
+
+/// The step that draws one scalar.
+pub fn challenge() -> Interaction {
+    scalars(Kind::Challenge, "c", Length::Scalar)
+}

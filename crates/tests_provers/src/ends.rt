@@ -1,0 +1,32 @@
+// How a prover ends where steps are left.
+use p3_fs_core::{Interaction, PatternError, TranscriptError};
+use p3_prover::ProverState;
+use p3_test_steps::{Message, Prover, World, challenge, send, separator, world};
+use p3_test_support::element;
+use std::alloc::Global;
+use std::test::Fail;
+
+// A prover that has sent one scalar, with a challenge to come.
+fn halfway(alloc: Global) -> Result<Prover<World>, TranscriptError> {
+    let message = Message::Scalar(element(5));
+    let steps = vec![in alloc; message.step(), challenge()]?;
+    let mut prover = ProverState::new(alloc, world(), &separator(alloc, steps)?)?;
+    if let Err(refused) = send(&mut prover, message) {
+        prover.abort();
+        return Err(refused);
+    }
+    Ok(prover)
+}
+
+fn unplayed(expected: Interaction) -> Option<TranscriptError> {
+    Some(TranscriptError::Pattern(PatternError::Unplayed { expected }))
+}
+
+#[test]
+fn an_end_before_the_last_step_names_the_next(rt: HostRuntime) -> Result<(), Fail> {
+    let finalized = halfway(rt.alloc())?.finalize();
+    let finished = halfway(rt.alloc())?.finish();
+    assert_eq!(rt; finalized.err(), unplayed(challenge()));
+    assert_eq!(rt; finished.err(), unplayed(challenge()));
+    Ok(())
+}

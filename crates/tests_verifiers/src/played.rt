@@ -1,0 +1,92 @@
+// Each step as it is to be: what is read, and the symbols that the challenger is fed.
+use p3_test_steps::{
+    World, after, alike_steps, containers, draw_rows, drawn, known_rows, message_rows, play_alike,
+    receive, separator, verifier_draws, verifier_marks, verifier_observes, verifier_of, world,
+};
+use p3_test_support::element;
+use p3_verifier::VerifierState;
+use std::alloc::Global;
+use std::process::Abort;
+use std::test::Fail;
+
+// Asserts that a challenger draws what one does that was fed these symbols after the seed.
+fn assert_fed(
+    rt: &impl Abort,
+    alloc: Global,
+    mut challenger: World,
+    symbols: &[u64],
+) -> Result<(), Fail> {
+    let mut expected = after(alloc, symbols)?;
+    for _ in 0..3 {
+        assert_eq!(rt; drawn(&mut challenger)?, drawn(&mut expected)?);
+    }
+    Ok(())
+}
+
+#[test]
+fn messages_are_read(rt: HostRuntime) -> Result<(), Fail> {
+    let two = [element(5), element(256)];
+    for (message, symbols, wire) in message_rows(&two) {
+        let mut verifier = verifier_of(rt.alloc(), message.step(), wire)?;
+        let received = receive(&mut verifier, message);
+        let challenger = verifier.finish()?;
+        assert_eq!(rt; received, Ok(true), "{message:?}");
+        assert_fed(&rt, rt.alloc(), challenger, symbols)?;
+    }
+    Ok(())
+}
+
+#[test]
+fn what_both_sides_know_is_observed(rt: HostRuntime) -> Result<(), Fail> {
+    let two = [element(5), element(256)];
+    for (known, symbols) in known_rows(&two) {
+        let mut verifier = verifier_of(rt.alloc(), known.step(), b"")?;
+        let observed = verifier_observes(&mut verifier, known);
+        let challenger = verifier.finish()?;
+        assert_eq!(rt; observed, Ok(true), "{known:?}");
+        assert_fed(&rt, rt.alloc(), challenger, symbols)?;
+    }
+    Ok(())
+}
+
+#[test]
+fn draws_are_those_after_the_seed(rt: HostRuntime) -> Result<(), Fail> {
+    for (draw, numbers, next) in draw_rows() {
+        let mut verifier = verifier_of(rt.alloc(), draw.step(), b"")?;
+        let given = verifier_draws(&mut verifier, rt.alloc(), draw);
+        let mut challenger = verifier.finish()?;
+        assert_eq!(rt; given?.as_slice(), numbers, "{draw:?}");
+        assert_eq!(rt; drawn(&mut challenger)?, next, "{draw:?}");
+    }
+    Ok(())
+}
+
+#[test]
+fn containers_leave_no_trace(rt: HostRuntime) -> Result<(), Fail> {
+    let mut steps = Vec::new(rt.alloc());
+    for marker in containers() {
+        steps.push(marker.step())?;
+    }
+    let separator = separator(rt.alloc(), steps)?;
+    let mut verifier = VerifierState::new(rt.alloc(), world(), &separator, b"")?;
+    for marker in containers() {
+        let marked = verifier_marks(&mut verifier, marker);
+        assert_eq!(rt; marked, Ok(()), "{marker:?}");
+    }
+    let mut challenger = verifier.finish()?;
+    assert_eq!(rt; drawn(&mut challenger)?, 2);
+    Ok(())
+}
+
+#[test]
+fn steps_of_both_sides_are_played(rt: HostRuntime) -> Result<(), Fail> {
+    let separator = separator(rt.alloc(), alike_steps(rt.alloc())?)?;
+    let mut expected = after(rt.alloc(), &[12, 9])?;
+    let numbers = (drawn(&mut expected)?, drawn(&mut expected)?);
+    let mut verifier = VerifierState::new(rt.alloc(), world(), &separator, b"")?;
+    let played = play_alike(&mut verifier);
+    let ended = verifier.finalize();
+    assert_eq!(rt; played, Ok(numbers));
+    assert_eq!(rt; ended, Ok(()));
+    Ok(())
+}

@@ -1,0 +1,54 @@
+// Byte strings of 257 bytes, for which the alphabet of the small world has no length.
+use p3_challenger_core::ChallengerError;
+use p3_fs_core::TranscriptError;
+use p3_test_steps::{Message, after, challenge, drawn, receive, separator, verifier_of, world};
+use p3_verifier::VerifierState;
+use std::test::Fail;
+
+fn too_long<T>() -> Result<T, TranscriptError> {
+    Err(TranscriptError::Challenger(ChallengerError::TooLong))
+}
+
+#[test]
+fn bytes_that_are_too_long_are_refused(rt: HostRuntime) -> Result<(), Fail> {
+    let long = [7; 257];
+    // Of a bounded one the count, in two bytes, is observed before.
+    let counted = [1; 259];
+    let rows: [(Message<'_>, &[u8], &[u64]); 3] = [
+        (Message::Salt(&long), &long, &[]),
+        (Message::Bytes(&long), &long, &[]),
+        (Message::BytesBounded(&long, 300), &counted, &[2, 1, 1]),
+    ];
+    for (message, narg, symbols) in rows {
+        let mut verifier = verifier_of(rt.alloc(), message.step(), narg)?;
+        let received = receive(&mut verifier, message);
+        let mut challenger = verifier.challenger().clone();
+        verifier.abort();
+        assert_eq!(rt; received, too_long());
+        assert_eq!(rt;
+            drawn(&mut challenger)?,
+            drawn(&mut after(rt.alloc(), symbols)?)?
+        );
+    }
+    Ok(())
+}
+
+#[test]
+fn a_seed_that_is_too_long_makes_no_verifier(rt: HostRuntime) -> Result<(), Fail> {
+    // The seed has 101 bytes, four of the chunk's length, and the chunk.
+    for (len, is_short) in [(151, true), (152, false)] {
+        let mut separator = separator(rt.alloc(), vec![in rt.alloc(); challenge()]?)?;
+        separator.instance(&[0; 152][..len])?;
+        match VerifierState::new(rt.alloc(), world(), &separator, b"") {
+            Ok(verifier) => {
+                verifier.abort();
+                assert!(rt; is_short);
+            }
+            Err(refused) => {
+                assert!(rt; !is_short);
+                assert_eq!(rt; Err::<(), TranscriptError>(refused), too_long());
+            }
+        }
+    }
+    Ok(())
+}
