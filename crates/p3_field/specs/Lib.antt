@@ -4,6 +4,8 @@ pub use Rattle.p3_field_core.specs.Coefficients
 pub use Rattle.p3_field_core.specs.CoeffsCoefficients
 pub use Rattle.p3_field_core.specs.CoefficientLaws
 pub use Rattle.p3_field_core.specs.Equality
+pub use Rattle.p3_field_core.specs.UniformBounds
+pub use Rattle.p3_field_core.specs.UniformBoundLaws
 pub use Rattle.p3_small_primes.specs.SmallPrimes
 pub use Rattle.p3_small_primes.specs.SmallPrimeLaws
 pub use Rattle.p3_small_primes.specs.BabyBearResidues

@@ -4,3 +4,5 @@ pub mod CoefficientLaws
 pub mod Equality
 pub mod ResidueLaws
 pub mod Residues
+pub mod UniformBoundLaws
+pub mod UniformBounds

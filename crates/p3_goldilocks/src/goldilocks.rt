@@ -5,6 +5,7 @@ mod folding;
 use folding::folded;
 use p3_field_core::{
     AlgebraIdentity, Field, Named, PrimeCharacteristicRing, PrimeField, PrimeField64,
+    UniformSamplingField,
 };
 use std::ops::{Add, Mul, Sub};
 
@@ -208,6 +209,16 @@ impl PrimeField64 for Goldilocks {
     fn as_canonical_u64(&self) -> u64 {
         self.value
     }
+}
+
+impl UniformSamplingField for Goldilocks {
+    ghost use Rattle.std.proofs.Common.{lit≤};
+
+    const MAX_SINGLE_SAMPLE_BITS: usize = 32;
+
+    ghost MAX_SINGLE_SAMPLE_BITS = { 32 };
+
+    ghost max_single_within = { lit≤ tt };
 }
 
 impl Named for Goldilocks {

@@ -1,5 +1,5 @@
 use crate::{SmallOrder, SmallPrime};
-use p3_field_core::{AlgebraIdentity, BinomiallyExtendable, Named};
+use p3_field_core::{AlgebraIdentity, BinomiallyExtendable, Named, UniformSamplingField};
 
 /// An element of the prime field of order 2013265921 = 15 * 2^27 + 1.
 pub type BabyBear = SmallPrime<2013265921>;
@@ -20,6 +20,16 @@ impl SmallOrder<2013265921> for BabyBear {
     fn order_bits() -> usize {
         31
     }
+}
+
+impl UniformSamplingField for BabyBear {
+    ghost use Rattle.std.proofs.Common.{lit≤};
+
+    const MAX_SINGLE_SAMPLE_BITS: usize = 27;
+
+    ghost MAX_SINGLE_SAMPLE_BITS = { 27 };
+
+    ghost max_single_within = { lit≤ tt };
 }
 
 impl Named for BabyBear {

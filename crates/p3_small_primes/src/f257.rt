@@ -1,5 +1,5 @@
 use crate::{SmallOrder, SmallPrime};
-use p3_field_core::{AlgebraIdentity, Named};
+use p3_field_core::{AlgebraIdentity, Named, UniformSamplingField};
 
 /// An element of the prime field of order 257.
 pub type F257 = SmallPrime<257>;
@@ -20,6 +20,16 @@ impl SmallOrder<257> for F257 {
     fn order_bits() -> usize {
         9
     }
+}
+
+impl UniformSamplingField for F257 {
+    ghost use Rattle.std.proofs.Common.{lit≤};
+
+    const MAX_SINGLE_SAMPLE_BITS: usize = 8;
+
+    ghost MAX_SINGLE_SAMPLE_BITS = { 8 };
+
+    ghost max_single_within = { lit≤ tt };
 }
 
 impl Named for F257 {

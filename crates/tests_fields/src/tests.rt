@@ -4,7 +4,7 @@ ghost use Rattle.p3_field.specs.Residues.{plus};
 
 use p3_field::{
     Algebra, BabyBear, BasedVectorSpace, Coeffs, F257, Field, Goldilocks, PrimeCharacteristicRing,
-    PrimeField64,
+    PrimeField64, UniformSamplingField, uniform_bounds_are_whole,
 };
 use std::test::Fail;
 
@@ -87,6 +87,15 @@ fn same_coefficients<F: Field, const D: usize>(x: Coeffs<F, D>, y: Coeffs<F, D>)
     x == y
 }
 
+fn whole_bound<F: UniformSamplingField>(bits: usize) -> u64
+    ensures within { result ≤ F.residues.order }
+    ensures whole { result % 2 ^ bits ≡ 0 }
+    ensures positive { bits ≤ F.MAX_SINGLE_SAMPLE_BITS → 0 < result }
+{
+    uniform_bounds_are_whole::<F>();
+    F::sampling_bits_m(bits)
+}
+
 // ---- the same at each field, with numbers from elsewhere
 
 fn number<F: PrimeField64>(x: F) -> u64
@@ -114,6 +123,24 @@ fn through_bounds(rt: HostRuntime) {
     assert_eq!(rt; number(default_of::<F257>()), 0);
     assert_eq!(rt; number(default_of::<BabyBear>()), 0);
     assert_eq!(rt; number(default_of::<Goldilocks>()), 0);
+}
+
+#[test]
+fn bounds_of_uniform_bits(rt: HostRuntime) {
+    assert_eq!(rt; BabyBear::MAX_SINGLE_SAMPLE_BITS, 27);
+    assert_eq!(rt; whole_bound::<BabyBear>(0), 2013265921);
+    assert_eq!(rt; whole_bound::<BabyBear>(4), 2013265920);
+    assert_eq!(rt; whole_bound::<BabyBear>(27), 2013265920);
+    assert_eq!(rt; whole_bound::<BabyBear>(30), 1073741824);
+    assert_eq!(rt; whole_bound::<BabyBear>(31), 0);
+    assert_eq!(rt; Goldilocks::MAX_SINGLE_SAMPLE_BITS, 32);
+    assert_eq!(rt; whole_bound::<Goldilocks>(32), 18446744069414584320);
+    assert_eq!(rt; whole_bound::<Goldilocks>(63), 9223372036854775808);
+    assert_eq!(rt; whole_bound::<Goldilocks>(64), 0);
+    assert_eq!(rt; F257::MAX_SINGLE_SAMPLE_BITS, 8);
+    assert_eq!(rt; whole_bound::<F257>(8), 256);
+    assert_eq!(rt; whole_bound::<F257>(9), 0);
+    assert_eq!(rt; whole_bound::<F257>(usize::MAX), 0);
 }
 
 #[test]

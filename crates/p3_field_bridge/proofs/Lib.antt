@@ -1,0 +1,3 @@
+pub mod Lies
+pub mod Packing
+pub mod WorkedRows

@@ -1,0 +1,4 @@
+pub mod BridgeLaws
+pub mod Bridges
+pub mod DigitLaws
+pub mod Digits

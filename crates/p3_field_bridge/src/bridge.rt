@@ -1,0 +1,75 @@
+ghost use Rattle.std.specs.Prelude.{◌≡◌, ℕ};
+ghost use Rattle.p3_field_bridge.specs.Bridges.{packed, digit_of, AreRadixBits, AreCounts};
+
+use p3_field_core::PrimeField64;
+
+/// How elements of a field `F` are packed into an element of another, `PF`, and drawn from one as its digits. It is
+/// written for `PF`.
+///
+/// Where the order of `F` is below that of `PF`, both counts are at least 1, and numbers of
+/// [`RADIX_BITS`](FieldBridge::RADIX_BITS) bits each, as many as are packed, are together below the order of `PF`,
+/// and so is each number of as many digits as are drawn. Of other fields nothing is known of the counts.
+pub trait FieldBridge<F: PrimeField64, PF: PrimeField64> {
+    /// The least count of bits that hold the canonical number of each element of `F`.
+    const RADIX_BITS: u32;
+
+    ghost RADIX_BITS: { ℕ };
+
+    /// How many elements of `F` are packed into one of `PF`.
+    const ABSORB_COUNT: usize;
+
+    ghost ABSORB_COUNT: { ℕ };
+
+    /// How many digits of an element of `PF` are drawn as elements of `F`.
+    const SQUEEZE_COUNT: usize;
+
+    ghost SQUEEZE_COUNT: { ℕ };
+
+    /// How many elements of `F` are packed into one of `PF`.
+    fn absorb_num() -> usize
+        ensures { result ≡ ABSORB_COUNT }
+    {
+        Self::ABSORB_COUNT
+    }
+
+    /// How many digits of an element of `PF` are drawn as elements of `F`.
+    fn squeeze_num() -> usize
+        ensures { result ≡ SQUEEZE_COUNT }
+    {
+        Self::SQUEEZE_COUNT
+    }
+
+    /// The element of the sum of the canonical numbers of the values, that of the value at place `j` times
+    /// `2^(b * j)`, where `b` is [`RADIX_BITS`](FieldBridge::RADIX_BITS). Of more values than are packed the sum
+    /// may pass the order of `PF`, and counts modulo that order.
+    fn pack(values: &[F]) -> PF
+        ensures { result ≡ packed F.residues PF.residues RADIX_BITS values.now }
+    {
+        let half = PF::from_u64(1 << (Self::RADIX_BITS - 1));
+        let radix = half + half;
+        let mut packed = PF::ZERO;
+        for i in 0..values.len() {
+            let place = values.len() - 1 - i;
+            let value = values[place];
+            packed = packed * radix + PF::from_u64(value.as_canonical_u64());
+        }
+        packed
+    }
+
+    /// The digit at a place of the canonical number of an element, in the base of the order of `F`: place 0 is the
+    /// lowest. Past the highest digit all are 0.
+    fn digit(value: PF, place: usize) -> F
+        ensures { result ≡ digit_of F.residues PF.residues value place }
+    {
+        let order = F::ORDER_U64;
+        let mut left = value.as_canonical_u64();
+        for _ in 0..place {
+            left /= order;
+        }
+        F::from_canonical(left % order)
+    }
+
+    ghost are_radix_bits: { AreRadixBits F.residues.order RADIX_BITS };
+
+    ghost are_counts: { AreCounts F.residues.order PF.residues.order RADIX_BITS ABSORB_COUNT SQUEEZE_COUNT };
+}

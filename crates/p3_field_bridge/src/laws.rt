@@ -1,0 +1,31 @@
+// What follows of every bridge.
+ghost use Rattle.std.specs.Prelude.{◌≡◌, ℕ, ◌^◌, ◌%◌, ◌<◌, ◌≤◌, ◌↔◌, List, length};
+ghost use Rattle.p3_field_bridge.specs.Bridges.{packed, digit_of};
+
+use crate::FieldBridge;
+use p3_field_core::PrimeField64;
+
+/// Where the order of `F` is below that of `PF`, equally many elements, no more than are packed into one, are told
+/// apart by the element that they are packed into.
+///
+/// A law: the body is empty, and a caller cites the clause.
+pub fn packing_is_injective<F: PrimeField64, PF: PrimeField64, B: FieldBridge<F, PF>>()
+    ensures { F.residues.order < PF.residues.order → (xs ys : List F) → length xs ≡ length ys
+        → length xs ≤ B.ABSORB_COUNT
+        → packed F.residues PF.residues B.RADIX_BITS xs ≡ packed F.residues PF.residues B.RADIX_BITS ys → xs ≡ ys }
+{}
+
+/// The first digits of two elements are the same exactly where their canonical numbers leave the same modulo the
+/// power of the order for so many digits. So two elements whose numbers are below that power are told apart by
+/// these digits.
+///
+/// A law: the body is empty, and a caller cites the clauses.
+pub fn digits_tell_elements<F: PrimeField64, PF: PrimeField64>()
+    ensures same { (x y : PF) (count : ℕ)
+        → ((i : ℕ) → i < count → digit_of F.residues PF.residues x i ≡ digit_of F.residues PF.residues y i)
+        ↔ (PF.residues.number x % F.residues.order ^ count ≡ PF.residues.number y % F.residues.order ^ count) }
+    ensures apart { (x y : PF) (count : ℕ) → PF.residues.number x < F.residues.order ^ count
+        → PF.residues.number y < F.residues.order ^ count
+        → ((i : ℕ) → i < count → digit_of F.residues PF.residues x i ≡ digit_of F.residues PF.residues y i)
+        → x ≡ y }
+{}

@@ -1,0 +1,11 @@
+//! Bridges between prime fields: elements of one packed into an element of another, and an element's digits.
+#![tactic(auto)]
+
+mod baby_bear_in_baby_bear;
+mod baby_bear_in_goldilocks;
+mod bridge;
+mod f257_in_baby_bear;
+mod laws;
+
+pub use bridge::FieldBridge;
+pub use laws::{digits_tell_elements, packing_is_injective};

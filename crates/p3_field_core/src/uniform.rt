@@ -1,0 +1,37 @@
+ghost use Rattle.std.specs.Prelude.{◌≡◌, ℕ, ◌^◌, ◌%◌, ◌<◌, ◌≤◌};
+ghost use Rattle.p3_field_core.specs.UniformBounds.{uniform_bound};
+
+use crate::PrimeField64;
+
+/// A prime field from whose elements uniform bits are drawn: the low bits of the canonical numbers below a bound, of
+/// which equally many give each value of the bits.
+pub trait UniformSamplingField: PrimeField64 {
+    /// The most bits that are drawn from one element. Its power of two is within the order.
+    const MAX_SINGLE_SAMPLE_BITS: usize;
+
+    ghost MAX_SINGLE_SAMPLE_BITS: { ℕ };
+
+    /// The bound for so many bits: the greatest multiple of `2^bits` that is at most the order. It is 0 where
+    /// `2^bits` is above the order.
+    fn sampling_bits_m(bits: usize) -> u64
+        ensures { result ≡ uniform_bound Self.residues.order bits }
+    {
+        if bits < 64 {
+            (Self::ORDER_U64 >> bits) << bits
+        } else {
+            0
+        }
+    }
+
+    ghost max_single_within: { 2 ^ MAX_SINGLE_SAMPLE_BITS ≤ Self.residues.order };
+}
+
+/// The bound is at most the order, and a multiple of the power of two; for no more bits than are drawn from one
+/// element it is above 0.
+///
+/// A law: the body is empty, and a caller cites the clauses.
+pub fn uniform_bounds_are_whole<F: UniformSamplingField>()
+    ensures within { (bits : ℕ) → uniform_bound F.residues.order bits ≤ F.residues.order }
+    ensures whole { (bits : ℕ) → uniform_bound F.residues.order bits % 2 ^ bits ≡ 0 }
+    ensures positive { (bits : ℕ) → bits ≤ F.MAX_SINGLE_SAMPLE_BITS → 0 < uniform_bound F.residues.order bits }
+{}
