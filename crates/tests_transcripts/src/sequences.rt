@@ -117,6 +117,11 @@ fn assert_shown(
     Ok(())
 }
 
+const ANOTHER_KIND: &str = concat!(
+    "invalid kind Atomic Hint hint None opaque at 1 ",
+    "for sub-protocol Begin Message round None opaque opened at 0",
+);
+
 #[test]
 fn faults_show_their_steps_and_positions(rt: HostRuntime) -> Result<(), Fail> {
     let begin = opener(Kind::Message, "round");
@@ -143,13 +148,7 @@ fn faults_show_their_steps_and_positions(rt: HostRuntime) -> Result<(), Fail> {
                 without_opener,
                 "missing begin for End Message other None opaque at position 3",
             ),
-            (
-                another_kind,
-                concat!(
-                    "invalid kind Atomic Hint hint None opaque at 1 ",
-                    "for sub-protocol Begin Message round None opaque opened at 0",
-                ),
-            ),
+            (another_kind, ANOTHER_KIND),
             (
                 another_closer,
                 "mismatched begin Begin Message round None opaque at 0 versus end End Message other None opaque at 12",

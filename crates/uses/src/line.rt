@@ -67,7 +67,8 @@ pub fn prove(alloc: Global, line: Line) -> Result<Vec<u8>, TranscriptError> {
     }
 }
 
-/// Reads a proof, and gives the line with its value at the place that is drawn; or none, if it does not have that value.
+/// Reads a proof, and gives the line with its value at the place that is drawn; or none, if it does not have that
+/// value.
 ///
 /// The errors are those of the transcript: a proof that is too short or too long, a number that is no element of the
 /// field, and want of memory.
