@@ -2,16 +2,17 @@
 use Rattle.std.proofs.Common.{◌≡◌, ◌↔◌, ℕ, zero, suc, ◌<◌, ◌≤◌, ◌+◌, ◌*◌, ◌/◌, ◌%◌, ◌^◌, List, [], ◌∷◌, length}
 use Rattle.std.proofs.Common.{map, get_or, refl, sym, ap, ap₂, ◌∙◌, subst, inl, inr, arith, pow_mono}
 use Rattle.std.proofs.Math.Nat.{pow-zero, pow-succ', pow-le-pow_left, mod-eq_of_lt, mod-lt, mul-le-mul_left}
-use Rattle.std.proofs.Math.Nat.{mul-le-mul_right}
+use Rattle.std.proofs.Math.Nat.{mul-le-mul_right, pow-le-pow_right}
 use Rattle.std.proofs.lemmas.Nat.{pow-add}
 use Rattle.std.proofs.lemmas.Bool.{cases_lt}
-use Rattle.std.proofs.lemmas.List.{length-map}
+use Rattle.std.proofs.lemmas.List.{length-map, get_or-map}
 use Rattle.std.proofs.lemmas.List.Elements.{All-map}
 use Rattle.std.specs.List.{All}
 use Rattle.p3_field_core.specs.Residues.{Residues, IsResidues}
-use Rattle.p3_field_core.specs.ResidueLaws.{number-injective, of-injective}
+use Rattle.p3_field_core.specs.ResidueLaws.{number-injective, number_of-below, of-injective}
 use Rattle.p3_field_bridge.specs.Digits.{number_in, digit_at}
 use Rattle.p3_field_bridge.specs.DigitLaws.{number_in-below, number_in-injective, same_digits, digits_same}
+use Rattle.p3_field_bridge.specs.DigitLaws.{digit_at-number_in}
 use Rattle.p3_field_bridge.specs.Bridges.{packed, digit_of, AreRadixBits, AreCounts}
 
 -- ---- counts of bits
@@ -187,3 +188,27 @@ module _ {F P : Type 0} (inner : Residues F) (outer : Residues P) (inner_laws : 
   digits-injective x y count x_below y_below same =
       number-injective outer outer_laws x y
       (sym (mod-eq_of_lt x_below) ∙ (digits-tell x y count).0 same ∙ mod-eq_of_lt y_below)
+
+  -- so few elements are the first digits of some element
+  pub digits-any : (bits absorb squeeze : ℕ) → AreCounts inner.order outer.order bits absorb squeeze
+      → inner.order < outer.order → (xs : List F) → length xs ≤ squeeze
+      → (x : P) × ((i : ℕ) (d : F) → i < length xs → digit_of inner outer x i ≡ get_or xs i d)
+  digits-any bits absorb squeeze counts greater xs few =
+      let positive : 0 < inner.order = omega (arith, inner_laws.above_one) in
+      let numbers = map inner.number xs in
+      let n = number_in inner.order numbers in
+      let small : All (λ d. d < inner.order) numbers =
+      All-map (λ d. d < inner.order) inner.number xs (λ k d _. inner_laws.below (get_or xs k d)) in
+      let length_is = length-map xs inner.number in
+      let short : length numbers ≤ squeeze = omega (arith, length_is, few) in
+      let grown : inner.order ^ length numbers ≤ inner.order ^ squeeze = pow-le-pow_right positive short in
+      let below : n < outer.order =
+      omega (arith, number_in-below inner.order numbers small, grown, counts.squeeze_fits greater) in
+      let number_is = number_of-below outer outer_laws n below in (
+        outer.of n,
+        λ i d inside.
+            ap (λ k. inner.of (digit_at inner.order k i)) number_is
+            ∙ ap inner.of (digit_at-number_in inner.order positive numbers small i (omega (arith, length_is, inside)))
+            ∙ ap inner.of (get_or-map inner.number xs i d 0 inside)
+            ∙ inner_laws.of_number (get_or xs i d),
+      )

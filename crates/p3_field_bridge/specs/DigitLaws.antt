@@ -1,7 +1,8 @@
 -- Laws of numbers by their digits.
 use Rattle.std.proofs.Common.{◌≡◌, ℕ, zero, suc, ◌<◌, ◌≤◌, ◌+◌, ◌*◌, ◌/◌, ◌%◌, ◌^◌, List, [], ◌∷◌, length}
-use Rattle.std.proofs.Common.{refl, sym, ap, ap₂, ◌∙◌, subst, inl, inr, arith}
+use Rattle.std.proofs.Common.{get_or, refl, sym, ap, ap₂, ◌∙◌, subst, inl, inr, arith}
 use Rattle.std.proofs.Math.Nat.{pow-succ', pow-zero, one-le-pow, mul-le-mul_left, mod-one, mod-lt}
+use Rattle.std.proofs.Math.Nat.{div-one, div-div-eq-div-mul}
 use Rattle.std.proofs.Math.Arith.{mod-mul}
 use Rattle.std.proofs.lemmas.Nat.{div-mul-add, mod-mul-add}
 use Rattle.std.proofs.lemmas.Bool.{cases_lt}
@@ -128,3 +129,23 @@ module _ (base : ℕ) (positive : 0 < base) where
             let is : i ≡ count = omega (arith, end, below) in
             ap (digit_at base n) is ∙ digit ∙ sym (ap (digit_at base m) is)
       ]
+
+-- digits are those of their number
+pub digit_at-number_in : (base : ℕ) → 0 < base → (digits : List ℕ) → All (λ d. d < base) digits
+    → (i : ℕ) → i < length digits → digit_at base (number_in base digits) i ≡ get_or digits i 0
+digit_at-number_in base positive [] below i inside = absurd (omega (arith, inside))
+digit_at-number_in base positive (digit ∷ digits) below zero inside =
+    let n = number_in base (digit ∷ digits) in
+    ap (λ p. n / p % base) (pow-zero base)
+    ∙ ap (λ k. k % base) (div-one n)
+    ∙ ap (λ k. k % base) (number_in-cons base digit digits)
+    ∙ remainder-is base digit (number_in base digits) (first_below base digit digits below)
+digit_at-number_in base positive (digit ∷ digits) below (suc i) inside =
+    let n = number_in base (digit ∷ digits) in
+    let above : n / base ≡ number_in base digits =
+    ap (λ k. k / base) (number_in-cons base digit digits)
+    ∙ quotient-is base digit (number_in base digits) (first_below base digit digits below) in
+    ap (λ p. n / p % base) (pow-succ' base i)
+    ∙ ap (λ k. k % base) (sym (div-div-eq-div-mul n base (base ^ i)))
+    ∙ ap (λ k. k / base ^ i % base) above
+    ∙ digit_at-number_in base positive digits (rest_below base digit digits below) i (omega (arith, inside))

@@ -1,5 +1,5 @@
 // What follows of every bridge.
-ghost use Rattle.std.specs.Prelude.{◌≡◌, ℕ, ◌^◌, ◌%◌, ◌<◌, ◌≤◌, ◌↔◌, List, length};
+ghost use Rattle.std.specs.Prelude.{◌≡◌, ℕ, ◌^◌, ◌%◌, ◌<◌, ◌≤◌, ◌↔◌, List, length, slice_index_or};
 ghost use Rattle.p3_field_bridge.specs.Bridges.{packed, digit_of};
 
 use crate::FieldBridge;
@@ -28,4 +28,14 @@ pub fn digits_tell_elements<F: PrimeField64, PF: PrimeField64>()
         → PF.residues.number y < F.residues.order ^ count
         → ((i : ℕ) → i < count → digit_of F.residues PF.residues x i ≡ digit_of F.residues PF.residues y i)
         → x ≡ y }
+{}
+
+/// Where the order of `F` is below that of `PF`, any elements of `F`, no more than digits are drawn from one element,
+/// are the first digits of some element of `PF`.
+///
+/// A law: the body is empty, and a caller cites the clause.
+pub fn digits_are_any<F: PrimeField64, PF: PrimeField64, B: FieldBridge<F, PF>>()
+    ensures { F.residues.order < PF.residues.order → (xs : List F) → length xs ≤ B.SQUEEZE_COUNT
+        → (x : PF) × ((i : ℕ) (d : F) → i < length xs
+        → digit_of F.residues PF.residues x i ≡ slice_index_or xs i d) }
 {}

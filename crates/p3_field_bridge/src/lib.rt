@@ -8,4 +8,4 @@ mod f257_in_baby_bear;
 mod laws;
 
 pub use bridge::FieldBridge;
-pub use laws::{digits_tell_elements, packing_is_injective};
+pub use laws::{digits_are_any, digits_tell_elements, packing_is_injective};

@@ -1,2 +1,3 @@
 pub mod BitLengths
 pub mod Powers
+pub mod WorkedRows

@@ -2,6 +2,7 @@ pub mod Coefficients
 pub mod CoeffsCoefficients
 pub mod CoefficientLaws
 pub mod Equality
+pub mod RemainderLaws
 pub mod ResidueLaws
 pub mod Residues
 pub mod UniformBoundLaws

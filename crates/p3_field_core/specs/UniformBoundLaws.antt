@@ -4,7 +4,8 @@ use Rattle.std.proofs.Common.{arith, pow_mono}
 use Rattle.std.proofs.lemmas.Bool.{cases_lt}
 use Rattle.std.proofs.Math.Nat.{mul-div-le, mul-mod_right, div-eq_of_lt, lt-mul-div-succ, mul-le-mul_left}
 use Rattle.std.proofs.lemmas.Nat.{pow_pos}
-use Rattle.p3_field_core.specs.UniformBounds.{uniform_bound}
+use Rattle.p3_field_core.specs.UniformBounds.{uniform_bound, how_many_have}
+use Rattle.p3_field_core.specs.RemainderLaws.{counted-whole}
 
 pub bound-within : (order bits : ℕ) → uniform_bound order bits ≤ order
 bound-within order bits = mul-div-le order (2 ^ bits)
@@ -37,3 +38,9 @@ bound-none order bits fits many =
     let none : order / 2 ^ bits ≡ 0 = div-eq_of_lt (omega (arith, grown, fits)) in
     let nothing : 2 ^ bits * 0 ≡ 0 = omega arith in
     ap (λ q. 2 ^ bits * q) none ∙ nothing
+
+-- each value of the low bits is that of as many numbers below the bound as the bound is powers
+pub bound-shared : (order bits value : ℕ) → value < 2 ^ bits
+    → how_many_have (uniform_bound order bits) bits value ≡ uniform_bound order bits / 2 ^ bits
+bound-shared order bits value small =
+    counted-whole (2 ^ bits) value small (uniform_bound order bits) (bound-whole order bits)

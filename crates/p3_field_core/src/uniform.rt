@@ -1,5 +1,5 @@
-ghost use Rattle.std.specs.Prelude.{◌≡◌, ℕ, ◌^◌, ◌%◌, ◌<◌, ◌≤◌};
-ghost use Rattle.p3_field_core.specs.UniformBounds.{uniform_bound};
+ghost use Rattle.std.specs.Prelude.{◌≡◌, ℕ, ◌^◌, ◌/◌, ◌%◌, ◌<◌, ◌≤◌};
+ghost use Rattle.p3_field_core.specs.UniformBounds.{uniform_bound, how_many_have};
 
 use crate::PrimeField64;
 
@@ -26,12 +26,15 @@ pub trait UniformSamplingField: PrimeField64 {
     ghost max_single_within: { 2 ^ MAX_SINGLE_SAMPLE_BITS ≤ Self.residues.order };
 }
 
-/// The bound is at most the order, and a multiple of the power of two; for no more bits than are drawn from one
-/// element it is above 0.
+/// The bound is at most the order, and a multiple of the power of two: each value of so many bits is that of as many
+/// canonical numbers below the bound. For no more bits than are drawn from one element the bound is above 0.
 ///
 /// A law: the body is empty, and a caller cites the clauses.
 pub fn uniform_bounds_are_whole<F: UniformSamplingField>()
     ensures within { (bits : ℕ) → uniform_bound F.residues.order bits ≤ F.residues.order }
     ensures whole { (bits : ℕ) → uniform_bound F.residues.order bits % 2 ^ bits ≡ 0 }
+    ensures shared { (bits value : ℕ) → value < 2 ^ bits
+        → how_many_have (uniform_bound F.residues.order bits) bits value
+        ≡ uniform_bound F.residues.order bits / 2 ^ bits }
     ensures positive { (bits : ℕ) → bits ≤ F.MAX_SINGLE_SAMPLE_BITS → 0 < uniform_bound F.residues.order bits }
 {}

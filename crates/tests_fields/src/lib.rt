@@ -4,4 +4,6 @@
 #[cfg(test)]
 mod arithmetic;
 #[cfg(test)]
+mod bridges;
+#[cfg(test)]
 mod tests;

@@ -1,4 +1,4 @@
-use Rattle.p3_field_core.specs.UniformBoundLaws.{bound-within, bound-whole, bound-positive}
+use Rattle.p3_field_core.specs.UniformBoundLaws.{bound-within, bound-whole, bound-shared, bound-positive}
 use Rattle.p3_field_core.proofs.uniform.uniform_bounds_are_whole.Goals as goal
 
 pub returns-clause-within : goal.returns-clause-within
@@ -6,6 +6,9 @@ returns-clause-within g c = bound-within g.F.PrimeCharacteristicRing.residues.or
 
 pub returns-clause-whole : goal.returns-clause-whole
 returns-clause-whole g c = bound-whole g.F.PrimeCharacteristicRing.residues.order
+
+pub returns-clause-shared : goal.returns-clause-shared
+returns-clause-shared g c = bound-shared g.F.PrimeCharacteristicRing.residues.order
 
 pub returns-clause-positive : goal.returns-clause-positive
 returns-clause-positive g c bits few =
