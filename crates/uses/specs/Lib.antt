@@ -1,2 +1,3 @@
 pub mod BoundValues
+pub mod ExtraValue
 pub mod ThreeCalls
