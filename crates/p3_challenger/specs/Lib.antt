@@ -77,11 +77,13 @@ pub use Rattle.p3_driver_core.specs.Meanings
 pub use Rattle.p3_driver_core.specs.Opened
 pub use Rattle.p3_driver_core.specs.Rejecting
 pub use Rattle.p3_driver_core.specs.Turns
+pub use Rattle.p3_prover.specs.ProverLends
 pub use Rattle.p3_prover.specs.Proving
 pub use Rattle.p3_verifier.specs.Following
 pub use Rattle.p3_verifier.specs.FollowingLaws
 pub use Rattle.p3_verifier.specs.Mirrors
 pub use Rattle.p3_verifier.specs.Reads
+pub use Rattle.p3_verifier.specs.VerifierLends
 pub use Rattle.p3_verifier.specs.Verifying
 pub use Rattle.p3_field.specs.Residues
 pub use Rattle.p3_field.specs.ResidueLaws

@@ -23,6 +23,6 @@ pub record Opens {D : Type 0} {hasher : Ghosts D} (before : Steps D hasher) (s :
   pub player : after.player ≡ step_on (playing_of before)
   pub closed : after.closed ≡ true
 
--- what both drivers have, as contracts see it, where this is the state of a challenger
-abbrev pub turn_of : {C D S : Type 0} {hasher : Ghosts D} → (C → S) → DriverTurn C D hasher → Turn S
-turn_of state t = record { challenger = state t.challenger; playing = playing_of t.steps }
+-- what both drivers have, as contracts see it: the state of a challenger, and the pattern as it is played
+abbrev pub turn_of : {D S : Type 0} {hasher : Ghosts D} → S → DriverTurn D hasher → Turn S
+turn_of challenger t = record { challenger = challenger; playing = playing_of t.steps }

@@ -61,15 +61,17 @@ pub fn draw_accepted<T: Copy, C: Sponge, Cdc: Codec<C, T>, R: Fn(&T, &[T]) -> bo
     Ok(bounds)
 }
 
-impl<C: Sponge, D: DigestHasher> DriverTurn<C, D> {
+impl<D: DigestHasher> DriverTurn<D> {
     /// Draws elements of an algebra until the rule `accept` has taken `n`, which refuses fewer than `limit` in a row.
     pub fn draw_rejecting<
         F: TranscriptField,
         A: AlgebraIdentity<F> + Named,
+        C: Sponge,
         Cdc: Codec<C, A>,
         R: Fn(&A, &[A]) -> bool,
     >(
         &mut self,
+        challenger: &mut C,
         label: Label,
         n: usize,
         accept: &R,
@@ -81,17 +83,11 @@ impl<C: Sponge, D: DigestHasher> DriverTurn<C, D> {
             let step = algebra_step Kind.Challenge label.now F.residues.order A.DIMENSION
             (D.digest_of A.identity) A.name_bytes (Length.Fixed n) in
             PlaysOrRefuses (drawn_rejecting {Symbol = C.Symbol} step Cdc.sampling rule limit n)
-            (turn_of C.state self.old) values_of result (turn_of C.state self.new) }
+            (turn_of (C.state challenger.old) self.old) values_of result (turn_of (C.state challenger.new) self.new) }
     {
         self.steps
             .take_algebra::<F, A>(Kind::Challenge, label, Length::Fixed(n))?;
-        let bounds = draw_accepted::<A, C, Cdc, R>(
-            &mut self.challenger,
-            self.alloc,
-            n,
-            accept,
-            limit,
-        )?;
+        let bounds = draw_accepted::<A, C, Cdc, R>(challenger, self.alloc, n, accept, limit)?;
         self.steps.done();
         Ok(bounds)
     }

@@ -1,1 +1,2 @@
+pub mod ProverLends
 pub mod Proving

@@ -15,7 +15,7 @@ pub record Proving (S : Type 0) : Type 0 where
 
 -- a prover, where this is the state of a challenger
 abbrev pub proving_of : {C U D S : Type 0} {hasher : Ghosts D} → (C → S) → ProverState C U D hasher → Proving S
-proving_of state p = record { turn = turn_of state p.turn; narg = p.narg.items }
+proving_of state p = record { turn = turn_of (state p.challenger) p.turn; narg = p.narg.items }
 
 -- the step is played, and its bytes are added
 pub record Writes {S Symbol A : Type 0} (m : Meaning S Symbol A) (before : Proving S) (x : A) (after : Proving S) :

@@ -1,10 +1,12 @@
 // The prover's driver: it plays a pattern, and writes the proof. What it is, how it begins and how it ends.
+ghost use Rattle.std.specs.Borrow.{sem};
 ghost use Rattle.std.specs.Prelude.{◌≡◌, [], false, length, OnOk, IfOk, IfErr, IsOk};
 ghost use Rattle.p3_challenger_core.specs.Observation.{observed_all};
 ghost use Rattle.p3_fs_core.specs.Errors.{misfit_of};
 ghost use Rattle.p3_patterns.specs.Playing.{FaultOfPlayEnd, IsPatternError, IsPlayed};
 ghost use Rattle.p3_turn.specs.SeparatorSeed.{seed_of_separator, pattern_of};
 ghost use Rattle.p3_prover.specs.Proving.{proving_of, RefusesStart};
+ghost use Rattle.p3_prover.specs.ProverLends.{lends_challenger};
 
 mod known;
 mod sending;
@@ -35,7 +37,8 @@ use std::marker::PhantomData;
 /// [`finalize`](ProverState::finalize), [`finish`](ProverState::finish) or [`abort`](ProverState::abort).
 #[derive_where(Debug; C)]
 pub struct ProverState<C, U, D: DigestHasher> {
-    turn: DriverTurn<C, D>,
+    challenger: C,
+    turn: DriverTurn<D>,
     narg: Vec<u8>,
     unit: PhantomData<U>,
 }
@@ -68,11 +71,8 @@ impl<U: Unit, C: CanObserve<U::Item> + Drop, D: DigestHasher> ProverState<C, U, 
         separator.seed(&mut challenger)?;
         let steps = Steps::new(alloc, separator.pattern().clone()?);
         Ok(ProverState {
-            turn: DriverTurn {
-                challenger,
-                steps,
-                alloc,
-            },
+            challenger,
+            turn: DriverTurn { steps, alloc },
             narg: Vec::new(alloc),
             unit: PhantomData,
         })
@@ -84,7 +84,19 @@ impl<C: Sponge + Drop, U, D: DigestHasher> ProverState<C, U, D> {
     pub fn challenger(&self) -> &C
         ensures { C.state result.now ≡ (proving_of C.state self.now).turn.challenger }
     {
-        &self.turn.challenger
+        &self.challenger
+    }
+
+    /// The challenger, for calls that the caller makes on it besides the steps.
+    ///
+    /// When the loan ends, the prover has the challenger that the caller left, and is as it was in all else: the next
+    /// step is played from there, the pattern's order is kept, and the bytes of the proof are those of its steps. The
+    /// two sides draw the same challenges only if both callers made the same changes between the same steps.
+    pub fn challenger_mut(&mut self) -> &mut C
+        ensures* writes_back { sem 𝓛 (lends_challenger C.row U.row D.row D.DigestHasher self.entry result) }
+        ensures lent { C.state result.now ≡ (proving_of C.state self.old).turn.challenger }
+    {
+        &mut self.challenger
     }
 
     /// The bytes of the proof so far.
@@ -108,15 +120,12 @@ impl<C: Sponge + Drop, U, D: DigestHasher> ProverState<C, U, D> {
         ensures only { IsPlayed (proving_of C.state self).turn.playing → IsOk result }
     {
         let ProverState {
+            challenger: _,
             turn,
             narg,
             unit: _,
         } = self;
-        let DriverTurn {
-            challenger: _,
-            steps,
-            alloc: _,
-        } = turn;
+        let DriverTurn { steps, alloc: _ } = turn;
         steps.finalize()?;
         Ok(narg)
     }
@@ -131,15 +140,12 @@ impl<C: Sponge + Drop, U, D: DigestHasher> ProverState<C, U, D> {
         ensures only { IsPlayed (proving_of C.state self).turn.playing → IsOk result }
     {
         let ProverState {
+            challenger,
             turn,
             narg,
             unit: _,
         } = self;
-        let DriverTurn {
-            challenger,
-            steps,
-            alloc: _,
-        } = turn;
+        let DriverTurn { steps, alloc: _ } = turn;
         steps.finalize()?;
         Ok((narg, challenger))
     }
@@ -147,15 +153,12 @@ impl<C: Sponge + Drop, U, D: DigestHasher> ProverState<C, U, D> {
     /// Gives up. What was played so far is not checked.
     pub fn abort(self) {
         let ProverState {
+            challenger: _,
             turn,
             narg: _,
             unit: _,
         } = self;
-        let DriverTurn {
-            challenger: _,
-            steps,
-            alloc: _,
-        } = turn;
+        let DriverTurn { steps, alloc: _ } = turn;
         steps.abort();
     }
 }

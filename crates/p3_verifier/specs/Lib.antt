@@ -3,3 +3,4 @@ pub mod FollowingLaws
 pub mod Mirrors
 pub mod Reads
 pub mod Verifying
+pub mod VerifierLends

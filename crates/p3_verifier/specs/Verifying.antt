@@ -20,7 +20,7 @@ pub record Verifying (S : Type 0) : Type 0 where
 
 -- a verifier, where this is the state of a challenger
 abbrev pub verifying_of : {C U D S : Type 0} {hasher : Ghosts D} → (C → S) → VerifierState C U D hasher → Verifying S
-verifying_of state v = record { turn = turn_of state v.turn; unread = v.unread.now }
+verifying_of state v = record { turn = turn_of (state v.challenger) v.turn; unread = v.unread.now }
 
 -- the step is played: this is read, and is done
 pub record Receives {S Symbol A : Type 0} (r : Reading S Symbol A) (before : Verifying S) (x : A)

@@ -1,10 +1,12 @@
 // The verifier's driver: it plays a pattern, and reads the proof. What it is, how it begins and how it ends.
+ghost use Rattle.std.specs.Borrow.{sem};
 ghost use Rattle.std.specs.Prelude.{◌≡◌, [], false, length, OnOk, IfOk, IfErr, IsOk};
 ghost use Rattle.p3_challenger_core.specs.Observation.{observed_all};
 ghost use Rattle.p3_fs_core.specs.Errors.{IsBadShape};
 ghost use Rattle.p3_turn.specs.SeparatorSeed.{seed_of_separator, pattern_of};
 ghost use Rattle.p3_verifier.specs.Reads.{trailing_bytes};
 ghost use Rattle.p3_verifier.specs.Verifying.{verifying_of, EndsReading, RefusesEnd, RefusesStart};
+ghost use Rattle.p3_verifier.specs.VerifierLends.{lends_challenger};
 
 mod known;
 mod receiving;
@@ -13,10 +15,12 @@ use p3_challenger_core::{CanObserve, Sponge};
 use p3_codecs::Unit;
 use p3_driver_core::{DriverTurn, Steps};
 use p3_fs_core::TranscriptError;
+use p3_patterns::InteractionPattern;
 use p3_symmetric::DigestHasher;
 use p3_turn::DomainSeparator;
 use std::alloc::Global;
 use std::marker::PhantomData;
+use std::rc::Rc;
 
 /// The verifier's side of a transcript: it plays a pattern step by step, and reads the proof.
 ///
@@ -37,7 +41,11 @@ use std::marker::PhantomData;
 /// [`finalize`](VerifierState::finalize), [`finish`](VerifierState::finish) or [`abort`](VerifierState::abort).
 #[derive_where(Debug; C)]
 pub struct VerifierState<'a, C, U, D: DigestHasher> {
-    turn: DriverTurn<C, D>,
+    challenger: C,
+    turn: DriverTurn<D>,
+    // The pattern again: it makes the verifier a type with memory of its own, and of no other type with a lifetime is it
+    // known what it is after a loan of a part of it.
+    pattern: Rc<InteractionPattern>,
     unread: &'a [u8],
     unit: PhantomData<U>,
 }
@@ -70,13 +78,12 @@ impl<'a, U: Unit, C: CanObserve<U::Item> + Drop, D: DigestHasher> VerifierState<
             IfErr result (RefusesStart (U.is_too_long (length seed))) }
     {
         separator.seed(&mut challenger)?;
-        let steps = Steps::new(alloc, separator.pattern().clone()?);
+        let pattern = separator.pattern().clone()?;
+        let steps = Steps::new(alloc, pattern.clone()?);
         Ok(VerifierState {
-            turn: DriverTurn {
-                challenger,
-                steps,
-                alloc,
-            },
+            challenger,
+            turn: DriverTurn { steps, alloc },
+            pattern,
             unread: narg,
             unit: PhantomData,
         })
@@ -88,7 +95,19 @@ impl<'a, C: Sponge + Drop, U, D: DigestHasher> VerifierState<'a, C, U, D> {
     pub fn challenger(&self) -> &C
         ensures { C.state result.now ≡ (verifying_of C.state self.now).turn.challenger }
     {
-        &self.turn.challenger
+        &self.challenger
+    }
+
+    /// The challenger, for calls that the caller makes on it besides the steps.
+    ///
+    /// When the loan ends, the verifier has the challenger that the caller left, and is as it was in all else: the next
+    /// step is played from there, the pattern's order is kept, and the proof is read step by step. The two sides draw
+    /// the same challenges only if both callers made the same changes between the same steps.
+    pub fn challenger_mut(&mut self) -> &mut C
+        ensures* writes_back { sem 𝓛 (lends_challenger C.row U.row D.row D.DigestHasher self.entry result) }
+        ensures lent { C.state result.now ≡ (verifying_of C.state self.old).turn.challenger }
+    {
+        &mut self.challenger
     }
 
     /// How many bytes of the proof are left to read.
@@ -130,15 +149,13 @@ impl<'a, C: Sponge + Drop, U, D: DigestHasher> VerifierState<'a, C, U, D> {
         ensures only { EndsReading (verifying_of C.state self.entry) → IsOk result }
     {
         let VerifierState {
+            challenger,
             turn,
+            pattern: _,
             unread,
             unit: _,
         } = self;
-        let DriverTurn {
-            challenger,
-            steps,
-            alloc: _,
-        } = turn;
+        let DriverTurn { steps, alloc: _ } = turn;
         steps.finalize()?;
         check_end(unread)?;
         Ok(challenger)
@@ -147,15 +164,13 @@ impl<'a, C: Sponge + Drop, U, D: DigestHasher> VerifierState<'a, C, U, D> {
     /// Gives up. What was played so far is not checked.
     pub fn abort(self) {
         let VerifierState {
+            challenger: _,
             turn,
+            pattern: _,
             unread: _,
             unit: _,
         } = self;
-        let DriverTurn {
-            challenger: _,
-            steps,
-            alloc: _,
-        } = turn;
+        let DriverTurn { steps, alloc: _ } = turn;
         steps.abort();
     }
 }

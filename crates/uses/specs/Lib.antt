@@ -1,3 +1,4 @@
 pub mod BoundValues
+pub mod ExtraValue
 pub mod SentAndDrawn
 pub mod ThreeCalls

@@ -41,7 +41,8 @@ impl<U: Unit, C: CanObserve<U::Item> + Drop, D: DigestHasher> ProverState<C, U, 
     {
         self.turn.steps.within(values.len(), max)?;
         self.turn
-            .observe_bounded::<F, EF, ExtensionFieldCodec<F, EF, Cdc>, U>(
+            .observe_bounded::<F, EF, C, ExtensionFieldCodec<F, EF, Cdc>, U>(
+                &mut self.challenger,
                 Kind::Message,
                 label,
                 values,
@@ -107,7 +108,8 @@ impl<C: Sponge + Drop, U, D: DigestHasher> ProverState<C, U, D> {
             KeepsOrRefuses (meaning.observed step Cdc.observation value.now)
             (proving_of C.state self.old) value_of result (proving_of C.state self.new) }
     {
-        self.turn.observe::<F, F, Cdc>(Kind::Public, label, value)
+        self.turn
+            .observe::<F, F, C, Cdc>(&mut self.challenger, Kind::Public, label, value)
     }
 
     /// Observes so many scalars as the step says, which both sides know.
@@ -122,7 +124,7 @@ impl<C: Sponge + Drop, U, D: DigestHasher> ProverState<C, U, D> {
             (proving_of C.state self.old) values_of result (proving_of C.state self.new) }
     {
         self.turn
-            .observe_list::<F, F, Cdc>(Kind::Public, label, values)
+            .observe_list::<F, F, C, Cdc>(&mut self.challenger, Kind::Public, label, values)
     }
 
     /// Observes one element of an extension that the proof does not carry.
@@ -138,7 +140,12 @@ impl<C: Sponge + Drop, U, D: DigestHasher> ProverState<C, U, D> {
             (proving_of C.state self.old) value_of result (proving_of C.state self.new) }
     {
         self.turn
-            .observe::<F, EF, ExtensionFieldCodec<F, EF, Cdc>>(Kind::Message, label, value)
+            .observe::<F, EF, C, ExtensionFieldCodec<F, EF, Cdc>>(
+                &mut self.challenger,
+                Kind::Message,
+                label,
+                value,
+            )
     }
 
     /// Observes so many elements of an extension as the step says, which the proof does not carry.
@@ -154,7 +161,12 @@ impl<C: Sponge + Drop, U, D: DigestHasher> ProverState<C, U, D> {
             (proving_of C.state self.old) values_of result (proving_of C.state self.new) }
     {
         self.turn
-            .observe_list::<F, EF, ExtensionFieldCodec<F, EF, Cdc>>(Kind::Message, label, values)
+            .observe_list::<F, EF, C, ExtensionFieldCodec<F, EF, Cdc>>(
+                &mut self.challenger,
+                Kind::Message,
+                label,
+                values,
+            )
     }
 
     /// Observes a value as the challenger itself knows how, which the proof does not carry.
@@ -172,7 +184,7 @@ impl<C: Sponge + Drop, U, D: DigestHasher> ProverState<C, U, D> {
             C.observation value)
             (proving_of C.state self.old) value_of result (proving_of C.state self.new) }
     {
-        self.turn.observe_opaque(label, value)
+        self.turn.observe_opaque(&mut self.challenger, label, value)
     }
 
     /// Draws one scalar.
@@ -189,7 +201,7 @@ impl<C: Sponge + Drop, U, D: DigestHasher> ProverState<C, U, D> {
             KeepsOrRefuses (meaning.drawn {Symbol = C.Symbol} step Cdc.sampling)
             (proving_of C.state self.old) value_of result (proving_of C.state self.new) }
     {
-        self.turn.draw::<F, F, Cdc>(label)
+        self.turn.draw::<F, F, C, Cdc>(&mut self.challenger, label)
     }
 
     /// Draws `n` scalars.
@@ -207,7 +219,8 @@ impl<C: Sponge + Drop, U, D: DigestHasher> ProverState<C, U, D> {
             KeepsOrRefuses (meaning.drawn_all {Symbol = C.Symbol} step Cdc.sampling n)
             (proving_of C.state self.old) values_of result (proving_of C.state self.new) }
     {
-        self.turn.draw_list::<F, F, Cdc>(label, n)
+        self.turn
+            .draw_list::<F, F, C, Cdc>(&mut self.challenger, label, n)
     }
 
     /// Draws one element of an extension, coefficient 0 first.
@@ -227,7 +240,7 @@ impl<C: Sponge + Drop, U, D: DigestHasher> ProverState<C, U, D> {
             (proving_of C.state self.old) value_of result (proving_of C.state self.new) }
     {
         self.turn
-            .draw::<F, EF, ExtensionFieldCodec<F, EF, Cdc>>(label)
+            .draw::<F, EF, C, ExtensionFieldCodec<F, EF, Cdc>>(&mut self.challenger, label)
     }
 
     /// Draws `n` elements of an extension.
@@ -247,7 +260,7 @@ impl<C: Sponge + Drop, U, D: DigestHasher> ProverState<C, U, D> {
             (proving_of C.state self.old) values_of result (proving_of C.state self.new) }
     {
         self.turn
-            .draw_list::<F, EF, ExtensionFieldCodec<F, EF, Cdc>>(label, n)
+            .draw_list::<F, EF, C, ExtensionFieldCodec<F, EF, Cdc>>(&mut self.challenger, label, n)
     }
 
     /// Draws `n` numbers of `width` bits.
@@ -266,7 +279,7 @@ impl<C: Sponge + Drop, U, D: DigestHasher> ProverState<C, U, D> {
             (bits_step label.now width (Length.Fixed n)) (C.bits_sampling width) n)
             (proving_of C.state self.old) values_of result (proving_of C.state self.new) }
     {
-        self.turn.draw_bits(label, width, n)
+        self.turn.draw_bits(&mut self.challenger, label, width, n)
     }
 }
 
@@ -303,6 +316,12 @@ impl<C: Sponge, U, D: DigestHasher> ProverState<C, U, D> {
         ensures narg { (proving_of C.state self.new).narg ≡ (proving_of C.state self.old).narg }
     {
         self.turn
-            .draw_rejecting::<F, EF, ExtensionFieldCodec<F, EF, Cdc>, R>(label, n, accept, limit)
+            .draw_rejecting::<F, EF, C, ExtensionFieldCodec<F, EF, Cdc>, R>(
+                &mut self.challenger,
+                label,
+                n,
+                accept,
+                limit,
+            )
     }
 }

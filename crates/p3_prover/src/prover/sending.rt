@@ -94,7 +94,7 @@ impl<U: Unit, C: CanObserve<U::Item> + Drop, D: DigestHasher> ProverState<C, U, 
         self.turn
             .steps
             .take_bytes(kind, label, Length::Fixed(bytes.len()))?;
-        U::observe_bytes(&mut self.turn.challenger, bytes)?;
+        U::observe_bytes(&mut self.challenger, bytes)?;
         write_bytes(&mut self.narg, bytes)?;
         self.turn.steps.done();
         Ok(())
@@ -116,8 +116,8 @@ impl<U: Unit, C: CanObserve<U::Item> + Drop, D: DigestHasher> ProverState<C, U, 
         self.turn
             .steps
             .take_bytes(Kind::Message, label, Length::Bounded(max))?;
-        observe_count::<U, C>(&mut self.turn.challenger, bytes.len(), max)?;
-        U::observe_bytes(&mut self.turn.challenger, bytes)?;
+        observe_count::<U, C>(&mut self.challenger, bytes.len(), max)?;
+        U::observe_bytes(&mut self.challenger, bytes)?;
         write_counted_bytes(&mut self.narg, bytes, max)?;
         self.turn.steps.done();
         Ok(())
@@ -144,8 +144,8 @@ impl<U: Unit, C: CanObserve<U::Item> + Drop, D: DigestHasher> ProverState<C, U, 
             .steps
             .take_algebra::<F, F>(Kind::Message, label, Length::Bounded(max))?;
         let bounds = bind_all(self.turn.alloc, values)?;
-        observe_count::<U, C>(&mut self.turn.challenger, values.len(), max)?;
-        observe_values::<F, C, Cdc>(&mut self.turn.challenger, values)?;
+        observe_count::<U, C>(&mut self.challenger, values.len(), max)?;
+        observe_values::<F, C, Cdc>(&mut self.challenger, values)?;
         write_counted_values::<F, C, Cdc>(&mut self.narg, values, max)?;
         self.turn.steps.done();
         Ok(bounds)
@@ -183,7 +183,7 @@ impl<C: Sponge + Drop, U, D: DigestHasher> ProverState<C, U, D> {
             .steps
             .take_algebra::<F, F>(Kind::Message, label, Length::Fixed(values.len()))?;
         let bounds = bind_all(self.turn.alloc, values)?;
-        observe_values::<F, C, Cdc>(&mut self.turn.challenger, values)?;
+        observe_values::<F, C, Cdc>(&mut self.challenger, values)?;
         write_values::<F, C, Cdc>(&mut self.narg, values)?;
         self.turn.steps.done();
         Ok(bounds)
@@ -253,7 +253,7 @@ impl<C: Sponge + Drop, U, D: DigestHasher> ProverState<C, U, D> {
         self.turn
             .steps
             .take_algebra::<F, A>(Kind::Message, label, Length::Scalar)?;
-        Cdc::observe(&mut self.turn.challenger, value)?;
+        Cdc::observe(&mut self.challenger, value)?;
         Cdc::encode(value, &mut self.narg)?;
         self.turn.steps.done();
         Ok(bind(*value))

@@ -41,7 +41,8 @@ impl<'a, U: Unit, C: CanObserve<U::Item> + Drop, D: DigestHasher> VerifierState<
     {
         self.turn.steps.carried_within(values.len(), max)?;
         self.turn
-            .observe_bounded::<F, EF, ExtensionFieldCodec<F, EF, Cdc>, U>(
+            .observe_bounded::<F, EF, C, ExtensionFieldCodec<F, EF, Cdc>, U>(
+                &mut self.challenger,
                 Kind::Message,
                 label,
                 values,
@@ -107,7 +108,8 @@ impl<'a, C: Sponge + Drop, U, D: DigestHasher> VerifierState<'a, C, U, D> {
             KeepsOrRefuses (meaning.observed step Cdc.observation value.now)
             (verifying_of C.state self.old) value_of result (verifying_of C.state self.new) }
     {
-        self.turn.observe::<F, F, Cdc>(Kind::Public, label, value)
+        self.turn
+            .observe::<F, F, C, Cdc>(&mut self.challenger, Kind::Public, label, value)
     }
 
     /// Observes so many scalars as the step says, which both sides know.
@@ -121,7 +123,7 @@ impl<'a, C: Sponge + Drop, U, D: DigestHasher> VerifierState<'a, C, U, D> {
             (verifying_of C.state self.old) values_of result (verifying_of C.state self.new) }
     {
         self.turn
-            .observe_list::<F, F, Cdc>(Kind::Public, label, values)
+            .observe_list::<F, F, C, Cdc>(&mut self.challenger, Kind::Public, label, values)
     }
 
     /// Observes one element of an extension that the proof does not carry.
@@ -137,7 +139,12 @@ impl<'a, C: Sponge + Drop, U, D: DigestHasher> VerifierState<'a, C, U, D> {
             (verifying_of C.state self.old) value_of result (verifying_of C.state self.new) }
     {
         self.turn
-            .observe::<F, EF, ExtensionFieldCodec<F, EF, Cdc>>(Kind::Message, label, value)
+            .observe::<F, EF, C, ExtensionFieldCodec<F, EF, Cdc>>(
+                &mut self.challenger,
+                Kind::Message,
+                label,
+                value,
+            )
     }
 
     /// Observes so many elements of an extension as the step says, which the proof does not carry.
@@ -157,7 +164,12 @@ impl<'a, C: Sponge + Drop, U, D: DigestHasher> VerifierState<'a, C, U, D> {
     {
         self.turn.steps.carried_as_recorded(values.len())?;
         self.turn
-            .observe_list::<F, EF, ExtensionFieldCodec<F, EF, Cdc>>(Kind::Message, label, values)
+            .observe_list::<F, EF, C, ExtensionFieldCodec<F, EF, Cdc>>(
+                &mut self.challenger,
+                Kind::Message,
+                label,
+                values,
+            )
     }
 
     /// Observes a value as the challenger itself knows how, which the proof does not carry.
@@ -175,7 +187,7 @@ impl<'a, C: Sponge + Drop, U, D: DigestHasher> VerifierState<'a, C, U, D> {
             C.observation value)
             (verifying_of C.state self.old) value_of result (verifying_of C.state self.new) }
     {
-        self.turn.observe_opaque(label, value)
+        self.turn.observe_opaque(&mut self.challenger, label, value)
     }
 
     /// Draws one scalar.
@@ -192,7 +204,7 @@ impl<'a, C: Sponge + Drop, U, D: DigestHasher> VerifierState<'a, C, U, D> {
             KeepsOrRefuses (meaning.drawn {Symbol = C.Symbol} step Cdc.sampling)
             (verifying_of C.state self.old) value_of result (verifying_of C.state self.new) }
     {
-        self.turn.draw::<F, F, Cdc>(label)
+        self.turn.draw::<F, F, C, Cdc>(&mut self.challenger, label)
     }
 
     /// Draws `n` scalars.
@@ -210,7 +222,8 @@ impl<'a, C: Sponge + Drop, U, D: DigestHasher> VerifierState<'a, C, U, D> {
             KeepsOrRefuses (meaning.drawn_all {Symbol = C.Symbol} step Cdc.sampling n)
             (verifying_of C.state self.old) values_of result (verifying_of C.state self.new) }
     {
-        self.turn.draw_list::<F, F, Cdc>(label, n)
+        self.turn
+            .draw_list::<F, F, C, Cdc>(&mut self.challenger, label, n)
     }
 
     /// Draws one element of an extension, coefficient 0 first.
@@ -230,7 +243,7 @@ impl<'a, C: Sponge + Drop, U, D: DigestHasher> VerifierState<'a, C, U, D> {
             (verifying_of C.state self.old) value_of result (verifying_of C.state self.new) }
     {
         self.turn
-            .draw::<F, EF, ExtensionFieldCodec<F, EF, Cdc>>(label)
+            .draw::<F, EF, C, ExtensionFieldCodec<F, EF, Cdc>>(&mut self.challenger, label)
     }
 
     /// Draws `n` elements of an extension.
@@ -250,7 +263,7 @@ impl<'a, C: Sponge + Drop, U, D: DigestHasher> VerifierState<'a, C, U, D> {
             (verifying_of C.state self.old) values_of result (verifying_of C.state self.new) }
     {
         self.turn
-            .draw_list::<F, EF, ExtensionFieldCodec<F, EF, Cdc>>(label, n)
+            .draw_list::<F, EF, C, ExtensionFieldCodec<F, EF, Cdc>>(&mut self.challenger, label, n)
     }
 
     /// Draws `n` numbers of `width` bits.
@@ -269,7 +282,7 @@ impl<'a, C: Sponge + Drop, U, D: DigestHasher> VerifierState<'a, C, U, D> {
             (bits_step label.now width (Length.Fixed n)) (C.bits_sampling width) n)
             (verifying_of C.state self.old) values_of result (verifying_of C.state self.new) }
     {
-        self.turn.draw_bits(label, width, n)
+        self.turn.draw_bits(&mut self.challenger, label, width, n)
     }
 }
 
@@ -306,6 +319,12 @@ impl<C: Sponge, U, D: DigestHasher> VerifierState<'_, C, U, D> {
         ensures unread { (verifying_of C.state self.new).unread ≡ (verifying_of C.state self.old).unread }
     {
         self.turn
-            .draw_rejecting::<F, EF, ExtensionFieldCodec<F, EF, Cdc>, R>(label, n, accept, limit)
+            .draw_rejecting::<F, EF, C, ExtensionFieldCodec<F, EF, Cdc>, R>(
+                &mut self.challenger,
+                label,
+                n,
+                accept,
+                limit,
+            )
     }
 }

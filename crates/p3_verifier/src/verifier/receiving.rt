@@ -64,8 +64,8 @@ impl<'a, U: Unit, C: CanObserve<U::Item> + Drop, D: DigestHasher> VerifierState<
             .steps
             .take_bytes(Kind::Message, label, Length::Bounded(max))?;
         let bytes = self.read_counted(max, "message length exceeds declared maximum")?;
-        observe_count::<U, C>(&mut self.turn.challenger, bytes.len(), max)?;
-        U::observe_bytes(&mut self.turn.challenger, bytes)?;
+        observe_count::<U, C>(&mut self.challenger, bytes.len(), max)?;
+        U::observe_bytes(&mut self.challenger, bytes)?;
         self.turn.steps.done();
         Ok(bytes)
     }
@@ -93,7 +93,7 @@ impl<'a, U: Unit, C: CanObserve<U::Item> + Drop, D: DigestHasher> VerifierState<
             .steps
             .take_algebra::<F, F>(Kind::Message, label, Length::Bounded(max))?;
         let count = self.read_count(max, "message length exceeds declared maximum")?;
-        observe_count::<U, C>(&mut self.turn.challenger, count, max)?;
+        observe_count::<U, C>(&mut self.challenger, count, max)?;
         let bounds = self.receive_values::<F, Cdc>(count)?;
         self.turn.steps.done();
         Ok(bounds)
@@ -113,7 +113,7 @@ impl<'a, U: Unit, C: CanObserve<U::Item> + Drop, D: DigestHasher> VerifierState<
     {
         self.turn.steps.take_bytes(kind, label, Length::Fixed(len))?;
         let bytes = self.read_bytes(len)?;
-        U::observe_bytes(&mut self.turn.challenger, bytes)?;
+        U::observe_bytes(&mut self.challenger, bytes)?;
         self.turn.steps.done();
         Ok(bytes)
     }
@@ -219,7 +219,7 @@ impl<'a, C: Sponge + Drop, U, D: DigestHasher> VerifierState<'a, C, U, D> {
             .steps
             .take_algebra::<F, A>(Kind::Message, label, Length::Scalar)?;
         let value = self.read_value::<A, Cdc>()?;
-        Cdc::observe(&mut self.turn.challenger, &value)?;
+        Cdc::observe(&mut self.challenger, &value)?;
         self.turn.steps.done();
         Ok(bind(value))
     }
@@ -233,7 +233,7 @@ impl<'a, C: Sponge + Drop, U, D: DigestHasher> VerifierState<'a, C, U, D> {
         ensures read { TellsList (reads.read_values Cdc.encoding Cdc.observation.observed n self.old.unread.now)
             (observed_all Cdc.observation.observed)
             (reads.LeavesEach Cdc.encoding Cdc.observation n self.old.unread.now) values_of
-            (C.state self.old.turn.challenger) result self.new.unread.now (C.state self.new.turn.challenger) }
+            (C.state self.old.challenger) result self.new.unread.now (C.state self.new.challenger) }
         ensures steps { self.new.turn.steps ≡ self.old.turn.steps }
         ensures end { IsEndOf self.old.unread.now self.new.unread.now }
     {
@@ -245,7 +245,7 @@ impl<'a, C: Sponge + Drop, U, D: DigestHasher> VerifierState<'a, C, U, D> {
         let mut bounds = Vec::with_capacity(self.turn.alloc, n)?;
         for _ in 0..n {
             let value = self.read_value::<A, Cdc>()?;
-            Cdc::observe(&mut self.turn.challenger, &value)?;
+            Cdc::observe(&mut self.challenger, &value)?;
             bounds.push_reserved(bind(value));
         }
         Ok(bounds)
@@ -256,6 +256,7 @@ impl<'a, C: Sponge + Drop, U, D: DigestHasher> VerifierState<'a, C, U, D> {
         ensures read { TellsRead (reads.read_bytes {S = C.State} len self.old.unread.now) (λ bytes. bytes.now) result
             self.new.unread.now }
         ensures turn { self.new.turn ≡ self.old.turn }
+        ensures challenger { self.new.challenger ≡ self.old.challenger }
         ensures end { IsEndOf self.old.unread.now self.new.unread.now }
     {
         let unread = self.unread;
@@ -273,6 +274,7 @@ impl<'a, C: Sponge + Drop, U, D: DigestHasher> VerifierState<'a, C, U, D> {
         ensures read { TellsRead (reads.read_value {S = C.State} Cdc.encoding self.old.unread.now) (λ x. x) result
             self.new.unread.now }
         ensures turn { self.new.turn ≡ self.old.turn }
+        ensures challenger { self.new.challenger ≡ self.old.challenger }
         ensures end { IsEndOf self.old.unread.now self.new.unread.now }
     {
         let bytes = self.read_bytes(Cdc::wire_len())?;
@@ -284,6 +286,7 @@ impl<'a, C: Sponge + Drop, U, D: DigestHasher> VerifierState<'a, C, U, D> {
         ensures read { TellsRead (reads.read_count {S = C.State} over.now max self.old.unread.now) (λ n. n) result
             self.new.unread.now }
         ensures turn { self.new.turn ≡ self.old.turn }
+        ensures challenger { self.new.challenger ≡ self.old.challenger }
         ensures end { IsEndOf self.old.unread.now self.new.unread.now }
     {
         let width = count_width(max);
@@ -301,6 +304,7 @@ impl<'a, C: Sponge + Drop, U, D: DigestHasher> VerifierState<'a, C, U, D> {
             (λ bytes. bytes.now) result self.new.unread.now }
         ensures within { IfOk result (λ bytes. length bytes.now ≤ max) }
         ensures turn { self.new.turn ≡ self.old.turn }
+        ensures challenger { self.new.challenger ≡ self.old.challenger }
         ensures end { IsEndOf self.old.unread.now self.new.unread.now }
     {
         let count = self.read_count(max, over)?;

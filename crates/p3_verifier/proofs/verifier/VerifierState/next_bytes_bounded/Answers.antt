@@ -16,13 +16,13 @@ returns-in_err-bytes g c =
     let state = g.C.Sponge.state in
     let opened = c.in_ok-take_bytes.ensures.ok in
     let same = c.in_err-bytes.ensures.turn in
+    let kept = c.in_err-bytes.ensures.challenger in
     rw (p.1, p.2) (not-read
     (reads.received_bytes_bounded c.args.label.now
     (alphabet_of g.U.Unit.items g.U.Unit.is_too_long g.C.CanObserve.observation g.C.CanObserve.slice_may_leave)
     c.args.max)
     (verifying_of state c.args.self.now) (verifying_of state c.read_counted.new.self) c.in_err-bytes.field-0.0
-    opened.is_next c.in_err-bytes.ensures.read (ap (λ t. state
-    t.challenger) same)
+    opened.is_next c.in_err-bytes.ensures.read (ap state kept)
     (ap (λ t. t.steps.closed || t.steps.player.finished) same ∙ ap (λ b. b || c.take_bytes.new.self.player.finished)
     opened.closed))
 
@@ -33,19 +33,20 @@ returns-in_err-observe_count g c =
     let state = g.C.Sponge.state in
     let opened = c.in_ok-take_bytes.ensures.ok in
     let same = c.in_ok-bytes.ensures.turn in
+    let kept = c.in_ok-bytes.ensures.challenger in
     let bytes = c.in_ok-bytes.bytes.now in
     let alphabet = alphabet_of g.U.Unit.items g.U.Unit.is_too_long g.C.CanObserve.observation
     g.C.CanObserve.slice_may_leave in
     let counted = observing_bytes alphabet (count_bytes c.args.max (length bytes)) in
     let before = verifying_of state c.args.self.now in
-    let here = state c.read_counted.new.self.turn.challenger in
+    let here = state c.read_counted.new.self.challenger in
     rw (p.1, p.2) (refused-after_read (bytes_step Message c.args.label.now (Bounded c.args.max))
     (reads.read_counted_bytes reads.message_too_long c.args.max)
     (λ bs. in_turn (observing_bytes alphabet (count_bytes c.args.max (length bs))) (observing_bytes alphabet bs))
     before _ bytes c.in_err-observe_count.field-0.0 here
     opened.is_next c.in_ok-bytes.ensures.read
     c.in_ok-bytes.ensures.end
-    (ap (λ t. state t.challenger) same) (inl c.in_err-observe_count.ensures.does)
+    (ap state kept) (inl c.in_err-observe_count.ensures.does)
     (ap (λ t. t.steps.closed || t.steps.player.finished) same
     ∙ ap (λ b. b || c.take_bytes.new.self.player.finished) opened.closed))
 
@@ -56,12 +57,13 @@ returns-in_err-observe_bytes g c =
     let state = g.C.Sponge.state in
     let opened = c.in_ok-take_bytes.ensures.ok in
     let same = c.in_ok-bytes.ensures.turn in
+    let kept = c.in_ok-bytes.ensures.challenger in
     let bytes = c.in_ok-bytes.bytes.now in
     let alphabet = alphabet_of g.U.Unit.items g.U.Unit.is_too_long g.C.CanObserve.observation
     g.C.CanObserve.slice_may_leave in
     let counted = observing_bytes alphabet (count_bytes c.args.max (length bytes)) in
     let before = verifying_of state c.args.self.now in
-    let here = state c.read_counted.new.self.turn.challenger in
+    let here = state c.read_counted.new.self.challenger in
     let e = c.in_err-observe_bytes.field-0.0 in
     let end = state c.observe_bytes.new.challenger in
     rw (p.1, p.2) (refused-after_read (bytes_step Message c.args.label.now (Bounded c.args.max))
@@ -70,7 +72,7 @@ returns-in_err-observe_bytes g c =
     before _ bytes e here
     opened.is_next c.in_ok-bytes.ensures.read
     c.in_ok-bytes.ensures.end
-    (ap (λ t. state t.challenger) same)
+    (ap state kept)
     (inr (subst (λ u. (observing_bytes alphabet bytes).refuses e u end) c.in_ok-observe_count.ensures.does.1
     c.in_err-observe_bytes.ensures.err))
     (ap (λ t. t.steps.closed || t.steps.player.finished) same

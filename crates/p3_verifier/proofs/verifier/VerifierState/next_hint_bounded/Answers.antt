@@ -11,11 +11,11 @@ returns-in_err-bytes-clause-exact g c =
     let state = g.C.Sponge.state in
     let opened = c.in_ok-take_bytes.ensures.ok in
     let same = c.in_err-bytes.ensures.turn in
+    let kept = c.in_err-bytes.ensures.challenger in
     rw (p.1, p.2) (not-read
     (reads.hint_received_bounded {S = g.row.C-State.Denot} {Symbol = g.row.C-Symbol.Denot} c.args.label.now c.args.max)
     (verifying_of state c.args.self.now) (verifying_of state c.read_counted.new.self) c.in_err-bytes.field-0.0
-    opened.is_next c.in_err-bytes.ensures.read (ap (λ t. state
-    t.challenger) same)
+    opened.is_next c.in_err-bytes.ensures.read (ap state kept)
     (ap (λ t. t.steps.closed || t.steps.player.finished) same ∙ ap (λ b. b || c.take_bytes.new.self.player.finished)
     opened.closed))
 

@@ -29,11 +29,12 @@ returns-in_err-count g c =
     let closed = ap (λ b. b || c.take_algebra.new.self.player.finished) opened.closed in
     let after = verifying_of state c.read_count.new.self in
     let same = c.in_err-count.ensures.turn in
+    let kept = c.in_err-count.ensures.challenger in
     let finished = ap (λ t. t.steps.closed || t.steps.player.finished) same ∙ closed in
     let e = c.in_err-count.field-0.0 in
     rw (p.1, p.2) (not-read (reads.received_bounded step alphabet c.args.max o enc) before after e opened.is_next
     (count-fails step o enc before after opened.is_next finished c.in_err-count.ensures.end alphabet c.args.max after.unread e
-    c.in_err-count.ensures.read) (ap (λ t. state t.challenger) same) finished)
+    c.in_err-count.ensures.read) (ap state kept) finished)
 
 pub returns-in_err-observe_count : goal.returns-in_err-observe_count
 returns-in_err-observe_count g c =
@@ -51,6 +52,7 @@ returns-in_err-observe_count g c =
     let before = verifying_of state c.args.self.now in
     let closed = ap (λ b. b || c.take_algebra.new.self.player.finished) opened.closed in
     let same = c.in_ok-count.ensures.turn in
+    let kept = c.in_ok-count.ensures.challenger in
     let finished = ap (λ t. t.steps.closed || t.steps.player.finished) same ∙ closed in
     let e = c.in_err-observe_count.field-0.0 in
     let end = state c.observe_count.new.challenger in
@@ -58,7 +60,7 @@ returns-in_err-observe_count g c =
     rw (p.1, p.2) (count-refused step o enc before _ opened.is_next finished c.in_ok-count.ensures.end alphabet c.args.max n
     c.read_count.new.self.unread.now c.in_ok-count.ensures.read e c.in_err-observe_count.ensures.memory
     (subst (λ s. (observing_bytes alphabet (count_bytes c.args.max n)).refuses e s end)
-    (ap (λ t. state t.challenger) same) c.in_err-observe_count.ensures.does))
+    (ap state kept) c.in_err-observe_count.ensures.does))
 
 pub returns-in_err-bounds : goal.returns-in_err-bounds
 returns-in_err-bounds g c =
@@ -76,6 +78,7 @@ returns-in_err-bounds g c =
     let closed = ap (λ b. b || c.take_algebra.new.self.player.finished) opened.closed in
     let after = verifying_of state c.receive_values.new.self in
     let same = c.in_ok-count.ensures.turn in
+    let kept = c.in_ok-count.ensures.challenger in
     let finished = ap (λ t. t.closed || t.player.finished) c.in_err-bounds.ensures.steps
     ∙ ap (λ t. t.steps.closed || t.steps.player.finished) same ∙ closed in
     let n = c.in_ok-count.count in
@@ -85,7 +88,7 @@ returns-in_err-bounds g c =
     c.read_count.new.self.unread.now c.in_ok-count.ensures.read (state c.observe_count.new.challenger)
     c.in_err-bounds.field-0.0
     (c.in_ok-observe_count.ensures.does.1
-    ∙ ap (λ t. (observing_bytes alphabet (count_bytes c.args.max n)).after (state t.challenger)) same)
+    ∙ ap (λ d. (observing_bytes alphabet (count_bytes c.args.max n)).after (state d)) kept)
     c.in_err-bounds.ensures.read)
 
 pub returns : goal.returns
@@ -101,12 +104,13 @@ returns g c =
     let enc = g.Cdc.Codec.encoding in
     let before = verifying_of state c.args.self.now in
     let same = c.in_ok-count.ensures.turn in
+    let kept = c.in_ok-count.ensures.challenger in
     let n = c.in_ok-count.count in
     values-received step o enc alphabet c.args.max before _ n c.read_count.new.self.unread.now
     (values_of c.in_ok-bounds.bounds) (state c.observe_count.new.challenger) opened.is_next c.in_ok-count.ensures.read
     c.in_ok-observe_count.ensures.does.0
     (c.in_ok-observe_count.ensures.does.1
-    ∙ ap (λ t. (observing_bytes alphabet (count_bytes c.args.max n)).after (state t.challenger)) same)
+    ∙ ap (λ d. (observing_bytes alphabet (count_bytes c.args.max n)).after (state d)) kept)
     c.in_ok-bounds.ensures.read.0 c.in_ok-bounds.ensures.read.1
     (ap playing_of c.done.ensures
     ∙ ap (λ t. t.player) (c.in_ok-bounds.ensures.steps ∙ ap (λ t. t.steps) same) ∙ opened.player)

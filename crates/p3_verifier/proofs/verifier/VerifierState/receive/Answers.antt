@@ -14,12 +14,13 @@ returns-in_err-value g c =
     let state = g.C.Sponge.state in
     let opened = c.in_ok-take_algebra.ensures.ok in
     let same = c.in_err-value.ensures.turn in
+    let kept = c.in_err-value.ensures.challenger in
     rw (p.1, p.2) (not-read
     (reads.received (algebra_step Message c.args.label.now g.F.PrimeCharacteristicRing.residues.order
     g.A.BasedVectorSpace.DIMENSION (g.D.DigestHasher.digest_of g.A.AlgebraIdentity.identity) g.A.Named.name_bytes
     Scalar)
     g.Cdc.Codec.observation g.Cdc.Codec.encoding)
     (verifying_of state c.args.self.now) (verifying_of state c.read_value.new.self) c.in_err-value.field-0.0
-    opened.is_next c.in_err-value.ensures.read (ap (λ t. state t.challenger) same)
+    opened.is_next c.in_err-value.ensures.read (ap state kept)
     (ap (λ t. t.steps.closed || t.steps.player.finished) same ∙ ap (λ b. b || c.take_algebra.new.self.player.finished)
     opened.closed))

@@ -24,14 +24,14 @@ pub returns-in_err-bounds-clause-read : goal.returns-in_err-bounds-clause-read
 returns-in_err-bounds-clause-read g c =
     let p = err_from_is_err_and c.from_residual.result c.from_residual.ensures.1 in
     rw (p.1, p.2) (leaves-none g.Cdc.Codec.encoding g.Cdc.Codec.observation c.args.n c.args.self.now.unread.now
-    (g.C.Sponge.state c.args.self.now.turn.challenger))
+    (g.C.Sponge.state c.args.self.now.challenger))
 
 pub loop-init : goal.loop-init
 loop-init g c =
     let e = g.Cdc.Codec.encoding in
     let o = g.Cdc.Codec.observation in
     let bytes = c.args.self.now.unread.now in
-    let s = g.C.Sponge.state c.args.self.now.turn.challenger in
+    let s = g.C.Sponge.state c.args.self.now.challenger in
     let all : c.args.n ≡ c.args.n - 0 = omega arith in
     record {
       on = subst (λ xs. ReadsOn e o c.args.n bytes s xs (c.args.n - 0) bytes s)
@@ -50,16 +50,16 @@ returns-in_err-value-clause-read g c =
     let o = g.Cdc.Codec.observation in
     let state = g.C.Sponge.state in
     let bytes = c.args.self.now.unread.now in
-    let s = state c.args.self.now.turn.challenger in
+    let s = state c.args.self.now.challenger in
     let xs = map value_of c.loop.bounds.items in
     let here = c.loop.self.unread.now in
-    let t = state c.loop.self.turn.challenger in
+    let t = state c.loop.self.challenger in
     rw (p.1, p.2) (fails-in_list e o c.args.n bytes s xs (c.args.n - (c.loop.counter + 1)) here t
     (reads_on-one_left e o c.args.n bytes s xs c.loop.counter here t c.loop-test.true c.loop.invariant.on)
     (enough-read e o c.args.n bytes c.holds.result c.wire_len.result c.holds.ensures.0 c.if-not-holds.false
     c.wire_len.ensures)
-    c.read_value.new.self.unread.now (state c.read_value.new.self.turn.challenger) c.in_err-value.field-0.0
-    c.in_err-value.ensures.read (ap (λ d. state d.challenger) c.in_err-value.ensures.turn))
+    c.read_value.new.self.unread.now (state c.read_value.new.self.challenger) c.in_err-value.field-0.0
+    c.in_err-value.ensures.read (ap state c.in_err-value.ensures.challenger))
 
 pub returns-in_err-observe-clause-read : goal.returns-in_err-observe-clause-read
 returns-in_err-observe-clause-read g c =
@@ -68,10 +68,10 @@ returns-in_err-observe-clause-read g c =
     let o = g.Cdc.Codec.observation in
     let state = g.C.Sponge.state in
     let bytes = c.args.self.now.unread.now in
-    let s = state c.args.self.now.turn.challenger in
+    let s = state c.args.self.now.challenger in
     let xs = map value_of c.loop.bounds.items in
     let here = c.loop.self.unread.now in
-    let t = state c.loop.self.turn.challenger in
+    let t = state c.loop.self.challenger in
     let u = state c.observe.new.challenger in
     let err = c.in_err-observe.field-0.0 in
     rw (p.1, p.2) (refused-in_list e o c.args.n bytes s xs (c.args.n - (c.loop.counter + 1)) here t
@@ -79,7 +79,7 @@ returns-in_err-observe-clause-read g c =
     c.read_value.new.self.unread.now c.read_value.new.self.unread.now u c.in_ok-value.value err
     c.in_ok-value.ensures.read
     (subst (λ w. RefusesObserve (o.may_leave w c.in_ok-value.value) err u)
-    (ap (λ d. state d.challenger) c.in_ok-value.ensures.turn) c.in_err-observe.ensures.err))
+    (ap state c.in_ok-value.ensures.challenger) c.in_err-observe.ensures.err))
 
 pub loop-preserved : goal.loop-preserved
 loop-preserved g c =
@@ -87,13 +87,13 @@ loop-preserved g c =
     let o = g.Cdc.Codec.observation in
     let state = g.C.Sponge.state in
     let bytes = c.args.self.now.unread.now in
-    let s = state c.args.self.now.turn.challenger in
+    let s = state c.args.self.now.challenger in
     let xs = map value_of c.loop.bounds.items in
     let here = c.loop.self.unread.now in
-    let t = state c.loop.self.turn.challenger in
+    let t = state c.loop.self.challenger in
     let x = c.in_ok-value.value in
     let i = c.loop.counter in
-    let same = ap (λ d. state d.challenger) c.in_ok-value.ensures.turn in
+    let same = ap state c.in_ok-value.ensures.challenger in
     record {
       on = subst (λ ys. ReadsOn e o c.args.n bytes s ys (c.args.n - (i + 1)) c.read_value.new.self.unread.now
           (state c.observe.new.challenger))
@@ -118,10 +118,10 @@ returns-clause-read g c =
     let o = g.Cdc.Codec.observation in
     let state = g.C.Sponge.state in
     let bytes = c.args.self.now.unread.now in
-    let s = state c.args.self.now.turn.challenger in
+    let s = state c.args.self.now.challenger in
     let xs = map value_of c.loop.bounds.items in
     let here = c.loop.self.unread.now in
-    let t = state c.loop.self.turn.challenger in
+    let t = state c.loop.self.challenger in
     let on = reads_on-none_left e o c.args.n bytes s xs c.loop.counter here t c.loop-test.false c.loop.invariant.on in (
       enough-read e o c.args.n bytes c.holds.result c.wire_len.result c.holds.ensures.0 c.if-not-holds.false
           c.wire_len.ensures ∙ reads_on-all e o c.args.n bytes s xs here t on,

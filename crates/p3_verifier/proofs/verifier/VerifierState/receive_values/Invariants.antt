@@ -8,8 +8,8 @@ abbrev pub invariant-loop : goal.invariant-loop
 invariant-loop g l =
     record {
       on : ReadsOn g.Cdc.Codec.encoding g.Cdc.Codec.observation l.n l.fn.self.unread.now
-          (g.C.Sponge.state l.fn.self.turn.challenger) (map value_of l.bounds.items) (l.n - l.counter)
-          l.self.unread.now (g.C.Sponge.state l.self.turn.challenger);
+          (g.C.Sponge.state l.fn.self.challenger) (map value_of l.bounds.items) (l.n - l.counter)
+          l.self.unread.now (g.C.Sponge.state l.self.challenger);
       end : IsEndOf l.fn.self.unread.now l.self.unread.now;
       steps : l.self.turn.steps ≡ l.fn.self.turn.steps;
       count : vec_len l.bounds ≡ l.counter;

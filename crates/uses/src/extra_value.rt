@@ -1,0 +1,72 @@
+// A value that no step carries is observed through the challenger that a driver lends, and then a step is played.
+ghost use Rattle.std.specs.Prelude.{IfOk};
+ghost use Rattle.p3_challenger.specs.Bound.{value_of};
+ghost use Rattle.p3_challenger.specs.Meanings as meaning;
+ghost use Rattle.p3_challenger.specs.Proving.{Writes, proving_of};
+ghost use Rattle.p3_challenger.specs.Reads as reads;
+ghost use Rattle.p3_challenger.specs.Turns.{algebra_step};
+ghost use Rattle.p3_challenger.specs.Verifying.{Receives, verifying_of};
+ghost use Rattle.uses.specs.ExtraValue.{after_value};
+
+use p3_challenger::CanObserve;
+use p3_challenger::fs::{
+    Codec, Kind, Label, Length, ProverState, TranscriptBound, TranscriptError, TranscriptField,
+    VerifierState,
+};
+use p3_field::{AlgebraIdentity, Named};
+use p3_symmetric::DigestHasher;
+
+/// Observes a value that no step carries, and sends a scalar: the step is played from the challenger that has observed
+/// the value, at the place of the pattern where the prover stood, and its bytes alone are added.
+///
+/// The errors are those of the observation, with no step played, and those of the step.
+pub fn send_after<
+    F: TranscriptField + AlgebraIdentity<F> + Named,
+    T,
+    U,
+    C: CanObserve<T> + Drop,
+    D: DigestHasher,
+    Cdc: Codec<C, F>,
+>(
+    prover: &mut ProverState<C, U, D>,
+    extra: T,
+    label: Label,
+    value: &F,
+) -> Result<TranscriptBound<F>, TranscriptError>
+    ensures { let before = proving_of C.state prover.old in
+        let step = algebra_step Kind.Message label.now F.residues.order F.DIMENSION (D.digest_of F.identity)
+        F.name_bytes Length.Scalar in
+        IfOk result (λ bound. Writes (meaning.sent step Cdc.observation Cdc.encoding value.now)
+        (record { turn = after_value C.observation extra before.turn; narg = before.narg }) (value_of bound)
+        (proving_of C.state prover.new)) }
+{
+    prover.challenger_mut().observe(extra)?;
+    prover.add_scalar::<F, Cdc>(label, value)
+}
+
+/// Observes a value that no step carries, and reads a scalar: the step is played from the challenger that has observed
+/// the value, at the place of the pattern where the verifier stood, and it reads of the bytes that were left.
+///
+/// The errors are those of the observation, with no step played, and those of the step.
+pub fn receive_after<
+    F: TranscriptField + AlgebraIdentity<F> + Named,
+    T,
+    U,
+    C: CanObserve<T> + Drop,
+    D: DigestHasher,
+    Cdc: Codec<C, F>,
+>(
+    verifier: &mut VerifierState<'_, C, U, D>,
+    extra: T,
+    label: Label,
+) -> Result<TranscriptBound<F>, TranscriptError>
+    ensures { let before = verifying_of C.state verifier.old in
+        let step = algebra_step Kind.Message label.now F.residues.order F.DIMENSION (D.digest_of F.identity)
+        F.name_bytes Length.Scalar in
+        IfOk result (λ bound. Receives (reads.received step Cdc.observation Cdc.encoding)
+        (record { turn = after_value C.observation extra before.turn; unread = before.unread }) (value_of bound)
+        (verifying_of C.state verifier.new)) }
+{
+    verifier.challenger_mut().observe(extra)?;
+    verifier.next_scalar::<F, Cdc>(label)
+}
