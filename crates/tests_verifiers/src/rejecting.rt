@@ -1,9 +1,17 @@
 // Draws that a rule may refuse. Right after the seed the challenger draws 2, 6, 8, 132, 134, 6, 8, 12, 14, 138.
 use p3_challenger_core::ChallengerError;
-use p3_field::{F257, PrimeField64};
-use p3_fs_core::TranscriptError;
+use p3_codecs::BytesToFieldCodec;
+use p3_field::{BabyBear, F257, PrimeField64};
+use p3_fs_core::{Hierarchy, Interaction, Kind, Length, TranscriptError};
+use p3_patterns::InteractionPattern;
+use p3_symmetric::Sha256Hasher;
 use p3_test_steps::{Draw, Scalars, drawn, verifier_draws, verifier_of};
+use p3_test_support::Supply;
+use p3_turn::DomainSeparator;
+use p3_verifier::VerifierState;
 use std::test::Fail;
+
+type Bytes = BytesToFieldCodec<BabyBear>;
 
 // 2 and 6 are refused.
 #[test]
@@ -32,5 +40,32 @@ fn the_limit_counts_from_the_last_one_kept(rt: HostRuntime) -> Result<(), Fail> 
     let mut challenger = verifier.finish()?;
     assert_eq!(rt; given?.len(), 3);
     assert_eq!(rt; drawn(&mut challenger)?, 8);
+    Ok(())
+}
+
+// A draw takes 20 bytes, so the third one finds too few.
+#[test]
+fn the_challenger_meets_a_limit_of_its_own(rt: HostRuntime) -> Result<(), Fail> {
+    let step = Interaction::algebra::<BabyBear, BabyBear, Sha256Hasher>(
+        Hierarchy::Atomic,
+        Kind::Challenge,
+        "x",
+        Length::Fixed(1),
+    );
+    let pattern = InteractionPattern::new(vec![in rt.alloc(); step]?)?;
+    let separator: DomainSeparator<u8, Sha256Hasher> = DomainSeparator::new(
+        rt.alloc(),
+        1,
+        b"supply",
+        pattern,
+    )?;
+    let mut verifier = VerifierState::new(rt.alloc(), Supply::new(&[0; 50]), &separator, b"")?;
+    let accept = |_candidate: &BabyBear, _kept: &[BabyBear]| false;
+    let given = verifier.challenge_extensions_rejecting::<BabyBear, BabyBear, Bytes, _>(
+        "x", 1, &accept, 1000,
+    );
+    verifier.abort();
+    let refusal = TranscriptError::Challenger(ChallengerError::DrawLimit);
+    assert_eq!(rt; given.err(), Some(refusal));
     Ok(())
 }
