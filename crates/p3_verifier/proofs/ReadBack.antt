@@ -22,7 +22,8 @@ chosen b x y is = ap (λ c. if c then x else y) is
 
 -- ---- bytes, and a value
 
-pub bytes-back : {S : Type 0} (bytes rest : List ℕ) → read_bytes {S = S} (length bytes) (bytes ++ rest) ≡ Ok (bytes, rest)
+pub bytes-back : {S : Type 0} (bytes rest : List ℕ) →
+    read_bytes {S = S} (length bytes) (bytes ++ rest) ≡ Ok (bytes, rest)
 bytes-back {S} bytes rest =
     let enough : length bytes ≤ length (bytes ++ rest) = omega (arith, length-append bytes rest) in
     let Here : Type 0 = Read S (List ℕ) in

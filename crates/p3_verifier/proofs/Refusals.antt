@@ -1,5 +1,5 @@
 -- Why a step that reads is refused.
-use Rattle.std.proofs.Common.{◌≡◌, ◌∙◌, sym, ap, ℕ, List, length, true, Result, Ok, Err, refl, inl, inr, subst}
+use Rattle.std.proofs.Common.{◌≡◌, ◌∙◌, sym, ap, ℕ, List, length, true, Ok, Err, refl, inl, inr, subst}
 use Rattle.p3_challenger_core.specs.declared.error.ChallengerError.{ChallengerError}
 use Rattle.p3_challenger_core.specs.declared.error.ChallengerError.TheVariants as challenger
 use Rattle.p3_fs_core.specs.Errors.{transcript_error}
@@ -14,7 +14,8 @@ use Rattle.p3_driver_core.specs.Counts.{count_bytes}
 use Rattle.p3_driver_core.specs.Effects.{Effect, Alphabet, observing_bytes}
 use Rattle.p3_driver_core.specs.Turns.{IsNext, GivesUp, step_on}
 use Rattle.p3_verifier.proofs.ValuesInTurn.{values-as_many}
-use Rattle.p3_verifier.specs.Reads.{Read, Reading, IsEndOf, FailsFor, FailsForList, reading_first, then_read, absorbed_first}
+use Rattle.p3_verifier.specs.Reads.{Read, Reading, IsEndOf, FailsFor, FailsForList, reading_first, then_read}
+use Rattle.p3_verifier.specs.Reads.{absorbed_first}
 use Rattle.p3_verifier.specs.Reads.{read_values, read_count, LeavesEach, received_all, received_bounded}
 use Rattle.p3_verifier.specs.Reads.{message_too_long}
 use Rattle.p3_verifier.specs.Verifying.{Verifying, Receives, RefusesToRead}
@@ -67,7 +68,8 @@ by_error interaction read effect before after x challenger.TooLong found end giv
 pub refused-after_read : {S Symbol A : Type 0} (interaction : Step) (read : List ℕ → Read S A)
     (effect : A → Effect S Symbol A) (before after : Verifying S) (x : A) (e : ChallengerError) (here : S) →
     IsNext before.turn.playing interaction → read before.unread ≡ Ok (x, after.unread) →
-    IsEndOf before.unread after.unread → here ≡ before.turn.challenger → (effect x).refuses e here after.turn.challenger →
+    IsEndOf before.unread after.unread → here ≡ before.turn.challenger →
+    (effect x).refuses e here after.turn.challenger →
     after.turn.playing.finished ≡ true →
     RefusesToRead (reading_first interaction read effect) before (transcript_error e) after
 refused-after_read {S} interaction read effect before after x e here is_next found end same refuses finished =

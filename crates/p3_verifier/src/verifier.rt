@@ -43,8 +43,8 @@ use std::rc::Rc;
 pub struct VerifierState<'a, C, U, D: DigestHasher> {
     challenger: C,
     turn: DriverTurn<D>,
-    // The pattern again: it makes the verifier a type with memory of its own, and of no other type with a lifetime is it
-    // known what it is after a loan of a part of it.
+    // The pattern again: it makes the verifier a type with memory of its own, and of no other type with a lifetime is
+    // it known what it is after a loan of a part of it.
     pattern: Rc<InteractionPattern>,
     unread: &'a [u8],
     unit: PhantomData<U>,

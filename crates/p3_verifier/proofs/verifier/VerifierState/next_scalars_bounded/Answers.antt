@@ -33,7 +33,8 @@ returns-in_err-count g c =
     let finished = ap (λ t. t.steps.closed || t.steps.player.finished) same ∙ closed in
     let e = c.in_err-count.field-0.0 in
     rw (p.1, p.2) (not-read (reads.received_bounded step alphabet c.args.max o enc) before after e opened.is_next
-    (count-fails step o enc before after opened.is_next finished c.in_err-count.ensures.end alphabet c.args.max after.unread e
+    (count-fails step o enc before after opened.is_next finished c.in_err-count.ensures.end alphabet c.args.max
+    after.unread e
     c.in_err-count.ensures.read) (ap state kept) finished)
 
 pub returns-in_err-observe_count : goal.returns-in_err-observe_count
@@ -57,7 +58,8 @@ returns-in_err-observe_count g c =
     let e = c.in_err-observe_count.field-0.0 in
     let end = state c.observe_count.new.challenger in
     let n = c.in_ok-count.count in
-    rw (p.1, p.2) (count-refused step o enc before _ opened.is_next finished c.in_ok-count.ensures.end alphabet c.args.max n
+    rw (p.1, p.2) (count-refused step o enc before _ opened.is_next finished c.in_ok-count.ensures.end
+    alphabet c.args.max n
     c.read_count.new.self.unread.now c.in_ok-count.ensures.read e c.in_err-observe_count.ensures.memory
     (subst (λ s. (observing_bytes alphabet (count_bytes c.args.max n)).refuses e s end)
     (ap state kept) c.in_err-observe_count.ensures.does))

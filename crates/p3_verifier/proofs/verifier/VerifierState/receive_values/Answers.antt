@@ -1,4 +1,4 @@
-use Rattle.std.proofs.Common.{suc, ◌+◌, ◌-◌, ◌∷◌, ◌++◌, [], refl, sym, ap, ◌∙◌, ◌≡◌, subst, arith, map}
+use Rattle.std.proofs.Common.{◌+◌, ◌-◌, [], refl, sym, ap, ◌∙◌, ◌≡◌, subst, arith, map}
 use Rattle.std.proofs.lemmas.Result.{err_from_is_err_and}
 use Rattle.p3_challenger_core.specs.Observation.{RefusesObserve}
 use Rattle.p3_driver_core.specs.Bound.{value_of}
