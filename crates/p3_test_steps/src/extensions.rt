@@ -12,8 +12,8 @@ use std::alloc::{AllocError, Global};
 /// An element of the extension.
 pub type Wide = Coeffs<BabyBear, 4>;
 
-/// The challenger: three cells, of which two are the rate.
-pub type WideWorld = DuplexChallenger<BabyBear, Turn<2>, 3, 2>;
+/// The challenger, with so many cells that it keeps what it is fed until it draws.
+pub type WideWorld = DuplexChallenger<BabyBear, Turn<2>, 101, 100>;
 
 /// Byte strings are elements: their length, and three bytes in each.
 pub type WideAlphabet = FieldUnit<BabyBear>;
@@ -58,9 +58,8 @@ pub fn wide_separator(alloc: Global) -> Result<WideSeparator, TranscriptError> {
     Ok(DomainSeparator::new(alloc, 1, b"wide", InteractionPattern::new(steps)?)?)
 }
 
-/// The numbers of all coefficients that are drawn where the elements from 11, from 21, from 31 and 41, and from 51 were
-/// observed.
-pub fn wide_draws(alloc: Global) -> Result<Vec<u64>, TranscriptError> {
+/// The challenger after the elements from 11, from 21, from 31 and 41, and from 51.
+pub fn wide_observed(alloc: Global) -> Result<WideWorld, TranscriptError> {
     let mut challenger = wide_world();
     wide_separator(alloc)?.seed(&mut challenger)?;
     for first in [11, 21, 31, 41] {
@@ -69,6 +68,12 @@ pub fn wide_draws(alloc: Global) -> Result<Vec<u64>, TranscriptError> {
     // The count 1 is a byte string of one byte.
     challenger.observe_slice(&[BabyBear::from_u32(1), BabyBear::from_u32(1)])?;
     challenger.observe_slice(wide(51).as_basis_coefficients_slice())?;
+    Ok(challenger)
+}
+
+/// The numbers of all coefficients that are drawn then.
+pub fn wide_draws(alloc: Global) -> Result<Vec<u64>, TranscriptError> {
+    let mut challenger = wide_observed(alloc)?;
     let mut numbers = Vec::new(alloc);
     for _ in 0..16 {
         let drawn: BabyBear = challenger.sample()?;

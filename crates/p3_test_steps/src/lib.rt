@@ -15,7 +15,7 @@ pub use alike::{alike_steps, play_alike};
 pub use draws::{Draw, prover_draws, verifier_draws};
 pub use extensions::{
     Coefficients, Wide, WideAlphabet, WideSeparator, WideWorld, push_numbers, wide, wide_draws,
-    wide_separator, wide_world,
+    wide_observed, wide_separator, wide_world,
 };
 pub use known::{Known, prover_observes, verifier_observes};
 pub use markers::{Marker, prover_marks, verifier_marks};
@@ -25,6 +25,7 @@ pub use rows::{
     worked_rows,
 };
 pub use small_world::{
-    Alphabet, Prover, Scalars, Separator, Verifier, World, after, bytes, challenge, drawn,
-    prover_of, scalars, separator, verifier_of, world,
+    Alphabet, Notes, Prover, Scalars, Separator, Verifier, World, after, bytes, challenge, drawn,
+    noted, notes, noting_prover, noting_verifier, prover_of, scalars, separator, verifier_of,
+    world,
 };

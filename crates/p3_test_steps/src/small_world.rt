@@ -11,7 +11,7 @@ use p3_symmetric::{Sha256Hasher, Turn};
 use p3_test_support::element;
 use p3_turn::DomainSeparator;
 use p3_verifier::VerifierState;
-use std::alloc::Global;
+use std::alloc::{AllocError, Global};
 
 /// The challenger: three cells, of which two are the rate.
 pub type World = DuplexChallenger<F257, Turn<2>, 3, 2>;
@@ -34,6 +34,43 @@ pub type Verifier<'a, C> = VerifierState<'a, C, Alphabet, Sha256Hasher>;
 /// The challenger that observed nothing yet.
 pub fn world() -> World {
     DuplexChallenger::new(Turn, 10)
+}
+
+/// A challenger with so many cells that it keeps what it is fed, the seed and 98 symbols after it.
+pub type Notes = DuplexChallenger<F257, Turn<2>, 201, 200>;
+
+/// The notes before anything was observed.
+pub fn notes() -> Notes {
+    DuplexChallenger::new(Turn, 10)
+}
+
+/// The numbers of the symbols that were fed after the seed, which has 102.
+pub fn noted(alloc: Global, notes: &Notes) -> Result<Vec<u64>, AllocError> {
+    let fed = notes.input();
+    let mut numbers = Vec::new(alloc);
+    for place in 102..fed.len() {
+        numbers.push(fed[place].as_canonical_u64())?;
+    }
+    Ok(numbers)
+}
+
+/// A prover of one step that notes what is fed.
+pub fn noting_prover(alloc: Global, step: Interaction) -> Result<Prover<Notes>, TranscriptError> {
+    ProverState::new(alloc, notes(), &separator(alloc, vec![in alloc; step]?)?)
+}
+
+/// A verifier of one step that notes what is fed.
+pub fn noting_verifier(
+    alloc: Global,
+    step: Interaction,
+    narg: &[u8],
+) -> Result<Verifier<'_, Notes>, TranscriptError> {
+    VerifierState::new(
+        alloc,
+        notes(),
+        &separator(alloc, vec![in alloc; step]?)?,
+        narg,
+    )
 }
 
 /// The separator of a protocol of these steps.

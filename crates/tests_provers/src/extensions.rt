@@ -4,8 +4,8 @@ use p3_fs_core::TranscriptError;
 use p3_prover::ProverState;
 use p3_symmetric::Sha256Hasher;
 use p3_test_steps::{
-    Coefficients, Wide, WideAlphabet, WideWorld, push_numbers, wide, wide_draws, wide_separator,
-    wide_world,
+    Coefficients, Wide, WideAlphabet, WideWorld, push_numbers, wide, wide_draws, wide_observed,
+    wide_separator, wide_world,
 };
 use std::alloc::Global;
 use std::test::Fail;
@@ -41,11 +41,14 @@ fn draw(prover: &mut Prover, alloc: Global) -> Result<Vec<u64>, TranscriptError>
 #[test]
 fn extensions_are_played_by_their_coefficients(rt: HostRuntime) -> Result<(), Fail> {
     let separator = wide_separator(rt.alloc())?;
+    let expected = wide_observed(rt.alloc())?;
     let mut prover = ProverState::new(rt.alloc(), wide_world(), &separator)?;
     let observed = observe(&mut prover);
+    let is_fed = prover.challenger().input() == expected.input();
     let drawn = draw(&mut prover, rt.alloc());
     let narg = prover.finalize()?;
     assert_eq!(rt; observed, Ok(()));
+    assert!(rt; is_fed);
     assert_eq!(rt; drawn?.as_slice(), wide_draws(rt.alloc())?.as_slice());
     let wire = [0, 0, 0, 11, 0, 0, 0, 12, 0, 0, 0, 13, 0, 0, 0, 14];
     assert_eq!(rt; narg.as_slice(), wire.as_slice());

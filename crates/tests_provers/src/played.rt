@@ -1,38 +1,27 @@
 // Each step as it is to be: the bytes of the proof, and the symbols that the challenger is fed.
 use p3_prover::ProverState;
 use p3_test_steps::{
-    World, after, alike_steps, containers, draw_rows, drawn, known_rows, message_rows, play_alike,
-    prover_draws, prover_marks, prover_observes, prover_of, send, separator, world,
+    after, alike_steps, containers, draw_rows, drawn, known_rows, message_rows, noted,
+    noting_prover, play_alike, prover_draws, prover_marks, prover_observes, prover_of, send,
+    separator, world,
 };
 use p3_test_support::element;
-use std::alloc::Global;
-use std::process::Abort;
 use std::test::Fail;
-
-// Asserts that a challenger draws what one does that was fed these symbols after the seed.
-fn assert_fed(
-    rt: &impl Abort,
-    alloc: Global,
-    mut challenger: World,
-    symbols: &[u64],
-) -> Result<(), Fail> {
-    let mut expected = after(alloc, symbols)?;
-    for _ in 0..3 {
-        assert_eq!(rt; drawn(&mut challenger)?, drawn(&mut expected)?);
-    }
-    Ok(())
-}
 
 #[test]
 fn messages_are_written(rt: HostRuntime) -> Result<(), Fail> {
     let two = [element(5), element(256)];
     for (message, symbols, wire) in message_rows(&two) {
-        let mut prover = prover_of(rt.alloc(), message.step())?;
+        let mut prover = noting_prover(rt.alloc(), message.step())?;
         let sent = send(&mut prover, message);
         let (narg, challenger) = prover.finish()?;
         assert_eq!(rt; sent, Ok(true), "{message:?}");
         assert_eq!(rt; narg.as_slice(), wire, "{message:?}");
-        assert_fed(&rt, rt.alloc(), challenger, symbols)?;
+        assert_eq!(rt;
+            noted(rt.alloc(), &challenger)?.as_slice(),
+            symbols,
+            "{message:?}"
+        );
     }
     Ok(())
 }
@@ -41,12 +30,16 @@ fn messages_are_written(rt: HostRuntime) -> Result<(), Fail> {
 fn what_both_sides_know_is_observed(rt: HostRuntime) -> Result<(), Fail> {
     let two = [element(5), element(256)];
     for (known, symbols) in known_rows(&two) {
-        let mut prover = prover_of(rt.alloc(), known.step())?;
+        let mut prover = noting_prover(rt.alloc(), known.step())?;
         let observed = prover_observes(&mut prover, known);
         let (narg, challenger) = prover.finish()?;
         assert_eq!(rt; observed, Ok(true), "{known:?}");
         assert_eq!(rt; narg.len(), 0, "{known:?}");
-        assert_fed(&rt, rt.alloc(), challenger, symbols)?;
+        assert_eq!(rt;
+            noted(rt.alloc(), &challenger)?.as_slice(),
+            symbols,
+            "{known:?}"
+        );
     }
     Ok(())
 }

@@ -2,7 +2,7 @@
 use p3_challenger_core::ChallengerError;
 use p3_fs_core::TranscriptError;
 use p3_prover::ProverState;
-use p3_test_steps::{Message, after, challenge, drawn, prover_of, send, separator, world};
+use p3_test_steps::{Message, challenge, noted, noting_prover, send, separator, world};
 use std::test::Fail;
 
 fn too_long<T>() -> Result<T, TranscriptError> {
@@ -19,17 +19,14 @@ fn bytes_that_are_too_long_are_not_written(rt: HostRuntime) -> Result<(), Fail> 
         (Message::BytesBounded(&long, 300), &[2, 1, 1]),
     ];
     for (message, symbols) in rows {
-        let mut prover = prover_of(rt.alloc(), message.step())?;
+        let mut prover = noting_prover(rt.alloc(), message.step())?;
         let sent = send(&mut prover, message);
         let written = prover.narg().len();
-        let mut challenger = prover.challenger().clone();
+        let fed = noted(rt.alloc(), prover.challenger());
         prover.abort();
         assert_eq!(rt; sent, too_long());
         assert_eq!(rt; written, 0);
-        assert_eq!(rt;
-            drawn(&mut challenger)?,
-            drawn(&mut after(rt.alloc(), symbols)?)?
-        );
+        assert_eq!(rt; fed?.as_slice(), symbols);
     }
     Ok(())
 }

@@ -3,8 +3,8 @@ use p3_field::BabyBear;
 use p3_fs_core::TranscriptError;
 use p3_symmetric::Sha256Hasher;
 use p3_test_steps::{
-    Coefficients, Wide, WideAlphabet, WideWorld, push_numbers, wide, wide_draws, wide_separator,
-    wide_world,
+    Coefficients, Wide, WideAlphabet, WideWorld, push_numbers, wide, wide_draws, wide_observed,
+    wide_separator, wide_world,
 };
 use p3_verifier::VerifierState;
 use std::alloc::Global;
@@ -43,11 +43,14 @@ fn draw(verifier: &mut Verifier<'_>, alloc: Global) -> Result<Vec<u64>, Transcri
 fn extensions_are_played_by_their_coefficients(rt: HostRuntime) -> Result<(), Fail> {
     let separator = wide_separator(rt.alloc())?;
     let wire = [0, 0, 0, 11, 0, 0, 0, 12, 0, 0, 0, 13, 0, 0, 0, 14];
+    let expected = wide_observed(rt.alloc())?;
     let mut verifier = VerifierState::new(rt.alloc(), wide_world(), &separator, &wire)?;
     let read = observe(&mut verifier);
+    let is_fed = verifier.challenger().input() == expected.input();
     let drawn = draw(&mut verifier, rt.alloc());
     let ended = verifier.finalize();
     assert_eq!(rt; read, Ok(wide(11)));
+    assert!(rt; is_fed);
     assert_eq!(rt; drawn?.as_slice(), wide_draws(rt.alloc())?.as_slice());
     assert_eq!(rt; ended, Ok(()));
     Ok(())

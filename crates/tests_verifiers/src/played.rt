@@ -1,37 +1,26 @@
 // Each step as it is to be: what is read, and the symbols that the challenger is fed.
 use p3_test_steps::{
-    World, after, alike_steps, containers, draw_rows, drawn, known_rows, message_rows, play_alike,
-    receive, separator, verifier_draws, verifier_marks, verifier_observes, verifier_of, world,
+    after, alike_steps, containers, draw_rows, drawn, known_rows, message_rows, noted,
+    noting_verifier, play_alike, receive, separator, verifier_draws, verifier_marks,
+    verifier_observes, verifier_of, world,
 };
 use p3_test_support::element;
 use p3_verifier::VerifierState;
-use std::alloc::Global;
-use std::process::Abort;
 use std::test::Fail;
-
-// Asserts that a challenger draws what one does that was fed these symbols after the seed.
-fn assert_fed(
-    rt: &impl Abort,
-    alloc: Global,
-    mut challenger: World,
-    symbols: &[u64],
-) -> Result<(), Fail> {
-    let mut expected = after(alloc, symbols)?;
-    for _ in 0..3 {
-        assert_eq!(rt; drawn(&mut challenger)?, drawn(&mut expected)?);
-    }
-    Ok(())
-}
 
 #[test]
 fn messages_are_read(rt: HostRuntime) -> Result<(), Fail> {
     let two = [element(5), element(256)];
     for (message, symbols, wire) in message_rows(&two) {
-        let mut verifier = verifier_of(rt.alloc(), message.step(), wire)?;
+        let mut verifier = noting_verifier(rt.alloc(), message.step(), wire)?;
         let received = receive(&mut verifier, message);
         let challenger = verifier.finish()?;
         assert_eq!(rt; received, Ok(true), "{message:?}");
-        assert_fed(&rt, rt.alloc(), challenger, symbols)?;
+        assert_eq!(rt;
+            noted(rt.alloc(), &challenger)?.as_slice(),
+            symbols,
+            "{message:?}"
+        );
     }
     Ok(())
 }
@@ -40,11 +29,15 @@ fn messages_are_read(rt: HostRuntime) -> Result<(), Fail> {
 fn what_both_sides_know_is_observed(rt: HostRuntime) -> Result<(), Fail> {
     let two = [element(5), element(256)];
     for (known, symbols) in known_rows(&two) {
-        let mut verifier = verifier_of(rt.alloc(), known.step(), b"")?;
+        let mut verifier = noting_verifier(rt.alloc(), known.step(), b"")?;
         let observed = verifier_observes(&mut verifier, known);
         let challenger = verifier.finish()?;
         assert_eq!(rt; observed, Ok(true), "{known:?}");
-        assert_fed(&rt, rt.alloc(), challenger, symbols)?;
+        assert_eq!(rt;
+            noted(rt.alloc(), &challenger)?.as_slice(),
+            symbols,
+            "{known:?}"
+        );
     }
     Ok(())
 }

@@ -1,6 +1,6 @@
 // Bytes that are no message: the reason, how many bytes are left, and what the challenger was fed before.
 use p3_fs_core::{PatternError, TranscriptError};
-use p3_test_steps::{Message, after, drawn, receive, verifier_of};
+use p3_test_steps::{Message, noted, noting_verifier, receive};
 use p3_test_support::element;
 use std::alloc::Global;
 use std::process::Abort;
@@ -21,11 +21,11 @@ type Row<'a> = (Message<'a>, &'a [u8], &'static str, usize, &'a [u64]);
 
 fn assert_refused(rt: &impl Abort, alloc: Global, row: Row<'_>) -> Result<(), Fail> {
     let (message, narg, reason, left, symbols) = row;
-    let mut verifier = verifier_of(alloc, message.step(), narg)?;
+    let mut verifier = noting_verifier(alloc, message.step(), narg)?;
     let received = receive(&mut verifier, message);
     let again = receive(&mut verifier, message);
     let unread = verifier.remaining_narg();
-    let mut challenger = verifier.challenger().clone();
+    let fed = noted(alloc, verifier.challenger());
     let ended = verifier.finalize();
     let finished = TranscriptError::Pattern(PatternError::Finished);
     assert_eq!(rt;
@@ -35,11 +35,7 @@ fn assert_refused(rt: &impl Abort, alloc: Global, row: Row<'_>) -> Result<(), Fa
     );
     assert_eq!(rt; again.err(), Some(finished), "{message:?}");
     assert_eq!(rt; unread, left, "{message:?}");
-    assert_eq!(rt;
-        drawn(&mut challenger)?,
-        drawn(&mut after(alloc, symbols)?)?,
-        "{message:?}"
-    );
+    assert_eq!(rt; fed?.as_slice(), symbols, "{message:?}");
     assert_eq!(rt;
         ended,
         Err(TranscriptError::Pattern(PatternError::Finished)),

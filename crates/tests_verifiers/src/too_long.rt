@@ -1,7 +1,7 @@
 // Byte strings of 257 bytes, for which the alphabet of the small world has no length.
 use p3_challenger_core::ChallengerError;
 use p3_fs_core::TranscriptError;
-use p3_test_steps::{Message, after, challenge, drawn, receive, separator, verifier_of, world};
+use p3_test_steps::{Message, challenge, noted, noting_verifier, receive, separator, world};
 use p3_verifier::VerifierState;
 use std::test::Fail;
 
@@ -20,15 +20,12 @@ fn bytes_that_are_too_long_are_refused(rt: HostRuntime) -> Result<(), Fail> {
         (Message::BytesBounded(&long, 300), &counted, &[2, 1, 1]),
     ];
     for (message, narg, symbols) in rows {
-        let mut verifier = verifier_of(rt.alloc(), message.step(), narg)?;
+        let mut verifier = noting_verifier(rt.alloc(), message.step(), narg)?;
         let received = receive(&mut verifier, message);
-        let mut challenger = verifier.challenger().clone();
+        let fed = noted(rt.alloc(), verifier.challenger());
         verifier.abort();
         assert_eq!(rt; received, too_long());
-        assert_eq!(rt;
-            drawn(&mut challenger)?,
-            drawn(&mut after(rt.alloc(), symbols)?)?
-        );
+        assert_eq!(rt; fed?.as_slice(), symbols);
     }
     Ok(())
 }
