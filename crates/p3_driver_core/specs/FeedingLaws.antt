@@ -213,7 +213,10 @@ module _ {S Symbol : Type 0} (fed : S → List Symbol → S) (fed_nothing : (s :
     pub refused-fed : (e : TranscriptError) → Refuses m before e after →
         LeavesFed fed before.challenger m.effect.symbols after.challenger
     refused-fed (Pattern e) h = unchanged-fed m.effect.symbols before.challenger after.challenger h.challenger
-    refused-fed (Challenger e) h = is.leaves e before.challenger after.challenger h.leaves
+    refused-fed (Challenger challenger.OutOfMemory) h = absurd h
+    refused-fed (Challenger DrawLimit) h = is.leaves DrawLimit before.challenger after.challenger h.leaves
+    refused-fed (Challenger NoWitness) h = is.leaves NoWitness before.challenger after.challenger h.leaves
+    refused-fed (Challenger TooLong) h = is.leaves TooLong before.challenger after.challenger h.leaves
     refused-fed OutOfMemory h = beginning-fed m.effect is before.challenger after.challenger h.leaves
     refused-fed (MissingBegin info) h = absurd h
     refused-fed (InvalidKind info) h = absurd h
@@ -356,7 +359,10 @@ module _ {S : Type 0} (next : S → S) where
     pub refused-drawn : (e : TranscriptError) → Refuses m before e after →
         IsStepsOn next before.challenger after.challenger
     refused-drawn (Pattern e) h = unchanged-steps before.challenger after.challenger h.challenger
-    refused-drawn (Challenger e) h = is.leaves e before.challenger after.challenger h.leaves
+    refused-drawn (Challenger challenger.OutOfMemory) h = absurd h
+    refused-drawn (Challenger DrawLimit) h = is.leaves DrawLimit before.challenger after.challenger h.leaves
+    refused-drawn (Challenger NoWitness) h = is.leaves NoWitness before.challenger after.challenger h.leaves
+    refused-drawn (Challenger TooLong) h = is.leaves TooLong before.challenger after.challenger h.leaves
     refused-drawn OutOfMemory h = beginning-drawn m.effect is before.challenger after.challenger h.leaves
     refused-drawn (MissingBegin info) h = absurd h
     refused-drawn (InvalidKind info) h = absurd h

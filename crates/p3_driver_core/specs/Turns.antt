@@ -86,6 +86,7 @@ LeavesBeginning effect s t = (t ≡ s) ⊎ (t ≡ effect.after s) ⊎ effect.ref
 -- why a step is refused, and what is left: it may not be played, the challenger refused it, or memory was refused
 abbrev pub Refuses : {S Symbol A : Type 0} → Meaning S Symbol A → Turn S → TranscriptError → Turn S → Type 0
 Refuses m before (Pattern e) after = RefusesTurn m.interaction before (Pattern e) after
+Refuses m before (Challenger challenger.OutOfMemory) after = ⊥
 Refuses m before (Challenger e) after = GivesUp m.interaction before (m.effect.refuses e) after
 Refuses m before OutOfMemory after = GivesUp m.interaction before (LeavesBeginning m.effect) after
 Refuses m before _ after = ⊥

@@ -1,4 +1,3 @@
-pub mod Ends
 pub mod MirrorLaws
 pub mod ReadBack
 pub mod Refusals

@@ -14,9 +14,9 @@ use Rattle.p3_driver_core.specs.Counts.{count_bytes}
 use Rattle.p3_driver_core.specs.Effects.{Effect, Alphabet, observing_bytes}
 use Rattle.p3_driver_core.specs.Turns.{IsNext, GivesUp, step_on}
 use Rattle.p3_verifier.proofs.ValuesInTurn.{values-as_many}
-use Rattle.p3_verifier.specs.Reads.{Read, Reading, IsEndOf, FailsFor, FailsForList, reading_first, then_read}
+use Rattle.p3_verifier.specs.Reads.{Read, Reading, FailsFor, FailsForList, reading_first, then_read}
 use Rattle.p3_verifier.specs.Reads.{absorbed_first}
-use Rattle.p3_verifier.specs.Reads.{read_values, read_count, LeavesEach, received_all, received_bounded}
+use Rattle.p3_verifier.specs.Reads.{read_values, read_count, LeavesValues, received_all, received_bounded}
 use Rattle.p3_verifier.specs.Reads.{message_too_long}
 use Rattle.p3_verifier.specs.Verifying.{Verifying, Receives, RefusesToRead}
 
@@ -45,47 +45,39 @@ not-read r before after OutOfMemory is_next fails same finished = absurd fails
 
 by_error : {S Symbol A : Type 0} (interaction : Step) (read : List ℕ → Read S A)
     (effect : A → Effect S Symbol A) (before after : Verifying S) (x : A) (e : ChallengerError) →
-    read before.unread ≡ Ok (x, after.unread) → IsEndOf before.unread after.unread →
-    GivesUp interaction before.turn ((effect x).refuses e) after.turn →
+    read before.unread ≡ Ok (x, after.unread) → GivesUp interaction before.turn ((effect x).refuses e) after.turn →
     RefusesToRead (reading_first interaction read effect) before (transcript_error e) after
-by_error interaction read effect before after x challenger.OutOfMemory found end given =
-    record {
-      gives_up = record {
-        is_next = given.is_next;
-        leaves = inr (x, after.unread, found, inr (inr given.leaves));
-        finished = given.finished;
-      };
-      unread = end;
-    }
-by_error interaction read effect before after x challenger.DrawLimit found end given =
+by_error interaction read effect before after x challenger.OutOfMemory found given =
+    record { is_next = given.is_next; leaves = (x, found, inr (inr given.leaves)); finished = given.finished }
+by_error interaction read effect before after x challenger.DrawLimit found given =
     record { value = x; read = found; gives_up = given }
-by_error interaction read effect before after x challenger.NoWitness found end given =
+by_error interaction read effect before after x challenger.NoWitness found given =
     record { value = x; read = found; gives_up = given }
-by_error interaction read effect before after x challenger.TooLong found end given =
+by_error interaction read effect before after x challenger.TooLong found given =
     record { value = x; read = found; gives_up = given }
 
 -- all was read, and the challenger refuses it
 pub refused-after_read : {S Symbol A : Type 0} (interaction : Step) (read : List ℕ → Read S A)
     (effect : A → Effect S Symbol A) (before after : Verifying S) (x : A) (e : ChallengerError) (here : S) →
     IsNext before.turn.playing interaction → read before.unread ≡ Ok (x, after.unread) →
-    IsEndOf before.unread after.unread → here ≡ before.turn.challenger →
+    here ≡ before.turn.challenger →
     (effect x).refuses e here after.turn.challenger →
     after.turn.playing.finished ≡ true →
     RefusesToRead (reading_first interaction read effect) before (transcript_error e) after
-refused-after_read {S} interaction read effect before after x e here is_next found end same refuses finished =
+refused-after_read {S} interaction read effect before after x e here is_next found same refuses finished =
     let from_before = subst (λ (s : S). (effect x).refuses e s after.turn.challenger) same refuses in
     let gives_up : GivesUp interaction before.turn ((effect x).refuses e) after.turn =
     record { is_next = is_next; leaves = from_before; finished = finished } in
-    by_error interaction read effect before after x e found end gives_up
+    by_error interaction read effect before after x e found gives_up
 
 -- ---- lists
 
 module _ {S Symbol A : Type 0} (interaction : Step) (o : Observation S Symbol A) (enc : Encoding A) (before after :
     Verifying S) (is_next : IsNext before.turn.playing interaction)
-    (finished : after.turn.playing.finished ≡ true) (end : IsEndOf before.unread after.unread) where
+    (finished : after.turn.playing.finished ≡ true) where
   -- a list is refused
   pub list-refused : (n : ℕ) (err : TranscriptError) →
-      FailsForList (read_values enc o.observed n before.unread) (LeavesEach enc o n before.unread)
+      FailsForList (read_values enc o.observed n before.unread) (LeavesValues enc o n before.unread)
       before.turn.challenger after.unread after.turn.challenger err →
       RefusesToRead (received_all interaction o enc n) before err after
   list-refused n (MissingBegin info) fails = absurd fails
@@ -105,8 +97,7 @@ module _ {S Symbol A : Type 0} (interaction : Step) (o : Observation S Symbol A)
   list-refused n (Pattern e) fails = absurd fails
   list-refused n (Challenger e) fails = absurd fails
   list-refused n LabelTooLong fails = absurd fails
-  list-refused n OutOfMemory fails =
-      record { gives_up = record { is_next = is_next; leaves = fails; finished = finished }; unread = end }
+  list-refused n OutOfMemory fails = record { is_next = is_next; leaves = fails; finished = finished }
 
   module _ {I : Type 0} (alphabet : Alphabet S Symbol I) (max : ℕ) where
     -- a count that is none is why there is no list
@@ -128,17 +119,14 @@ module _ {S Symbol A : Type 0} (interaction : Step) (o : Observation S Symbol A)
     module _ (n : ℕ) (rest : List ℕ)
         (found : read_count {S = S} message_too_long max before.unread ≡ Ok (n, rest)) where
       -- the count is refused for memory
-      pub count-refused : (e : ChallengerError) → e ≡ challenger.OutOfMemory →
+      pub count-refused : after.unread ≡ rest → (e : ChallengerError) → e ≡ challenger.OutOfMemory →
           (observing_bytes alphabet (count_bytes max n)).refuses e before.turn.challenger after.turn.challenger →
           RefusesToRead (received_bounded interaction alphabet max o enc) before (transcript_error e) after
-      count-refused challenger.OutOfMemory is refuses =
-          record {
-            gives_up = record { is_next = is_next; leaves = inr (n, rest, found, inl refuses); finished = finished };
-            unread = end;
-          }
-      count-refused challenger.DrawLimit is refuses = absurd (cc)
-      count-refused challenger.NoWitness is refuses = absurd (cc)
-      count-refused challenger.TooLong is refuses = absurd (cc)
+      count-refused left challenger.OutOfMemory is refuses =
+          record { is_next = is_next; leaves = (n, rest, found, inl (left, refuses)); finished = finished }
+      count-refused left challenger.DrawLimit is refuses = absurd (cc)
+      count-refused left challenger.NoWitness is refuses = absurd (cc)
+      count-refused left challenger.TooLong is refuses = absurd (cc)
 
       whole : (r : Read S (List A)) → read_values enc o.observed n rest ≡ r →
           (received_bounded interaction alphabet max o enc).read before.unread
@@ -151,7 +139,7 @@ module _ {S Symbol A : Type 0} (interaction : Step) (o : Observation S Symbol A)
       -- the values after it are refused
       pub values-refused : (here : S) (err : TranscriptError) →
           here ≡ (observing_bytes alphabet (count_bytes max n)).after before.turn.challenger →
-          FailsForList (read_values enc o.observed n rest) (LeavesEach enc o n rest) here after.unread
+          FailsForList (read_values enc o.observed n rest) (LeavesValues enc o n rest) here after.unread
           after.turn.challenger err →
           RefusesToRead (received_bounded interaction alphabet max o enc) before err after
       values-refused here (MissingBegin info) is fails = absurd fails
@@ -176,15 +164,8 @@ module _ {S Symbol A : Type 0} (interaction : Step) (o : Observation S Symbol A)
       values-refused here (Challenger e) is fails = absurd fails
       values-refused here LabelTooLong is fails = absurd fails
       values-refused here OutOfMemory is fails =
-          let leaves = subst (λ s. LeavesEach enc o n rest s after.turn.challenger) is fails in
-          record {
-            gives_up = record {
-              is_next = is_next;
-              leaves = inr (n, rest, found, inr leaves);
-              finished = finished;
-            };
-            unread = end;
-          }
+          let leaves = subst (λ s. LeavesValues enc o n rest s after.unread after.turn.challenger) is fails in
+          record { is_next = is_next; leaves = (n, rest, found, inr leaves); finished = finished }
 
 -- a list is received after its count
 pub values-received : {S Symbol I A : Type 0} (interaction : Step) (o : Observation S Symbol A) (enc : Encoding A)

@@ -15,7 +15,8 @@ use Rattle.p3_fs_core.specs.declared.error.TranscriptError.TheVariants.{MissingE
 use Rattle.p3_fs_core.specs.declared.error.TranscriptError.TheVariants.{Challenger, LabelTooLong, OutOfMemory}
 use Rattle.p3_fs_core.specs.Encoding.{Encoding}
 use Rattle.p3_verifier.specs.Reads.{Read, unreadable, read_value, read_each, read_values, then_read}
-use Rattle.p3_verifier.specs.Reads.{absorbed_first, in_front, LeavesEach, FailsFor, FailsForList, too_many_values}
+use Rattle.p3_verifier.specs.Reads.{absorbed_first, in_front, LeavesEach, LeavesValues, FailsFor, FailsForList}
+use Rattle.p3_verifier.specs.Reads.{too_many_values}
 
 -- values observed, and then one more
 observed-one_more : {S A : Type 0} (observed : S → A → S) (xs : List A) (x : A) (s : S) →
@@ -54,14 +55,14 @@ module _ {S Symbol A : Type 0} (e : Encoding A) (o : Observation S Symbol A) whe
   pub record ReadsOn (n : ℕ) (bytes : List ℕ) (s : S) (xs : List A) (left : ℕ) (here : List ℕ) (t : S) : Type 0 where
     pub read : read_each e o.observed n bytes ≡ after_values o.observed xs (read_each e o.observed left here)
     pub observed : t ≡ observed_all o.observed s xs
-    pub leaves : (u : S) → LeavesEach e o left here t u → LeavesEach e o n bytes s u
+    pub leaves : (there : List ℕ) (u : S) → LeavesEach e o left here t there u → LeavesEach e o n bytes s there u
 
   pub reads_on-start : (n : ℕ) (bytes : List ℕ) (s : S) → ReadsOn n bytes s [] n bytes s
   reads_on-start n bytes s =
       record {
         read = sym (after_none o.observed (read_each e o.observed n bytes));
         observed = refl;
-        leaves = λ u h. h;
+        leaves = λ there u h. h;
       }
 
   -- one more is read and observed
@@ -78,17 +79,18 @@ module _ {S Symbol A : Type 0} (e : Encoding A) (o : Observation S Symbol A) whe
             ∙ after_one_more o.observed xs x (read_each e o.observed left rest);
         observed =
             moved ∙ ap (λ w. o.observed w x) on.observed ∙ sym (observed-one_more o.observed xs x s);
-        leaves = λ u h. on.leaves u (inr (x, rest, found, inr (subst (λ w. LeavesEach e o left rest w u) moved h)));
+        leaves = λ there u h. on.leaves there u
+            (x, rest, found, inr (subst (λ w. LeavesEach e o left rest w there u) moved h));
       }
 
   -- the next one is refused for memory
   pub reads_on-refused : (n : ℕ) (bytes : List ℕ) (s : S) (xs : List A) (left : ℕ) (here rest : List ℕ) (t u : S)
       (x : A) →
       read_value {S = S} e here ≡ Ok (x, rest) → o.may_leave t x u → ReadsOn n bytes s xs (suc left) here t →
-      LeavesEach e o n bytes s u
+      LeavesEach e o n bytes s rest u
   unfolding LeavesEach
   reads_on-refused n bytes s xs left here rest t u x found leaves on =
-      on.leaves u (inr (x, rest, found, inl leaves))
+      on.leaves rest u (x, rest, found, inl (refl, leaves))
 
   -- the next one is none
   pub reads_on-stops : (n : ℕ) (bytes : List ℕ) (s : S) (xs : List A) (left : ℕ) (here there reason : List ℕ) (t : S) →
@@ -134,14 +136,19 @@ module _ {S Symbol A : Type 0} (e : Encoding A) (o : Observation S Symbol A) whe
   is_below : (a b : ℕ) → (b ≤ a → ⊥) → nat_lt a b ≡ true
   is_below a b h = grind (arith, nat_tests)
 
-  -- there are, so each is read
+  -- there are
+  pub enough : (n : ℕ) (bytes : List ℕ) (holds : Bool) (width : ℕ) → (IsTrue holds → n * width ≤ length bytes) →
+      holds ≡ true → width ≡ e.width → n * e.width ≤ length bytes
+  enough n bytes holds width told passed is = subst (λ w. n * w ≤ length bytes) is (told passed)
+
+  -- so each is read
   pub enough-read : (n : ℕ) (bytes : List ℕ) (holds : Bool) (width : ℕ) →
       (IsTrue holds → n * width ≤ length bytes) → holds ≡ true → width ≡ e.width →
       read_values e o.observed n bytes ≡ read_each e o.observed n bytes
   enough-read n bytes holds width told passed is =
-      let enough : n * e.width ≤ length bytes = subst (λ w. n * w ≤ length bytes) is (told passed) in
       chosen (nat_lt (length bytes) (n * e.width)) false (unreadable too_many_values bytes)
-      (read_each e o.observed n bytes) (not_below (length bytes) (n * e.width) enough)
+      (read_each e o.observed n bytes)
+      (not_below (length bytes) (n * e.width) (enough n bytes holds width told passed is))
 
   -- there are not, so none is
   pub short-read : (n : ℕ) (bytes : List ℕ) (holds : Bool) (width : ℕ) →
@@ -156,17 +163,11 @@ module _ {S Symbol A : Type 0} (e : Encoding A) (o : Observation S Symbol A) whe
 
   -- ---- refusals
 
-  -- no memory for the values: nothing was done
-  pub leaves-none : (n : ℕ) (bytes : List ℕ) (s : S) → LeavesEach e o n bytes s s
-  unfolding LeavesEach
-  leaves-none zero bytes s = refl
-  leaves-none (suc n) bytes s = inl refl
-
   module _ (n : ℕ) (bytes : List ℕ) (s : S) (xs : List A) (left : ℕ) (here : List ℕ) (t : S)
       (on : ReadsOn n bytes s xs (suc left) here t) where
     pub fails-in_list : (whole : read_values e o.observed n bytes ≡ read_each e o.observed n bytes) (there : List ℕ)
         (v : S) (err : TranscriptError) → FailsFor (read_value {S = S} e here) there err → v ≡ t →
-        FailsForList (read_values e o.observed n bytes) (LeavesEach e o n bytes) s there v err
+        FailsForList (read_values e o.observed n bytes) (LeavesValues e o n bytes) s there v err
     fails-in_list whole there v (MissingBegin info) fails same = absurd fails
     fails-in_list whole there v (InvalidKind info) fails same = absurd fails
     fails-in_list whole there v (MismatchedBeginEnd info) fails same = absurd fails
@@ -183,14 +184,14 @@ module _ {S Symbol A : Type 0} (e : Encoding A) (o : Observation S Symbol A) whe
     fails-in_list whole there v LabelTooLong fails same = absurd fails
     fails-in_list whole there v OutOfMemory fails same = absurd fails
 
-    pub refused-in_list : (rest there : List ℕ) (u : S) (x : A) (err : ChallengerError) →
+    pub refused-in_list : (rest : List ℕ) (u : S) (x : A) (err : ChallengerError) → n * e.width ≤ length bytes →
         read_value {S = S} e here ≡ Ok (x, rest) → RefusesObserve (o.may_leave t x) err u →
-        FailsForList (read_values e o.observed n bytes) (LeavesEach e o n bytes) s there u (transcript_error err)
-    refused-in_list rest there u x challenger.OutOfMemory found refuses =
-        reads_on-refused n bytes s xs left here rest t u x found refuses on
-    refused-in_list rest there u x challenger.DrawLimit found refuses = absurd refuses
-    refused-in_list rest there u x challenger.NoWitness found refuses = absurd refuses
-    refused-in_list rest there u x challenger.TooLong found refuses = absurd refuses
+        FailsForList (read_values e o.observed n bytes) (LeavesValues e o n bytes) s rest u (transcript_error err)
+    refused-in_list rest u x challenger.OutOfMemory held found refuses =
+        (held, inr (reads_on-refused n bytes s xs left here rest t u x found refuses on))
+    refused-in_list rest u x challenger.DrawLimit held found refuses = absurd refuses
+    refused-in_list rest u x challenger.NoWitness held found refuses = absurd refuses
+    refused-in_list rest u x challenger.TooLong held found refuses = absurd refuses
 
   -- ---- so many were read
 

@@ -1,5 +1,5 @@
 -- What a step that reads the proof means.
-use Rattle.std.specs.Prelude.{◌≡◌, ℕ, zero, suc, ◌*◌, ◌⊎◌, List, [], ◌∷◌, take, drop, length, codes, nat_lt, Result}
+use Rattle.std.specs.Prelude.{◌≡◌, ℕ, zero, suc, ◌*◌, ◌≤◌, ◌⊎◌, List, [], ◌∷◌, take, drop, length, codes, nat_lt, Result}
 use Rattle.std.specs.Prelude.{Ok, Err, MatchResult}
 use Rattle.std.specs.Prelude.{if◌then◌else◌}
 use Rattle.p3_fs_core.specs.declared.error.TranscriptError.{TranscriptError}
@@ -17,10 +17,6 @@ use Rattle.p3_driver_core.specs.Effects.{in_turn}
 use Rattle.p3_challenger_core.specs.declared.error.ChallengerError.TheVariants as challenger
 use Rattle.p3_driver_core.specs.Turns.{bytes_step, LeavesBeginning}
 
--- of bytes, these are an end
-abbrev pub IsEndOf : List ℕ → List ℕ → Type 0
-IsEndOf bytes left = (n : ℕ) × (left ≡ drop n bytes)
-
 -- why nothing is read, the bytes that are left then, and what the challenger has absorbed
 pub record Unreadable (S : Type 0) : Type 0 where
   pub reason : List ℕ
@@ -32,14 +28,14 @@ abbrev pub Read : Type 0 → Type 0 → Type 0
 Read S A = Result (A × List ℕ) (Unreadable S)
 
 -- what a step means that reads: what the pattern must have next, what it reads, what it then does with it, and what
--- want of memory may leave of the challenger
+-- want of memory may leave: of these bytes and a state of the challenger, these bytes and this state
 pub record Reading (S Symbol A : Type 0) : Type 1 where
   pub interaction : Step
   pub read : List ℕ → Read S A
   pub effect : A → Effect S Symbol A
-  pub may_leave : List ℕ → S → S → Type 0
+  pub may_leave : List ℕ → S → List ℕ → S → Type 0
 
--- a step that reads all it needs before the challenger takes part
+-- a step that reads all it needs before the challenger takes part; no memory is asked for until then
 abbrev pub reading_first : {S Symbol A : Type 0} → Step → (List ℕ → Read S A) → (A → Effect S Symbol A) →
     Reading S Symbol A
 reading_first {S} {Symbol} {A} interaction read effect =
@@ -47,8 +43,7 @@ reading_first {S} {Symbol} {A} interaction read effect =
       interaction = interaction;
       read = read;
       effect = effect;
-      may_leave = λ bytes s t.
-          (t ≡ s) ⊎ ((x : A) × (rest : List ℕ) × (read bytes ≡ Ok (x, rest)) × LeavesBeginning (effect x) s t);
+      may_leave = λ bytes s left t. (x : A) × (read bytes ≡ Ok (x, left)) × LeavesBeginning (effect x) s t;
     }
 
 -- ---- what is read
@@ -142,12 +137,20 @@ read_counted_values e observed counted max bytes =
     then_read (λ n rest. absorbed_first (counted n) (read_values e observed n rest))
     (read_count message_too_long max bytes)
 
--- what want of memory may leave of the challenger: it observed a beginning of the values
-unfoldable pub LeavesEach : {S Symbol A : Type 0} → Encoding A → Observation S Symbol A → ℕ → List ℕ → S → S → Type 0
-LeavesEach e o zero bytes s t = t ≡ s
-LeavesEach {S} {Symbol} {A} e o (suc n) bytes s t =
-    (t ≡ s) ⊎ ((x : A) × (rest : List ℕ) × (read_value {S = S} e bytes ≡ Ok (x, rest))
-    × (o.may_leave s x t ⊎ LeavesEach e o n rest (o.observed s x) t))
+-- what want of memory may leave while values are observed: the next one was read, and a beginning of it was observed;
+-- or all of it was, and it goes on so
+unfoldable pub LeavesEach : {S Symbol A : Type 0} → Encoding A → Observation S Symbol A → ℕ → List ℕ → S → List ℕ →
+    S → Type 0
+LeavesEach e o zero bytes s left t = ⊥
+LeavesEach {S} {Symbol} {A} e o (suc n) bytes s left t =
+    (x : A) × (rest : List ℕ) × (read_value {S = S} e bytes ≡ Ok (x, rest))
+    × (((left ≡ rest) × o.may_leave s x t) ⊎ LeavesEach e o n rest (o.observed s x) left t)
+
+-- the same of a list, for which room is asked first, and that only where the bytes of its values are there
+abbrev pub LeavesValues : {S Symbol A : Type 0} → Encoding A → Observation S Symbol A → ℕ → List ℕ → S → List ℕ → S →
+    Type 0
+LeavesValues e o n bytes s left t =
+    (n * e.width ≤ length bytes) × (((left ≡ bytes) × (t ≡ s)) ⊎ LeavesEach e o n bytes s left t)
 
 -- an answer is what is read, and the bytes that are left then are these
 abbrev pub FailsFor : {S A : Type 0} → Read S A → List ℕ → TranscriptError → Type 0
@@ -158,15 +161,16 @@ abbrev pub TellsRead : {S A R : Type 0} → Read S A → (R → A) → Result R 
 TellsRead read value result left =
     MatchResult result (λ y. read ≡ Ok (value y, left)) (λ e. FailsFor read left e)
 
--- the same of a list whose values are observed as they are read, where the challenger is left so
-abbrev pub FailsForList : {S A : Type 0} → Read S A → (S → S → Type 0) → S → List ℕ → S → TranscriptError → Type 0
+-- the same of a list whose values are observed as they are read, where want of memory may leave this
+abbrev pub FailsForList : {S A : Type 0} → Read S A → (S → List ℕ → S → Type 0) → S → List ℕ → S → TranscriptError →
+    Type 0
 FailsForList {S} read MayLeave s left t (BadProofShape reason) =
     (failure : Unreadable S) × (read ≡ Err failure) × (reason.now ≡ failure.reason) × (left ≡ failure.left)
     × (t ≡ failure.absorbed s)
-FailsForList read MayLeave s left t OutOfMemory = MayLeave s t
+FailsForList read MayLeave s left t OutOfMemory = MayLeave s left t
 FailsForList read MayLeave s left t _ = ⊥
 
-abbrev pub TellsList : {S A R : Type 0} → Read S A → (S → A → S) → (S → S → Type 0) → (R → A) → S →
+abbrev pub TellsList : {S A R : Type 0} → Read S A → (S → A → S) → (S → List ℕ → S → Type 0) → (R → A) → S →
     Result R TranscriptError → List ℕ → S → Type 0
 TellsList read observed MayLeave value s result left t =
     MatchResult result (λ y. (read ≡ Ok (value y, left)) × (t ≡ observed s (value y)))
@@ -208,7 +212,7 @@ received_all interaction o e n =
       interaction = interaction;
       read = read_values e o.observed n;
       effect = observing_all o;
-      may_leave = LeavesEach e o n;
+      may_leave = LeavesValues e o n;
     }
 
 -- at most so many values are received, after their count
@@ -220,7 +224,8 @@ received_bounded {S} interaction alphabet max o e =
       interaction = interaction;
       read = read_counted_values e o.observed (λ n. (counted n).after) max;
       effect = λ xs. in_turn (counted (length xs)) (observing_all o xs);
-      may_leave = λ bytes s t.
-          (t ≡ s) ⊎ ((n : ℕ) × (rest : List ℕ) × (read_count {S = S} message_too_long max bytes ≡ Ok (n, rest))
-          × ((counted n).refuses challenger.OutOfMemory s t ⊎ LeavesEach e o n rest ((counted n).after s) t));
+      may_leave = λ bytes s left t.
+          (n : ℕ) × (rest : List ℕ) × (read_count {S = S} message_too_long max bytes ≡ Ok (n, rest))
+          × (((left ≡ rest) × (counted n).refuses challenger.OutOfMemory s t)
+          ⊎ LeavesValues e o n rest ((counted n).after s) left t);
     }

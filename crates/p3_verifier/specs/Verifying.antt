@@ -10,7 +10,7 @@ use Rattle.p3_driver_core.specs.Turns.{step_on}
 use Rattle.p3_driver_core.specs.Turns.{RefusesCarried, IsOtherLength, longer_list, another_length}
 use Rattle.p3_fs_core.specs.Errors.{misfit_of}
 use Rattle.p3_patterns.specs.Playing.{FaultOfPlayEnd, IsPlayed, next_step}
-use Rattle.p3_verifier.specs.Reads.{Reading, Unreadable, IsEndOf, trailing_bytes}
+use Rattle.p3_verifier.specs.Reads.{Reading, Unreadable, trailing_bytes}
 use Rattle.p3_verifier.specs.declared.verifier.VerifierState.{VerifierState}
 
 -- its challenger and its pattern as it is played, and the bytes of the proof that are left to read
@@ -50,20 +50,16 @@ pub record RefusesRead {S Symbol A : Type 0} (r : Reading S Symbol A) (before : 
   pub read : r.read before.unread ≡ Ok (value, after.unread)
   pub gives_up : GivesUp r.interaction before.turn (Leaves value) after.turn
 
--- memory was refused after so much of it was read, and the challenger is left so
-pub record RunsOut {S Symbol A : Type 0} (r : Reading S Symbol A) (before : Verifying S) (after : Verifying S) :
-    Type 0 where
-  pub gives_up : GivesUp r.interaction before.turn (r.may_leave before.unread) after.turn
-  pub unread : IsEndOf before.unread after.unread
-
 -- why a step that reads is refused, and what is left
 abbrev pub RefusesToRead : {S Symbol A : Type 0} → Reading S Symbol A → Verifying S → TranscriptError → Verifying S →
     Type 0
 RefusesToRead r before (Pattern e) after =
     RefusesTurn r.interaction before.turn (Pattern e) after.turn × (after.unread ≡ before.unread)
 RefusesToRead r before (BadProofShape reason) after = ReadsNothing r before reason.now after
+RefusesToRead r before (Challenger challenger.OutOfMemory) after = ⊥
 RefusesToRead r before (Challenger e) after = RefusesRead r before (λ x. (r.effect x).refuses e) after
-RefusesToRead r before OutOfMemory after = RunsOut r before after
+RefusesToRead r before OutOfMemory after =
+    GivesUp r.interaction before.turn (λ s t. r.may_leave before.unread s after.unread t) after.turn
 RefusesToRead r before _ after = ⊥
 
 -- the step is played, and the answer is what was read; or it is refused

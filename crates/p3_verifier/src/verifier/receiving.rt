@@ -5,7 +5,7 @@ ghost use Rattle.p3_driver_core.specs.Bound.{value_of, values_of};
 ghost use Rattle.p3_driver_core.specs.Effects.{alphabet_of};
 ghost use Rattle.p3_driver_core.specs.Turns.{algebra_step};
 ghost use Rattle.p3_verifier.specs.Reads as reads;
-ghost use Rattle.p3_verifier.specs.Reads.{TellsRead, TellsList, IsEndOf};
+ghost use Rattle.p3_verifier.specs.Reads.{TellsRead, TellsList};
 ghost use Rattle.p3_verifier.specs.Verifying.{verifying_of, ReceivesOrRefuses};
 
 use crate::VerifierState;
@@ -232,10 +232,9 @@ impl<'a, C: Sponge + Drop, U, D: DigestHasher> VerifierState<'a, C, U, D> {
     ) -> Result<Vec<TranscriptBound<A>>, TranscriptError>
         ensures read { TellsList (reads.read_values Cdc.encoding Cdc.observation.observed n self.old.unread.now)
             (observed_all Cdc.observation.observed)
-            (reads.LeavesEach Cdc.encoding Cdc.observation n self.old.unread.now) values_of
+            (reads.LeavesValues Cdc.encoding Cdc.observation n self.old.unread.now) values_of
             (C.state self.old.challenger) result self.new.unread.now (C.state self.new.challenger) }
         ensures steps { self.new.turn.steps ≡ self.old.turn.steps }
-        ensures end { IsEndOf self.old.unread.now self.new.unread.now }
     {
         if !holds(self.unread.len(), n, Cdc::wire_len()) {
             return Err(TranscriptError::BadProofShape {
@@ -257,7 +256,6 @@ impl<'a, C: Sponge + Drop, U, D: DigestHasher> VerifierState<'a, C, U, D> {
             self.new.unread.now }
         ensures turn { self.new.turn ≡ self.old.turn }
         ensures challenger { self.new.challenger ≡ self.old.challenger }
-        ensures end { IsEndOf self.old.unread.now self.new.unread.now }
     {
         let unread = self.unread;
         if unread.len() < len {
@@ -275,7 +273,6 @@ impl<'a, C: Sponge + Drop, U, D: DigestHasher> VerifierState<'a, C, U, D> {
             self.new.unread.now }
         ensures turn { self.new.turn ≡ self.old.turn }
         ensures challenger { self.new.challenger ≡ self.old.challenger }
-        ensures end { IsEndOf self.old.unread.now self.new.unread.now }
     {
         let bytes = self.read_bytes(Cdc::wire_len())?;
         Cdc::decode(bytes)
@@ -287,7 +284,6 @@ impl<'a, C: Sponge + Drop, U, D: DigestHasher> VerifierState<'a, C, U, D> {
             self.new.unread.now }
         ensures turn { self.new.turn ≡ self.old.turn }
         ensures challenger { self.new.challenger ≡ self.old.challenger }
-        ensures end { IsEndOf self.old.unread.now self.new.unread.now }
     {
         let width = count_width(max);
         let bytes = self.read_bytes(width)?;
@@ -305,7 +301,6 @@ impl<'a, C: Sponge + Drop, U, D: DigestHasher> VerifierState<'a, C, U, D> {
         ensures within { IfOk result (λ bytes. length bytes.now ≤ max) }
         ensures turn { self.new.turn ≡ self.old.turn }
         ensures challenger { self.new.challenger ≡ self.old.challenger }
-        ensures end { IsEndOf self.old.unread.now self.new.unread.now }
     {
         let count = self.read_count(max, over)?;
         self.read_bytes(count)

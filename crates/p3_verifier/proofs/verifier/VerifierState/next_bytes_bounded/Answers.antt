@@ -45,7 +45,6 @@ returns-in_err-observe_count g c =
     (λ bs. in_turn (observing_bytes alphabet (count_bytes c.args.max (length bs))) (observing_bytes alphabet bs))
     before _ bytes c.in_err-observe_count.field-0.0 here
     opened.is_next c.in_ok-bytes.ensures.read
-    c.in_ok-bytes.ensures.end
     (ap state kept) (inl c.in_err-observe_count.ensures.does)
     (ap (λ t. t.steps.closed || t.steps.player.finished) same
     ∙ ap (λ b. b || c.take_bytes.new.self.player.finished) opened.closed))
@@ -71,7 +70,6 @@ returns-in_err-observe_bytes g c =
     (λ bs. in_turn (observing_bytes alphabet (count_bytes c.args.max (length bs))) (observing_bytes alphabet bs))
     before _ bytes e here
     opened.is_next c.in_ok-bytes.ensures.read
-    c.in_ok-bytes.ensures.end
     (ap state kept)
     (inr (subst (λ u. (observing_bytes alphabet bytes).refuses e u end) c.in_ok-observe_count.ensures.does.1
     c.in_err-observe_bytes.ensures.err))

@@ -22,4 +22,4 @@ returns-in_err-bounds g c =
     opened.is_next
     (ap (λ t. t.closed || t.player.finished) same ∙ ap (λ b. b || c.take_algebra.new.self.player.finished)
     opened.closed)
-    c.in_err-bounds.ensures.end c.args.n c.in_err-bounds.field-0.0 c.in_err-bounds.ensures.read)
+    c.args.n c.in_err-bounds.field-0.0 c.in_err-bounds.ensures.read)

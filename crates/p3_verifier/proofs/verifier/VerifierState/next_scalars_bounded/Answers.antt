@@ -1,4 +1,4 @@
-use Rattle.std.proofs.Common.{subst, ap, ◌∙◌, ◌||◌}
+use Rattle.std.proofs.Common.{refl, subst, ap, ◌∙◌, ◌||◌}
 use Rattle.std.proofs.lemmas.Result.{err_from_is_err_and}
 use Rattle.p3_fs_core.specs.declared.step.Kind.TheVariants.{Message}
 use Rattle.p3_fs_core.specs.declared.step.Length.TheVariants.{Bounded}
@@ -7,7 +7,6 @@ use Rattle.p3_driver_core.specs.Opened.{playing_of}
 use Rattle.p3_driver_core.specs.Counts.{count_bytes}
 use Rattle.p3_driver_core.specs.Effects.{alphabet_of, observing_bytes}
 use Rattle.p3_driver_core.specs.Turns.{algebra_step}
-use Rattle.p3_verifier.proofs.Ends.{end-then}
 use Rattle.p3_verifier.proofs.Refusals.{not-read, count-fails, count-refused, values-refused, values-received}
 use Rattle.p3_verifier.specs.Reads as reads
 use Rattle.p3_verifier.specs.Verifying.{verifying_of}
@@ -33,7 +32,7 @@ returns-in_err-count g c =
     let finished = ap (λ t. t.steps.closed || t.steps.player.finished) same ∙ closed in
     let e = c.in_err-count.field-0.0 in
     rw (p.1, p.2) (not-read (reads.received_bounded step alphabet c.args.max o enc) before after e opened.is_next
-    (count-fails step o enc before after opened.is_next finished c.in_err-count.ensures.end alphabet c.args.max
+    (count-fails step o enc before after opened.is_next finished alphabet c.args.max
     after.unread e
     c.in_err-count.ensures.read) (ap state kept) finished)
 
@@ -58,9 +57,8 @@ returns-in_err-observe_count g c =
     let e = c.in_err-observe_count.field-0.0 in
     let end = state c.observe_count.new.challenger in
     let n = c.in_ok-count.count in
-    rw (p.1, p.2) (count-refused step o enc before _ opened.is_next finished c.in_ok-count.ensures.end
-    alphabet c.args.max n
-    c.read_count.new.self.unread.now c.in_ok-count.ensures.read e c.in_err-observe_count.ensures.memory
+    rw (p.1, p.2) (count-refused step o enc before _ opened.is_next finished alphabet c.args.max n
+    c.read_count.new.self.unread.now c.in_ok-count.ensures.read refl e c.in_err-observe_count.ensures.memory
     (subst (λ s. (observing_bytes alphabet (count_bytes c.args.max n)).refuses e s end)
     (ap state kept) c.in_err-observe_count.ensures.does))
 
@@ -84,9 +82,7 @@ returns-in_err-bounds g c =
     let finished = ap (λ t. t.closed || t.player.finished) c.in_err-bounds.ensures.steps
     ∙ ap (λ t. t.steps.closed || t.steps.player.finished) same ∙ closed in
     let n = c.in_ok-count.count in
-    let end = end-then before.unread c.read_count.new.self.unread.now after.unread c.in_ok-count.ensures.end
-    c.in_err-bounds.ensures.end in
-    rw (p.1, p.2) (values-refused step o enc before after opened.is_next finished end alphabet c.args.max n
+    rw (p.1, p.2) (values-refused step o enc before after opened.is_next finished alphabet c.args.max n
     c.read_count.new.self.unread.now c.in_ok-count.ensures.read (state c.observe_count.new.challenger)
     c.in_err-bounds.field-0.0
     (c.in_ok-observe_count.ensures.does.1

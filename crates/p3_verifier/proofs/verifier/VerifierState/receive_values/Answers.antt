@@ -1,12 +1,11 @@
-use Rattle.std.proofs.Common.{◌+◌, ◌-◌, [], refl, sym, ap, ◌∙◌, ◌≡◌, subst, arith, map}
+use Rattle.std.proofs.Common.{◌+◌, ◌-◌, [], inl, refl, sym, ap, ◌∙◌, ◌≡◌, subst, arith, map}
 use Rattle.std.proofs.lemmas.Result.{err_from_is_err_and}
 use Rattle.p3_challenger_core.specs.Observation.{RefusesObserve}
 use Rattle.p3_driver_core.specs.Bound.{value_of}
 use Rattle.p3_driver_core.specs.BoundLaws.{values-more}
 use Rattle.p3_verifier.specs.Reads as reads
-use Rattle.p3_verifier.proofs.Ends.{end-all, end-then}
 use Rattle.p3_verifier.proofs.ValuesInTurn.{ReadsOn, reads_on-start, reads_on-next, reads_on-all, reads_on-one_left}
-use Rattle.p3_verifier.proofs.ValuesInTurn.{reads_on-none_left, enough-read, short-read, leaves-none, fails-in_list}
+use Rattle.p3_verifier.proofs.ValuesInTurn.{reads_on-none_left, enough, enough-read, short-read, fails-in_list}
 use Rattle.p3_verifier.proofs.ValuesInTurn.{refused-in_list}
 use Rattle.p3_verifier.proofs.verifier.VerifierState.receive_values.Goals as goal
 
@@ -23,8 +22,9 @@ returns-then-not-holds-clause-read g c = (
 pub returns-in_err-bounds-clause-read : goal.returns-in_err-bounds-clause-read
 returns-in_err-bounds-clause-read g c =
     let p = err_from_is_err_and c.from_residual.result c.from_residual.ensures.1 in
-    rw (p.1, p.2) (leaves-none g.Cdc.Codec.encoding g.Cdc.Codec.observation c.args.n c.args.self.now.unread.now
-    (g.C.Sponge.state c.args.self.now.challenger))
+    rw (p.1, p.2)
+    (enough g.Cdc.Codec.encoding g.Cdc.Codec.observation c.args.n c.args.self.now.unread.now c.holds.result
+    c.wire_len.result c.holds.ensures.0 c.if-not-holds.false c.wire_len.ensures, inl (refl, refl))
 
 pub loop-init : goal.loop-init
 loop-init g c =
@@ -37,7 +37,6 @@ loop-init g c =
       on = subst (λ xs. ReadsOn e o c.args.n bytes s xs (c.args.n - 0) bytes s)
           (sym (ap (map value_of) c.in_ok-bounds.ensures.items))
           (subst (λ k. ReadsOn e o c.args.n bytes s [] k bytes s) all (reads_on-start e o c.args.n bytes s));
-      end = end-all bytes;
       steps = refl;
       count = c.in_ok-bounds.ensures.len;
       room = c.in_ok-bounds.ensures.exact;
@@ -76,7 +75,9 @@ returns-in_err-observe-clause-read g c =
     let err = c.in_err-observe.field-0.0 in
     rw (p.1, p.2) (refused-in_list e o c.args.n bytes s xs (c.args.n - (c.loop.counter + 1)) here t
     (reads_on-one_left e o c.args.n bytes s xs c.loop.counter here t c.loop-test.true c.loop.invariant.on)
-    c.read_value.new.self.unread.now c.read_value.new.self.unread.now u c.in_ok-value.value err
+    c.read_value.new.self.unread.now u c.in_ok-value.value err
+    (enough e o c.args.n bytes c.holds.result c.wire_len.result c.holds.ensures.0 c.if-not-holds.false
+    c.wire_len.ensures)
     c.in_ok-value.ensures.read
     (subst (λ w. RefusesObserve (o.may_leave w c.in_ok-value.value) err u)
     (ap state c.in_ok-value.ensures.challenger) c.in_err-observe.ensures.err))
@@ -103,7 +104,6 @@ loop-preserved g c =
           (state c.observe.new.challenger) x c.in_ok-value.ensures.read
           (c.in_ok-observe.ensures.ok ∙ ap (λ w. o.observed w x) same)
           (reads_on-one_left e o c.args.n bytes s xs i here t c.loop-test.true c.loop.invariant.on));
-      end = end-then bytes here c.read_value.new.self.unread.now c.loop.invariant.end c.in_ok-value.ensures.end;
       steps = ap (λ d. d.steps) c.in_ok-value.ensures.turn ∙ c.loop.invariant.steps;
       count = c.push_reserved.ensures.len ∙ ap (λ k. k + 1) c.loop.invariant.count;
       room = c.push_reserved.ensures.capacity ∙ c.loop.invariant.room;

@@ -1,6 +1,5 @@
 use Rattle.std.proofs.Common.{◌≡◌, ◌-◌, vec_len, vec_capacity, map}
 use Rattle.p3_driver_core.specs.Bound.{value_of}
-use Rattle.p3_verifier.specs.Reads.{IsEndOf}
 use Rattle.p3_verifier.proofs.ValuesInTurn.{ReadsOn}
 use Rattle.p3_verifier.proofs.verifier.VerifierState.receive_values.Given as goal
 
@@ -10,7 +9,6 @@ invariant-loop g l =
       on : ReadsOn g.Cdc.Codec.encoding g.Cdc.Codec.observation l.n l.fn.self.unread.now
           (g.C.Sponge.state l.fn.self.challenger) (map value_of l.bounds.items) (l.n - l.counter)
           l.self.unread.now (g.C.Sponge.state l.self.challenger);
-      end : IsEndOf l.fn.self.unread.now l.self.unread.now;
       steps : l.self.turn.steps ≡ l.fn.self.turn.steps;
       count : vec_len l.bounds ≡ l.counter;
       room : vec_capacity l.bounds ≡ l.n;
