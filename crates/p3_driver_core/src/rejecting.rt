@@ -1,7 +1,7 @@
 // Draws until a rule has taken so many of the candidates.
-ghost use Rattle.std.specs.Prelude.{◌≤◌};
+ghost use Rattle.std.specs.Prelude.{◌≡◌, ◌≤◌, true, IfErr};
 ghost use Rattle.p3_driver_core.specs.Bound.{values_of};
-ghost use Rattle.p3_driver_core.specs.Opened.{turn_of};
+ghost use Rattle.p3_driver_core.specs.Opened.{playing_of, turn_of};
 ghost use Rattle.p3_driver_core.specs.Rejecting.{Rule, Computes, Takes, TakesAll, drawn_rejecting};
 ghost use Rattle.p3_driver_core.specs.Turns.{PlaysOrRefuses, algebra_step};
 
@@ -79,11 +79,12 @@ impl<D: DigestHasher> DriverTurn<D> {
     ) -> Result<Vec<TranscriptBound<A>>, TranscriptError>
         requires secure { 128 ≤ Cdc.SECURITY_BITS }
         requires callable { R.IsAlwaysCallable accept.now }
-        ensures { (rule : Rule A) → Computes R.Fn accept.now rule →
+        ensures played { (rule : Rule A) → Computes R.Fn accept.now rule →
             let step = algebra_step Kind.Challenge label.now F.residues.order A.DIMENSION
             (D.digest_of A.identity) A.name_bytes (Length.Fixed n) in
             PlaysOrRefuses (drawn_rejecting {Symbol = C.Symbol} step Cdc.sampling rule limit n)
             (turn_of (C.state challenger.old) self.old) values_of result (turn_of (C.state challenger.new) self.new) }
+        ensures spent { IfErr result (λ _. (playing_of self.new.steps).finished ≡ true) }
     {
         self.steps
             .take_algebra::<F, A>(Kind::Challenge, label, Length::Fixed(n))?;

@@ -96,6 +96,7 @@ wrong_step playing received expected going is next other =
         challenger = refl;
       };
       wire = refl;
+      order = inl refl;
     }
 
 -- and from then on no step is played, the right one neither
@@ -105,6 +106,7 @@ then_finished playing =
     record {
       refuses = record { playing = record { fault = inl (refl, refl); finished = refl }; challenger = refl };
       wire = refl;
+      order = inl refl;
     }
 
 -- a list of four, where three are the most
@@ -123,7 +125,11 @@ three_bytes_written : (playing : Playing) → IsNext playing two_numbers.interac
     (proving (closed playing) (256 ∷ 5 ∷ 2 ∷ 1 ∷ 9 ∷ []) (0xaa ∷ 2 ∷ 0 ∷ 5 ∷ []))
 unfolding count_width first_chunks
 three_bytes_written playing next =
-    record { refuses = record { is_next = next; leaves = inr (inl refl); finished = refl }; wire = (3, refl) }
+    record {
+      refuses = record { is_next = next; leaves = inr (inl refl); finished = refl };
+      wire = (3, refl);
+      order = inr refl;
+    }
 
 -- 257 bytes are too long for the alphabet: their count is fed, and nothing is written
 abbrev too_long : Meaning (List ℕ) ℕ (List ℕ)
@@ -137,4 +143,5 @@ count_fed playing next =
     record {
       refuses = record { is_next = next; leaves = inr (le_refl 257, refl); finished = refl };
       wire = refl;
+      order = inl refl;
     }

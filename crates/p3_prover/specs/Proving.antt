@@ -23,11 +23,13 @@ pub record Writes {S Symbol A : Type 0} (m : Meaning S Symbol A) (before : Provi
   pub plays : Plays m before.turn x after.turn
   pub wire : after.narg ≡ before.narg ++ m.wire
 
--- the step is refused; where memory was, a beginning of its bytes is added
+-- the step is refused; where memory was, a beginning of its bytes is added, and none before the challenger took part in
+-- all of it
 pub record RefusesToWrite {S Symbol A : Type 0} (m : Meaning S Symbol A) (before : Proving S) (e : TranscriptError)
     (after : Proving S) : Type 0 where
   pub refuses : Refuses m before.turn e after.turn
   pub wire : LeavesWire m.wire e before.narg after.narg
+  pub order : (after.narg ≡ before.narg) ⊎ (after.turn.challenger ≡ m.effect.after before.turn.challenger)
 
 -- the step is played, and the answer is what came of it; or it is refused
 abbrev pub WritesOrRefuses : {S Symbol A R : Type 0} → Meaning S Symbol A → Proving S → (R → A) →

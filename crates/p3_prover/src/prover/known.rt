@@ -1,5 +1,5 @@
 // The steps of a prover that leave the proof as it is: containers, values that it does not carry, and draws.
-ghost use Rattle.std.specs.Prelude.{◌≡◌, ◌≤◌, length, IsOk};
+ghost use Rattle.std.specs.Prelude.{◌≡◌, ◌≤◌, true, length, IfErr, IsOk};
 ghost use Rattle.p3_fs_core.specs.Steps.{marker_of};
 ghost use Rattle.p3_driver_core.specs.Bound.{value_of, values_of};
 ghost use Rattle.p3_driver_core.specs.Effects.{alphabet_of};
@@ -314,6 +314,7 @@ impl<C: Sponge, U, D: DigestHasher> ProverState<C, U, D> {
             ⟦<ExtensionFieldCodec<F, EF, Cdc> as Codec<C, EF>>⟧.sampling rule limit n)
             (proving_of C.state self.old).turn values_of result (proving_of C.state self.new).turn }
         ensures narg { (proving_of C.state self.new).narg ≡ (proving_of C.state self.old).narg }
+        ensures spent { IfErr result (λ _. (proving_of C.state self.new).turn.playing.finished ≡ true) }
     {
         self.turn
             .draw_rejecting::<F, EF, C, ExtensionFieldCodec<F, EF, Cdc>, R>(

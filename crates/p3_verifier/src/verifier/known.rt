@@ -1,5 +1,5 @@
 // The steps of a verifier that read nothing: containers, values that the proof does not carry, and draws.
-ghost use Rattle.std.specs.Prelude.{◌≡◌, ◌≤◌, length, IsOk};
+ghost use Rattle.std.specs.Prelude.{◌≡◌, ◌≤◌, true, length, IfErr, IsOk};
 ghost use Rattle.p3_fs_core.specs.Steps.{marker_of};
 ghost use Rattle.p3_driver_core.specs.Bound.{value_of, values_of};
 ghost use Rattle.p3_driver_core.specs.Effects.{alphabet_of};
@@ -317,6 +317,7 @@ impl<C: Sponge, U, D: DigestHasher> VerifierState<'_, C, U, D> {
             ⟦<ExtensionFieldCodec<F, EF, Cdc> as Codec<C, EF>>⟧.sampling rule limit n)
             (verifying_of C.state self.old).turn values_of result (verifying_of C.state self.new).turn }
         ensures unread { (verifying_of C.state self.new).unread ≡ (verifying_of C.state self.old).unread }
+        ensures spent { IfErr result (λ _. (verifying_of C.state self.new).turn.playing.finished ≡ true) }
     {
         self.turn
             .draw_rejecting::<F, EF, C, ExtensionFieldCodec<F, EF, Cdc>, R>(

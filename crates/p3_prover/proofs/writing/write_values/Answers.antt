@@ -1,4 +1,4 @@
-use Rattle.std.proofs.Common.{◌∷◌, ◌+◌, drop, sym, subst, ◌∙◌, List, add-one}
+use Rattle.std.proofs.Common.{◌∷◌, ◌+◌, drop, sym, subst, ◌∙◌, add-one}
 use Rattle.std.proofs.Math.Seq.{drop-cons}
 use Rattle.std.proofs.lemmas.Result.{err_from_is_err_and}
 use Rattle.p3_prover.proofs.Pieces.{Spelled, spelled-stops}

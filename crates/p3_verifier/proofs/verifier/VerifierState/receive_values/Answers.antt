@@ -22,9 +22,11 @@ returns-then-not-holds-clause-read g c = (
 pub returns-in_err-bounds-clause-read : goal.returns-in_err-bounds-clause-read
 returns-in_err-bounds-clause-read g c =
     let p = err_from_is_err_and c.from_residual.result c.from_residual.ensures.1 in
-    rw (p.1, p.2)
-    (enough g.Cdc.Codec.encoding g.Cdc.Codec.observation c.args.n c.args.self.now.unread.now c.holds.result
-    c.wire_len.result c.holds.ensures.0 c.if-not-holds.false c.wire_len.ensures, inl (refl, refl))
+    rw (p.1, p.2) (
+      enough g.Cdc.Codec.encoding g.Cdc.Codec.observation c.args.n c.args.self.now.unread.now c.holds.result
+          c.wire_len.result c.holds.ensures.0 c.if-not-holds.false c.wire_len.ensures,
+      inl (refl, refl),
+    )
 
 pub loop-init : goal.loop-init
 loop-init g c =
