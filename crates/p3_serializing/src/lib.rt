@@ -1,7 +1,11 @@
 //! Challengers of the elements of a field over a challenger of bytes: an element goes in as its bytes, and is drawn
-//! from bytes.
+//! from groups of bytes.
 #![tactic(auto)]
 
 mod serialized_in;
+mod serializing_challenger;
 
 pub use serialized_in::SerializedIn;
+pub use serializing_challenger::{
+    SerializingChallenger, SerializingChallenger32, SerializingChallenger64,
+};

@@ -17,10 +17,15 @@ pub trait SerializedIn<const BYTES: usize>: PrimeField64 {
 
     // Each number below the order has that many bytes.
     ghost order_fits: { Self.residues.order ≤ 256 ^ BYTES };
+
+    ghost at_most_8: { BYTES ≤ 8 };
 }
 
 impl<F: PrimeField32> SerializedIn<4> for F {
+    ghost use Rattle.std.proofs.Common.{lit≤};
     ghost use Rattle.p3_serializing.specs.BytesLaws.{fits_4};
+
+    ghost at_most_8 = { lit≤ tt };
 
     ghost order_fits = { fits_4 F.residues.order F.fits_u32 };
 
@@ -34,7 +39,10 @@ impl<F: PrimeField32> SerializedIn<4> for F {
 }
 
 impl<F: PrimeField64> SerializedIn<8> for F {
+    ghost use Rattle.std.proofs.Common.{lit≤};
     ghost use Rattle.p3_serializing.specs.BytesLaws.{fits_8};
+
+    ghost at_most_8 = { lit≤ tt };
 
     ghost order_fits = { fits_8 F.residues.order F.fits_u64 };
 
