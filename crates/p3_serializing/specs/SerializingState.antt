@@ -37,6 +37,10 @@ passed_on o =
       may_leave = λ s x t. o.may_leave s.inner x t.inner × (t.draw_limit ≡ s.draw_limit);
     }
 
+-- values in order, each observed as another value
+abbrev pub each_as : {S Symbol T U : Type 0} → (U → T) → Observation S Symbol T → Observation S Symbol (List U)
+each_as f o = observation.in_row (observed_as f o)
+
 module _ {I Symbol : Type 0} (o : Observation I Symbol ℕ) (slice_may_leave : I → List ℕ → I → Type 0) where
   -- bytes, which reach the inner challenger as one slice
   abbrev pub bytes_observed : Observation (SerializingState I) Symbol (List ℕ)

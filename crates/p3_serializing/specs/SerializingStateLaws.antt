@@ -76,8 +76,34 @@ module _ {I Symbol : Type 0} (inner_fed : I → List Symbol → I) where
           → IsObservation (fed inner_fed) (element_observed o slice_may_leave r n)
       element-observed r n = as-observed r.number (number_observed o slice_may_leave n) (number-observed n)
 
+      pub elements-observed : {F : Type 0} (r : Residues F) (n : ℕ)
+          → IsObservation (fed inner_fed) (observation.in_row (element_observed o slice_may_leave r n))
+      elements-observed r n = row-observed (element_observed o slice_may_leave r n) (element-observed r n)
+
       pub words-observed : IsObservation (fed inner_fed) (words_observed o slice_may_leave)
       words-observed = row-observed (number_observed o slice_may_leave 8) (number-observed 8)
+
+      -- of what is bytes, or lists of bytes, in another way
+      pub bytes-observed_as : {U : Type 0} (f : U → List ℕ)
+          → IsObservation (fed inner_fed) (observed_as f (bytes_observed o slice_may_leave))
+      bytes-observed_as f = as-observed f (bytes_observed o slice_may_leave) bytes-observed
+
+      pub byte_lists-observed_as : {U : Type 0} (f : U → List (List ℕ))
+          → IsObservation (fed inner_fed) (observed_as f (observation.in_row (bytes_observed o slice_may_leave)))
+      byte_lists-observed_as f =
+          as-observed f (observation.in_row (bytes_observed o slice_may_leave))
+          (row-observed (bytes_observed o slice_may_leave) bytes-observed)
+
+      -- the same of words
+      pub words-observed_as : {U : Type 0} (f : U → List ℕ)
+          → IsObservation (fed inner_fed) (observed_as f (words_observed o slice_may_leave))
+      words-observed_as f = as-observed f (words_observed o slice_may_leave) words-observed
+
+      pub word_lists-observed_as : {U : Type 0} (f : U → List (List ℕ))
+          → IsObservation (fed inner_fed) (observed_as f (observation.in_row (words_observed o slice_may_leave)))
+      word_lists-observed_as f =
+          as-observed f (observation.in_row (words_observed o slice_may_leave))
+          (row-observed (words_observed o slice_may_leave) words-observed)
 
 -- ---- draws are made of the smallest ones
 

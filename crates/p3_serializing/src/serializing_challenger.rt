@@ -1,11 +1,14 @@
-ghost use Rattle.std.specs.Prelude.{◌≡◌, ◌≤◌, List, OnOk, IfErr};
+ghost use Rattle.std.specs.Prelude.{◌≡◌, ◌≤◌, OnOk, IfErr};
 ghost use Rattle.p3_challenger_core.specs.Observation.{RefusesObserve, in_row};
 ghost use Rattle.p3_hash_challenger.specs.HashCalls.{absorbing};
+
+mod digests;
 
 use crate::SerializedIn;
 use p3_challenger_core::{CanObserve, ChallengerError, Sponge};
 use p3_hash_challenger::HashChallenger;
 use p3_symmetric::CryptographicHasher;
+use std::convert::AsSlice;
 use std::marker::{Model, PhantomData};
 
 /// A challenger of the elements of a field over a challenger of bytes.
@@ -133,7 +136,7 @@ impl<F: SerializedIn<BYTES>, Inner: CanObserve<u8>, const BYTES: usize> Serializ
     Inner,
     BYTES,
 > {
-    ghost use Rattle.p3_serializing.specs.SerializingState.{state_of, element_observed};
+    ghost use Rattle.p3_serializing.specs.SerializingState.{state_of, element_observed, each_as};
 
     // Passes an element on as its bytes.
     fn feed_element(&mut self, value: F) -> Result<(), ChallengerError>
@@ -163,6 +166,25 @@ impl<F: SerializedIn<BYTES>, Inner: CanObserve<u8>, const BYTES: usize> Serializ
         }
         Ok(())
     }
+
+    // Passes lists of elements on in order, each element by one call.
+    fn feed_element_lists<Part: AsSlice<F>>(
+        &mut self,
+        lists: &[Part],
+    ) -> Result<(), ChallengerError>
+        ensures ok { OnOk result (state_of Inner.state self.new
+            ≡ (each_as Part.items (in_row (element_observed Inner.observation Inner.slice_may_leave
+            F.residues BYTES))).observed (state_of Inner.state self.old) lists.now) }
+        ensures err { IfErr result (λ e. RefusesObserve
+            ((each_as Part.items (in_row (element_observed Inner.observation Inner.slice_may_leave
+            F.residues BYTES))).may_leave (state_of Inner.state self.old) lists.now) e
+            (state_of Inner.state self.new)) }
+    {
+        for i in 0..lists.len() {
+            self.feed_elements(lists[i].as_slice())?;
+        }
+        Ok(())
+    }
 }
 
 impl<F: SerializedIn<BYTES>, Inner: CanObserve<u8>, const BYTES: usize> CanObserve<F>
@@ -188,5 +210,32 @@ impl<F: SerializedIn<BYTES>, Inner: CanObserve<u8>, const BYTES: usize> CanObser
 
     fn observe_slice(&mut self, values: &[F]) -> Result<(), ChallengerError> {
         self.feed_elements(values)
+    }
+}
+
+impl<F: SerializedIn<BYTES>, Inner: CanObserve<u8>, const BYTES: usize, const N: usize> CanObserve<
+    [F; N],
+> for SerializingChallenger<F, Inner, BYTES> {
+    ghost use Rattle.p3_challenger_core.specs.Observation.{in_row};
+    ghost use Rattle.p3_serializing.specs.SerializingState.{element_observed};
+    ghost use Rattle.p3_serializing.specs.SerializingStateLaws.{elements-observed};
+
+    // Its elements in order, each by one call. An array of no places feeds nothing.
+    ghost observation = { in_row (element_observed Inner.observation Inner.slice_may_leave F.residues BYTES) };
+
+    ghost slice_may_leave = { (in_row (in_row (element_observed Inner.observation Inner.slice_may_leave F.residues
+        BYTES))).may_leave };
+
+    ghost observes = { elements-observed Inner.fed Inner.fed_nothing Inner.fed_more Inner.observation
+        Inner.slice_may_leave Inner.observes Inner.slice_leaves F.residues BYTES };
+
+    ghost slice_leaves = { λ _ _ _ h. h };
+
+    fn observe(&mut self, value: [F; N]) -> Result<(), ChallengerError> {
+        self.feed_elements(&value[..])
+    }
+
+    fn observe_slice(&mut self, values: &[[F; N]]) -> Result<(), ChallengerError> {
+        self.feed_element_lists(values)
     }
 }

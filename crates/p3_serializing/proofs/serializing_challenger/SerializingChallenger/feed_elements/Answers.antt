@@ -11,6 +11,5 @@ returns-in_err-feed_element-clause-err g c =
     let state = state_of g.Inner.Sponge.state in
     let left = goes_on-refused o.observed o.may_leave (state c.args.self.now) c.args.values.now
     (state c.loop-i.self) c.loop-i.i c.index-values-i.result c.loop-i-test.true c.index-values-i.is
-    c.loop-i.invariant c.in_err-feed_element.field-0.0 (state c.feed_element.new.self)
-    c.in_err-feed_element.ensures.err in
+    c.loop-i.invariant c.in_err-feed_element.field-0.0 (state c.feed_element.new.self) c.in_err-feed_element.ensures.err in
     search (rules, left)
