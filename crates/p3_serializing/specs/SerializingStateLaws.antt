@@ -1,5 +1,7 @@
 -- Laws of a serializing challenger: what it does is what its inner challenger does.
-use Rattle.std.proofs.Common.{◌≡◌, ℕ, zero, suc, ◌%◌, ◌^◌, List, [], ◌∷◌, ◌++◌, take, nat_lt, refl, sym, ap, ◌∙◌}
+use Rattle.std.proofs.Common.{◌≡◌, ℕ, zero, suc, ◌<◌, ◌%◌, ◌^◌, List, [], ◌++◌, take, nat_lt, refl, sym, ap, ◌∙◌}
+use Rattle.std.proofs.Common.{Option, Some, None}
+use Rattle.std.specs.Option.{option_map}
 use Rattle.p3_field_core.specs.Residues.{Residues}
 use Rattle.p3_challenger_core.specs.Sponge.{IsFed, IsStepsOn, after_steps}
 use Rattle.p3_challenger_core.specs.Observation as observation
@@ -7,8 +9,12 @@ use Rattle.p3_challenger_core.specs.Observation.{Observation, IsObservation, Lea
 use Rattle.p3_challenger_core.specs.ObservationLaws.{in_slice-is_observation, in_row-is_observation}
 use Rattle.p3_challenger_core.specs.ObservationLaws.{observed_as-is_observation}
 use Rattle.p3_challenger_core.specs.Sampling as sampling
-use Rattle.p3_challenger_core.specs.Sampling.{Sampling, IsSampling, made_of}
-use Rattle.p3_challenger_core.specs.SamplingLaws.{in_row-is_sampling, made_of-is_sampling}
+use Rattle.p3_challenger_core.specs.BitLaws.{low_bits-below}
+use Rattle.p3_challenger_core.specs.Sampling.{Sampling, IsSampling, RefusesDraw, RefusesDraws, made_of}
+use Rattle.p3_challenger_core.specs.declared.error.ChallengerError.{ChallengerError}
+use Rattle.p3_challenger_core.specs.declared.error.ChallengerError.TheVariants.{OutOfMemory, DrawLimit, NoWitness}
+use Rattle.p3_challenger_core.specs.declared.error.ChallengerError.TheVariants.{TooLong}
+use Rattle.p3_challenger_core.specs.SamplingLaws.{in_row-is_sampling, made_of-is_sampling, refused-in_row}
 use Rattle.p3_serializing.specs.Bytes.{bytes_of, number_of}
 use Rattle.p3_serializing.specs.Candidates.{accepted_of}
 use Rattle.p3_serializing.specs.CandidateLaws.{accepted_of-is_sampling}
@@ -105,7 +111,32 @@ module _ {I Symbol : Type 0} (inner_fed : I → List Symbol → I) where
           as-observed f (observation.in_row (words_observed o slice_may_leave))
           (row-observed (words_observed o slice_may_leave) words-observed)
 
--- ---- draws are made of the smallest ones
+-- ---- draws
+
+-- a draw is refused as what is made of its value
+pub refused-made_of : {S T U : Type 0} (f : T → U) (d : Sampling S T) (e : ChallengerError) (s t : S)
+    → RefusesDraw d e s t → RefusesDraw (made_of f d) e s t
+refused-made_of f d OutOfMemory s t h = h
+refused-made_of f d DrawLimit s t h = h
+refused-made_of f d NoWitness s t h = h
+refused-made_of f d TooLong s t h = h
+
+-- so is a draw from the inner challenger
+pub refused-under_limit : {I T : Type 0} (d : ℕ → Sampling I T) (e : ChallengerError) (s t : SerializingState I)
+    → t.draw_limit ≡ s.draw_limit → RefusesDraw (d s.draw_limit) e s.inner t.inner → RefusesDraw (under_limit d) e s t
+refused-under_limit d OutOfMemory s t same h = (h, same)
+refused-under_limit d DrawLimit s t same h = (h.0, λ i. record { inner = h.1 i; draw_limit = same i })
+refused-under_limit d NoWitness s t same h = h
+refused-under_limit d TooLong s t same h = h
+
+-- the low bits of a number that may be drawn
+low_bits-below_all : (word : Option ℕ) (bits x : ℕ) → option_map (λ n. n % 2 ^ bits) word ≡ Some x → x < 2 ^ bits
+low_bits-below_all None bits x drawn = cc
+low_bits-below_all (Some n) bits x drawn = low_bits-below n bits x drawn
+
+pub bits_drawn-below : {I : Type 0} (d : Sampling I ℕ) (n bits : ℕ) (s : SerializingState I) (x : ℕ)
+    → (bits_drawn d n bits).sampled s ≡ Some x → x < 2 ^ bits
+bits_drawn-below d n bits s x drawn = low_bits-below_all ((group d n).sampled s.inner) bits x drawn
 
 module _ {I : Type 0} (next : I → I) where
   stepped-steps : (n : ℕ) (s : SerializingState I)
@@ -128,6 +159,11 @@ module _ {I : Type 0} (next : I → I) where
       }
 
   module _ (d : Sampling I ℕ) (laws : IsSampling next d) (n : ℕ) where
+    -- a group is refused as one of its bytes is
+    pub refused-group : (e : ChallengerError) (s t : I) → RefusesDraws d n e s t → RefusesDraw (group d n) e s t
+    refused-group e s t h =
+        refused-made_of number_of (sampling.in_row d n) e s t (refused-in_row next d laws n e s t h)
+
     pub group-drawn : IsSampling next (group d n)
     group-drawn =
         made_of-is_sampling next number_of (sampling.in_row d n) (in_row-is_sampling next d laws n)
@@ -152,3 +188,11 @@ module _ {I : Type 0} (next : I → I) where
       space_element-drawn dimension element =
           made_of-is_sampling (stepped next) element (sampling.in_row (element_drawn d n r) dimension)
           (in_row-is_sampling (stepped next) (element_drawn d n r) element-drawn dimension)
+
+      -- where a coefficient is refused, the element is
+      pub refused-space_element : {A : Type 0} (dimension : ℕ) (element : List F → A) (e : ChallengerError)
+          (s t : SerializingState I) → RefusesDraws (element_drawn d n r) dimension e s t
+          → RefusesDraw (space_element_drawn d n r dimension element) e s t
+      refused-space_element dimension element e s t h =
+          refused-made_of element (sampling.in_row (element_drawn d n r) dimension) e s t
+          (refused-in_row (stepped next) (element_drawn d n r) element-drawn dimension e s t h)

@@ -4,8 +4,10 @@
 
 mod serialized_in;
 mod serializing_challenger;
+mod state;
 
 pub use serialized_in::SerializedIn;
 pub use serializing_challenger::{
     SerializingChallenger, SerializingChallenger32, SerializingChallenger64,
 };
+pub use state::SerializingState;

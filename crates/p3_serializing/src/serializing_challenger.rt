@@ -3,8 +3,9 @@ ghost use Rattle.p3_challenger_core.specs.Observation.{RefusesObserve, in_row};
 ghost use Rattle.p3_hash_challenger.specs.HashCalls.{absorbing};
 
 mod digests;
+mod draws;
 
-use crate::SerializedIn;
+use crate::{SerializedIn, SerializingState};
 use p3_challenger_core::{CanObserve, ChallengerError, Sponge};
 use p3_hash_challenger::HashChallenger;
 use p3_symmetric::CryptographicHasher;
@@ -99,7 +100,7 @@ impl<F, Inner: Sponge, const BYTES: usize> Sponge for SerializingChallenger<F, I
     ghost use Rattle.p3_serializing.specs.SerializingState as serializing_state;
     ghost use Rattle.p3_serializing.specs.SerializingStateLaws.{nothing-fed, more-fed};
 
-    type State = SerializingChallenger<F, Inner::State, BYTES>;
+    type State = SerializingState<Inner::State>;
 
     type Symbol = Inner::Symbol;
 

@@ -1,4 +1,4 @@
-use Rattle.std.proofs.Common.{get_or, sym, rules}
+use Rattle.std.proofs.Common.{get_or, rules}
 use Rattle.std.proofs.lemmas.List.{get_or_default}
 use Rattle.p3_challenger_core.specs.CallLaws.{goes_on-refused}
 use Rattle.p3_serializing.specs.SerializingState.{state_of, number_observed}
