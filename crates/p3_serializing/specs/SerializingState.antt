@@ -7,7 +7,7 @@ use Rattle.p3_challenger_core.specs.Observation as observation
 use Rattle.p3_challenger_core.specs.Sampling.{Sampling, made_of}
 use Rattle.p3_challenger_core.specs.Sampling as sampling
 use Rattle.p3_serializing.specs.Bytes.{bytes_of, number_of}
-use Rattle.p3_serializing.specs.Candidates.{accepted_of}
+use Rattle.p3_grinding.specs.Candidates.{accepted_of}
 
 -- the inner challenger's state, and the draw limit, which stays
 pub record SerializingState (I : Type 0) : Type 0 where

@@ -16,8 +16,8 @@ use Rattle.p3_challenger_core.specs.declared.error.ChallengerError.TheVariants.{
 use Rattle.p3_challenger_core.specs.declared.error.ChallengerError.TheVariants.{TooLong}
 use Rattle.p3_challenger_core.specs.SamplingLaws.{in_row-is_sampling, made_of-is_sampling, refused-in_row}
 use Rattle.p3_serializing.specs.Bytes.{bytes_of, number_of}
-use Rattle.p3_serializing.specs.Candidates.{accepted_of}
-use Rattle.p3_serializing.specs.CandidateLaws.{accepted_of-is_sampling}
+use Rattle.p3_grinding.specs.Candidates.{accepted_of}
+use Rattle.p3_grinding.specs.CandidateLaws.{accepted_of-is_sampling}
 use Rattle.p3_serializing.specs.SerializingState.{SerializingState, stepped, fed, passed_on, bytes_observed}
 use Rattle.p3_serializing.specs.SerializingState.{number_observed, element_observed, words_observed, under_limit, group}
 use Rattle.p3_serializing.specs.SerializingState.{low_bits_of_group, element_of_groups, element_drawn, bits_drawn}

@@ -2,8 +2,8 @@ use Rattle.std.proofs.Common.{◌≡◌, ◌<◌, ◌≤◌, ◌%◌, ◌^◌, �
 use Rattle.std.specs.Option.{option_map}
 use Rattle.p3_serializing.specs.SerializingState.{bits_of_order, group, low_bits_of_group}
 use Rattle.p3_serializing.specs.SerializingStateLaws.{refused-made_of, low_bits-drawn}
-use Rattle.p3_serializing.specs.Candidates.{accepted_of}
-use Rattle.p3_serializing.specs.CandidateLaws.{seeks-next, seeks-gives, seeks-reached, seeks-none, seeks-refused}
+use Rattle.p3_grinding.specs.Candidates.{accepted_of}
+use Rattle.p3_grinding.specs.CandidateLaws.{seeks-next, seeks-gives, seeks-reached, seeks-none, seeks-refused}
 use Rattle.p3_serializing.proofs.Masks.{masked-drawn, below-true, below-false}
 use Rattle.p3_serializing.proofs.serializing_challenger.draws.draw_element.Goals as goal
 

@@ -1,5 +1,5 @@
 use Rattle.std.proofs.Common.{◌-◌, nat_lt}
-use Rattle.p3_serializing.specs.CandidateLaws.{Seeks}
+use Rattle.p3_grinding.specs.CandidateLaws.{Seeks}
 use Rattle.p3_serializing.specs.SerializingState.{bits_of_order, low_bits_of_group}
 use Rattle.p3_serializing.proofs.serializing_challenger.draws.draw_element.Given as goal
 
