@@ -10,7 +10,46 @@ use std::convert::AsSlice;
 
 impl<F, Inner: CanObserve<u8>, const BYTES: usize> SerializingChallenger<F, Inner, BYTES> {
     ghost use Rattle.p3_serializing.specs.SerializingState.{state_of, bytes_observed, number_observed, words_observed};
-    ghost use Rattle.p3_serializing.specs.SerializingState.{each_as};
+    ghost use Rattle.p3_serializing.specs.SerializingState.{SerializingState, each_as};
+
+    /// A cap that is lent is observed as its contents are, the cap itself: it feeds the same symbols, and leaves the
+    /// same state.
+    ///
+    /// A law: the body is empty, and a caller cites the clauses.
+    pub fn lent_caps_are_caps<'a, const N: usize>()
+    where
+        F: SerializedIn<BYTES>,
+        ensures byte_symbols { (cap : _) →
+            ⟦<SerializingChallenger<F, Inner, BYTES> as CanObserve<&'a MerkleCap<F, [u8; N]>>>⟧.observation.symbols
+            cap
+            ≡ ⟦<SerializingChallenger<F, Inner, BYTES> as CanObserve<MerkleCap<F, [u8; N]>>>⟧.observation.symbols
+            cap.now }
+        ensures bytes_observed { (s : SerializingState Inner.State) (cap : _) →
+            ⟦<SerializingChallenger<F, Inner, BYTES> as CanObserve<&'a MerkleCap<F, [u8; N]>>>⟧.observation.observed
+            s cap
+            ≡ ⟦<SerializingChallenger<F, Inner, BYTES> as CanObserve<MerkleCap<F, [u8; N]>>>⟧.observation.observed
+            s cap.now }
+        ensures bytes_left { (s : SerializingState Inner.State) (cap : _) (t : SerializingState Inner.State) →
+            ⟦<SerializingChallenger<F, Inner, BYTES> as CanObserve<&'a MerkleCap<F, [u8; N]>>>⟧.observation.may_leave
+            s cap t
+            ↔ ⟦<SerializingChallenger<F, Inner, BYTES> as CanObserve<MerkleCap<F, [u8; N]>>>⟧.observation.may_leave
+            s cap.now t }
+        ensures word_symbols { (cap : _) →
+            ⟦<SerializingChallenger<F, Inner, BYTES> as CanObserve<&'a MerkleCap<F, [u64; N]>>>⟧.observation.symbols
+            cap
+            ≡ ⟦<SerializingChallenger<F, Inner, BYTES> as CanObserve<MerkleCap<F, [u64; N]>>>⟧.observation.symbols
+            cap.now }
+        ensures words_observed { (s : SerializingState Inner.State) (cap : _) →
+            ⟦<SerializingChallenger<F, Inner, BYTES> as CanObserve<&'a MerkleCap<F, [u64; N]>>>⟧.observation.observed
+            s cap
+            ≡ ⟦<SerializingChallenger<F, Inner, BYTES> as CanObserve<MerkleCap<F, [u64; N]>>>⟧.observation.observed
+            s cap.now }
+        ensures words_left { (s : SerializingState Inner.State) (cap : _) (t : SerializingState Inner.State) →
+            ⟦<SerializingChallenger<F, Inner, BYTES> as CanObserve<&'a MerkleCap<F, [u64; N]>>>⟧.observation.may_leave
+            s cap t
+            ↔ ⟦<SerializingChallenger<F, Inner, BYTES> as CanObserve<MerkleCap<F, [u64; N]>>>⟧.observation.may_leave
+            s cap.now t }
+    {}
 
     // Passes lists of bytes on in order, each as one slice.
     fn feed_byte_lists<Part: AsSlice<u8>>(&mut self, lists: &[Part]) -> Result<(), ChallengerError>
@@ -111,12 +150,12 @@ impl<F: SerializedIn<BYTES>, Inner: CanObserve<u8>, const BYTES: usize, const N:
 > for SerializingChallenger<F, Inner, BYTES> {
     ghost use Rattle.p3_challenger_core.specs.Observation.{in_row, observed_as};
     ghost use Rattle.p3_symmetric.specs.HashValues.{values_of};
-    ghost use Rattle.p3_serializing.specs.SerializingState.{bytes_observed};
+    ghost use Rattle.p3_serializing.specs.SerializingState.{bytes_observed, each_as};
     ghost use Rattle.p3_serializing.specs.SerializingStateLaws.{bytes-observed_as};
 
     ghost observation = { observed_as values_of (bytes_observed Inner.observation Inner.slice_may_leave) };
 
-    ghost slice_may_leave = { (in_row (observed_as values_of (bytes_observed Inner.observation Inner.slice_may_leave))).may_leave };
+    ghost slice_may_leave = { (each_as values_of (bytes_observed Inner.observation Inner.slice_may_leave)).may_leave };
 
     ghost observes = { bytes-observed_as Inner.fed Inner.fed_nothing Inner.fed_more Inner.observation
         Inner.slice_may_leave Inner.observes Inner.slice_leaves values_of };
@@ -136,13 +175,13 @@ impl<F: SerializedIn<BYTES>, Inner: CanObserve<u8>, const BYTES: usize, const N:
     MerkleCap<F, [u8; N]>,
 > for SerializingChallenger<F, Inner, BYTES> {
     ghost use Rattle.p3_challenger_core.specs.Observation.{in_row, observed_as};
-    ghost use Rattle.p3_serializing.specs.SerializingState.{bytes_observed};
+    ghost use Rattle.p3_serializing.specs.SerializingState.{bytes_observed, each_as};
     ghost use Rattle.p3_serializing.specs.SerializingStateLaws.{byte_lists-observed_as};
 
     // Its roots in order.
     ghost observation = { observed_as (λ cap. cap) (in_row (bytes_observed Inner.observation Inner.slice_may_leave)) };
 
-    ghost slice_may_leave = { (in_row (observed_as (λ cap. cap) (in_row (bytes_observed Inner.observation Inner.slice_may_leave)))).may_leave };
+    ghost slice_may_leave = { (each_as (λ cap. cap) (in_row (bytes_observed Inner.observation Inner.slice_may_leave))).may_leave };
 
     ghost observes = { byte_lists-observed_as Inner.fed Inner.fed_nothing Inner.fed_more Inner.observation
         Inner.slice_may_leave Inner.observes Inner.slice_leaves (λ cap. cap) };
@@ -162,13 +201,15 @@ impl<F: SerializedIn<BYTES>, Inner: CanObserve<u8>, const BYTES: usize, const N:
     &MerkleCap<F, [u8; N]>,
 > for SerializingChallenger<F, Inner, BYTES> {
     ghost use Rattle.p3_challenger_core.specs.Observation.{in_row, observed_as};
-    ghost use Rattle.p3_serializing.specs.SerializingState.{bytes_observed};
+    ghost use Rattle.p3_serializing.specs.SerializingState.{bytes_observed, each_as};
     ghost use Rattle.p3_serializing.specs.SerializingStateLaws.{byte_lists-observed_as};
 
     // Its roots in order.
-    ghost observation = { observed_as (λ cap. cap.now) (in_row (bytes_observed Inner.observation Inner.slice_may_leave)) };
+    ghost observation = { observed_as (λ cap. cap.now)
+        (in_row (bytes_observed Inner.observation Inner.slice_may_leave)) };
 
-    ghost slice_may_leave = { (in_row (observed_as (λ cap. cap.now) (in_row (bytes_observed Inner.observation Inner.slice_may_leave)))).may_leave };
+    ghost slice_may_leave = { (each_as (λ cap. cap.now)
+        (in_row (bytes_observed Inner.observation Inner.slice_may_leave))).may_leave };
 
     ghost observes = { byte_lists-observed_as Inner.fed Inner.fed_nothing Inner.fed_more Inner.observation
         Inner.slice_may_leave Inner.observes Inner.slice_leaves (λ cap. cap.now) };
@@ -189,12 +230,12 @@ impl<F: SerializedIn<BYTES>, Inner: CanObserve<u8>, const BYTES: usize, const N:
 > for SerializingChallenger<F, Inner, BYTES> {
     ghost use Rattle.p3_challenger_core.specs.Observation.{in_row, observed_as};
     ghost use Rattle.p3_symmetric.specs.HashValues.{values_of};
-    ghost use Rattle.p3_serializing.specs.SerializingState.{words_observed};
+    ghost use Rattle.p3_serializing.specs.SerializingState.{words_observed, each_as};
     ghost use Rattle.p3_serializing.specs.SerializingStateLaws.{words-observed_as};
 
     ghost observation = { observed_as values_of (words_observed Inner.observation Inner.slice_may_leave) };
 
-    ghost slice_may_leave = { (in_row (observed_as values_of (words_observed Inner.observation Inner.slice_may_leave))).may_leave };
+    ghost slice_may_leave = { (each_as values_of (words_observed Inner.observation Inner.slice_may_leave)).may_leave };
 
     ghost observes = { words-observed_as Inner.fed Inner.fed_nothing Inner.fed_more Inner.observation
         Inner.slice_may_leave Inner.observes Inner.slice_leaves values_of };
@@ -214,13 +255,13 @@ impl<F: SerializedIn<BYTES>, Inner: CanObserve<u8>, const BYTES: usize, const N:
     MerkleCap<F, [u64; N]>,
 > for SerializingChallenger<F, Inner, BYTES> {
     ghost use Rattle.p3_challenger_core.specs.Observation.{in_row, observed_as};
-    ghost use Rattle.p3_serializing.specs.SerializingState.{words_observed};
+    ghost use Rattle.p3_serializing.specs.SerializingState.{words_observed, each_as};
     ghost use Rattle.p3_serializing.specs.SerializingStateLaws.{word_lists-observed_as};
 
     // Its roots in order.
     ghost observation = { observed_as (λ cap. cap) (in_row (words_observed Inner.observation Inner.slice_may_leave)) };
 
-    ghost slice_may_leave = { (in_row (observed_as (λ cap. cap) (in_row (words_observed Inner.observation Inner.slice_may_leave)))).may_leave };
+    ghost slice_may_leave = { (each_as (λ cap. cap) (in_row (words_observed Inner.observation Inner.slice_may_leave))).may_leave };
 
     ghost observes = { word_lists-observed_as Inner.fed Inner.fed_nothing Inner.fed_more Inner.observation
         Inner.slice_may_leave Inner.observes Inner.slice_leaves (λ cap. cap) };
@@ -240,13 +281,15 @@ impl<F: SerializedIn<BYTES>, Inner: CanObserve<u8>, const BYTES: usize, const N:
     &MerkleCap<F, [u64; N]>,
 > for SerializingChallenger<F, Inner, BYTES> {
     ghost use Rattle.p3_challenger_core.specs.Observation.{in_row, observed_as};
-    ghost use Rattle.p3_serializing.specs.SerializingState.{words_observed};
+    ghost use Rattle.p3_serializing.specs.SerializingState.{words_observed, each_as};
     ghost use Rattle.p3_serializing.specs.SerializingStateLaws.{word_lists-observed_as};
 
     // Its roots in order.
-    ghost observation = { observed_as (λ cap. cap.now) (in_row (words_observed Inner.observation Inner.slice_may_leave)) };
+    ghost observation = { observed_as (λ cap. cap.now)
+        (in_row (words_observed Inner.observation Inner.slice_may_leave)) };
 
-    ghost slice_may_leave = { (in_row (observed_as (λ cap. cap.now) (in_row (words_observed Inner.observation Inner.slice_may_leave)))).may_leave };
+    ghost slice_may_leave = { (each_as (λ cap. cap.now)
+        (in_row (words_observed Inner.observation Inner.slice_may_leave))).may_leave };
 
     ghost observes = { word_lists-observed_as Inner.fed Inner.fed_nothing Inner.fed_more Inner.observation
         Inner.slice_may_leave Inner.observes Inner.slice_leaves (λ cap. cap.now) };

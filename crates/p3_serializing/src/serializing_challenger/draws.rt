@@ -1,6 +1,6 @@
 // What a serializing challenger draws: elements of the vector spaces over its field, and so of the field itself, and
 // numbers of some bits. Each is made of groups of bytes of the inner challenger.
-ghost use Rattle.std.specs.Prelude.{◌≡◌, ◌-◌, ◌^◌, Some, OnOk, IfOk, IfErr};
+ghost use Rattle.std.specs.Prelude.{◌≡◌, ℕ, ◌≤◌, ◌-◌, ◌^◌, Some, OnOk, IfOk, IfErr};
 ghost use Rattle.p3_challenger_core.specs.Sampling.{RefusesDraw};
 ghost use Rattle.p3_serializing.specs.SerializingState.{bits_of_order, group, element_of_groups};
 
@@ -17,6 +17,16 @@ impl<F: SerializedIn<BYTES>, Inner: CanSample<u8>, const BYTES: usize> Serializi
     BYTES,
 > {
     ghost use Rattle.p3_serializing.specs.SerializingState.{state_of, element_drawn};
+
+    /// A draw of an element cuts each group to the least number of bits that every number below the order fits in.
+    ///
+    /// A law: a caller cites the clauses.
+    pub fn groups_are_cut_to_least_bits()
+        ensures enough { F.residues.order ≤ 2 ^ bits_of_order F.residues.order }
+        ensures least { (bits : ℕ) → F.residues.order ≤ 2 ^ bits → bits_of_order F.residues.order ≤ bits }
+    {
+        let _ = log2_ceil_u64(F::ORDER_U64);
+    }
 
     // Draws an element of the field.
     fn draw(&mut self) -> Result<F, ChallengerError>
