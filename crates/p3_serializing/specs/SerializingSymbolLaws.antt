@@ -1,6 +1,6 @@
 -- What a serializing challenger feeds is a prefix code, where the bytes of its inner challenger are.
-use Rattle.std.proofs.Common.{◌≡◌, ℕ, zero, suc, ◌<◌, ◌≤◌, ◌%◌, ◌/◌, ◌^◌, List, [], ◌∷◌, ◌++◌, length, slice_index, refl}
-use Rattle.std.proofs.Common.{sym, ap, ◌∙◌, append_assoc, lit<, arith}
+use Rattle.std.proofs.Common.{◌≡◌, ℕ, zero, suc, ◌<◌, ◌≤◌, ◌%◌, ◌/◌, ◌^◌, List, [], ◌∷◌, ◌++◌, length}
+use Rattle.std.proofs.Common.{refl, sym, ap, ◌∙◌, append_assoc, lit<, arith}
 use Rattle.std.proofs.lemmas.Nat.{mod_below}
 use Rattle.std.specs.List.{flat_map}
 use Rattle.p3_field_core.specs.Residues.{Residues, IsResidues}
@@ -77,7 +77,8 @@ module _ {Symbol : Type 0} (symbols : ℕ → List Symbol) (prefix_code : IsPref
 
   -- as many words of 64 bits
   pub words-read : (xs ys : List ℕ) (a b : List Symbol) → AreWords xs → AreWords ys → length xs ≡ length ys
-      → flat_map (λ w. flat_map symbols (bytes_of 8 w)) xs ++ a ≡ flat_map (λ w. flat_map symbols (bytes_of 8 w)) ys ++ b
+      → flat_map (λ w. flat_map symbols (bytes_of 8 w)) xs ++ a
+      ≡ flat_map (λ w. flat_map symbols (bytes_of 8 w)) ys ++ b
       → (xs ≡ ys) × (a ≡ b)
   words-read [] [] a b x_are y_are same e = (refl, e)
   words-read [] (y ∷ ys) a b x_are y_are same e = absurd (omega (arith, same))

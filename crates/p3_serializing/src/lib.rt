@@ -2,14 +2,13 @@
 //! from groups of bytes.
 #![tactic(auto)]
 
+mod challenger;
+mod groups;
 mod prefix_code;
 mod serialized_in;
-mod serializing_challenger;
 mod state;
 
+pub use challenger::{SerializingChallenger, SerializingChallenger32, SerializingChallenger64};
 pub use prefix_code::{serialized_digests_are_prefix_code, serialized_elements_are_prefix_code};
 pub use serialized_in::SerializedIn;
-pub use serializing_challenger::{
-    SerializingChallenger, SerializingChallenger32, SerializingChallenger64,
-};
 pub use state::SerializingState;
