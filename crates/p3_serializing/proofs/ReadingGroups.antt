@@ -10,10 +10,10 @@ use Rattle.p3_challenger_core.specs.Sampling.{Sampling, draws, after_draws}
 use Rattle.p3_grinding.specs.Candidates.{after_refused, first_accepted, after_first_accepted}
 use Rattle.p3_serializing.specs.SerializingState.{SerializingState, bits_of_order, group, low_bits_of_group}
 use Rattle.p3_serializing.specs.SerializingState.{element_observed, element_drawn, bits_drawn, space_element_drawn}
-use Rattle.p3_serializing.specs.SerializingGroups.{SerializingCall, observe, draw, draw_bits, Answer, element, bits}
-use Rattle.p3_serializing.specs.SerializingGroups.{CallByCall, by_calls, AreRead, ByteCall, feed, read, Reads}
+use Rattle.p3_serializing.specs.SerializingGroups.{SerializingCall, observe, draw, draw_bits, element, bits}
+use Rattle.p3_serializing.specs.SerializingGroups.{CallByCall, by_calls, AreRead, ByteCall, read, Reads}
 use Rattle.p3_serializing.specs.SerializingGroups.{answers_by_calls, after_calls}
-use Rattle.p3_serializing.specs.SerializingGroups.{cut, is_element, taken, first_element, first_bits, answers_off}
+use Rattle.p3_serializing.specs.SerializingGroups.{taken, first_element, answers_off}
 use Rattle.p3_serializing.specs.SerializingGroups.{byte_calls}
 
 -- ---- a draw of the field is one base draw

@@ -1,11 +1,11 @@
 -- What a serializing challenger feeds is a prefix code, where the bytes of its inner challenger are.
-use Rattle.std.proofs.Common.{◌≡◌, ℕ, zero, suc, ◌<◌, ◌≤◌, ◌%◌, ◌/◌, ◌^◌, List, [], ◌∷◌, ◌++◌, length}
+use Rattle.std.proofs.Common.{◌≡◌, ℕ, zero, suc, ◌<◌, ◌≤◌, ◌/◌, ◌^◌, List, [], ◌∷◌, ◌++◌, length}
 use Rattle.std.proofs.Common.{refl, sym, ap, ◌∙◌, append_assoc, lit<, arith}
 use Rattle.std.proofs.lemmas.Nat.{mod_below}
 use Rattle.std.specs.List.{flat_map}
 use Rattle.p3_field_core.specs.Residues.{Residues, IsResidues}
 use Rattle.p3_challenger_core.specs.Sponge.{IsNonEmpty}
-use Rattle.p3_challenger_core.specs.Reading.{IsPrefixCode, IsPrefixCodeOn, IsByte, AreBytes, TellsApart}
+use Rattle.p3_challenger_core.specs.Reading.{IsPrefixCodeOn, IsByte, AreBytes, TellsApart}
 use Rattle.p3_challenger_core.specs.SymbolLaws.{byte-feeds, bytes-feed, bytes-prefix_code, row-prefix_code}
 use Rattle.p3_serializing.specs.Bytes.{bytes_of, IsWord, AreWords}
 use Rattle.p3_serializing.specs.BytesLaws.{length-bytes_of, bytes_of-injective}

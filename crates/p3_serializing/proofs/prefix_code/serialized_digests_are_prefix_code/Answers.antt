@@ -1,4 +1,4 @@
-use Rattle.std.proofs.Common.{◌≡◌, length, sym, ◌∙◌}
+use Rattle.std.proofs.Common.{sym, ◌∙◌}
 use Rattle.p3_challenger_core.specs.SymbolLaws.{row-prefix_code, bytes-prefix_code}
 use Rattle.p3_symmetric.specs.HashValues.{values_of}
 use Rattle.p3_symmetric.specs.HashValueLaws.{length-values, values-injective}

@@ -1,5 +1,4 @@
 use Rattle.std.proofs.Common.{◌≡◌, ◌≤◌, ◌^◌, ◌∙◌, subst, arith}
-use Rattle.p3_serializing.specs.SerializingState.{bits_of_order}
 use Rattle.p3_serializing.proofs.Masks.{log-is}
 use Rattle.p3_serializing.proofs.challenger.SerializingChallenger.groups_are_cut_to_least_bits.Goals as goal
 
