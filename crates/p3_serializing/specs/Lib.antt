@@ -1,0 +1,6 @@
+pub mod Bytes
+pub mod BytesLaws
+pub mod SerializingGroups
+pub mod SerializingState
+pub mod SerializingStateLaws
+pub mod SerializingSymbolLaws

@@ -1,0 +1,112 @@
+-- A serializing challenger over lists of calls: what reaches its inner challenger, as bytes and as groups of bytes that
+-- are drawn, and how the answers are read off these groups.
+use Rattle.std.specs.Prelude.{◌≡◌, ℕ, zero, suc, ◌%◌, ◌^◌, Bool, List, [], ◌∷◌, ◌++◌, take, drop, replicate, nat_lt}
+use Rattle.std.specs.Prelude.{Option, Some, None, if◌then◌else◌}
+use Rattle.p3_field_core.specs.Residues.{Residues}
+use Rattle.p3_challenger_core.specs.Sampling.{Sampling}
+use Rattle.p3_serializing.specs.Bytes.{bytes_of}
+use Rattle.p3_serializing.specs.SerializingState.{SerializingState, bits_of_order}
+
+-- a call: an element is observed, an element is drawn, a number of so many bits is drawn
+pub data SerializingCall (F : Type 0) : Type 0 where
+  observe : F → SerializingCall F
+  draw : SerializingCall F
+  draw_bits : ℕ → SerializingCall F
+
+-- what a draw answers, which is none where it meets the draw limit
+pub data Answer (F : Type 0) : Type 0 where
+  element : Option F → Answer F
+  bits : Option ℕ → Answer F
+
+-- ---- call by call
+
+-- what each call does to a state
+pub record CallByCall (S F : Type 0) : Type 1 where
+  pub observed : S → F → S
+  pub drawn : Sampling S F
+  pub bits_drawn : ℕ → Sampling S ℕ
+
+abbrev pub by_calls : {S F : Type 0} → (S → F → S) → Sampling S F → (ℕ → Sampling S ℕ) → CallByCall S F
+by_calls observed drawn bits_drawn = record { observed = observed; drawn = drawn; bits_drawn = bits_drawn }
+
+module _ {S F : Type 0} (by : CallByCall S F) where
+  -- what calls answer, each draw in order
+  abbrev pub answers_by_calls : List (SerializingCall F) → S → List (Answer F)
+  answers_by_calls [] s = []
+  answers_by_calls (observe x ∷ calls) s = answers_by_calls calls (by.observed s x)
+  answers_by_calls (draw ∷ calls) s = element (by.drawn.sampled s) ∷ answers_by_calls calls (by.drawn.after s)
+  answers_by_calls (draw_bits n ∷ calls) s =
+      bits ((by.bits_drawn n).sampled s) ∷ answers_by_calls calls ((by.bits_drawn n).after s)
+
+  -- the state after them
+  abbrev pub after_calls : List (SerializingCall F) → S → S
+  after_calls [] s = s
+  after_calls (observe x ∷ calls) s = after_calls calls (by.observed s x)
+  after_calls (draw ∷ calls) s = after_calls calls (by.drawn.after s)
+  after_calls (draw_bits n ∷ calls) s = after_calls calls ((by.bits_drawn n).after s)
+
+-- ---- over the groups
+
+-- a call on the inner challenger: bytes are observed as one slice, or a group of bytes is drawn
+pub data ByteCall : Type 0 where
+  feed : List ℕ → ByteCall
+  read : ByteCall
+
+-- From a state of the inner challenger calls on it read the groups, which are numbers, in order, and lead to another
+-- state.
+abbrev pub Reads : {I : Type 0} → (I → List ℕ → I) → Sampling I ℕ → I → List ByteCall → List ℕ → I → Type 0
+Reads fed group i [] [] j = i ≡ j
+Reads fed group i [] (word ∷ words) j = ⊥
+Reads fed group i (feed bytes ∷ calls) words j = Reads fed group (fed i bytes) calls words j
+Reads fed group i (read ∷ calls) [] j = ⊥
+Reads fed group i (read ∷ calls) (word ∷ words) j =
+    (group.sampled i ≡ Some word) × Reads fed group (group.after i) calls words j
+
+-- the low bits of the first group
+abbrev pub first_bits : ℕ → List ℕ → Option ℕ
+first_bits k [] = None
+first_bits k (word ∷ words) = Some (word % 2 ^ k)
+
+module _ {F : Type 0} (r : Residues F) where
+  -- a group, cut to the bits of the order, and whether it is an element then
+  abbrev pub cut : ℕ → ℕ
+  cut word = word % 2 ^ bits_of_order r.order
+
+  abbrev pub is_element : ℕ → Bool
+  is_element word = nat_lt (cut word) r.order
+
+  -- how many of these groups a draw of an element takes: up to and with the first that is one, and no more than the limit
+  unfoldable pub taken : ℕ → List ℕ → ℕ
+  taken zero words = zero
+  taken (suc more) [] = zero
+  taken (suc more) (word ∷ words) = if is_element word then 1 else suc (taken more words)
+
+  -- the first of these groups that is an element
+  unfoldable pub first_element : List ℕ → Option F
+  first_element [] = None
+  first_element (word ∷ words) = if is_element word then Some (r.of (cut word)) else first_element words
+
+  -- what the draws among calls answer, where these groups are read in all
+  abbrev pub answers_off : ℕ → List (SerializingCall F) → List ℕ → List (Answer F)
+  answers_off limit [] words = []
+  answers_off limit (observe x ∷ calls) words = answers_off limit calls words
+  answers_off limit (draw ∷ calls) words =
+      element (first_element (take limit words)) ∷ answers_off limit calls (drop (taken limit words) words)
+  answers_off limit (draw_bits k ∷ calls) words = bits (first_bits k words) ∷ answers_off limit calls (drop 1 words)
+
+  -- what calls are on the inner challenger, where these groups are read in all: an element's n bytes are one slice
+  abbrev pub byte_calls : ℕ → ℕ → List (SerializingCall F) → List ℕ → List ByteCall
+  byte_calls n limit [] words = []
+  byte_calls n limit (observe x ∷ calls) words = feed (bytes_of n (r.number x)) ∷ byte_calls n limit calls words
+  byte_calls n limit (draw ∷ calls) words =
+      replicate (taken limit words) read ++ byte_calls n limit calls (drop (taken limit words) words)
+  byte_calls n limit (draw_bits k ∷ calls) words = read ∷ byte_calls n limit calls (drop 1 words)
+
+-- Calls, done one by one, are calls on the inner challenger that read these groups: the answers are read off the groups,
+-- the inner challenger ends where its calls lead, and the draw limit stays.
+pub record AreRead {I F : Type 0} (fed : I → List ℕ → I) (group : Sampling I ℕ) (r : Residues F) (n : ℕ)
+    (by : CallByCall (SerializingState I) F) (calls : List (SerializingCall F)) (s : SerializingState I)
+    (words : List ℕ) : Type 0 where
+  pub reads : Reads fed group s.inner (byte_calls r n s.draw_limit calls words) words (after_calls by calls s).inner
+  pub answers : answers_by_calls by calls s ≡ answers_off r s.draw_limit calls words
+  pub limit : (after_calls by calls s).draw_limit ≡ s.draw_limit

@@ -1,0 +1,242 @@
+ghost use Rattle.std.specs.Prelude.{◌≡◌, ◌≤◌, OnOk, IfErr};
+ghost use Rattle.p3_challenger_core.specs.Observation.{RefusesObserve, in_row};
+ghost use Rattle.p3_hash_challenger.specs.HashCalls.{absorbing};
+
+mod digests;
+mod draws;
+
+use crate::{SerializedIn, SerializingState};
+use p3_challenger_core::{CanObserve, ChallengerError, Sponge};
+use p3_hash_challenger::HashChallenger;
+use p3_symmetric::CryptographicHasher;
+use std::convert::AsSlice;
+use std::marker::{Model, PhantomData};
+
+/// A challenger of the elements of a field over a challenger of bytes.
+///
+/// An element is observed as the `BYTES` bytes of its canonical number, the lowest first, which reach the inner
+/// challenger as one slice. It is drawn from groups of as many bytes: a group is a number, the lowest byte first, cut
+/// to as many bits as the order of the field takes, and the first one below the order is the element. As many groups
+/// as the draw limit allows are tried.
+#[derive_where(Debug; Inner)]
+pub struct SerializingChallenger<F, Inner, const BYTES: usize> {
+    inner: Inner,
+    draw_limit: u64,
+    #[derive_where(skip)]
+    field: PhantomData<F>,
+}
+
+/// A challenger of the elements of a field of 32 bits, each 4 bytes of the inner challenger.
+pub type SerializingChallenger32<F, Inner> = SerializingChallenger<F, Inner, 4>;
+
+/// A challenger of the elements of a field of 64 bits, each 8 bytes of the inner challenger.
+pub type SerializingChallenger64<F, Inner> = SerializingChallenger<F, Inner, 8>;
+
+impl<F, Inner, const BYTES: usize> Model for SerializingChallenger<F, Inner, BYTES> {
+    ghost use Rattle.std.specs.Prelude.{◌≤◌};
+    ghost use Rattle.p3_serializing.specs.SerializingState.{SerializingState};
+
+    ghost Value = { SerializingState Inner };
+
+    ghost view = { λ c. record { inner = c.inner; draw_limit = c.draw_limit } };
+
+    ghost invariant = { λ c. 1 ≤ c.draw_limit };
+}
+
+impl<F, Inner: Drop, const BYTES: usize> Drop for SerializingChallenger<F, Inner, BYTES> {
+    fn drop(self) {
+        let SerializingChallenger {
+            inner: _,
+            draw_limit: _,
+            field: _,
+        } = self;
+    }
+}
+
+impl<F, Inner, const BYTES: usize> SerializingChallenger<F, Inner, BYTES> {
+    /// A challenger over this one of bytes.
+    ///
+    /// `draw_limit` is how many groups of bytes a draw of an element takes at most.
+    pub fn new(inner: Inner, draw_limit: u64) -> Self
+        requires { 1 ≤ draw_limit }
+        ensures { result ≡ record { inner = inner; draw_limit = draw_limit } }
+    {
+        SerializingChallenger {
+            inner,
+            draw_limit,
+            field: PhantomData,
+        }
+    }
+
+    /// The challenger of bytes.
+    pub fn inner(&self) -> &Inner
+        ensures { result.now ≡ self.now.inner }
+    {
+        &self.inner
+    }
+}
+
+impl<F, H: CryptographicHasher<u8, [u8; 32]>, const BYTES: usize> SerializingChallenger<
+    F,
+    HashChallenger<u8, H, 32>,
+    BYTES,
+> {
+    /// A challenger over a [`HashChallenger`] that has the initial state pending.
+    ///
+    /// `draw_limit` is how many groups of bytes a draw of an element takes at most.
+    pub fn from_hasher(initial_state: Vec<u8>, hasher: H, draw_limit: u64) -> Self
+        requires { 1 ≤ draw_limit }
+        ensures { result ≡ record {
+          inner = record { sponge = absorbing initial_state.items; hasher = hasher };
+          draw_limit = draw_limit;
+        } }
+    {
+        SerializingChallenger::new(HashChallenger::new(initial_state, hasher), draw_limit)
+    }
+}
+
+impl<F, Inner: Sponge, const BYTES: usize> Sponge for SerializingChallenger<F, Inner, BYTES> {
+    ghost use Rattle.p3_serializing.specs.SerializingState.{state_of, stepped};
+    ghost use Rattle.p3_serializing.specs.SerializingState as serializing_state;
+    ghost use Rattle.p3_serializing.specs.SerializingStateLaws.{nothing-fed, more-fed};
+
+    type State = SerializingState<Inner::State>;
+
+    type Symbol = Inner::Symbol;
+
+    ghost state = { state_of Inner.state };
+
+    ghost fed = { serializing_state.fed Inner.fed };
+
+    ghost next = { stepped Inner.next };
+
+    ghost fed_nothing = { nothing-fed Inner.fed Inner.fed_nothing Inner.fed_more };
+
+    ghost fed_more = { more-fed Inner.fed Inner.fed_nothing Inner.fed_more };
+}
+
+impl<F, Inner: CanObserve<u8>, const BYTES: usize> SerializingChallenger<F, Inner, BYTES> {
+    ghost use Rattle.p3_serializing.specs.SerializingState.{state_of, bytes_observed};
+
+    // Passes bytes on to the inner challenger, as one slice.
+    fn feed(&mut self, bytes: &[u8]) -> Result<(), ChallengerError>
+        ensures ok { OnOk result (state_of Inner.state self.new
+            ≡ (bytes_observed Inner.observation Inner.slice_may_leave).observed
+            (state_of Inner.state self.old) bytes.now) }
+        ensures err { IfErr result (λ e. RefusesObserve
+            ((bytes_observed Inner.observation Inner.slice_may_leave).may_leave
+            (state_of Inner.state self.old) bytes.now) e
+            (state_of Inner.state self.new)) }
+    {
+        self.inner.observe_slice(bytes)
+    }
+}
+
+impl<F: SerializedIn<BYTES>, Inner: CanObserve<u8>, const BYTES: usize> SerializingChallenger<
+    F,
+    Inner,
+    BYTES,
+> {
+    ghost use Rattle.p3_serializing.specs.SerializingState.{state_of, element_observed, each_as};
+
+    // Passes an element on as its bytes.
+    fn feed_element(&mut self, value: F) -> Result<(), ChallengerError>
+        ensures ok { OnOk result (state_of Inner.state self.new
+            ≡ (element_observed Inner.observation Inner.slice_may_leave F.residues BYTES).observed
+            (state_of Inner.state self.old) value) }
+        ensures err { IfErr result (λ e. RefusesObserve
+            ((element_observed Inner.observation Inner.slice_may_leave F.residues BYTES).may_leave
+            (state_of Inner.state self.old) value) e
+            (state_of Inner.state self.new)) }
+    {
+        self.feed(&value.to_unique_bytes())
+    }
+
+    // Passes elements on in order, each by one call.
+    fn feed_elements(&mut self, values: &[F]) -> Result<(), ChallengerError>
+        ensures ok { OnOk result (state_of Inner.state self.new
+            ≡ (in_row (element_observed Inner.observation Inner.slice_may_leave F.residues
+            BYTES)).observed (state_of Inner.state self.old) values.now) }
+        ensures err { IfErr result (λ e. RefusesObserve
+            ((in_row (element_observed Inner.observation Inner.slice_may_leave F.residues
+            BYTES)).may_leave (state_of Inner.state self.old) values.now) e
+            (state_of Inner.state self.new)) }
+    {
+        for i in 0..values.len() {
+            self.feed_element(values[i])?;
+        }
+        Ok(())
+    }
+
+    // Passes lists of elements on in order, each element by one call.
+    fn feed_element_lists<Part: AsSlice<F>>(
+        &mut self,
+        lists: &[Part],
+    ) -> Result<(), ChallengerError>
+        ensures ok { OnOk result (state_of Inner.state self.new
+            ≡ (each_as Part.items (in_row (element_observed Inner.observation Inner.slice_may_leave
+            F.residues BYTES))).observed (state_of Inner.state self.old) lists.now) }
+        ensures err { IfErr result (λ e. RefusesObserve
+            ((each_as Part.items (in_row (element_observed Inner.observation Inner.slice_may_leave
+            F.residues BYTES))).may_leave (state_of Inner.state self.old) lists.now) e
+            (state_of Inner.state self.new)) }
+    {
+        for i in 0..lists.len() {
+            self.feed_elements(lists[i].as_slice())?;
+        }
+        Ok(())
+    }
+}
+
+impl<F: SerializedIn<BYTES>, Inner: CanObserve<u8>, const BYTES: usize> CanObserve<F>
+    for SerializingChallenger<F, Inner, BYTES> {
+    ghost use Rattle.p3_challenger_core.specs.Observation.{in_row};
+    ghost use Rattle.p3_serializing.specs.SerializingState.{element_observed};
+    ghost use Rattle.p3_serializing.specs.SerializingStateLaws.{element-observed};
+
+    ghost observation = { element_observed Inner.observation Inner.slice_may_leave F.residues BYTES };
+
+    // A refused slice has fed the elements before the refused one, and of that one what the inner challenger leaves.
+    ghost slice_may_leave = { (in_row (element_observed Inner.observation Inner.slice_may_leave
+        F.residues BYTES)).may_leave };
+
+    ghost observes = { element-observed Inner.fed Inner.fed_nothing Inner.fed_more Inner.observation
+        Inner.slice_may_leave Inner.observes Inner.slice_leaves F.residues BYTES };
+
+    ghost slice_leaves = { λ _ _ _ h. h };
+
+    fn observe(&mut self, value: F) -> Result<(), ChallengerError> {
+        self.feed_element(value)
+    }
+
+    fn observe_slice(&mut self, values: &[F]) -> Result<(), ChallengerError> {
+        self.feed_elements(values)
+    }
+}
+
+impl<F: SerializedIn<BYTES>, Inner: CanObserve<u8>, const BYTES: usize, const N: usize> CanObserve<
+    [F; N],
+> for SerializingChallenger<F, Inner, BYTES> {
+    ghost use Rattle.p3_challenger_core.specs.Observation.{in_row};
+    ghost use Rattle.p3_serializing.specs.SerializingState.{element_observed};
+    ghost use Rattle.p3_serializing.specs.SerializingStateLaws.{elements-observed};
+
+    // Its elements in order, each by one call. An array of no places feeds nothing.
+    ghost observation = { in_row (element_observed Inner.observation Inner.slice_may_leave F.residues BYTES) };
+
+    ghost slice_may_leave = { (in_row (in_row (element_observed Inner.observation Inner.slice_may_leave F.residues
+        BYTES))).may_leave };
+
+    ghost observes = { elements-observed Inner.fed Inner.fed_nothing Inner.fed_more Inner.observation
+        Inner.slice_may_leave Inner.observes Inner.slice_leaves F.residues BYTES };
+
+    ghost slice_leaves = { λ _ _ _ h. h };
+
+    fn observe(&mut self, value: [F; N]) -> Result<(), ChallengerError> {
+        self.feed_elements(&value[..])
+    }
+
+    fn observe_slice(&mut self, values: &[[F; N]]) -> Result<(), ChallengerError> {
+        self.feed_element_lists(values)
+    }
+}

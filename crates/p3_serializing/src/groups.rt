@@ -1,0 +1,29 @@
+// A serializing challenger over whole lists of calls.
+ghost use Rattle.std.specs.Prelude.{ℕ, List, IsSome};
+ghost use Rattle.p3_challenger_core.specs.Observation.{in_slice};
+ghost use Rattle.p3_serializing.specs.SerializingState.{group};
+ghost use Rattle.p3_serializing.specs.SerializingGroups.{SerializingCall, by_calls, AreRead};
+
+use crate::{SerializedIn, SerializingChallenger, SerializingState};
+use p3_challenger_core::{CanObserve, CanSample, CanSampleBits};
+
+impl<
+    F: SerializedIn<BYTES>,
+    Inner: CanObserve<u8> + CanSample<u8>,
+    const BYTES: usize,
+> SerializingChallenger<F, Inner, BYTES> {
+    /// Every list of calls is one on the inner challenger: the bytes of each observed element as one slice, and for each
+    /// draw the groups that it takes. The answers are read off these groups, and the inner challenger ends where these
+    /// calls leave it. The draw limit stays. This holds where the inner challenger's draws meet no limit of their own.
+    ///
+    /// A law: the body is empty, and a caller cites the clause.
+    pub fn follows_groups()
+        ensures { ((i : Inner.State) → IsSome (Inner.CanSample.sampling.sampled i))
+            → (calls : List (SerializingCall F)) (s : SerializingState Inner.State) →
+            (words : List ℕ) × AreRead (in_slice Inner.CanObserve.observation Inner.CanObserve.slice_may_leave).observed
+            (group Inner.CanSample.sampling BYTES) F.residues BYTES (by_calls
+            ⟦<SerializingChallenger<F, Inner, BYTES> as CanObserve<F>>⟧.observation.observed
+            ⟦<SerializingChallenger<F, Inner, BYTES> as CanSample<F>>⟧.sampling
+            ⟦<SerializingChallenger<F, Inner, BYTES> as CanSampleBits<usize>>⟧.bits_sampling) calls s words }
+    {}
+}

@@ -1,0 +1,14 @@
+//! Challengers of the elements of a field over a challenger of bytes: an element goes in as its bytes, and is drawn
+//! from groups of bytes.
+#![tactic(auto)]
+
+mod challenger;
+mod groups;
+mod prefix_code;
+mod serialized_in;
+mod state;
+
+pub use challenger::{SerializingChallenger, SerializingChallenger32, SerializingChallenger64};
+pub use prefix_code::{serialized_digests_are_prefix_code, serialized_elements_are_prefix_code};
+pub use serialized_in::SerializedIn;
+pub use state::SerializingState;

@@ -1,0 +1,46 @@
+// What a serializing challenger feeds is a prefix code, where the bytes of its inner challenger are: the premises of
+// the laws on symbols.
+ghost use Rattle.std.specs.Prelude.{◌≡◌, length};
+ghost use Rattle.p3_challenger_core.specs.Reading.{IsPrefixCode, IsPrefixCodeOn, IsByte, AreBytes, TellsApart};
+ghost use Rattle.p3_symmetric.specs.HashValues.{values_of};
+ghost use Rattle.p3_serializing.specs.Bytes.{AreWords};
+
+use crate::{SerializedIn, SerializingChallenger};
+use p3_challenger_core::CanObserve;
+use p3_symmetric::Hash;
+
+/// The symbols of the elements that a serializing challenger observes are a prefix code, and none are empty, where the
+/// bytes of its inner challenger are a prefix code. So are those of arrays of `N` elements.
+///
+/// A law: the body is empty, and a caller cites the clauses.
+pub fn serialized_elements_are_prefix_code<
+    F: SerializedIn<BYTES>,
+    Inner: CanObserve<u8>,
+    const BYTES: usize,
+    const N: usize,
+>()
+    ensures elements { IsPrefixCodeOn IsByte Inner.observation.symbols
+        → TellsApart ⟦<SerializingChallenger<F, Inner, BYTES> as CanObserve<F>>⟧.observation.symbols }
+    ensures arrays { IsPrefixCodeOn IsByte Inner.observation.symbols → IsPrefixCodeOn (λ values. length values ≡ N)
+        ⟦<SerializingChallenger<F, Inner, BYTES> as CanObserve<[F; N]>>⟧.observation.symbols }
+{}
+
+/// The symbols of the digests of `N` bytes that a serializing challenger observes are a prefix code, and so are those
+/// of digests of `N` words of 64 bits, where the bytes of its inner challenger are a prefix code.
+///
+/// A law: the body is empty, and a caller cites the clauses.
+pub fn serialized_digests_are_prefix_code<
+    F: SerializedIn<BYTES>,
+    Inner: CanObserve<u8>,
+    const BYTES: usize,
+    const N: usize,
+>()
+    ensures bytes { IsPrefixCode Inner.observation.symbols
+        → IsPrefixCode ⟦<SerializingChallenger<F, Inner, BYTES> as CanObserve<Hash<F, u8, N>>>⟧.observation.symbols }
+    ensures known_bytes { IsPrefixCodeOn IsByte Inner.observation.symbols
+        → IsPrefixCodeOn (λ digest. AreBytes (values_of digest))
+        ⟦<SerializingChallenger<F, Inner, BYTES> as CanObserve<Hash<F, u8, N>>>⟧.observation.symbols }
+    ensures words { IsPrefixCodeOn IsByte Inner.observation.symbols
+        → IsPrefixCodeOn (λ digest. AreWords (values_of digest))
+        ⟦<SerializingChallenger<F, Inner, BYTES> as CanObserve<Hash<F, u64, N>>>⟧.observation.symbols }
+{}
