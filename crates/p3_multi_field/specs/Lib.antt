@@ -1,0 +1,2 @@
+pub mod MultiFieldCalls
+pub mod MultiFieldSegments
