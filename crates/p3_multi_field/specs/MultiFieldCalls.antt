@@ -1,7 +1,7 @@
 -- A multi-field challenger call by call: scalars of one field are packed into cells of a greater one, and
 -- drawn from them as digits.
 use Rattle.std.specs.Prelude.{ℕ, zero, suc, ◌==◌, ◌+◌, ◌-◌, ◌*◌, ◌/◌, ◌%◌, List, [], ◌∷◌, ◌++◌, length, take, drop}
-use Rattle.std.specs.Prelude.{replicate, slice_index_or, if◌then◌else◌}
+use Rattle.std.specs.Prelude.{replicate, slice_index_or, if◌then◌else◌, Option, Some, None}
 use Rattle.p3_field_core.specs.Residues.{Residues, plus}
 use Rattle.p3_field_bridge.specs.Bridges.{packed, digit_of}
 use Rattle.p3_challenger_core.specs.Segments.{Call, observe, observe_empty_array, draw, Run, stays, ByCalls}
@@ -23,6 +23,11 @@ pair_of inner outer bits absorb squeeze =
 pub data Symbol (F PF : Type 0) : Type 0 where
   scalar : F → Symbol F PF
   digest : List PF → Symbol F PF
+
+-- the scalar, or, where there is none, the digest of the words
+abbrev pub symbol_of : {F PF : Type 0} → Option F → List PF → Symbol F PF
+symbol_of None words = digest words
+symbol_of (Some x) words = scalar x
 
 -- What a sponge has: its cells, whose front is the rate; the scalars that are pending, fewer than the rate
 -- packs; and how many outputs are left. The digits of the rate stand in a row, from its first cell to its
@@ -81,25 +86,45 @@ blocks_within size (suc n) (x ∷ xs) = take size (x ∷ xs) ∷ blocks_within s
 abbrev pub blocks : {T : Type 0} → ℕ → List T → List (List T)
 blocks size xs = blocks_within size (length xs) xs
 
+-- what is permuted: where nothing is pending, the cells as they are
+abbrev pub absorbing : {F PF : Type 0} → FieldPair F PF → ℕ → List PF → List F → List PF
+absorbing pair rate cells [] = cells
+absorbing pair rate cells (x ∷ xs) = scalars_over pair rate cells (x ∷ xs)
+
+-- one more scalar is pending, and the outputs are dropped
+abbrev pub appended : {F PF : Type 0} → MultiFieldSponge F PF → F → MultiFieldSponge F PF
+appended s x = record { cells = s.cells; pending = s.pending ++ x ∷ []; outputs_left = 0 }
+
+-- ---- outputs
+
+-- the digit at a place of the row
+abbrev pub digit_in_row : {F PF : Type 0} → FieldPair F PF → List PF → ℕ → F
+digit_in_row pair cells place =
+    digit_of pair.inner pair.outer (cell pair.outer cells (place / pair.squeeze)) (place % pair.squeeze)
+
+-- what a draw gives: the last output left
+abbrev pub last_output : {F PF : Type 0} → FieldPair F PF → MultiFieldSponge F PF → F
+last_output pair s = digit_in_row pair s.cells (s.outputs_left - 1)
+
+-- without that output
+abbrev pub one_taken : {F PF : Type 0} → MultiFieldSponge F PF → MultiFieldSponge F PF
+one_taken s = record s { outputs_left = s.outputs_left - 1 }
+
+-- how many digits a draw has queued, which were neither drawn nor dropped: none where all outputs are left, since
+-- then no draw has come to them
+abbrev pub queued : {F PF : Type 0} → FieldPair F PF → ℕ → MultiFieldSponge F PF → ℕ
+queued pair rate s = if s.outputs_left == row_of pair rate then 0 else s.outputs_left
+
 module _ {F PF : Type 0} (pair : FieldPair F PF) (permute : List PF → List PF) (rate : ℕ) where
-  -- ---- a scalar
-
-  -- what is permuted: where nothing is pending, the cells as they are
-  abbrev pub absorbing : List PF → List F → List PF
-  absorbing cells [] = cells
-  absorbing cells (x ∷ xs) = scalars_over pair rate cells (x ∷ xs)
-
   -- after cells are permuted: all outputs are left
   abbrev pub permuting : List PF → MultiFieldSponge F PF
   permuting cells = record { cells = permute cells; pending = []; outputs_left = row_of pair rate }
 
   -- after a permutation of what is pending
   abbrev pub duplexed : MultiFieldSponge F PF → MultiFieldSponge F PF
-  duplexed s = permuting (absorbing s.cells s.pending)
+  duplexed s = permuting (absorbing pair rate s.cells s.pending)
 
-  -- one more scalar is pending, and the outputs are dropped
-  abbrev pub appended : MultiFieldSponge F PF → F → MultiFieldSponge F PF
-  appended s x = record { cells = s.cells; pending = s.pending ++ x ∷ []; outputs_left = 0 }
+  -- ---- a scalar
 
   -- after a scalar: as many scalars as the rate packs are absorbed at once
   abbrev pub absorbed_full : MultiFieldSponge F PF → MultiFieldSponge F PF
@@ -127,35 +152,17 @@ module _ {F PF : Type 0} (pair : FieldPair F PF) (permute : List PF → List PF)
   observed s (scalar x) = scalar_observed s x
   observed s (digest words) = digest_observed s words
 
-  -- ---- a draw
+  -- ---- a draw, and the end
 
   -- where a draw takes its output from: with none left it absorbs or permutes first
   abbrev pub ready : MultiFieldSponge F PF → MultiFieldSponge F PF
   ready s = if s.outputs_left == 0 then duplexed s else s
 
-  -- the digit at a place of the row
-  abbrev pub digit_in_row : List PF → ℕ → F
-  digit_in_row cells place =
-      digit_of pair.inner pair.outer (cell pair.outer cells (place / pair.squeeze)) (place % pair.squeeze)
-
-  -- what a draw gives: the last output left
-  abbrev pub last_output : MultiFieldSponge F PF → F
-  last_output s = digit_in_row s.cells (s.outputs_left - 1)
-
-  -- without that output
-  abbrev pub one_taken : MultiFieldSponge F PF → MultiFieldSponge F PF
-  one_taken s = record s { outputs_left = s.outputs_left - 1 }
-
   abbrev pub sampled : MultiFieldSponge F PF → F
-  sampled s = last_output (ready s)
+  sampled s = last_output pair (ready s)
 
   abbrev pub after_sampled : MultiFieldSponge F PF → MultiFieldSponge F PF
   after_sampled s = one_taken (ready s)
-
-  -- how many digits a draw has queued, which were neither drawn nor dropped: none where all outputs are left, since
-  -- then no draw has come to them
-  abbrev pub queued : MultiFieldSponge F PF → ℕ
-  queued s = if s.outputs_left == row_of pair rate then 0 else s.outputs_left
 
   -- the digest that calls end in: the rate after one more step, whether scalars are pending or not
   abbrev pub finalized : MultiFieldSponge F PF → List PF
@@ -187,11 +194,11 @@ module _ {F PF : Type 0} (pair : FieldPair F PF) (permute : List PF → List PF)
 
   -- a draw that finds no output hands over the cells with what is pending, or as they are
   abbrev pub handed_by_draw : MultiFieldSponge F PF → List (List PF)
-  handed_by_draw s = if s.outputs_left == 0 then absorbing s.cells s.pending ∷ [] else []
+  handed_by_draw s = if s.outputs_left == 0 then absorbing pair rate s.cells s.pending ∷ [] else []
 
   -- so does an end, whatever outputs are left
   abbrev pub handed_by_end : MultiFieldSponge F PF → List (List PF)
-  handed_by_end s = absorbing s.cells s.pending ∷ []
+  handed_by_end s = absorbing pair rate s.cells s.pending ∷ []
 
   -- ---- what a call does
 

@@ -161,7 +161,7 @@ module _ {F PF : Type 0} (pair : FieldPair F PF) (permute : List PF → List PF)
   abbrev pub output_at : List PF → ℕ → F
   output_at cells place =
       let row = row_of pair rate in
-      digit_in_row pair permute rate (permuted (place / row) cells) (row - 1 - place % row)
+      digit_in_row pair (permuted (place / row) cells) (row - 1 - place % row)
 
   -- once that output is drawn, the digits before it in the row are left
   abbrev pub left_after : List PF → ℕ → MultiFieldSponge F PF

@@ -2,5 +2,11 @@
 #![tactic(auto)]
 
 mod error;
+mod multi_field_challenger;
+mod paired;
+mod symbol;
 
 pub use error::MultiField32ChallengerError;
+pub use multi_field_challenger::MultiField32Challenger;
+pub use paired::Paired;
+pub use symbol::MultiFieldSymbol;
