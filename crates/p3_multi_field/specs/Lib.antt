@@ -1,0 +1,5 @@
+pub mod MultiFieldCalls
+pub mod MultiFieldSegments
+pub mod MultiFieldState
+pub mod MultiFieldStateLaws
+pub mod Refusals

@@ -1,0 +1,71 @@
+-- A multi-field challenger as contracts see it.
+use Rattle.std.specs.Prelude.{◌≡◌, ℕ, zero, suc, ◌<◌, ◌≤◌, ◌*◌, List, [], ◌∷◌}
+use Rattle.p3_challenger_core.specs.Observation.{observed_all}
+use Rattle.p3_multi_field.specs.MultiFieldCalls as calls
+use Rattle.p3_multi_field.specs.MultiFieldCalls.{FieldPair, Symbol, MultiFieldSponge}
+
+-- What a challenger keeps of its numbers: the rate is some cells but not all of them; the order of the scalars is
+-- below that of the cells; a cell packs some scalars and gives some digits; the rate packs at most 255 scalars, and
+-- fewer are pending; no more outputs are left than the rate gives digits, and none where a scalar is pending.
+pub record KeepsNumbers (width rate order greater absorb squeeze scalars outputs_left : ℕ) : Type 0 where
+  pub positive : 0 < rate
+  pub capacity : rate < width
+  pub increasing : order < greater
+  pub some_packed : 0 < absorb
+  pub some_digits : 0 < squeeze
+  pub count : absorb * rate ≤ 255
+  pub short : scalars < absorb * rate
+  pub left : outputs_left ≤ rate * squeeze
+  pub none_left : 0 < scalars → outputs_left ≡ 0
+
+-- its sponge, and the permutation, which stays
+pub record MultiFieldState (F PF P : Type 0) : Type 0 where
+  pub sponge : MultiFieldSponge F PF
+  pub permutation : P
+
+module _ {F PF P : Type 0} (pair : FieldPair F PF) (permute : P → List PF → List PF) (rate : ℕ) where
+  -- each step, under the function that each permutation is
+  abbrev pub duplexed : MultiFieldState F PF P → MultiFieldState F PF P
+  duplexed c = record c { sponge = calls.duplexed pair (permute c.permutation) rate c.sponge }
+
+  abbrev pub scalar_observed : MultiFieldState F PF P → F → MultiFieldState F PF P
+  scalar_observed c x = record c { sponge = calls.scalar_observed pair (permute c.permutation) rate c.sponge x }
+
+  abbrev pub digest_observed : MultiFieldState F PF P → List PF → MultiFieldState F PF P
+  digest_observed c words =
+      record c { sponge = calls.digest_observed pair (permute c.permutation) rate c.sponge words }
+
+  abbrev pub observed : MultiFieldState F PF P → Symbol F PF → MultiFieldState F PF P
+  observed c symbol = record c { sponge = calls.observed pair (permute c.permutation) rate c.sponge symbol }
+
+  -- what symbols feed: each is observed, in order
+  abbrev pub fed : MultiFieldState F PF P → List (Symbol F PF) → MultiFieldState F PF P
+  fed c symbols = observed_all observed c symbols
+
+  -- scalars, observed in order
+  abbrev pub scalars_observed : MultiFieldState F PF P → List F → MultiFieldState F PF P
+  scalars_observed c xs = observed_all scalar_observed c xs
+
+  -- digests, observed in order
+  abbrev pub digests_observed : MultiFieldState F PF P → List (List PF) → MultiFieldState F PF P
+  digests_observed c digests = observed_all digest_observed c digests
+
+  abbrev pub sampled : MultiFieldState F PF P → F
+  sampled c = calls.sampled pair (permute c.permutation) rate c.sponge
+
+  abbrev pub after_sampled : MultiFieldState F PF P → MultiFieldState F PF P
+  after_sampled c = record c { sponge = calls.after_sampled pair (permute c.permutation) rate c.sponge }
+
+  -- what n draws give, in order
+  abbrev pub drawn : ℕ → MultiFieldState F PF P → List F
+  drawn zero c = []
+  drawn (suc n) c = sampled c ∷ drawn n (after_sampled c)
+
+  -- the challenger after n draws
+  abbrev pub after_drawn : ℕ → MultiFieldState F PF P → MultiFieldState F PF P
+  after_drawn zero c = c
+  after_drawn (suc n) c = after_drawn n (after_sampled c)
+
+  -- the digest that it ends in
+  abbrev pub finalized : MultiFieldState F PF P → List PF
+  finalized c = calls.finalized pair (permute c.permutation) rate c.sponge

@@ -1,0 +1,17 @@
+-- When two fields do not make a multi-field challenger, and what is told then.
+use Rattle.std.specs.Prelude.{◌≡◌, ℕ, ◌<◌, ◌≤◌, ◌*◌, ◌^◌, ◌-◌, List, min}
+use Rattle.p3_multi_field.specs.declared.error.MultiField32ChallengerError.{MultiField32ChallengerError}
+use Rattle.p3_multi_field.specs.declared.error.MultiField32ChallengerError.TheVariants.{FieldOrderNotIncreasing}
+use Rattle.p3_multi_field.specs.declared.error.MultiField32ChallengerError.TheVariants.{AbsorbLengthTagOverflow}
+
+-- the order of the scalars is below that of the cells, and the rate packs so few scalars that a byte counts them
+pub record MakeChallenger (order greater batch : ℕ) : Type 0 where
+  pub increasing : order < greater
+  pub counted : batch ≤ 255
+
+-- the error says why they do not: the orders first. A batch is told as far as a `usize` counts.
+abbrev pub Refuses : ℕ → ℕ → ℕ → List ℕ → List ℕ → MultiField32ChallengerError → Type 0
+Refuses order greater batch scalars_name cells_name (FieldOrderNotIncreasing input_field sponge_field) =
+    (greater ≤ order) × (input_field.now ≡ scalars_name) × (sponge_field.now ≡ cells_name)
+Refuses order greater batch scalars_name cells_name (AbsorbLengthTagOverflow batch_len max) =
+    (order < greater) × (255 < batch) × (batch_len ≡ min batch (2 ^ 64 - 1)) × (max ≡ 255)

@@ -1,0 +1,24 @@
+use thiserror::Error;
+
+/// Why two fields do not make a multi-field challenger. No challenger stands after either.
+#[derive(Clone, Copy, Debug, PartialEq, Eq, Error)]
+pub enum MultiField32ChallengerError {
+    /// The order of the field of the scalars is not below that of the field of the cells.
+    #[error("sampled field `{input_field}` must have smaller order than transcript field `{sponge_field}`")]
+    FieldOrderNotIncreasing {
+        /// The name of the field of the scalars.
+        input_field: &'static str,
+        /// The name of the field of the cells.
+        sponge_field: &'static str,
+    },
+    /// So many scalars are absorbed at once that the tag that counts them passes a byte.
+    #[error(
+        "a full absorb batch contains {batch_len} sampled-field elements, exceeding the u8 length-tag limit of {max}"
+    )]
+    AbsorbLengthTagOverflow {
+        /// How many scalars the rate packs.
+        batch_len: usize,
+        /// The greatest tag: 255.
+        max: usize,
+    },
+}

@@ -1,0 +1,12 @@
+//! The challenger over two fields: it observes and draws elements of one, packed into cells of a greater one.
+#![tactic(auto)]
+
+mod error;
+mod multi_field_challenger;
+mod paired;
+mod symbol;
+
+pub use error::MultiField32ChallengerError;
+pub use multi_field_challenger::MultiField32Challenger;
+pub use paired::Paired;
+pub use symbol::MultiFieldSymbol;

@@ -1,0 +1,486 @@
+ghost use Rattle.std.specs.Prelude.{◌≡◌, ◌*◌, ◌/◌, ◌<◌, ◌≤◌, ◌+◌, [], IfOk, IfErr, length, take};
+ghost use Rattle.p3_field_core.specs.Residues.{plus};
+ghost use Rattle.p3_multi_field.specs.MultiFieldCalls.{fresh, packed_cells, scalars_over, absorbing, queued};
+ghost use Rattle.p3_multi_field.specs.MultiFieldCalls.{digit_in_row};
+ghost use Rattle.p3_multi_field.specs.Refusals.{MakeChallenger, Refuses};
+
+use crate::{MultiField32ChallengerError, MultiFieldSymbol, Paired};
+use p3_challenger_core::{CanFinalizeDigest, CanObserve, CanSample, ChallengerError, Sponge};
+use p3_field_bridge::FieldBridge;
+use p3_field_core::{BasedVectorSpace, Named, PrimeField32, PrimeField64};
+use p3_symmetric::CryptographicPermutation;
+use std::marker::Model;
+
+// The greatest tag of an absorb, and so the most scalars that may be pending.
+const MOST_SCALARS: usize = 255;
+
+/// A challenger that observes and draws elements of `F`, made of a permutation of `WIDTH` cells of a greater field
+/// `PF`, of which the first `RATE` are the rate.
+///
+/// A scalar that is observed is pending until the rate can pack no more, or until a draw finds no output left. Then
+/// what is pending is absorbed: each cell of the rate gets the element that packs the next scalars, as many as it
+/// can, and zero where none are left; the number of scalars is added to the cell after the rate, and the cells are
+/// permuted. A digest of words of `PF` first absorbs what is pending; then blocks of words, each at most as long as
+/// the rate, are written over the rate with zeros after them, each with its own count.
+///
+/// The digits of the cells of the rate, in the base of the order of `F`, are then the outputs, drawn from the last
+/// digit of the last cell backwards. A scalar or a digest drops the outputs left, and a draw that finds none, and
+/// nothing pending, permutes the cells.
+///
+/// No call but [`sample_vec`](CanSample::sample_vec) takes memory, and no other is refused.
+#[derive(Debug, Drop)]
+pub struct MultiField32Challenger<
+    F: PrimeField32,
+    PF: PrimeField64 + FieldBridge<F, PF>,
+    P,
+    const WIDTH: usize,
+    const RATE: usize,
+> {
+    sponge_state: [PF; WIDTH],
+    // Its first `scalars` places are what is pending; the others are of no meaning.
+    pending: [F; 255],
+    scalars: usize,
+    // How many outputs are left to draw: the first digits of the row that the rate gives. Where one stands is found by
+    // a constant, `PF::SQUEEZE_COUNT`, so that no division is left in a draw when that is a power of two.
+    outputs_left: usize,
+    permutation: P,
+}
+
+impl<
+    F: PrimeField32,
+    PF: PrimeField64 + FieldBridge<F, PF>,
+    P,
+    const WIDTH: usize,
+    const RATE: usize,
+> Model for MultiField32Challenger<F, PF, P, WIDTH, RATE> {
+    ghost use Rattle.std.specs.Prelude.{take};
+    ghost use Rattle.p3_multi_field.specs.MultiFieldState.{MultiFieldState, KeepsNumbers};
+
+    ghost Value = { MultiFieldState F PF P };
+
+    ghost view = { λ c. record {
+      sponge = record {
+        cells = c.sponge_state;
+        pending = take c.scalars c.pending;
+        outputs_left = c.outputs_left;
+      };
+      permutation = c.permutation;
+    } };
+
+    ghost invariant = { λ c. KeepsNumbers WIDTH RATE F.residues.order PF.residues.order PF.ABSORB_COUNT
+        PF.SQUEEZE_COUNT c.scalars c.outputs_left };
+}
+
+impl<
+    F: PrimeField32 + Named,
+    PF: PrimeField64 + FieldBridge<F, PF> + Named,
+    P: CryptographicPermutation<[PF; WIDTH]>,
+    const WIDTH: usize,
+    const RATE: usize,
+> MultiField32Challenger<F, PF, P, WIDTH, RATE> {
+    /// A challenger of zeros, with nothing pending and no output.
+    ///
+    /// The errors are [`MultiField32ChallengerError::FieldOrderNotIncreasing`], exactly where the order of `F` is not
+    /// below that of `PF`, and else [`MultiField32ChallengerError::AbsorbLengthTagOverflow`], exactly where the rate
+    /// packs more than 255 scalars.
+    pub fn new(permutation: P) -> Result<Self, MultiField32ChallengerError>
+        requires rate { 0 < RATE }
+        requires capacity { RATE < WIDTH }
+        ensures made { IfOk result (λ _.
+            MakeChallenger F.residues.order PF.residues.order (PF.ABSORB_COUNT * RATE)) }
+        ensures fresh { IfOk result (λ c. c ≡ record {
+          sponge = fresh ⟦<PF as Paired<F>>⟧.pair WIDTH;
+          permutation = permutation;
+        }) }
+        ensures refused { IfErr result (λ e. Refuses F.residues.order PF.residues.order (PF.ABSORB_COUNT * RATE)
+            F.name_bytes PF.name_bytes e) }
+    {
+        if F::ORDER_U64 >= PF::ORDER_U64 {
+            return Err(MultiField32ChallengerError::FieldOrderNotIncreasing {
+                input_field: F::type_name(),
+                sponge_field: PF::type_name(),
+            });
+        }
+        let batch_len = PF::ABSORB_COUNT.saturating_mul(RATE);
+        if batch_len > MOST_SCALARS {
+            return Err(MultiField32ChallengerError::AbsorbLengthTagOverflow {
+                batch_len,
+                max: MOST_SCALARS,
+            });
+        }
+        Ok(MultiField32Challenger {
+            sponge_state: [zero(); WIDTH],
+            pending: [zero(); 255],
+            scalars: 0,
+            outputs_left: 0,
+            permutation,
+        })
+    }
+}
+
+impl<
+    F: PrimeField32,
+    PF: PrimeField64 + FieldBridge<F, PF>,
+    P: CryptographicPermutation<[PF; WIDTH]>,
+    const WIDTH: usize,
+    const RATE: usize,
+> MultiField32Challenger<F, PF, P, WIDTH, RATE> {
+    ghost use Rattle.p3_multi_field.specs.MultiFieldState as multi_state;
+
+    /// In how many bits a scalar is packed: the least count that holds the canonical number of each.
+    pub fn absorb_radix_bits(&self) -> u32
+        ensures { result ≡ PF.RADIX_BITS }
+    {
+        PF::RADIX_BITS
+    }
+
+    /// How many scalars are packed into one cell.
+    pub fn absorb_num_f_elms(&self) -> usize
+        ensures { result ≡ PF.ABSORB_COUNT }
+    {
+        PF::ABSORB_COUNT
+    }
+
+    /// How many digits of one cell are drawn.
+    pub fn squeeze_num_f_elms(&self) -> usize
+        ensures { result ≡ PF.SQUEEZE_COUNT }
+    {
+        PF::SQUEEZE_COUNT
+    }
+
+    /// How many digits a draw has queued that were neither drawn since nor dropped: 0 after an absorb, until the next
+    /// draw queues the digits of the rate and takes one.
+    pub fn pending_f_squeeze_len(&self) -> usize
+        ensures { result ≡ queued ⟦<PF as Paired<F>>⟧.pair RATE self.now.sponge }
+    {
+        if self.outputs_left == self.row_len() {
+            0
+        } else {
+            self.outputs_left
+        }
+    }
+
+    /// The same challenger once more. It takes no memory, so it cannot fail.
+    pub fn clone(&self) -> Self
+        ensures { result ≡ self.now }
+    {
+        MultiField32Challenger {
+            sponge_state: self.sponge_state,
+            pending: self.pending,
+            scalars: self.scalars,
+            outputs_left: self.outputs_left,
+            permutation: self.permutation,
+        }
+    }
+
+    // What is pending, in the order in which it was observed.
+    fn pending(&self) -> &[F]
+        ensures values { result.now ≡ self.now.sponge.pending }
+        ensures short { length result.now < PF.ABSORB_COUNT * RATE }
+    {
+        &self.pending[..self.scalars]
+    }
+
+    // How many scalars the rate packs.
+    fn batch_len(&self) -> usize
+        ensures { result ≡ PF.ABSORB_COUNT * RATE }
+    {
+        let _ = &self.scalars;
+        PF::ABSORB_COUNT * RATE
+    }
+
+    // How many digits the rate gives.
+    fn row_len(&self) -> usize
+        ensures { result ≡ RATE * PF.SQUEEZE_COUNT }
+    {
+        let _ = &self.outputs_left;
+        RATE * PF::SQUEEZE_COUNT
+    }
+
+    // The rate.
+    fn rate(&self) -> [PF; RATE]
+        ensures { result ≡ take RATE self.now.sponge.cells }
+    {
+        let mut rate = [zero(); RATE];
+        rate.copy_from_slice(&self.sponge_state[..RATE]);
+        rate
+    }
+
+    // Absorbs what is pending, or only permutes where nothing is. All outputs are left.
+    fn duplex(&mut self)
+        ensures { self.new ≡ multi_state.duplexed ⟦<PF as Paired<F>>⟧.pair P.permutation RATE self.old }
+    {
+        let row_len = self.row_len();
+        absorb::<F, PF, P, WIDTH, RATE>(
+            &mut self.sponge_state,
+            &self.pending[..self.scalars],
+            &self.permutation,
+        );
+        self.scalars = 0;
+        self.outputs_left = row_len;
+    }
+
+    // Draws a scalar: the last output left, after a permutation where none is.
+    fn draw(&mut self) -> F
+        ensures value { result ≡ multi_state.sampled ⟦<PF as Paired<F>>⟧.pair P.permutation RATE self.old }
+        ensures after { self.new ≡ multi_state.after_sampled ⟦<PF as Paired<F>>⟧.pair P.permutation RATE self.old }
+    {
+        if self.outputs_left == 0 {
+            self.duplex();
+        }
+        self.outputs_left -= 1;
+        digit_at::<F, PF>(&self.sponge_state[..], self.outputs_left)
+    }
+
+    // How many scalars more the rate packs.
+    fn room(&self) -> usize
+        ensures fills { result + length self.now.sponge.pending ≡ PF.ABSORB_COUNT * RATE }
+        ensures some { 0 < result }
+    {
+        self.batch_len() - self.pending().len()
+    }
+
+    // Makes scalars pending that the rate packs with what is pending, and absorbs them all if it packs no more.
+    fn push_within(&mut self, values: &[F])
+        requires { length self.old.sponge.pending + length values.now ≤ PF.ABSORB_COUNT * RATE }
+        ensures fed { self.new ≡ multi_state.scalars_observed ⟦<PF as Paired<F>>⟧.pair P.permutation RATE self.old values.now }
+        ensures full { length self.old.sponge.pending + length values.now ≡ PF.ABSORB_COUNT * RATE
+            → self.new.sponge.pending ≡ [] }
+    {
+        let batch_len = self.batch_len();
+        let row_len = self.row_len();
+        let end = self.scalars + values.len();
+        if values.is_empty() {
+            return;
+        }
+        let buffer = &mut self.pending[..];
+        buffer[self.scalars..end].copy_from_slice(values);
+        if end == batch_len {
+            absorb::<F, PF, P, WIDTH, RATE>(
+                &mut self.sponge_state,
+                &self.pending[..end],
+                &self.permutation,
+            );
+            self.scalars = 0;
+            self.outputs_left = row_len;
+        } else {
+            self.scalars = end;
+            self.outputs_left = 0;
+        }
+    }
+
+    // Makes a scalar pending, and absorbs what is pending if the rate packs no more.
+    fn push(&mut self, value: F)
+        ensures { self.new ≡ multi_state.scalar_observed ⟦<PF as Paired<F>>⟧.pair P.permutation RATE self.old value }
+    {
+        prove!(self.room() > 0);
+        self.push_within(&[value]);
+    }
+
+    // Absorbs as many scalars as the rate packs, where nothing is pending: straight from where they stand.
+    fn absorb_batch(&mut self, batch: &[F])
+        requires none { self.old.sponge.pending ≡ [] }
+        requires whole { length batch.now ≡ PF.ABSORB_COUNT * RATE }
+        ensures fed { self.new ≡ multi_state.scalars_observed ⟦<PF as Paired<F>>⟧.pair P.permutation RATE self.old batch.now }
+        ensures none_left { self.new.sponge.pending ≡ [] }
+    {
+        let row_len = self.row_len();
+        pack_over::<F, PF>(&mut self.sponge_state[..], batch, RATE);
+        self.permutation.permute_mut(&mut self.sponge_state);
+        self.outputs_left = row_len;
+    }
+
+    // Makes scalars pending in order, and absorbs each batch that they fill. The first scalars fill up what is
+    // pending, and the batches after them are not copied into it.
+    pub(crate) fn push_all(&mut self, values: &[F])
+        ensures { self.new ≡ multi_state.scalars_observed ⟦<PF as Paired<F>>⟧.pair P.permutation RATE self.old values.now }
+    {
+        let batch_len = self.batch_len();
+        let (front, mut rest) = values.split_at(self.room().min(values.len()));
+        self.push_within(front);
+        while rest.len() >= batch_len {
+            let (batch, after) = rest.split_at(batch_len);
+            self.absorb_batch(batch);
+            rest = after;
+        }
+        if !rest.is_empty() {
+            self.push_within(rest);
+        }
+    }
+}
+
+impl<
+    F: PrimeField32,
+    PF: PrimeField64 + FieldBridge<F, PF>,
+    P: CryptographicPermutation<[PF; WIDTH]>,
+    const WIDTH: usize,
+    const RATE: usize,
+> Sponge for MultiField32Challenger<F, PF, P, WIDTH, RATE> {
+    ghost use Rattle.std.specs.Prelude.{refl};
+    ghost use Rattle.p3_multi_field.specs.MultiFieldState as multi_state;
+    ghost use Rattle.p3_multi_field.specs.MultiFieldStateLaws.{fed-append};
+
+    type State = Self;
+
+    type Symbol = MultiFieldSymbol<F, PF>;
+
+    ghost state = { λ c. c };
+
+    ghost fed = { λ s symbols. multi_state.fed ⟦<PF as Paired<F>>⟧.pair P.permutation RATE s symbols };
+
+    ghost next = { λ s. multi_state.after_sampled ⟦<PF as Paired<F>>⟧.pair P.permutation RATE s };
+
+    ghost fed_nothing = { λ _. refl };
+
+    ghost fed_more = { fed-append ⟦<PF as Paired<F>>⟧.pair P.permutation RATE };
+}
+
+impl<
+    F: PrimeField32,
+    PF: PrimeField64 + FieldBridge<F, PF>,
+    P: CryptographicPermutation<[PF; WIDTH]>,
+    const WIDTH: usize,
+    const RATE: usize,
+> CanObserve<F> for MultiField32Challenger<F, PF, P, WIDTH, RATE> {
+    ghost use Rattle.p3_challenger_core.specs.Observation.{unrefused_observe};
+    ghost use Rattle.p3_multi_field.specs.MultiFieldCalls.{scalar};
+    ghost use Rattle.p3_multi_field.specs.MultiFieldStateLaws.{is_observation};
+    ghost use Rattle.std.specs.Prelude.{[], ◌∷◌, refl};
+    ghost use Rattle.p3_multi_field.specs.MultiFieldState as multi_state;
+
+    // An observation takes no memory: it is never refused.
+    ghost observation = { unrefused_observe (λ x. scalar x ∷ [])
+        (λ s x. multi_state.scalar_observed ⟦<PF as Paired<F>>⟧.pair P.permutation RATE s x) };
+
+    ghost slice_may_leave = { λ _ _ _. ⊥ };
+
+    ghost observes = { is_observation ⟦<PF as Paired<F>>⟧.pair P.permutation RATE (λ x. scalar x ∷ [])
+        (λ s x. multi_state.scalar_observed ⟦<PF as Paired<F>>⟧.pair P.permutation RATE s x) (λ _ _. refl) };
+
+    ghost slice_leaves = { λ _ _ _ h. absurd h };
+
+    fn observe(&mut self, value: F) -> Result<(), ChallengerError> {
+        self.push(value);
+        Ok(())
+    }
+
+    fn observe_slice(&mut self, values: &[F]) -> Result<(), ChallengerError> {
+        self.push_all(values);
+        Ok(())
+    }
+}
+
+impl<
+    F: PrimeField32,
+    A: BasedVectorSpace<F>,
+    PF: PrimeField64 + FieldBridge<F, PF>,
+    P: CryptographicPermutation<[PF; WIDTH]>,
+    const WIDTH: usize,
+    const RATE: usize,
+> CanSample<A> for MultiField32Challenger<F, PF, P, WIDTH, RATE> {
+    ghost use Rattle.std.specs.Prelude.{Some};
+    ghost use Rattle.p3_challenger_core.specs.Sampling.{unrefused_draw};
+    ghost use Rattle.p3_multi_field.specs.MultiFieldState as multi_state;
+    ghost use Rattle.p3_multi_field.specs.MultiFieldStateLaws.{elements-sampled};
+
+    // The element whose coefficients are the next digits, coefficient 0 first. A draw takes no memory and has no
+    // limit: it is never refused.
+    ghost sampling = { unrefused_draw
+        (λ s. Some (A.element (multi_state.drawn ⟦<PF as Paired<F>>⟧.pair P.permutation RATE A.DIMENSION s)))
+        (λ s. multi_state.after_drawn ⟦<PF as Paired<F>>⟧.pair P.permutation RATE A.DIMENSION s) };
+
+    ghost samples = { elements-sampled ⟦<PF as Paired<F>>⟧.pair P.permutation RATE A.DIMENSION A.element };
+
+    fn sample(&mut self) -> Result<A, ChallengerError> {
+        let mut element = A::zero();
+        for i in 0..A::DIMENSION {
+            element = element.with_coefficient(i, self.draw());
+        }
+        Ok(element)
+    }
+}
+
+impl<
+    F: PrimeField32,
+    PF: PrimeField64 + FieldBridge<F, PF>,
+    P: CryptographicPermutation<[PF; WIDTH]>,
+    const WIDTH: usize,
+    const RATE: usize,
+> CanFinalizeDigest for MultiField32Challenger<F, PF, P, WIDTH, RATE> {
+    ghost use Rattle.p3_multi_field.specs.MultiFieldState as multi_state;
+
+    type Digest = [PF; RATE];
+
+    // The rate after one more permutation, of what is pending where something is.
+    ghost digest_of = { λ s. multi_state.finalized ⟦<PF as Paired<F>>⟧.pair P.permutation RATE s };
+
+    fn finalize(self) -> [PF; RATE] {
+        let mut challenger = self;
+        challenger.duplex();
+        challenger.rate()
+    }
+}
+
+// The element 0.
+fn zero<F: PrimeField64>() -> F
+    ensures { result ≡ F.residues.of 0 }
+{
+    F::ZERO
+}
+
+// The element that is a number more.
+fn plus_number<F: PrimeField64>(x: F, n: u64) -> F
+    ensures { result ≡ plus F.residues x n }
+{
+    x + F::from_u64(n)
+}
+
+// The digit at a place of the row that cells give.
+fn digit_at<F: PrimeField32, PF: PrimeField64 + FieldBridge<F, PF>>(cells: &[PF], place: usize) -> F
+    requires some { 0 < PF.SQUEEZE_COUNT }
+    requires inside { place / PF.SQUEEZE_COUNT < length cells.now }
+    ensures { result ≡ digit_in_row ⟦<PF as Paired<F>>⟧.pair cells.now place }
+{
+    PF::digit(cells[place / PF::SQUEEZE_COUNT], place % PF::SQUEEZE_COUNT)
+}
+
+// Packs scalars into cells, as many into each as it can: the first ones into the first cell. Where none are left a
+// cell is zero.
+fn pack_all<F: PrimeField32, PF: PrimeField64 + FieldBridge<F, PF>>(cells: &mut [PF], scalars: &[F])
+    ensures { cells.new ≡ packed_cells ⟦<PF as Paired<F>>⟧.pair (length cells.old) scalars.now }
+{
+    let mut rest = scalars;
+    for i in 0..cells.len() {
+        let (packed, after) = rest.split_at(PF::ABSORB_COUNT.min(rest.len()));
+        cells[i] = PF::pack(packed);
+        rest = after;
+    }
+}
+
+// Packs scalars over the rate, and adds their number to the cell after it.
+fn pack_over<F: PrimeField32, PF: PrimeField64 + FieldBridge<F, PF>>(cells: &mut [PF], scalars: &[F], rate: usize)
+    requires capacity { rate < length cells.old }
+    ensures { cells.new ≡ scalars_over ⟦<PF as Paired<F>>⟧.pair rate cells.old scalars.now }
+{
+    let counted = plus_number(cells[rate], scalars.len() as u64);
+    pack_all::<F, PF>(&mut cells[..rate], scalars);
+    cells[rate] = counted;
+}
+
+// Absorbs scalars; without one it only permutes.
+fn absorb<
+    F: PrimeField32,
+    PF: PrimeField64 + FieldBridge<F, PF>,
+    P: CryptographicPermutation<[PF; WIDTH]>,
+    const WIDTH: usize,
+    const RATE: usize,
+>(cells: &mut [PF; WIDTH], scalars: &[F], permutation: &P)
+    requires capacity { RATE < WIDTH }
+    ensures { cells.new
+        ≡ P.permutation permutation.now (absorbing ⟦<PF as Paired<F>>⟧.pair RATE cells.old scalars.now) }
+{
+    if !scalars.is_empty() {
+        pack_over::<F, PF>(&mut cells[..], scalars, RATE);
+    }
+    permutation.permute_mut(cells);
+}
