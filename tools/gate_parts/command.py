@@ -67,7 +67,7 @@ def run_marked(proofs):
     for it in held:
         os.close(it)
     proofs.run(ROOT)
-    libraries.mark(crates, stamps, f"{time.time_ns()}")
+    libraries.mark(crates, stamps, f"{time.time_ns()}", table.names_in(proofs.lines))
 
 
 def report(parts, rows):

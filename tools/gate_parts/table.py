@@ -6,16 +6,30 @@ HEADS = ("crate", "functions", "minutes of proof", "minutes of tests", "minutes 
 KINDS = ("proof", "tests", "edits")
 
 
-def functions_in(lines):
-    """Returns how many functions each crate has, from the output of rt ci."""
-    found, crate = {}, None
+def by_crate(lines):
+    """Yields the lines that the output of rt ci has of the proof of a crate, each with the crate's name."""
+    crate = None
     for line in lines:
         head = re.fullmatch(r"== (\w+)(: its tests)?", line)
         if head:
             crate = None if head[2] else head[1]
-        count = re.match(r"logic=proved .*\bfunctions=(\d+)", line)
-        if count and crate:
-            found[crate] = int(count[1])
+        elif crate:
+            yield crate, line
+
+
+def functions_in(lines):
+    """Returns how many functions each crate has, from the output of rt ci."""
+    counts = ((crate, re.match(r"logic=proved .*\bfunctions=(\d+)", line)) for crate, line in by_crate(lines))
+    return {crate: int(count[1]) for crate, count in counts if count}
+
+
+def names_in(lines):
+    """Returns the names of the functions of each crate, from the output of rt ci."""
+    found = collections.defaultdict(list)
+    for crate, line in by_crate(lines):
+        name = re.match(rf"fn ({crate}::\S+): proved", line)
+        if name:
+            found[crate].append(name[1])
     return found
 
 

@@ -52,8 +52,11 @@ class Workshop:
         os.makedirs(f"{room}/kept", exist_ok=True)
         self.functions = Functions(f"{room}/text", crate.is_program)
 
-    def check(self, edits, label, jobs):
-        """Checks the crate with these edits, and returns what was found. With none, what is proved is kept for the others."""
+    def check(self, edits, label, jobs, only=()):
+        """Checks the crate with these edits, and returns what was found. With none, what is proved is kept for the others.
+
+        Where names of functions are given, only those are checked, with what they call, and what is found is kept too.
+        """
         self.number += 1
         layouts = Layouts(self.functions, edits)
         with tempfile.TemporaryDirectory(prefix="check-", dir=self.room) as copy:
@@ -62,10 +65,11 @@ class Workshop:
                 with open(f"{copy}/text/{file}", "w", encoding="utf-8") as it:
                     it.write(layouts.of(file).text)
             kept = f"{self.room}/kept"
-            if edits:
+            if edits and not only:
                 # (each over the same work: a check with edits puts its own in the place of some of it)
                 kept = shutil.copytree(kept, f"{copy}/kept")
-            words = self.crate.words(["--jobs", str(jobs)], keeps=False)
+            flags = [word for it in only for word in ("--only", it)]
+            words = self.crate.words(["--jobs", str(jobs), *flags], keeps=False)
             done = ran_again_if_killed([rtlib.RATTLE, "check", *words, "--incremental", kept], f"{copy}/text")
         self.seconds += done.seconds
         self.memory = done.memory

@@ -22,6 +22,8 @@ an edit of a constant or of a ghost member is.
 
 Edits of different functions are checked together, on a copy of the crate. What is not plainly refused so is tried alone, and
 so is an edit of more than bodies. Each edit has a row: a word, its name, the functions that it changes, and the first goal.
+First the crate is checked as it stands. Where tools/gate has marked it as proved, only the functions that have to refuse are
+checked, with what they call, and the crate as it stands only if an edit is not refused so.
 {MEANING}
 A refusal may have marks: [requires] only what a callee asks failed, [gave up] the search met a limit at each goal, [false]
 values are known at which a goal is false, [answers] only answers that a proof file gives failed.

@@ -43,7 +43,7 @@ class Findings:
 
     def has_verdict(self):
         """Returns whether the prover could tell of each function whether it is proved."""
-        return self.was_read() and any(it.startswith("logic=") for it in self.lines)
+        return self.was_read() and any(it.startswith(("logic=", "only=")) for it in self.lines)
 
     def is_proved(self):
         """Returns whether the crate is proved."""

@@ -146,6 +146,15 @@ class Functions:
         least = min((far for far, _ in fits if far is not None), default=None)
         return [it for far, it in fits if far is not None and far == least]
 
+    def symbols(self, names):
+        """Returns, by item, what a check calls it below the crate, from the names of the crate's functions."""
+        found = {}
+        for path in (it.split("::")[1:] for it in names):
+            items = self.nearest(path)
+            if len(items) == 1:
+                found[items[0]] = "::".join(path)
+        return found
+
     def called(self, name):
         """Returns the one item that `refused at:` names."""
         found = [it for it in self.items if name.replace(" ", "") in it.spellings()]

@@ -2,7 +2,8 @@
 
 There are two kinds. `rt check` builds a library with its proofs, and leaves a stamp beside it. `rt ci` builds each from
 nothing with its statements alone, and leaves no stamp; `tools/gate`, which runs it, then leaves a mark of its own.
-Libraries of one run of `rt ci` fit one another, and no others.
+Libraries of one run of `rt ci` fit one another, and no others. Only a proved crate is built: so where the mark is of the
+text that a crate has now, it is proved as it stands, and the mark has the names of its functions.
 """
 import os
 import shutil
@@ -24,23 +25,31 @@ def clear(crates):
         shutil.rmtree(os.path.dirname(it.rlib), ignore_errors=True)
 
 
-def mark(crates, stamps, run):
-    """Marks the libraries that a run of rt ci built, of the text with these stamps."""
+def mark(crates, stamps, run, names):
+    """Marks the libraries that a run of rt ci built, of the text with these stamps. The names of functions are by crate."""
     for it in crates:
         if os.path.isdir(it.rlib) and not it.is_built() and it.stamp() == stamps[it.name]:
             with open(mark_of(it), "w", encoding="utf-8") as file:
-                file.write(f"{run}\n{stamps[it.name]}\n")
+                file.write("".join(f"{line}\n" for line in [run, stamps[it.name], *names.get(it.name, [])]))
+
+
+def marked(crate):
+    """Returns the run of rt ci that built the crate of the text that it has now, and the names of its functions, or None."""
+    lines = (rtlib.text_of(mark_of(crate)) or "").split()
+    if len(lines) < 2 or not os.path.isdir(crate.rlib) or lines[1] != crate.stamp():
+        return None
+    return lines[0], lines[2:]
 
 
 def are_of_one_run(libraries):
     """Returns whether one run of rt ci built all of these, of the text that they have now."""
-    runs = set()
-    for it in libraries:
-        run, _, stamp = (rtlib.text_of(mark_of(it)) or "").partition("\n")
-        if not os.path.isdir(it.rlib) or stamp.strip() != it.stamp():
-            return False
-        runs.add(run)
-    return len(runs) <= 1
+    found = [marked(it) for it in libraries]
+    return all(found) and len({run for run, _ in found}) <= 1
+
+
+def names_where_proved(crate):
+    """Returns the names of the functions of a crate that a run of rt ci proved as it stands, and none of any other crate."""
+    return marked(crate)[1] if are_of_one_run([*crate.below(), crate]) else []
 
 
 def missing(libraries):

@@ -85,7 +85,7 @@ class Run:
             if not it.why:
                 workshop.functions.place(it)
         trials = Trials(workshop, jobs, say)
-        trials.run(edits, self.given.alone)
+        trials.run(edits, self.given.alone, libraries.names_where_proved(crate))
         shutil.rmtree(workshop.room, ignore_errors=True)
         return workshop, trials.verdicts
 

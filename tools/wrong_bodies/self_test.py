@@ -7,6 +7,9 @@ import subprocess
 import sys
 import tempfile
 
+from . import libraries
+from .kit import rtlib
+
 COMMAND = f"{os.path.dirname(os.path.dirname(os.path.realpath(__file__)))}/wrong-bodies"
 
 LOW = """// A library for the crate above.
@@ -184,12 +187,37 @@ def of_one(root):
     yield "an edit can be named by its file", holds and any("1 edit in 0 checks" in it for it in lines)
 
 
+def mark(root):
+    """Builds the two libraries, and marks them as the gate does after rt ci."""
+    crates = rtlib.crates_below(root)
+    for it in crates:
+        with open(os.devnull, "w", encoding="utf-8") as it.out:
+            it.build_rlib(["--jobs", "1"], anew=False)
+        # (rt ci leaves none)
+        os.remove(f"{os.path.dirname(it.rlib)}/stamp")
+    names = re.findall(r"fn (\w+)\(", HIGH)
+    libraries.mark(crates, {it.name: it.stamp() for it in crates}, "1", {"high": [f"high::{it}" for it in names]})
+
+
+def of_marked(root):
+    """Tries some cases in crates that are known to be proved as they stand."""
+    mark(root)
+    cases = {it: CASES[it] for it in ("meaning_turned", "callee_asked_too_much", "branches_exchanged", "constant_turned", "sum_in_another_order")}
+    _, lines = run(root, "--jobs", "1", *(f"crates/high/wrong-bodies/{it}.edit" for it in cases))
+    for name, case in cases.items():
+        yield f"where the crate is known to be proved, {name}: {case.word}", row_of(name, lines).startswith(f"{case.word} ")
+    labels = re.findall(r"# high: check \d+ \((\w+)", "\n".join(lines))
+    first = labels.index("unedited") if "unedited" in labels else 0
+    yield "it is checked as it stands only for what is not refused", labels[first:] == ["unedited", "sum_in_another_order"]
+    yield "the edits of other functions are tried together there too", labels[:first].count("batch_1") == 1
+
+
 def main():
     """Runs the self test and returns its exit status."""
     counts = collections.Counter()
     with tempfile.TemporaryDirectory(prefix="wrong-bodies-self-test-") as root:
         make(root)
-        told = [*of_all(root), *of_one(root)]
+        told = [*of_all(root), *of_one(root), *of_marked(root)]
         with open(f"{root}/crates/high/src/lib.rt", encoding="utf-8") as it:
             told.append(("the crate's own text is as it was", it.read() == HIGH))
     for text, holds in told:

@@ -23,6 +23,11 @@ def goes_beside(one, other):
     return not {*one.functions} & {*other.functions} and not clash(one, other)
 
 
+def may_stay(edit, other):
+    """Returns whether an edit of an earlier batch may stay in the text while another is tried."""
+    return not other.is_apart and goes_beside(edit, other)
+
+
 class Trials:
     """Tries a crate's edits, and keeps the verdict on each."""
 
@@ -31,16 +36,24 @@ class Trials:
         self.verdicts = {}
         # Edits to be checked in another batch, and those that no batch has settled.
         self.later, self.unsettled = [], []
+        # Where only the functions that have to refuse are checked: by function its name, and what stays of the last batch.
+        self.names, self.standing = {}, []
 
-    def run(self, edits, is_alone=False):
-        """Tries these edits."""
+    def run(self, edits, is_alone=False, names=()):
+        """Tries these edits. Where the crate is known to be proved as it stands, the names of its functions are given."""
         self.verdicts.update((it, Verdict("bad-edit", it.why)) for it in edits if it.why)
         edits = [it for it in edits if not it.why]
+        if names:
+            self.names = self.workshop.functions.symbols(names)
+            self.try_in([it for it in edits if {*it.judges} <= {*self.names}], is_alone)
+            self.names, self.standing = {}, []
+            # (what is not refused so, is tried as if nothing were known)
+            edits = [it for it in edits if it not in self.verdicts or self.verdicts[it].word != REFUSED]
         if not edits:
             return
         unedited = self.check([], "unedited")
         if unedited.is_proved():
-            self.try_all([[it] for it in edits] if is_alone else packed(edits))
+            self.try_in(edits, is_alone)
             return
         why = f"the crate is not proved as it stands: {unedited.first_failure()}"
         self.verdicts.update((it, Verdict("no-verdict", why)) for it in edits)
@@ -50,27 +63,38 @@ class Trials:
         before = self.workshop.seconds
         # (one function's proof takes one job)
         jobs = min(self.jobs, len(batch)) if batch else self.jobs
-        found = self.workshop.check(batch, label, jobs)
+        only = [self.names[it] for edit in batch * bool(self.names) for it in edit.judges]
+        found = self.workshop.check([*batch, *self.standing], label, jobs, only)
         many = f", {len(batch)} edits" if len(batch) > 1 else ""
         took = f"{self.workshop.seconds - before:.1f} s, {self.workshop.memory / 1e9:.1f} GB"
         self.say(f"check {self.workshop.number} ({label}{many}): {took}")
         return found
 
-    def try_all(self, batches):
-        """Tries the batches, then what had to leave one, and then alone what no batch has settled."""
+    def try_in(self, edits, is_alone):
+        """Tries the edits in batches, then what had to leave one, and then alone what no batch has settled."""
+        batches = [[it] for it in edits] if is_alone else packed(edits)
         for number, batch in enumerate(batches, 1):
             self.try_batch(batch, f"batch_{number}" if len(batch) > 1 else batch[0].name)
         while self.later:
             left, self.later = self.later, []
             for batch in packed(left):
                 self.try_batch(batch, "later" if len(batch) > 1 else batch[0].name)
-        for edit in self.unsettled:
+        unsettled, self.unsettled = self.unsettled, []
+        for edit in unsettled:
+            self.standing = []
             self.try_batch([edit], edit.name)
 
     def try_batch(self, batch, label):
         """Checks a batch, less the edits that keep the check from coming to the proofs."""
+        # what calls a function that an edit changes need not wait for the proof of the right one
+        self.standing = [it for it in self.standing if all(may_stay(it, other) for other in batch)]
         while batch:
             found = self.check(batch, label)
+            if self.standing and not found.was_read():
+                self.standing = []
+                continue
+            if found.was_read() and self.names:
+                self.standing += [it for it in batch if not it.is_apart]
             if len(batch) == 1:
                 self.verdicts[batch[0]] = judged(batch[0], found)
                 return
@@ -109,6 +133,7 @@ class Trials:
 
     def try_halves(self, batch, label):
         """Tries a batch in two parts."""
+        self.standing = []
         half = len(batch) // 2
         self.try_batch(batch[:half], f"{label}a")
         self.try_batch(batch[half:], f"{label}b")
