@@ -14,6 +14,18 @@ pub use p3_challenger_core::{
 pub use p3_duplex::{
     DuplexChallenger, duplex_arrays_are_prefix_code, duplex_elements_are_prefix_code,
 };
+pub use p3_grinding::{
+    ByteCandidates, ByteGrindingChallenger, CanSampleUniformBits, GrindingChallenger, PrepareCheck,
+    Replica, ResamplingError, UniformBitsError, UniformGrindingChallenger, least_uniform_witness,
+    least_witness,
+};
 pub use p3_hash_challenger::{
     HashChallenger, hash_arrays_are_prefix_code, hash_values_are_prefix_code,
+};
+pub use p3_multi_field::{
+    MultiField32Challenger, MultiField32ChallengerError, MultiFieldSymbol, Paired,
+};
+pub use p3_serializing::{
+    SerializedIn, SerializingChallenger, SerializingChallenger32, SerializingChallenger64,
+    SerializingState, serialized_digests_are_prefix_code, serialized_elements_are_prefix_code,
 };

@@ -12,3 +12,7 @@ pub use Rattle.p3_small_primes.specs.BabyBearResidues
 pub use Rattle.p3_small_primes.specs.F257Residues
 pub use Rattle.p3_goldilocks.specs.GoldilocksResidues
 pub use Rattle.p3_goldilocks.specs.GoldilocksLaws
+pub use Rattle.p3_field_bridge.specs.BridgeLaws
+pub use Rattle.p3_field_bridge.specs.Bridges
+pub use Rattle.p3_field_bridge.specs.DigitLaws
+pub use Rattle.p3_field_bridge.specs.Digits

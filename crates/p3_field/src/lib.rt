@@ -1,10 +1,13 @@
 //! Prime fields: their elements as residues, the traits that generic code is written against, and
 //! three fields.
 //!
-//! This crate has no code of its own: it shows [`p3_field_core`], [`p3_small_primes`] and
-//! [`p3_goldilocks`].
+//! This crate has no code of its own: it shows [`p3_field_core`], [`p3_small_primes`],
+//! [`p3_goldilocks`] and [`p3_field_bridge`].
 #![tactic(auto)]
 
+pub use p3_field_bridge::{
+    FieldBridge, digits_are_any, digits_tell_elements, packing_is_injective,
+};
 pub use p3_field_core::{
     Algebra, AlgebraIdentity, BasedVectorSpace, BinomiallyExtendable, Coeffs, Field, Named,
     PrimeCharacteristicRing, PrimeField, PrimeField32, PrimeField64, UniformSamplingField,

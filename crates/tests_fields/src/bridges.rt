@@ -2,7 +2,7 @@
 ghost use Rattle.std.specs.Prelude.{◌<◌};
 
 use p3_field::{BabyBear, F257, Goldilocks, PrimeCharacteristicRing, PrimeField64};
-use p3_field_bridge::FieldBridge;
+use p3_field::FieldBridge;
 
 // The number of the element that packs values.
 fn packed_number<F: PrimeField64, PF: PrimeField64 + FieldBridge<F, PF>>(values: &[F]) -> u64 {
