@@ -1,6 +1,10 @@
 pub mod Batches
 pub mod Drawing
+pub mod MultiFieldHanded
+pub mod MultiFieldSteps
 pub mod Numbers
 pub mod Overwriting
 pub mod Packing
+pub mod PrefixCodes
+pub mod WordBlocks
 pub mod WorkedRows

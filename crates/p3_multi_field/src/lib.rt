@@ -4,9 +4,11 @@
 mod error;
 mod multi_field_challenger;
 mod paired;
+mod prefix_code;
 mod symbol;
 
 pub use error::MultiField32ChallengerError;
 pub use multi_field_challenger::MultiField32Challenger;
 pub use paired::Paired;
+pub use prefix_code::{multi_field_arrays_are_prefix_code, multi_field_scalars_are_prefix_code};
 pub use symbol::MultiFieldSymbol;

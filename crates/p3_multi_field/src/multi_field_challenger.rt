@@ -1,8 +1,19 @@
-ghost use Rattle.std.specs.Prelude.{◌≡◌, ◌*◌, ◌/◌, ◌<◌, ◌≤◌, ◌+◌, [], IfOk, IfErr, length, take};
+ghost use Rattle.std.specs.Prelude.{◌≡◌, ◌*◌, ◌/◌, ◌<◌, ◌≤◌, ◌+◌, ℕ, List, [], Some, IfOk, IfErr, length, take};
+ghost use Rattle.std.specs.List.{All};
 ghost use Rattle.p3_field_core.specs.Residues.{plus};
 ghost use Rattle.p3_multi_field.specs.MultiFieldCalls.{fresh, packed_cells, scalars_over, absorbing, queued};
 ghost use Rattle.p3_multi_field.specs.MultiFieldCalls.{digit_in_row};
+ghost use Rattle.p3_challenger_core.specs.Segments.{Call, segments, run_calls, run_calls_to_digest};
+ghost use Rattle.p3_challenger_core.specs.Segments.{run_segments, run_segments_to_digest};
+ghost use Rattle.p3_challenger_core.specs.Observation.{LeavesInCalls, RefusesObserve};
+ghost use Rattle.p3_challenger_core.specs.Sampling.{RefusesDraws, unrefused_draw};
+ghost use Rattle.p3_challenger_core.specs.declared.error.ChallengerError.{ChallengerError};
+ghost use Rattle.p3_multi_field.specs.MultiFieldCalls.{Symbol, multi_field_by_calls};
+ghost use Rattle.p3_multi_field.specs.MultiFieldSegments.{multi_field_by_segments};
 ghost use Rattle.p3_multi_field.specs.Refusals.{MakeChallenger, Refuses};
+
+mod bits;
+mod digests;
 
 use crate::{MultiField32ChallengerError, MultiFieldSymbol, Paired};
 use p3_challenger_core::{CanFinalizeDigest, CanObserve, CanSample, ChallengerError, Sponge};
@@ -126,6 +137,65 @@ impl<
     const RATE: usize,
 > MultiField32Challenger<F, PF, P, WIDTH, RATE> {
     ghost use Rattle.p3_multi_field.specs.MultiFieldState as multi_state;
+
+    /// The segments of calls, whole: from this challenger on, every list of calls gives the answers,
+    /// hands over the states to the permutation, and leaves the sponge, that its segments name; and so
+    /// do calls that end in a digest. No state is left out: a permutation that gives the same on those
+    /// that are handed over makes the calls do the same.
+    ///
+    /// A law: the body is empty, and a caller cites the clauses.
+    pub fn follows_segments(&self)
+        ensures calls { (calls : List (Call (Symbol F PF))) →
+            let pair = ⟦<PF as Paired<F>>⟧.pair in
+            let permute = P.permutation self.now.permutation in
+            run_calls (multi_field_by_calls pair permute RATE) self.now.sponge calls
+            ≡ run_segments (multi_field_by_segments pair permute RATE) self.now.sponge (segments calls) }
+        ensures digest { (calls : List (Call (Symbol F PF))) →
+            let pair = ⟦<PF as Paired<F>>⟧.pair in
+            let permute = P.permutation self.now.permutation in
+            run_calls_to_digest (multi_field_by_calls pair permute RATE) self.now.sponge calls
+            ≡ run_segments_to_digest (multi_field_by_segments pair permute RATE) self.now.sponge (segments calls) }
+        ensures handed { (calls : List (Call (Symbol F PF))) (other : List PF → List PF) →
+            let pair = ⟦<PF as Paired<F>>⟧.pair in
+            let permute = P.permutation self.now.permutation in
+            let run = run_calls (multi_field_by_calls pair permute RATE) self.now.sponge calls in
+            All (λ state. other state ≡ permute state) run.handed
+            → run_calls (multi_field_by_calls pair other RATE) self.now.sponge calls ≡ run }
+        ensures handed_to_digest { (calls : List (Call (Symbol F PF))) (other : List PF → List PF) →
+            let pair = ⟦<PF as Paired<F>>⟧.pair in
+            let permute = P.permutation self.now.permutation in
+            let run = run_calls_to_digest (multi_field_by_calls pair permute RATE) self.now.sponge calls in
+            All (λ state. other state ≡ permute state) run.handed
+            → run_calls_to_digest (multi_field_by_calls pair other RATE) self.now.sponge calls ≡ run }
+    {
+        let _ = &self.outputs_left;
+    }
+
+    /// Draws are never refused, whatever is drawn: no number of them leaves any challenger with an
+    /// error.
+    ///
+    /// A law: the body is empty, and a caller cites the clause.
+    pub fn draws_are_not_refused<A: BasedVectorSpace<F>>(&self)
+        ensures { (n : ℕ) (e : ChallengerError) (s t : multi_state.MultiFieldState F PF P) →
+            ¬ (RefusesDraws (unrefused_draw
+            (λ u. Some (A.element (multi_state.drawn ⟦<PF as Paired<F>>⟧.pair P.permutation RATE A.DIMENSION u)))
+            (λ u. multi_state.after_drawn ⟦<PF as Paired<F>>⟧.pair P.permutation RATE A.DIMENSION u)) n e s t) }
+    {
+        let _ = &self.outputs_left;
+    }
+
+    /// Observations of single scalars are never refused: no list of them leaves any challenger with an
+    /// error.
+    ///
+    /// A law: the body is empty, and a caller cites the clause.
+    pub fn observes_are_not_refused(&self)
+        ensures { (values : List F) (e : ChallengerError) (s t : multi_state.MultiFieldState F PF P) →
+            ¬ (RefusesObserve (LeavesInCalls
+            ⟦<MultiField32Challenger<F, PF, P, WIDTH, RATE> as CanObserve<F>>⟧.observation.observed
+            ⟦<MultiField32Challenger<F, PF, P, WIDTH, RATE> as CanObserve<F>>⟧.observation.may_leave s values) e t) }
+    {
+        let _ = &self.outputs_left;
+    }
 
     /// In how many bits a scalar is packed: the least count that holds the canonical number of each.
     pub fn absorb_radix_bits(&self) -> u32
@@ -458,7 +528,11 @@ fn pack_all<F: PrimeField32, PF: PrimeField64 + FieldBridge<F, PF>>(cells: &mut 
 }
 
 // Packs scalars over the rate, and adds their number to the cell after it.
-fn pack_over<F: PrimeField32, PF: PrimeField64 + FieldBridge<F, PF>>(cells: &mut [PF], scalars: &[F], rate: usize)
+fn pack_over<F: PrimeField32, PF: PrimeField64 + FieldBridge<F, PF>>(
+    cells: &mut [PF],
+    scalars: &[F],
+    rate: usize,
+)
     requires capacity { rate < length cells.old }
     ensures { cells.new ≡ scalars_over ⟦<PF as Paired<F>>⟧.pair rate cells.old scalars.now }
 {

@@ -1,0 +1,341 @@
+// What a multi-field challenger observes beside single scalars: arrays and lists of lists of scalars, digests and caps.
+// None of it is ever refused.
+ghost use Rattle.std.specs.Prelude.{◌≡◌, ◌↔◌, ◌<◌, ◌≤◌, [], length, replicate};
+ghost use Rattle.p3_challenger_core.specs.Observation.{observed_all};
+ghost use Rattle.p3_multi_field.specs.MultiFieldCalls.{words_over, emptied, permuting};
+
+use super::{plus_number, zero};
+use crate::{MultiField32Challenger, Paired};
+use p3_challenger_core::{CanObserve, ChallengerError};
+use p3_field_bridge::FieldBridge;
+use p3_field_core::{PrimeField32, PrimeField64};
+use p3_symmetric::{CryptographicPermutation, Hash, MerkleCap};
+use std::convert::AsSlice;
+
+impl<
+    F: PrimeField32,
+    PF: PrimeField64 + FieldBridge<F, PF>,
+    P: CryptographicPermutation<[PF; WIDTH]>,
+    const WIDTH: usize,
+    const RATE: usize,
+> MultiField32Challenger<F, PF, P, WIDTH, RATE> {
+    ghost use Rattle.p3_multi_field.specs.MultiFieldState as multi_state;
+
+    /// A cap that is lent is observed as its contents are, the cap itself: it feeds the same symbols, and leaves
+    /// the same state.
+    ///
+    /// A law: the body is empty, and a caller cites the clauses.
+    pub fn lent_caps_are_caps<'a, const N: usize>()
+        ensures symbols { (cap : _) →
+            ⟦<MultiField32Challenger<F, PF, P, WIDTH, RATE> as CanObserve<&'a MerkleCap<F, [PF; N]>>>⟧.observation.symbols cap
+            ≡ ⟦<MultiField32Challenger<F, PF, P, WIDTH, RATE> as CanObserve<MerkleCap<F, [PF; N]>>>⟧.observation.symbols cap.now }
+        ensures observed { (s : multi_state.MultiFieldState F PF P) (cap : _) →
+            ⟦<MultiField32Challenger<F, PF, P, WIDTH, RATE> as CanObserve<&'a MerkleCap<F, [PF; N]>>>⟧.observation.observed
+            s cap
+            ≡ ⟦<MultiField32Challenger<F, PF, P, WIDTH, RATE> as CanObserve<MerkleCap<F, [PF; N]>>>⟧.observation.observed
+            s cap.now }
+        ensures left { (s : multi_state.MultiFieldState F PF P) (cap : _) (t : multi_state.MultiFieldState F PF P) →
+            ⟦<MultiField32Challenger<F, PF, P, WIDTH, RATE> as CanObserve<&'a MerkleCap<F, [PF; N]>>>⟧.observation.may_leave
+            s cap t
+            ↔ ⟦<MultiField32Challenger<F, PF, P, WIDTH, RATE> as CanObserve<MerkleCap<F, [PF; N]>>>⟧.observation.may_leave
+            s cap.now t }
+    {}
+
+    // Absorbs what is pending. Where nothing is, the outputs left are dropped.
+    fn empty(&mut self)
+        ensures emptied { self.new ≡ record self.old {
+          sponge = emptied ⟦<PF as Paired<F>>⟧.pair
+              (P.permutation self.old.permutation) RATE self.old.sponge.cells self.old.sponge.pending;
+        } }
+        ensures none_pending { self.new.sponge.pending ≡ [] }
+    {
+        if self.scalars == 0 {
+            self.outputs_left = 0;
+        } else {
+            self.duplex();
+        }
+    }
+
+    // Absorbs a block of words, where nothing is pending.
+    fn absorb_words(&mut self, block: &[PF])
+        requires none { self.old.sponge.pending ≡ [] }
+        requires fits { length block.now ≤ RATE }
+        ensures { self.new ≡ record self.old {
+          sponge = permuting ⟦<PF as Paired<F>>⟧.pair
+              (P.permutation self.old.permutation) RATE (words_over PF.residues RATE self.old.sponge.cells block.now);
+        } }
+    {
+        let row_len = self.row_len();
+        write_over(&mut self.sponge_state[..], block, RATE);
+        self.permutation.permute_mut(&mut self.sponge_state);
+        self.outputs_left = row_len;
+    }
+
+    // Observes a digest of words: they are absorbed in blocks, after what is pending.
+    fn push_digest(&mut self, words: &[PF])
+        ensures { self.new ≡ multi_state.digest_observed ⟦<PF as Paired<F>>⟧.pair P.permutation RATE self.old words.now }
+    {
+        let _ = &self.sponge_state;
+        self.empty();
+        let mut rest = words;
+        while !rest.is_empty() {
+            let (block, after) = rest.split_at(RATE.min(rest.len()));
+            self.absorb_words(block);
+            rest = after;
+        }
+    }
+
+    // Makes the scalars of parts pending, part by part.
+    fn push_parts<Part: AsSlice<F>>(&mut self, parts: &[Part])
+        ensures { self.new ≡ observed_all
+            (λ s part. multi_state.scalars_observed ⟦<PF as Paired<F>>⟧.pair P.permutation RATE s (Part.items part)) self.old parts.now }
+    {
+        for i in 0..parts.len() {
+            self.push_all(parts[i].as_slice());
+        }
+    }
+
+    // Makes the scalars of lists of parts pending, part by part.
+    fn push_lists<Part: AsSlice<F>, V: AsSlice<Part>>(&mut self, values: &[V])
+        ensures { self.new ≡ observed_all
+            (λ s value. observed_all
+            (λ u part. multi_state.scalars_observed ⟦<PF as Paired<F>>⟧.pair P.permutation RATE u (Part.items part)) s (V.items value))
+            self.old values.now }
+    {
+        for i in 0..values.len() {
+            self.push_parts(values[i].as_slice());
+        }
+    }
+
+    // Observes digests one after another.
+    fn push_digests<D: AsSlice<PF>>(&mut self, digests: &[D])
+        ensures { self.new ≡ observed_all
+            (λ s words. multi_state.digest_observed ⟦<PF as Paired<F>>⟧.pair P.permutation RATE s (D.items words)) self.old digests.now }
+    {
+        for i in 0..digests.len() {
+            self.push_digest(digests[i].as_slice());
+        }
+    }
+
+    // Observes the digests of caps one after another.
+    fn push_caps<D: AsSlice<PF>, V: AsSlice<D>>(&mut self, caps: &[V])
+        ensures { self.new ≡ observed_all
+            (λ s cap. observed_all
+            (λ u words. multi_state.digest_observed ⟦<PF as Paired<F>>⟧.pair P.permutation RATE u (D.items words)) s (V.items cap))
+            self.old caps.now }
+    {
+        for i in 0..caps.len() {
+            self.push_digests(caps[i].as_slice());
+        }
+    }
+}
+
+// Writes words over the rate, with zeros after them, and adds their number to the cell after it.
+fn write_over<PF: PrimeField64>(cells: &mut [PF], words: &[PF], rate: usize)
+    requires fits { length words.now ≤ rate }
+    requires capacity { rate < length cells.old }
+    ensures { cells.new ≡ words_over PF.residues rate cells.old words.now }
+{
+    let counted = plus_number(cells[rate], words.len() as u64);
+    cells[..words.len()].copy_from_slice(words);
+    fill_zeros(&mut cells[words.len()..rate]);
+    cells[rate] = counted;
+}
+
+// Makes each cell zero.
+fn fill_zeros<PF: PrimeField64>(cells: &mut [PF])
+    ensures { cells.new ≡ replicate (length cells.old) (PF.residues.of 0) }
+{
+    for i in 0..cells.len() {
+        cells[i] = zero();
+    }
+}
+
+impl<
+    F: PrimeField32,
+    PF: PrimeField64 + FieldBridge<F, PF>,
+    P: CryptographicPermutation<[PF; WIDTH]>,
+    const WIDTH: usize,
+    const RATE: usize,
+    const N: usize,
+> CanObserve<[F; N]> for MultiField32Challenger<F, PF, P, WIDTH, RATE> {
+    ghost use Rattle.p3_challenger_core.specs.Observation.{unrefused_observe};
+    ghost use Rattle.std.specs.Prelude.{map};
+    ghost use Rattle.p3_multi_field.specs.MultiFieldCalls.{scalar};
+    ghost use Rattle.p3_multi_field.specs.MultiFieldStateLaws.{is_observation, scalars-fed};
+    ghost use Rattle.p3_multi_field.specs.MultiFieldState as multi_state;
+
+    // An observation takes no memory: it is never refused.
+    ghost observation = { unrefused_observe (λ xs. map scalar xs)
+        (λ s xs. multi_state.scalars_observed ⟦<PF as Paired<F>>⟧.pair P.permutation RATE s xs) };
+
+    ghost slice_may_leave = { λ _ _ _. ⊥ };
+
+    ghost observes = { is_observation ⟦<PF as Paired<F>>⟧.pair P.permutation RATE (λ xs. map scalar xs)
+        (λ s xs. multi_state.scalars_observed ⟦<PF as Paired<F>>⟧.pair P.permutation RATE s xs)
+        (λ s xs. scalars-fed ⟦<PF as Paired<F>>⟧.pair P.permutation RATE s xs) };
+
+    ghost slice_leaves = { λ _ _ _ h. absurd h };
+
+    fn observe(&mut self, value: [F; N]) -> Result<(), ChallengerError> {
+        self.push_all(&value[..]);
+        Ok(())
+    }
+
+    fn observe_slice(&mut self, values: &[[F; N]]) -> Result<(), ChallengerError> {
+        self.push_parts(values);
+        Ok(())
+    }
+}
+
+impl<
+    F: PrimeField32,
+    PF: PrimeField64 + FieldBridge<F, PF>,
+    P: CryptographicPermutation<[PF; WIDTH]>,
+    const WIDTH: usize,
+    const RATE: usize,
+> CanObserve<Vec<Vec<F>>> for MultiField32Challenger<F, PF, P, WIDTH, RATE> {
+    ghost use Rattle.p3_challenger_core.specs.Observation.{unrefused_observe};
+    ghost use Rattle.std.specs.Prelude.{map};
+    ghost use Rattle.std.specs.List.{flat_map};
+    ghost use Rattle.p3_challenger_core.specs.Observation.{observed_all};
+    ghost use Rattle.p3_multi_field.specs.MultiFieldCalls.{scalar};
+    ghost use Rattle.p3_multi_field.specs.MultiFieldStateLaws.{is_observation, lists-fed};
+    ghost use Rattle.p3_multi_field.specs.MultiFieldState as multi_state;
+
+    // An observation takes no memory: it is never refused.
+    ghost observation = { unrefused_observe (λ lists. flat_map (λ list. map scalar list.items) lists.items)
+        (λ s lists. observed_all (λ u list. multi_state.scalars_observed ⟦<PF as Paired<F>>⟧.pair P.permutation RATE u list.items)
+        s lists.items) };
+
+    ghost slice_may_leave = { λ _ _ _. ⊥ };
+
+    ghost observes = { is_observation ⟦<PF as Paired<F>>⟧.pair P.permutation RATE (λ lists. flat_map (λ list. map scalar list.items) lists.items)
+        (λ s lists. observed_all (λ u list. multi_state.scalars_observed ⟦<PF as Paired<F>>⟧.pair P.permutation RATE u list.items)
+        s lists.items)
+        (λ s lists. lists-fed ⟦<PF as Paired<F>>⟧.pair P.permutation RATE (λ list. list.items) s lists.items) };
+
+    ghost slice_leaves = { λ _ _ _ h. absurd h };
+
+    fn observe(&mut self, value: Vec<Vec<F>>) -> Result<(), ChallengerError> {
+        self.push_parts(value.as_slice());
+        Ok(())
+    }
+
+    fn observe_slice(&mut self, values: &[Vec<Vec<F>>]) -> Result<(), ChallengerError> {
+        self.push_lists(values);
+        Ok(())
+    }
+}
+
+impl<
+    F: PrimeField32,
+    PF: PrimeField64 + FieldBridge<F, PF>,
+    P: CryptographicPermutation<[PF; WIDTH]>,
+    const WIDTH: usize,
+    const RATE: usize,
+    const N: usize,
+> CanObserve<Hash<F, PF, N>> for MultiField32Challenger<F, PF, P, WIDTH, RATE> {
+    ghost use Rattle.p3_challenger_core.specs.Observation.{unrefused_observe};
+    ghost use Rattle.std.specs.Prelude.{[], ◌∷◌, refl};
+    ghost use Rattle.p3_symmetric.specs.HashValues.{values_of};
+    ghost use Rattle.p3_multi_field.specs.MultiFieldCalls.{digest};
+    ghost use Rattle.p3_multi_field.specs.MultiFieldStateLaws.{is_observation};
+    ghost use Rattle.p3_multi_field.specs.MultiFieldState as multi_state;
+
+    // An observation takes no memory: it is never refused.
+    ghost observation = { unrefused_observe (λ words. digest (values_of words) ∷ [])
+        (λ s words. multi_state.digest_observed ⟦<PF as Paired<F>>⟧.pair P.permutation RATE s (values_of words)) };
+
+    ghost slice_may_leave = { λ _ _ _. ⊥ };
+
+    ghost observes = { is_observation ⟦<PF as Paired<F>>⟧.pair P.permutation RATE (λ words. digest (values_of words) ∷ [])
+        (λ s words. multi_state.digest_observed ⟦<PF as Paired<F>>⟧.pair P.permutation RATE s (values_of words))
+        (λ _ _. refl) };
+
+    ghost slice_leaves = { λ _ _ _ h. absurd h };
+
+    fn observe(&mut self, value: Hash<F, PF, N>) -> Result<(), ChallengerError> {
+        self.push_digest(value.as_slice());
+        Ok(())
+    }
+
+    fn observe_slice(&mut self, values: &[Hash<F, PF, N>]) -> Result<(), ChallengerError> {
+        self.push_digests(values);
+        Ok(())
+    }
+}
+
+impl<
+    F: PrimeField32,
+    PF: PrimeField64 + FieldBridge<F, PF>,
+    P: CryptographicPermutation<[PF; WIDTH]>,
+    const WIDTH: usize,
+    const RATE: usize,
+    const N: usize,
+> CanObserve<MerkleCap<F, [PF; N]>> for MultiField32Challenger<F, PF, P, WIDTH, RATE> {
+    ghost use Rattle.p3_challenger_core.specs.Observation.{unrefused_observe};
+    ghost use Rattle.std.specs.Prelude.{map};
+    ghost use Rattle.p3_multi_field.specs.MultiFieldCalls.{digest};
+    ghost use Rattle.p3_multi_field.specs.MultiFieldStateLaws.{is_observation, digests-fed};
+    ghost use Rattle.p3_multi_field.specs.MultiFieldState as multi_state;
+
+    // An observation takes no memory: it is never refused.
+    ghost observation = { unrefused_observe (λ cap. map digest cap)
+        (λ s cap. multi_state.digests_observed ⟦<PF as Paired<F>>⟧.pair P.permutation RATE s cap) };
+
+    ghost slice_may_leave = { λ _ _ _. ⊥ };
+
+    ghost observes = { is_observation ⟦<PF as Paired<F>>⟧.pair P.permutation RATE (λ cap. map digest cap)
+        (λ s cap. multi_state.digests_observed ⟦<PF as Paired<F>>⟧.pair P.permutation RATE s cap)
+        (λ s cap. digests-fed ⟦<PF as Paired<F>>⟧.pair P.permutation RATE s cap) };
+
+    ghost slice_leaves = { λ _ _ _ h. absurd h };
+
+    fn observe(&mut self, value: MerkleCap<F, [PF; N]>) -> Result<(), ChallengerError> {
+        self.push_digests(value.roots());
+        Ok(())
+    }
+
+    fn observe_slice(&mut self, values: &[MerkleCap<F, [PF; N]>]) -> Result<(), ChallengerError> {
+        self.push_caps(values);
+        Ok(())
+    }
+}
+
+impl<
+    F: PrimeField32,
+    PF: PrimeField64 + FieldBridge<F, PF>,
+    P: CryptographicPermutation<[PF; WIDTH]>,
+    const WIDTH: usize,
+    const RATE: usize,
+    const N: usize,
+> CanObserve<&MerkleCap<F, [PF; N]>> for MultiField32Challenger<F, PF, P, WIDTH, RATE> {
+    ghost use Rattle.p3_challenger_core.specs.Observation.{unrefused_observe};
+    ghost use Rattle.std.specs.Prelude.{map};
+    ghost use Rattle.p3_multi_field.specs.MultiFieldCalls.{digest};
+    ghost use Rattle.p3_multi_field.specs.MultiFieldStateLaws.{is_observation, digests-fed};
+    ghost use Rattle.p3_multi_field.specs.MultiFieldState as multi_state;
+
+    // An observation takes no memory: it is never refused.
+    ghost observation = { unrefused_observe (λ cap. map digest cap.now)
+        (λ s cap. multi_state.digests_observed ⟦<PF as Paired<F>>⟧.pair P.permutation RATE s cap.now) };
+
+    ghost slice_may_leave = { λ _ _ _. ⊥ };
+
+    ghost observes = { is_observation ⟦<PF as Paired<F>>⟧.pair P.permutation RATE (λ cap. map digest cap.now)
+        (λ s cap. multi_state.digests_observed ⟦<PF as Paired<F>>⟧.pair P.permutation RATE s cap.now)
+        (λ s cap. digests-fed ⟦<PF as Paired<F>>⟧.pair P.permutation RATE s cap.now) };
+
+    ghost slice_leaves = { λ _ _ _ h. absurd h };
+
+    fn observe(&mut self, value: &MerkleCap<F, [PF; N]>) -> Result<(), ChallengerError> {
+        self.push_digests(value.roots());
+        Ok(())
+    }
+
+    fn observe_slice(&mut self, values: &[&MerkleCap<F, [PF; N]>]) -> Result<(), ChallengerError> {
+        self.push_caps(values);
+        Ok(())
+    }
+}
