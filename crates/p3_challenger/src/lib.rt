@@ -24,6 +24,7 @@ pub use p3_hash_challenger::{
 };
 pub use p3_multi_field::{
     MultiField32Challenger, MultiField32ChallengerError, MultiFieldSymbol, Paired,
+    multi_field_arrays_are_prefix_code, multi_field_scalars_are_prefix_code,
 };
 pub use p3_serializing::{
     SerializedIn, SerializingChallenger, SerializingChallenger32, SerializingChallenger64,
