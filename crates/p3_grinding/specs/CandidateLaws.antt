@@ -70,6 +70,13 @@ module _ {S T : Type 0} (d : Sampling S T) (accepts : T → Bool) where
           leaves = λ s t h. accepted-leaves (limit s) s t h;
         }
 
+  -- where no draw is refused for memory, none of them is
+  pub none_left_behind : ((s t : S) → ¬ (d.may_leave s t)) → (limit : ℕ) (s t : S) → ¬ (MayLeave d accepts limit s t)
+  unfolding MayLeave
+  none_left_behind never zero s t h = h
+  none_left_behind never (suc more) s t (inl here) = never s t here
+  none_left_behind never (suc more) s t (inr later) = none_left_behind never more (d.after s) t later.3
+
   -- ---- candidate by candidate
 
   -- Of so many candidates the first ones were refused: what is left of them goes on from here.

@@ -5,17 +5,23 @@ use Rattle.std.proofs.Common.{option_and_then, if◌then◌else◌}
 use Rattle.std.specs.Option.{option_map}
 use Rattle.p3_challenger_core.specs.Observation.{Observation}
 use Rattle.p3_challenger_core.specs.Sampling.{Sampling, IsSampling, RefusesDraw, RefusesDraws, in_row, made_of}
-use Rattle.p3_challenger_core.specs.SamplingLaws.{refused-in_row, in_row-is_sampling}
+use Rattle.p3_challenger_core.specs.SamplingLaws.{refused-in_row, in_row-is_sampling, no_steps}
+use Rattle.p3_challenger_core.specs.SamplingLaws.{unrefused_draw-is_sampling}
 use Rattle.p3_challenger_core.specs.declared.error.ChallengerError.{ChallengerError}
 use Rattle.p3_challenger_core.specs.declared.error.ChallengerError.TheVariants.{OutOfMemory, DrawLimit, NoWitness}
 use Rattle.p3_challenger_core.specs.declared.error.ChallengerError.TheVariants.{TooLong}
 use Rattle.p3_grinding.specs.UniformDraws.{UniformDraw, IsUniformDraw}
 use Rattle.p3_grinding.specs.Checks.{all_zero, zero_and_uniform, draws_nothing, checked, check_of}
-use Rattle.p3_grinding.specs.Checks.{byte_check}
+use Rattle.p3_grinding.specs.Checks.{byte_check, MayRunOut, RefusesSearch}
+use Rattle.p3_field_core.specs.Residues.{Residues}
 
 -- where a draw meets its limit it gives nothing
 abbrev pub LimitGivesNone : {S T : Type 0} → Sampling S T → Type 0
 LimitGivesNone {S} d = (s : S) → d.meets_limit s → d.sampled s ≡ None
+
+-- drawing nothing is a draw
+pub draws_nothing-is_sampling : {S : Type 0} (next : S → S) → IsSampling next draws_nothing
+draws_nothing-is_sampling next = unrefused_draw-is_sampling next (λ _. Some tt) (λ s. s) (no_steps next)
 
 pub all_zero-limit : {S : Type 0} (d : Sampling S ℕ) → LimitGivesNone d → LimitGivesNone (all_zero d)
 all_zero-limit d law s h = ap (option_map (λ n. n == 0)) (law s h)
@@ -89,3 +95,13 @@ module _ {S Symbol : Type 0} (next : S → S) (o : Observation S Symbol (List �
       checked-refused draws_nothing o (made_of accepted (in_row d size)) (encoded n) e s t refl
       (subst (λ v. RefusesDraw (made_of accepted (in_row d size)) e v t) observed
       (made_of-refused accepted (in_row d size) e u t (refused-in_row next d laws size e u t h)))
+
+-- a search whose copies and checks are not refused for memory is not
+pub search-takes_no_memory : {S W : Type 0} (r : Residues W) (check : W → Sampling S Bool)
+    → ((witness : W) (s t : S) → ¬ ((check witness).may_leave s t)) → (e : ChallengerError) (s t : S)
+    → RefusesSearch r (MayRunOut ⊥ check) check e s t → RefusesSearch r (λ _. ⊥) check e s t
+search-takes_no_memory r check never OutOfMemory s t (inl copied, is) = (copied, is)
+search-takes_no_memory r check never OutOfMemory s t (inr left, is) = (never left.0 s left.1 left.2, is)
+search-takes_no_memory r check never NoWitness s t h = h
+search-takes_no_memory r check never DrawLimit s t h = h
+search-takes_no_memory r check never TooLong s t h = h

@@ -1,18 +1,24 @@
 -- Laws of draws of uniform bits.
 use Rattle.std.proofs.Common.{◌≡◌, ℕ, ◌+◌, ◌*◌, ◌<◌, ◌%◌, ◌^◌, ◌⊎◌, Bool, true, false, Option, Some, None, IsSome}
 use Rattle.std.proofs.Common.{is_some, option_and_then, if◌then◌else◌, refl, sym, ap, inl, inr, subst, arith, rules}
+use Rattle.std.proofs.Common.{◌∙◌}
 use Rattle.std.proofs.lemmas.Nat.{pow-add}
 use Rattle.std.specs.Option.{option_map}
 use Rattle.p3_field_core.specs.Residues.{Residues}
 use Rattle.p3_challenger_core.specs.BitLaws.{low_bits-below}
 use Rattle.p3_challenger_core.specs.Sponge.{IsStepsOn}
-use Rattle.p3_challenger_core.specs.Sampling.{Sampling, IsSampling, unrefused_draw}
+use Rattle.p3_challenger_core.specs.Sampling.{Sampling, IsSampling, RefusesDraw, unrefused_draw}
+use Rattle.p3_challenger_core.specs.declared.error.ChallengerError.{ChallengerError}
+use Rattle.p3_challenger_core.specs.declared.error.ChallengerError.TheVariants.{OutOfMemory, DrawLimit, NoWitness}
+use Rattle.p3_challenger_core.specs.declared.error.ChallengerError.TheVariants.{TooLong}
 use Rattle.p3_challenger_core.specs.SamplingLaws.{no_steps, steps-then, made_of-is_sampling, unrefused_draw-is_sampling}
 use Rattle.p3_grinding.specs.Candidates.{accepted_within}
 use Rattle.p3_grinding.specs.CandidateLaws.{accepted_within-is_sampling}
 use Rattle.p3_grinding.specs.UniformDraws.{UniformDraw, IsUniformDraw, never_rejects, no_bits, is_below, low_bits, rejected}
-use Rattle.p3_grinding.specs.UniformDraws.{bits_of_next, bits_of_first, bits_of_one, in_halves}
+use Rattle.p3_grinding.specs.UniformDraws.{bits_of_next, bits_of_first, bits_of_one, in_halves, RefusesUniform}
 use Rattle.p3_grinding.specs.declared.error.ResamplingError.{ResamplingError}
+use Rattle.p3_grinding.specs.declared.error.UniformBitsError.{UniformBitsError}
+use Rattle.p3_grinding.specs.declared.error.UniformBitsError.TheVariants.{Resampling, Challenger}
 
 none_is_not : false ≡ true → ⊥
 none_is_not is = search (rules, is)
@@ -173,6 +179,38 @@ module _ {S : Type 0} (next : S → S) (resample : Bool) (count : ℕ) (low high
         resampled = λ e s. none_of (low.draw.sampled s) (low.rejects s) (high.rejects (low.draw.after s))
             (first.resampled e s) (second.resampled e (low.draw.after s));
       }
+
+  -- where each half gives its bits, both give them together
+  pub halves-sampled : (s : S) (x y : ℕ) → low.draw.sampled s ≡ Some x → high.draw.sampled (low.draw.after s) ≡ Some y
+      → (in_halves count low high).draw.sampled s ≡ Some (x + 2 ^ count * y)
+  unfolding both
+  halves-sampled s x y is_low is_high =
+      ap (λ o. both o (high.draw.sampled (low.draw.after s))) is_low ∙ ap (λ o. both (Some x) o) is_high
+
+  stopped : {A : Type 0} (o : Option ℕ) (here there : A) → o ≡ None → (if is_some o then there else here) ≡ here
+  stopped None here there none = refl
+  stopped (Some x) here there none = absurd (some_is_not x none)
+
+  limit_refused : (e : ChallengerError) (s t : S) → RefusesDraw low.draw e s t
+      → RefusesDraw (in_halves count low high).draw e s t
+  limit_refused OutOfMemory s t h = inl h
+  limit_refused DrawLimit s t h = (
+    inl h.0,
+    h.1 ∙ sym (stopped (low.draw.sampled s) (low.draw.after s) (high.draw.after (low.draw.after s))
+        (first.draws.limit_gives_none s h.0)),
+  )
+  limit_refused NoWitness s t h = absurd h
+  limit_refused TooLong s t h = absurd h
+
+  -- where the low half is refused, both are
+  pub halves-refused : (e : UniformBitsError) (s t : S) → RefusesUniform low e s t
+      → RefusesUniform (in_halves count low high) e s t
+  halves-refused (Resampling error) s t h =
+      let none = first.rejected_gives_none s (ap is_some h.0) in (
+        stopped (low.draw.sampled s) (low.rejects s) (high.rejects (low.draw.after s)) none ∙ h.0,
+        h.1 ∙ sym (stopped (low.draw.sampled s) (low.draw.after s) (high.draw.after (low.draw.after s)) none),
+      )
+  halves-refused (Challenger e) s t h = limit_refused e s t h
 
 sum_below : (x y p q : ℕ) → x < p → y < q → x + p * y < p * q
 sum_below x y p q h k = grind arith

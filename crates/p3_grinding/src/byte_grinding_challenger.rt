@@ -1,6 +1,6 @@
 ghost use Rattle.std.specs.Prelude.{◌≡◌, ◌<◌, ◌^◌, ℕ, List, Bool, Some, IfOk, IfErr};
 ghost use Rattle.p3_challenger_core.specs.Observation.{in_slice};
-ghost use Rattle.p3_challenger_core.specs.Reading.{TellsApart};
+ghost use Rattle.p3_challenger_core.specs.Reading.{IsByte, IsPrefixCodeOn};
 ghost use Rattle.p3_challenger_core.specs.Sampling.{in_row, RefusesDraw};
 ghost use Rattle.p3_challenger_core.specs.declared.error.ChallengerError.TheVariants.{OutOfMemory};
 ghost use Rattle.p3_grinding.specs.Checks.{byte_check, Finds, MayRunOut};
@@ -67,7 +67,7 @@ pub trait ByteGrindingChallenger<const W: usize, const S: usize>: Replica
     }
 
     // What bytes feed tells them apart.
-    ghost tells_bytes: { TellsApart Self.CanObserve.observation.symbols };
+    ghost tells_bytes: { IsPrefixCodeOn IsByte Self.CanObserve.observation.symbols };
 }
 
 // Whether a candidate passes, on the challenger itself.

@@ -1,4 +1,5 @@
 ghost use Rattle.std.specs.Prelude.{◌≡◌};
+ghost use Rattle.p3_grinding.specs.declared.error.UniformBitsError.TheVariants.{Challenger};
 
 use p3_challenger_core::ChallengerError;
 use thiserror::Error;
@@ -46,6 +47,8 @@ pub enum UniformBitsError {
 }
 
 impl From<ChallengerError> for UniformBitsError {
+    ghost from_gives = { λ error e. e ≡ Challenger error };
+
     fn from(error: ChallengerError) -> UniformBitsError {
         UniformBitsError::Challenger(error)
     }

@@ -5,6 +5,7 @@
 mod byte_grinding_challenger;
 mod error;
 mod grinding_challenger;
+mod prepare_check;
 mod replica;
 mod search;
 mod uniform;
@@ -13,6 +14,7 @@ mod uniform_grinding;
 pub use byte_grinding_challenger::{ByteCandidates, ByteGrindingChallenger};
 pub use error::{ResamplingError, UniformBitsError};
 pub use grinding_challenger::GrindingChallenger;
+pub use prepare_check::PrepareCheck;
 pub use replica::Replica;
 pub use search::{least_uniform_witness, least_witness};
 pub use uniform::CanSampleUniformBits;

@@ -5,8 +5,8 @@ ghost use Rattle.p3_grinding.specs.Checks.{all_zero, zero_and_uniform, check_of,
 ghost use Rattle.p3_grinding.specs.Checks.{RefusesSearch, MayRunOut};
 ghost use Rattle.p3_challenger_core.specs.Sampling.{RefusesDraw};
 
-use crate::{GrindingChallenger, Replica, UniformGrindingChallenger};
-use p3_challenger_core::ChallengerError;
+use crate::{CanSampleUniformBits, PrepareCheck, Replica, UniformBitsError};
+use p3_challenger_core::{CanObserve, CanSampleBits, ChallengerError};
 use p3_field_core::PrimeField64;
 use std::mem;
 
@@ -14,12 +14,12 @@ use std::mem;
 ///
 /// A witness whose check meets a draw limit does not pass. The errors are [`ChallengerError::NoWitness`] where none
 /// passes, and [`ChallengerError::OutOfMemory`]. After either the challenger is as it was.
-pub fn least_witness<C: GrindingChallenger + Replica>(
-    challenger: &mut C,
-    bits: usize,
-) -> Result<C::Witness, ChallengerError>
+pub fn least_witness<
+    W: PrimeField64,
+    C: PrepareCheck + CanObserve<W> + CanSampleBits<usize> + Replica,
+>(challenger: &mut C, bits: usize) -> Result<W, ChallengerError>
     requires { bits ≤ C.most_bits }
-    ensures least { IfOk result (λ witness. IsLeast C.Witness.residues
+    ensures least { IfOk result (λ witness. IsLeast W.residues
         (check_of C.before_witness C.observation (all_zero (C.bits_sampling bits)) bits)
         (C.state challenger.old) witness) }
     ensures after { IfOk result (λ witness. C.state challenger.new
@@ -27,13 +27,13 @@ pub fn least_witness<C: GrindingChallenger + Replica>(
         (C.state challenger.old)) }
     ensures err { IfErr result (λ e.
         let check = check_of C.before_witness C.observation (all_zero (C.bits_sampling bits)) bits in
-        RefusesSearch C.Witness.residues (MayRunOut C.copies_may_fail check) check e
+        RefusesSearch W.residues (MayRunOut C.copies_may_fail check) check e
         (C.state challenger.old) (C.state challenger.new)) }
 {
     let mut trial = challenger.copy()?;
-    for candidate in 0..C::Witness::ORDER_U64 {
-        let witness = C::Witness::from_canonical(candidate);
-        match trial.check_witness(bits, witness) {
+    for candidate in 0..W::ORDER_U64 {
+        let witness = W::from_canonical(candidate);
+        match check_plainly(&mut trial, bits, witness) {
             Ok(true) => {
                 mem::swap(challenger, &mut trial);
                 return Ok(witness);
@@ -50,13 +50,12 @@ pub fn least_witness<C: GrindingChallenger + Replica>(
 /// the place of one that is rejected. The challenger is left as that check leaves it.
 ///
 /// A witness whose check meets a draw limit does not pass. The errors are those of [`least_witness`].
-pub fn least_uniform_witness<C: UniformGrindingChallenger + Replica>(
-    challenger: &mut C,
-    bits: usize,
-    resample: bool,
-) -> Result<C::Witness, ChallengerError>
+pub fn least_uniform_witness<
+    W: PrimeField64,
+    C: PrepareCheck + CanObserve<W> + CanSampleUniformBits<W> + Replica,
+>(challenger: &mut C, bits: usize, resample: bool) -> Result<W, ChallengerError>
     requires { bits ≤ C.most_bits }
-    ensures least { IfOk result (λ witness. IsLeast C.Witness.residues
+    ensures least { IfOk result (λ witness. IsLeast W.residues
         (check_of C.before_witness C.observation (zero_and_uniform (C.uniform resample bits)) bits)
         (C.state challenger.old) witness) }
     ensures after { IfOk result (λ witness. C.state challenger.new
@@ -64,13 +63,13 @@ pub fn least_uniform_witness<C: UniformGrindingChallenger + Replica>(
         (C.state challenger.old)) }
     ensures err { IfErr result (λ e.
         let check = check_of C.before_witness C.observation (zero_and_uniform (C.uniform resample bits)) bits in
-        RefusesSearch C.Witness.residues (MayRunOut C.copies_may_fail check) check e
+        RefusesSearch W.residues (MayRunOut C.copies_may_fail check) check e
         (C.state challenger.old) (C.state challenger.new)) }
 {
     let mut trial = challenger.copy()?;
-    for candidate in 0..C::Witness::ORDER_U64 {
-        let witness = C::Witness::from_canonical(candidate);
-        match check_uniform(&mut trial, bits, resample, witness) {
+    for candidate in 0..W::ORDER_U64 {
+        let witness = W::from_canonical(candidate);
+        match check_uniformly(&mut trial, bits, resample, witness) {
             Ok(true) => {
                 mem::swap(challenger, &mut trial);
                 return Ok(witness);
@@ -83,13 +82,36 @@ pub fn least_uniform_witness<C: UniformGrindingChallenger + Replica>(
     Err(ChallengerError::NoWitness)
 }
 
-// A check of uniform bits, by what is done where a value is rejected.
-fn check_uniform<C: UniformGrindingChallenger>(
-    challenger: &mut C,
-    bits: usize,
-    resample: bool,
-    witness: C::Witness,
-) -> Result<bool, ChallengerError>
+/// Whether a witness passes a check of `bits` bits.
+///
+/// The errors are those of [`CanObserve::observe`] and [`CanSampleBits::sample_bits`].
+pub(crate) fn check_plainly<
+    W: PrimeField64,
+    C: PrepareCheck + CanObserve<W> + CanSampleBits<usize>,
+>(challenger: &mut C, bits: usize, witness: W) -> Result<bool, ChallengerError>
+    requires { bits ≤ C.most_bits }
+    ensures answered { IfOk result (λ passes. (check_of C.before_witness C.observation
+        (all_zero (C.bits_sampling bits)) bits witness).sampled (C.state challenger.old) ≡ Some passes) }
+    ensures after { OnOk result (C.state challenger.new ≡ (check_of C.before_witness C.observation
+        (all_zero (C.bits_sampling bits)) bits witness).after (C.state challenger.old)) }
+    ensures err { IfErr result (λ e. RefusesDraw (check_of C.before_witness C.observation
+        (all_zero (C.bits_sampling bits)) bits witness) e (C.state challenger.old) (C.state challenger.new)) }
+{
+    if bits == 0 {
+        return Ok(true);
+    }
+    challenger.prepare_check()?;
+    challenger.observe(witness)?;
+    Ok(challenger.sample_bits(bits)? == 0)
+}
+
+/// Whether a witness passes a check of `bits` uniform bits, by what is done where a value is rejected.
+///
+/// The errors are those of [`CanObserve::observe`] and of a draw.
+pub(crate) fn check_uniformly<
+    W: PrimeField64,
+    C: PrepareCheck + CanObserve<W> + CanSampleUniformBits<W>,
+>(challenger: &mut C, bits: usize, resample: bool, witness: W) -> Result<bool, ChallengerError>
     requires { bits ≤ C.most_bits }
     ensures answered { IfOk result (λ passes. (check_of C.before_witness C.observation
         (zero_and_uniform (C.uniform resample bits)) bits witness).sampled (C.state challenger.old) ≡ Some passes) }
@@ -99,9 +121,31 @@ fn check_uniform<C: UniformGrindingChallenger>(
         (zero_and_uniform (C.uniform resample bits)) bits witness) e
         (C.state challenger.old) (C.state challenger.new)) }
 {
-    if resample {
-        challenger.check_witness_uniform(bits, witness)
-    } else {
-        challenger.check_witness_uniform_may_error(bits, witness)
+    if bits == 0 {
+        return Ok(true);
+    }
+    challenger.prepare_check()?;
+    challenger.observe(witness)?;
+    zero_uniform_bits::<W, C>(challenger, bits, resample)
+}
+
+// Whether so many uniform bits are all 0. Where a value is rejected and no other is to be drawn, they are not.
+fn zero_uniform_bits<F, C: CanSampleUniformBits<F>>(
+    challenger: &mut C,
+    bits: usize,
+    resample: bool,
+) -> Result<bool, ChallengerError>
+    requires { bits ≤ C.most_bits }
+    ensures answered { IfOk result (λ passes. (zero_and_uniform (C.uniform resample bits)).sampled
+        (C.state challenger.old) ≡ Some passes) }
+    ensures after { OnOk result
+        (C.state challenger.new ≡ (zero_and_uniform (C.uniform resample bits)).after (C.state challenger.old)) }
+    ensures err { IfErr result (λ e. RefusesDraw (zero_and_uniform (C.uniform resample bits)) e
+        (C.state challenger.old) (C.state challenger.new)) }
+{
+    match challenger.sample_uniform_bits(bits, resample) {
+        Ok(value) => Ok(value == 0),
+        Err(UniformBitsError::Resampling(_)) => Ok(false),
+        Err(UniformBitsError::Challenger(error)) => Err(error),
     }
 }

@@ -2,7 +2,8 @@ ghost use Rattle.std.specs.Prelude.{◌≡◌, ◌≤◌, Bool, true, false, Som
 ghost use Rattle.p3_challenger_core.specs.Sampling.{RefusesDraw};
 ghost use Rattle.p3_grinding.specs.Checks.{zero_and_uniform, check_of, IsLeast, RefusesSearch};
 
-use crate::{CanSampleUniformBits, GrindingChallenger, UniformBitsError};
+use crate::search::check_uniformly;
+use crate::{CanSampleUniformBits, GrindingChallenger};
 use p3_challenger_core::ChallengerError;
 
 /// A challenger that proofs of work are made on with bits that have no bias.
@@ -58,12 +59,7 @@ pub trait UniformGrindingChallenger: GrindingChallenger + CanSampleUniformBits<S
             (zero_and_uniform (Self.uniform true bits)) bits witness) e
             (Self.state self.old) (Self.state self.new)) }
     {
-        if bits == 0 {
-            return Ok(true);
-        }
-        self.prepare_check()?;
-        self.observe(witness)?;
-        zero_uniform_bits::<Self::Witness, Self>(self, bits, true)
+        check_uniformly(self, bits, true, witness)
     }
 
     /// The same, but a witness after which a value is rejected does not pass: no other one is drawn.
@@ -83,32 +79,6 @@ pub trait UniformGrindingChallenger: GrindingChallenger + CanSampleUniformBits<S
             (zero_and_uniform (Self.uniform false bits)) bits witness) e
             (Self.state self.old) (Self.state self.new)) }
     {
-        if bits == 0 {
-            return Ok(true);
-        }
-        self.prepare_check()?;
-        self.observe(witness)?;
-        zero_uniform_bits::<Self::Witness, Self>(self, bits, false)
-    }
-}
-
-// Whether so many uniform bits are all 0. Where a value is rejected and no other is to be drawn, they are not.
-fn zero_uniform_bits<F, C: CanSampleUniformBits<F>>(
-    challenger: &mut C,
-    bits: usize,
-    resample: bool,
-) -> Result<bool, ChallengerError>
-    requires { bits ≤ C.most_bits }
-    ensures answered { IfOk result (λ passes. (zero_and_uniform (C.uniform resample bits)).sampled
-        (C.state challenger.old) ≡ Some passes) }
-    ensures after { OnOk result
-        (C.state challenger.new ≡ (zero_and_uniform (C.uniform resample bits)).after (C.state challenger.old)) }
-    ensures err { IfErr result (λ e. RefusesDraw (zero_and_uniform (C.uniform resample bits)) e
-        (C.state challenger.old) (C.state challenger.new)) }
-{
-    match challenger.sample_uniform_bits(bits, resample) {
-        Ok(value) => Ok(value == 0),
-        Err(UniformBitsError::Resampling(_)) => Ok(false),
-        Err(UniformBitsError::Challenger(error)) => Err(error),
+        check_uniformly(self, bits, false, witness)
     }
 }
