@@ -1,6 +1,6 @@
 -- Laws of drawing candidates until one is accepted.
 use Rattle.std.proofs.Common.{◌≡◌, ℕ, zero, suc, ◌+◌, ◌-◌, ◌<◌, ◌≤◌, Bool, true, false, Option, Some, None}
-use Rattle.std.proofs.Common.{option_and_then, if◌then◌else◌, refl, sym, ap, ◌∙◌, inl, inr, subst, arith}
+use Rattle.std.proofs.Common.{option_and_then, if◌then◌else◌, refl, sym, ap, ◌∙◌, inl, inr, subst, arith, rules}
 use Rattle.p3_challenger_core.specs.declared.error.ChallengerError.{ChallengerError}
 use Rattle.p3_challenger_core.specs.declared.error.ChallengerError.TheVariants.{OutOfMemory, DrawLimit, NoWitness}
 use Rattle.p3_challenger_core.specs.declared.error.ChallengerError.TheVariants.{TooLong}
@@ -69,6 +69,25 @@ module _ {S T : Type 0} (d : Sampling S T) (accepts : T → Bool) where
           steps = λ s. accepted-steps (limit s) s;
           leaves = λ s t h. accepted-leaves (limit s) s t h;
         }
+
+  chosen-is : (b : Bool) (y : T) (rest : Option T) (x : T) → accepts y ≡ b → (rest ≡ Some x → accepts x ≡ true)
+      → (if b then Some y else rest) ≡ Some x → accepts x ≡ true
+  chosen-is true y rest x is later e =
+      let same : y ≡ x = search (rules, e) in
+      sym (ap accepts same) ∙ is
+  chosen-is false y rest x is later e = later e
+
+  next-is : (o rest : Option T) (x : T) → (rest ≡ Some x → accepts x ≡ true)
+      → option_and_then (λ y. if accepts y then Some y else rest) o ≡ Some x → accepts x ≡ true
+  next-is None rest x later e = search (rules, e)
+  next-is (Some y) rest x later e = chosen-is (accepts y) y rest x refl later e
+
+  -- what is given is accepted
+  pub accepted-is : (limit : ℕ) (s : S) (x : T) → first_accepted d accepts limit s ≡ Some x → accepts x ≡ true
+  unfolding first_accepted
+  accepted-is zero s x e = search (rules, e)
+  accepted-is (suc more) s x e =
+      next-is (d.sampled s) (first_accepted d accepts more (d.after s)) x (accepted-is more (d.after s) x) e
 
   -- where no draw is refused for memory, none of them is
   pub none_left_behind : ((s t : S) → ¬ (d.may_leave s t)) → (limit : ℕ) (s t : S) → ¬ (MayLeave d accepts limit s t)

@@ -10,12 +10,14 @@ mod replica;
 mod search;
 mod uniform;
 mod uniform_grinding;
+mod uniform_search;
 
 pub use byte_grinding_challenger::{ByteCandidates, ByteGrindingChallenger};
 pub use error::{ResamplingError, UniformBitsError};
 pub use grinding_challenger::GrindingChallenger;
 pub use prepare_check::PrepareCheck;
 pub use replica::Replica;
-pub use search::{least_uniform_witness, least_witness};
+pub use search::least_witness;
 pub use uniform::CanSampleUniformBits;
 pub use uniform_grinding::UniformGrindingChallenger;
+pub use uniform_search::least_uniform_witness;

@@ -2,7 +2,7 @@ ghost use Rattle.std.specs.Prelude.{◌≡◌, ◌≤◌, Bool, true, false, Som
 ghost use Rattle.p3_challenger_core.specs.Sampling.{RefusesDraw};
 ghost use Rattle.p3_grinding.specs.Checks.{zero_and_uniform, check_of, IsLeast, RefusesSearch};
 
-use crate::search::check_uniformly;
+use crate::uniform_search::check_uniformly;
 use crate::{CanSampleUniformBits, GrindingChallenger};
 use p3_challenger_core::ChallengerError;
 

@@ -1,6 +1,7 @@
 // Uniform bits, drawn from a duplex challenger: the low bits of elements that are below the bound of the field for so
 // many bits. As few bits as one element serves for are drawn from one, and more of them in two halves.
-ghost use Rattle.std.specs.Prelude.{◌≡◌, ◌<◌, ◌^◌, Some, OnOk, IfOk, IfErr};
+ghost use Rattle.std.specs.Prelude.{◌≡◌, ◌<◌, ◌≤◌, ◌^◌, ◌/◌, ℕ, Bool, Some, OnOk, IfOk, IfErr};
+ghost use Rattle.p3_field_core.specs.UniformBounds.{uniform_bound};
 ghost use Rattle.p3_challenger_core.specs.Sampling.{RefusesDraw};
 ghost use Rattle.p3_grinding.specs.Candidates.{accepted_within};
 ghost use Rattle.p3_grinding.specs.UniformDraws.{is_below, low_bits, RefusesUniform};
@@ -17,7 +18,27 @@ impl<
     const WIDTH: usize,
     const RATE: usize,
 > DuplexChallenger<F, P, WIDTH, RATE> {
-    ghost use Rattle.p3_duplex.specs.DuplexUniform.{base_draw, draws_allowed, single, halved};
+    ghost use Rattle.p3_duplex.specs.DuplexUniform.{base_draw, draws_allowed, single, halved, how_many_give};
+    ghost use Rattle.p3_duplex.specs.DuplexState.{DuplexState};
+
+    /// Bits that are drawn from one element have no bias: a value is that of the low bits of an element below the bound
+    /// for so many, and each value of the bits is that of as many of these elements as the bound has multiples of `2^bits`.
+    ///
+    /// A law: the body is empty, and a caller cites the clauses.
+    pub fn uniform_bits_have_no_bias(&self)
+        ensures single { (resample : Bool) (bits : ℕ) (c : DuplexState F P) → 0 < bits →
+            bits ≤ F.MAX_SINGLE_SAMPLE_BITS →
+            (⟦<DuplexChallenger<F, P, WIDTH, RATE> as CanSampleUniformBits<F>>⟧.uniform resample bits).draw.sampled c
+            ≡ (single F.residues P.permutation RATE resample bits).draw.sampled c }
+        ensures of_element { (resample : Bool) (bits : ℕ) (c : DuplexState F P) (value : ℕ) →
+            (single F.residues P.permutation RATE resample bits).draw.sampled c ≡ Some value →
+            (x : F) × (F.residues.number x < uniform_bound F.residues.order bits)
+            × (low_bits F.residues bits x ≡ value) }
+        ensures shared { (bits value : ℕ) → value < 2 ^ bits → how_many_give F.residues bits value
+            ≡ uniform_bound F.residues.order bits / 2 ^ bits }
+    {
+        let _ = &self.outputs_left;
+    }
 
     // The first element below a bound, of as many as the draw limit allows.
     fn first_below(&mut self, bound: u64) -> Result<F, ChallengerError>

@@ -1,6 +1,6 @@
 use Rattle.p3_grinding.specs.Checks.{zero_and_uniform, check_of}
 use Rattle.p3_grinding.proofs.Searching.{Searched}
-use Rattle.p3_grinding.proofs.search.least_uniform_witness.Given as goal
+use Rattle.p3_grinding.proofs.uniform_search.least_uniform_witness.Given as goal
 
 -- no candidate so far passes, and the copy is set back
 abbrev pub invariant-loop-candidate : goal.invariant-loop-candidate
