@@ -1,3 +1,4 @@
+pub mod GrindingRows
 pub mod Masks
 pub mod ReadingGroups
 pub mod WorkedRows

@@ -14,29 +14,29 @@ use Rattle.p3_serializing.specs.Bytes.{bytes_of, number_of}
 use Rattle.p3_serializing.specs.SerializingState.{SerializingState, element_observed, words_observed, element_drawn}
 use Rattle.p3_serializing.specs.SerializingState.{bits_drawn}
 
-abbrev by_length : HashFunction ℕ
+abbrev pub by_length : HashFunction ℕ
 by_length =
     record { digest = λ message. range_with_len (length message) 32; out_len = 32; filler = 0 }
 
 -- the bytes of that challenger
-abbrev observed : Observation (HashState ℕ (Unit {0})) ℕ ℕ
+abbrev pub observed : Observation (HashState ℕ (Unit {0})) ℕ ℕ
 observed = record { symbols = λ x. x ∷ []; observed = hash_state.observed; may_leave = λ s _ t. t ≡ s }
 
-abbrev drawn : Sampling (HashState ℕ (Unit {0})) ℕ
+abbrev pub drawn : Sampling (HashState ℕ (Unit {0})) ℕ
 drawn =
     unrefused_draw (λ s. Some (hash_state.sampled (λ _. by_length) s)) (hash_state.after_sampled (λ _. by_length))
 
-abbrev State : Type 0
+abbrev pub State : Type 0
 State = SerializingState (HashState ℕ (Unit {0}))
 
 -- bytes are pending, and so many groups may be tried
-abbrev over : List ℕ → ℕ → State
+abbrev pub over : List ℕ → ℕ → State
 over pending limit = record { inner = record { sponge = absorbing pending; hasher = tt }; draw_limit = limit }
 
 abbrev start : State
 start = over (0 ∷ 1 ∷ 2 ∷ 3 ∷ []) 1
 
-abbrev numbers : ℕ → Residues ℕ
+abbrev pub numbers : ℕ → Residues ℕ
 numbers order = record { order = order; number = λ x. x; of = λ n. n % order }
 
 -- BabyBear, F257 in groups of 4 bytes, and Goldilocks in groups of 8

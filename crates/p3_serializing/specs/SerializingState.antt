@@ -70,6 +70,10 @@ under_limit d =
       may_leave = λ s t. (d s.draw_limit).may_leave s.inner t.inner × (t.draw_limit ≡ s.draw_limit);
     }
 
+-- a byte that is drawn and dropped
+abbrev pub byte_dropped : {I : Type 0} → Sampling I ℕ → Sampling (SerializingState I) (Unit {0})
+byte_dropped d = under_limit (λ _. made_of (λ _. tt) d)
+
 -- the least number of bits whose power of two an order does not pass
 abbrev pub bits_of_order : ℕ → ℕ
 bits_of_order order = most_bits_of order + 1

@@ -21,7 +21,7 @@ use Rattle.p3_grinding.specs.CandidateLaws.{accepted_of-is_sampling}
 use Rattle.p3_serializing.specs.SerializingState.{SerializingState, stepped, fed, passed_on, bytes_observed}
 use Rattle.p3_serializing.specs.SerializingState.{number_observed, element_observed, words_observed, under_limit, group}
 use Rattle.p3_serializing.specs.SerializingState.{low_bits_of_group, element_of_groups, element_drawn, bits_drawn}
-use Rattle.p3_serializing.specs.SerializingState.{space_element_drawn, bits_of_order}
+use Rattle.p3_serializing.specs.SerializingState.{space_element_drawn, bits_of_order, byte_dropped}
 
 -- ---- what is observed is what is fed
 
@@ -157,6 +157,10 @@ module _ {I : Type 0} (next : I → I) where
         steps = λ s. under_limit-steps s (stepped (d s.draw_limit).after s) refl ((laws s.draw_limit).steps s.inner);
         leaves = λ s t h. under_limit-steps s t h.1 ((laws s.draw_limit).leaves s.inner t.inner h.0);
       }
+
+  pub byte_dropped-drawn : (d : Sampling I ℕ) → IsSampling next d → IsSampling (stepped next) (byte_dropped d)
+  byte_dropped-drawn d laws =
+      under_limit-is_sampling (λ _. made_of (λ _. tt) d) (λ _. made_of-is_sampling next (λ _. tt) d laws)
 
   module _ (d : Sampling I ℕ) (laws : IsSampling next d) (n : ℕ) where
     -- a group is refused as one of its bytes is

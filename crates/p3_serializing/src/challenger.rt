@@ -4,6 +4,7 @@ ghost use Rattle.p3_hash_challenger.specs.HashCalls.{absorbing};
 
 mod digests;
 mod draws;
+mod grinding;
 
 use crate::{SerializedIn, SerializingState};
 use p3_challenger_core::{CanObserve, ChallengerError, Sponge};

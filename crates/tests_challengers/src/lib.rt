@@ -6,6 +6,8 @@ mod candidates;
 #[cfg(test)]
 mod hash;
 #[cfg(test)]
+mod serializing;
+#[cfg(test)]
 mod symmetric;
 #[cfg(test)]
 mod uniform;

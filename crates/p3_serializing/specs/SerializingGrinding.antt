@@ -1,0 +1,19 @@
+-- Proof of work on a serializing challenger.
+use Rattle.std.specs.Prelude.{ℕ, Bool, List}
+use Rattle.p3_field_core.specs.Residues.{Residues}
+use Rattle.p3_challenger_core.specs.Observation.{Observation}
+use Rattle.p3_challenger_core.specs.Sampling.{Sampling}
+use Rattle.p3_grinding.specs.Checks.{all_zero, check_of, MayRunOut}
+use Rattle.p3_serializing.specs.SerializingState.{SerializingState, element_observed, byte_dropped, bits_drawn}
+
+module _ {I Symbol F : Type 0} (o : Observation I Symbol ℕ) (slice_may_leave : I → List ℕ → I → Type 0)
+    (d : Sampling I ℕ) (r : Residues F) (n : ℕ) where
+  -- A check of so many bits, of at least one: a byte is drawn and dropped, the witness is observed, and then the low bits
+  -- of the next group are all 0. With 0 bits each witness passes, and nothing is touched.
+  abbrev pub serializing_check : ℕ → F → Sampling (SerializingState I) Bool
+  serializing_check bits =
+      check_of (byte_dropped d) (element_observed o slice_may_leave r n) (all_zero (bits_drawn d n bits)) bits
+
+  -- where a search may be refused for memory: where a copy may be, or a check
+  abbrev pub may_run_out_of : Type 0 → SerializingState I → Type 0
+  may_run_out_of copies_may_fail s = (bits : ℕ) × MayRunOut copies_may_fail (serializing_check bits) s
