@@ -20,6 +20,11 @@ abbrev pub Computes : {F T : Type 0} → Shared F (Bor T × (Bor (List T) × Uni
 Computes {F} {T} g f rule =
     (x : Bor T) (kept : Bor (List T)) (r : Bool) → g.post f (x, (kept, tt)) r → r ≡ rule x.now kept.now
 
+-- a closure that takes the candidate itself computes a rule
+abbrev pub ComputesOfValues : {F T : Type 0} → Shared F (T × (Bor (List T) × Unit {0})) Bool → F → Rule T → Type 0
+ComputesOfValues {F} {T} g f rule =
+    (x : T) (kept : Bor (List T)) (r : Bool) → g.post f (x, (kept, tt)) r → r ≡ rule x kept.now
+
 -- what draws give, which is none where they meet a limit, and the state after them
 pub record Outcome (S A : Type 0) : Type 0 where
   pub gives : Option A

@@ -12,7 +12,7 @@ use Rattle.p3_fs_core.specs.declared.step.Kind.TheVariants as kind
 use Rattle.p3_fs_core.specs.declared.step.Length.{Length}
 use Rattle.p3_fs_core.specs.declared.step.Length.TheVariants.{Fixed}
 use Rattle.p3_fs_core.specs.Errors.{IsBadShape}
-use Rattle.p3_fs_core.specs.declared.step.TypeTag.TheVariants.{Algebra, Bytes, Opaque, Bits}
+use Rattle.p3_fs_core.specs.declared.step.TypeTag.TheVariants.{Algebra, Bytes, Opaque, Bits, UniformBits}
 use Rattle.p3_patterns.specs.Playing.{Playing, RefusesToPlay, next_step}
 use Rattle.p3_driver_core.specs.Effects.{Effect}
 
@@ -39,6 +39,11 @@ opaque_step kind label length = step_with Atomic kind label Opaque (codes "opaqu
 -- the steps that draw numbers of so many bits
 abbrev pub bits_step : List ℕ → ℕ → Length → Step
 bits_step label width length = step_with Atomic kind.Challenge label (Bits width) (codes "usize") length
+
+-- the same of uniform bits
+abbrev pub uniform_bits_step : List ℕ → ℕ → Length → Step
+uniform_bits_step label width length =
+    step_with Atomic kind.Challenge label (UniformBits width) (codes "usize") length
 
 -- the step has this effect, and no bytes in the proof
 abbrev pub without_wire : {S Symbol A : Type 0} → Step → Effect S Symbol A → Meaning S Symbol A

@@ -1,5 +1,5 @@
 // Each step feeds just the symbols that its meaning names: laws, of every challenger, codec and alphabet.
-ghost use Rattle.std.specs.Prelude.{◌≡◌, ℕ, List, length};
+ghost use Rattle.std.specs.Prelude.{◌≡◌, ℕ, true, List, length};
 ghost use Rattle.p3_driver_core.specs.Counts.{count_bytes};
 ghost use Rattle.p3_driver_core.specs.Effects.{alphabet_of, untouched, observing, observing_all, observing_bytes};
 ghost use Rattle.p3_driver_core.specs.Effects.{drawing, drawing_all, in_turn};
@@ -8,6 +8,7 @@ ghost use Rattle.p3_driver_core.specs.Rejecting.{Rule, drawing_rejecting};
 
 use p3_challenger_core::{CanObserve, CanSampleBits, ChallengerError, Sponge};
 use p3_codecs::{Codec, Unit};
+use p3_grinding::CanSampleUniformBits;
 
 /// A step of one value feeds just the value's symbols, and a step of a list those of its values in order. Where it is
 /// refused, a front of these was fed.
@@ -65,6 +66,17 @@ pub fn draws_feed_nothing<A, C: Sponge, Cdc: Codec<C, A>>()
 /// A law: the body is empty, and a caller cites the clause.
 pub fn bit_draws_feed_nothing<C: CanSampleBits<usize>>()
     ensures { (width n : ℕ) → OnlyDraws {Symbol = C.Symbol} C.next (drawing_all (C.bits_sampling width) n) }
+{}
+
+/// A step that draws numbers of so many uniform bits feeds nothing, and makes some number of the challenger's smallest
+/// draws, also where it is refused: a step of so many, and of so many that a rule takes.
+///
+/// A law: the body is empty, and a caller cites the clause.
+pub fn uniform_draws_feed_nothing<F, C: CanSampleUniformBits<F>>()
+    ensures list { (width n : ℕ) →
+        OnlyDraws {Symbol = C.Symbol} C.next (drawing_all (C.uniform true width).draw n) }
+    ensures rejecting { (width : ℕ) (rule : Rule ℕ) (limit n : ℕ) →
+        OnlyDraws {Symbol = C.Symbol} C.next (drawing_rejecting (C.uniform true width).draw rule limit n) }
 {}
 
 /// A step of a marker or of a hint feeds nothing, and leaves the challenger as it is.

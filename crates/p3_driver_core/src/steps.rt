@@ -6,7 +6,8 @@ ghost use Rattle.p3_fs_core.specs.Interactions.{step_of};
 ghost use Rattle.p3_fs_core.specs.Steps.{step_with};
 ghost use Rattle.p3_patterns.specs.Playing.{RefusesToPlay, FaultOfPlayEnd, IsPatternError, IsPlayed, next_step};
 ghost use Rattle.p3_driver_core.specs.Opened.{playing_of, Opens};
-ghost use Rattle.p3_driver_core.specs.Turns.{algebra_step, bytes_step, RefusesLength, RefusesCarried};
+ghost use Rattle.p3_driver_core.specs.Turns.{algebra_step, bytes_step, uniform_bits_step};
+ghost use Rattle.p3_driver_core.specs.Turns.{RefusesLength, RefusesCarried};
 ghost use Rattle.p3_driver_core.specs.Turns.{IsOtherLength, longer_list, another_length};
 
 use crate::algebras::Algebras;
@@ -89,6 +90,26 @@ impl<D: DigestHasher> Steps<D> {
             (playing_of self.new)) }
     {
         self.take(Interaction::bytes(Hierarchy::Atomic, kind, label, length))
+    }
+
+    /// Opens a step that draws numbers of `width` uniform bits, as [`take`](Steps::take) does.
+    pub fn take_uniform_bits(
+        &mut self,
+        label: Label,
+        width: usize,
+        length: Length,
+    ) -> Result<(), TranscriptError>
+        ensures ok { OnOk result (Opens self.old (uniform_bits_step label.now width length) self.new) }
+        ensures err { IfErr result (λ e. RefusesToPlay (playing_of self.old) (uniform_bits_step label.now width length)
+            e (playing_of self.new)) }
+    {
+        self.take(Interaction::uniform_bits(
+            Hierarchy::Atomic,
+            Kind::Challenge,
+            label,
+            width,
+            length,
+        ))
     }
 
     /// Lets a list through that is no longer than its step lets it be, before the step is held against the pattern.

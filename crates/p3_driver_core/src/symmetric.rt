@@ -1,16 +1,18 @@
 // The steps that a prover and a verifier play alike, for code that plays either side.
-ghost use Rattle.std.specs.Prelude.{◌≡◌, ◌≤◌, ℕ, List, IsOk};
+ghost use Rattle.std.specs.Prelude.{◌≡◌, ◌≤◌, ℕ, true, List, IsOk};
 ghost use Rattle.p3_fs_core.specs.Steps.{marker_of};
 ghost use Rattle.p3_driver_core.specs.Bound.{value_of, values_of};
 ghost use Rattle.p3_driver_core.specs.Meanings as meaning;
 ghost use Rattle.p3_driver_core.specs.Rejecting.{Rule, Computes, drawn_rejecting};
 ghost use Rattle.p3_driver_core.specs.Turns.{Turn, PlaysOrRefuses, IsNext, algebra_step, opaque_step};
+ghost use Rattle.p3_driver_core.specs.Turns.{uniform_bits_step};
 
 use crate::TranscriptBound;
 use p3_challenger_core::{CanObserve, Sponge};
 use p3_codecs::{Codec, ExtensionFieldCodec, ScalarCodec};
 use p3_field_core::{AlgebraIdentity, Named};
 use p3_fs_core::{Hierarchy, Kind, Label, Length, TranscriptError, TranscriptField};
+use p3_grinding::CanSampleUniformBits;
 use p3_symmetric::DigestHasher;
 
 /// The mark of the two drivers. Users are not shown it, so that no other type of theirs plays steps.
@@ -123,6 +125,24 @@ pub trait SymmetricSteps: Driver {
             (Self.Digest.digest_of EF.identity) EF.name_bytes (Length.Fixed n) in
             PlaysOrRefuses (drawn_rejecting {Symbol = Self.Challenger.Symbol} step
             ⟦<ExtensionFieldCodec<F, EF, Cdc> as Codec<Self::Challenger, EF>>⟧.sampling rule limit n)
+            (turn self.old) values_of result (turn self.new) }
+        ensures bytes { bytes self.new ≡ bytes self.old };
+
+    /// Draws `n` numbers of `width` uniform bits: another value is drawn in the place of one that is rejected.
+    ///
+    /// Condition: `width` is at most [`max_bits`](p3_challenger_core::CanSampleBits::max_bits).
+    fn challenge_uniform_bits<F>(
+        &mut self,
+        label: Label,
+        width: usize,
+        n: usize,
+    ) -> Result<Vec<TranscriptBound<usize>>, TranscriptError>
+    where
+        Self::Challenger: CanSampleUniformBits<F>,
+        requires { width ≤ Self.Challenger.most_bits }
+        ensures played { PlaysOrRefuses
+            (meaning.drawn_all {Symbol = Self.Challenger.Symbol} (uniform_bits_step label.now width (Length.Fixed n))
+            (Self.Challenger.uniform true width).draw n)
             (turn self.old) values_of result (turn self.new) }
         ensures bytes { bytes self.new ≡ bytes self.old };
 }

@@ -8,6 +8,7 @@ use p3_codecs::ScalarCodec;
 use p3_driver_core::{Driver, SymmetricSteps, TranscriptBound};
 use p3_field_core::{AlgebraIdentity, Named};
 use p3_fs_core::{Label, TranscriptError, TranscriptField};
+use p3_grinding::CanSampleUniformBits;
 use p3_symmetric::DigestHasher;
 
 impl<C: Sponge + Drop, U, D: DigestHasher> Driver for ProverState<C, U, D> {}
@@ -69,5 +70,17 @@ impl<C: Sponge + Drop, U, D: DigestHasher> SymmetricSteps for ProverState<C, U, 
         limit: u64,
     ) -> Result<Vec<TranscriptBound<EF>>, TranscriptError> {
         ProverState::challenge_extensions_rejecting::<F, EF, Cdc, R>(self, label, n, accept, limit)
+    }
+
+    fn challenge_uniform_bits<F>(
+        &mut self,
+        label: Label,
+        width: usize,
+        n: usize,
+    ) -> Result<Vec<TranscriptBound<usize>>, TranscriptError>
+    where
+        C: CanSampleUniformBits<F>,
+    {
+        ProverState::challenge_uniform_bits::<F>(self, label, width, n)
     }
 }

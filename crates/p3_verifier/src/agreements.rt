@@ -3,7 +3,7 @@
 // Each law is a function with an empty body: a caller calls it, and cites its clauses. Where the prover's step was
 // played, and the verifier stands at the turn before it, what comes of the verifier's step is the same, and so is the
 // turn after it; or it is refused for the sake of the challenger or of memory alone.
-ghost use Rattle.std.specs.Prelude.{◌≡◌, ◌<◌, ◌≤◌, ℕ, List, false};
+ghost use Rattle.std.specs.Prelude.{◌≡◌, ◌<◌, ◌≤◌, ℕ, List, true, false};
 ghost use Rattle.p3_fs_core.specs.Steps.{Step};
 ghost use Rattle.p3_fs_core.specs.declared.error.TranscriptError.{TranscriptError};
 ghost use Rattle.p3_patterns.specs.Playing.{next_step};
@@ -17,6 +17,7 @@ ghost use Rattle.p3_verifier.specs.Verifying.{Verifying, RefusesList};
 use p3_challenger_core::{CanObserve, CanSampleBits, Sponge};
 use p3_codecs::{Codec, Unit};
 use p3_fs_core::Length;
+use p3_grinding::CanSampleUniformBits;
 
 /// Containers are opened and closed alike.
 ///
@@ -64,6 +65,16 @@ pub fn drawn_values_agree<A, C: Sponge, Cdc: Codec<C, A>>()
 pub fn drawn_bits_agree<C: CanSampleBits<usize>>()
     ensures { (step : Step) (width n : ℕ) →
         Agrees {Symbol = C.Symbol} (meaning.drawn_all step (C.bits_sampling width) n) }
+{}
+
+/// So many numbers of so many uniform bits, and so many that a rule takes, are drawn alike.
+///
+/// A law: the body is empty, and a caller cites the clauses.
+pub fn drawn_uniform_bits_agree<F, C: CanSampleUniformBits<F>>()
+    ensures list { (step : Step) (width n : ℕ) →
+        Agrees {Symbol = C.Symbol} (meaning.drawn_all step (C.uniform true width).draw n) }
+    ensures rejecting { (step : Step) (width : ℕ) (rule : Rule ℕ) (limit n : ℕ) →
+        Agrees {Symbol = C.Symbol} (drawn_rejecting step (C.uniform true width).draw rule limit n) }
 {}
 
 /// A list that a caller carries is let through by a verifier of which no step was refused: where it is no longer than

@@ -10,6 +10,7 @@ ghost use Rattle.p3_verifier.specs.VerifierLends.{lends_challenger};
 
 mod known;
 mod receiving;
+mod uniform;
 
 use p3_challenger_core::{CanObserve, Sponge};
 use p3_codecs::Unit;

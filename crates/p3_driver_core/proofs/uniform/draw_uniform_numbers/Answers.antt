@@ -1,0 +1,57 @@
+use Rattle.std.proofs.Common.{true, ◌+◌, ◌-◌, [], refl, ◌∙◌, arith, rules, inr, ap, map}
+use Rattle.p3_challenger_core.specs.DrawLaws.{drew-none, drew-as, drew-values, drew-state, drew-stops}
+use Rattle.p3_driver_core.specs.Bound.{value_of}
+use Rattle.p3_driver_core.proofs.BoundLists.{drew-bound}
+use Rattle.p3_driver_core.proofs.uniform.draw_uniform_numbers.Goals as goal
+
+pub loop-init : goal.loop-init
+loop-init g c =
+    let d = (g.C.CanSampleUniformBits.uniform true c.args.width).draw in
+    let start = g.C.Sponge.state c.args.challenger.now in
+    record {
+      drew = drew-as d c.args.n start [] (map value_of c.in_ok-bounds.bounds.items)
+          (c.args.n - 0) start start (ap (map value_of) c.in_ok-bounds.ensures.items) refl
+          (drew-none d c.args.n start);
+      count = c.in_ok-bounds.ensures.len;
+      room = c.in_ok-bounds.ensures.exact;
+    }
+
+pub returns-in_err-draw_uniform-clause-err : goal.returns-in_err-draw_uniform-clause-err
+returns-in_err-draw_uniform-clause-err g c =
+    let d = (g.C.CanSampleUniformBits.uniform true c.args.width).draw in
+    let stops = drew-stops d c.args.n (g.C.Sponge.state c.args.challenger.now) (map value_of c.loop.bounds.items)
+    c.loop.counter (g.C.Sponge.state c.loop.challenger) c.loop-test.true c.loop.invariant.drew
+    c.in_err-draw_uniform.field-0.0 (g.C.Sponge.state c.draw_uniform.new.challenger) c.in_err-draw_uniform.ensures.err
+    in
+    search (rules, stops, inr)
+
+pub push_reserved-requires : goal.push_reserved-requires
+push_reserved-requires g c = omega (arith, c.loop.invariant.count, c.loop.invariant.room, c.loop-test.true)
+
+pub loop-preserved : goal.loop-preserved
+loop-preserved g c =
+    let d = (g.C.CanSampleUniformBits.uniform true c.args.width).draw in
+    record {
+      drew = drew-bound d c.args.n (g.C.Sponge.state c.args.challenger.now) c.loop.bounds.items
+          c.push_reserved.new.self.items c.loop.counter (g.C.Sponge.state c.loop.challenger)
+          (g.C.Sponge.state c.draw_uniform.new.challenger) c.bind.result c.in_ok-draw_uniform.field-0 c.loop-test.true
+          c.in_ok-draw_uniform.ensures.drawn c.in_ok-draw_uniform.ensures.after c.bind.ensures
+          c.push_reserved.ensures.items
+          c.loop.invariant.drew;
+      count = c.push_reserved.ensures.len ∙ ap (λ k. k + 1) c.loop.invariant.count;
+      room = c.push_reserved.ensures.capacity ∙ c.loop.invariant.room;
+    }
+
+pub returns-clause-drawn : goal.returns-clause-drawn
+returns-clause-drawn g c =
+    drew-values ((g.C.CanSampleUniformBits.uniform true c.args.width).draw) c.args.n
+    (g.C.Sponge.state c.args.challenger.now)
+    (map value_of c.loop.bounds.items) c.loop.counter
+    (g.C.Sponge.state c.loop.challenger) c.loop-test.false c.loop.invariant.drew
+
+pub returns-clause-after : goal.returns-clause-after
+returns-clause-after g c =
+    drew-state ((g.C.CanSampleUniformBits.uniform true c.args.width).draw) c.args.n
+    (g.C.Sponge.state c.args.challenger.now)
+    (map value_of c.loop.bounds.items) c.loop.counter
+    (g.C.Sponge.state c.loop.challenger) c.loop-test.false c.loop.invariant.drew

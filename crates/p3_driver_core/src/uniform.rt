@@ -1,0 +1,160 @@
+// Numbers of uniform bits, drawn one after another, and until a rule has taken so many.
+ghost use Rattle.std.specs.Prelude.{◌≡◌, ◌≤◌, ℕ, true, Some, OnOk, IfOk, IfErr};
+ghost use Rattle.p3_challenger_core.specs.Sampling.{draws, after_draws, RefusesDraw, RefusesDrawVec};
+ghost use Rattle.p3_driver_core.specs.Bound.{values_of};
+ghost use Rattle.p3_driver_core.specs.Meanings as meaning;
+ghost use Rattle.p3_driver_core.specs.Opened.{playing_of, turn_of};
+ghost use Rattle.p3_driver_core.specs.Rejecting.{Rule, ComputesOfValues, Takes, TakesAll, drawn_rejecting};
+ghost use Rattle.p3_driver_core.specs.Turns.{PlaysOrRefuses, uniform_bits_step};
+
+use crate::{DriverTurn, TranscriptBound, bind};
+use p3_challenger_core::ChallengerError;
+use p3_fs_core::{Label, Length, TranscriptError};
+use p3_grinding::{CanSampleUniformBits, UniformBitsError};
+use p3_symmetric::DigestHasher;
+use std::alloc::Global;
+
+// Draws a number of `width` uniform bits. Another value is drawn in the place of one that is rejected.
+fn draw_uniform<F, C: CanSampleUniformBits<F>>(
+    challenger: &mut C,
+    width: usize,
+) -> Result<usize, ChallengerError>
+    requires { width ≤ C.most_bits }
+    ensures drawn { IfOk result (λ x. (C.uniform true width).draw.sampled (C.state challenger.old) ≡ Some x) }
+    ensures after { OnOk result (
+        C.state challenger.new ≡ (C.uniform true width).draw.after (C.state challenger.old)) }
+    ensures err { IfErr result (λ e.
+        RefusesDraw (C.uniform true width).draw e (C.state challenger.old) (C.state challenger.new)) }
+{
+    match challenger.sample_uniform_bits(width, true) {
+        Ok(number) => Ok(number),
+        Err(UniformBitsError::Challenger(error)) => Err(error),
+        Err(UniformBitsError::Resampling(_)) => unreachable!(),
+    }
+}
+
+/// Draws so many numbers of `width` uniform bits, one after another. Their memory is asked for first.
+pub fn draw_uniform_numbers<F, C: CanSampleUniformBits<F>>(
+    challenger: &mut C,
+    alloc: Global,
+    width: usize,
+    n: usize,
+) -> Result<Vec<TranscriptBound<usize>>, ChallengerError>
+    requires { width ≤ C.most_bits }
+    ensures drawn { IfOk result (λ bounds.
+        draws (C.uniform true width).draw n (C.state challenger.old) ≡ Some (values_of bounds)) }
+    ensures after { OnOk result (
+        C.state challenger.new ≡ after_draws (C.uniform true width).draw n (C.state challenger.old)) }
+    ensures err { IfErr result (λ e.
+        RefusesDrawVec (C.uniform true width).draw n e (C.state challenger.old) (C.state challenger.new)) }
+{
+    let mut bounds = Vec::with_capacity(alloc, n)?;
+    for _ in 0..n {
+        bounds.push_reserved(bind(draw_uniform::<F, C>(challenger, width)?));
+    }
+    Ok(bounds)
+}
+
+// Draws until the rule takes a number, beside those kept before. The limit is met where it refuses so many.
+fn draw_taken_number<F, C: CanSampleUniformBits<F>, R: Fn(usize, &[usize]) -> bool>(
+    challenger: &mut C,
+    width: usize,
+    kept: &[usize],
+    accept: &R,
+    limit: u64,
+) -> Result<usize, ChallengerError>
+    requires within { width ≤ C.most_bits }
+    requires callable { R.IsAlwaysCallable accept.now }
+    ensures { (rule : Rule ℕ) → ComputesOfValues R.Fn accept.now rule → Takes (C.uniform true width).draw rule limit
+        kept.now (C.state challenger.old) result (C.state challenger.new) }
+{
+    for _ in 0..limit {
+        let candidate = draw_uniform::<F, C>(challenger, width)?;
+        if accept(candidate, kept) {
+            return Ok(candidate);
+        }
+    }
+    Err(ChallengerError::DrawLimit)
+}
+
+/// Draws numbers of `width` uniform bits until the rule `accept` has taken `n`, and answers these in order.
+/// Their memory is asked for first.
+///
+/// The rule and the errors are as in [`draw_accepted`](crate::draw_accepted).
+pub fn draw_accepted_numbers<F, C: CanSampleUniformBits<F>, R: Fn(usize, &[usize]) -> bool>(
+    challenger: &mut C,
+    alloc: Global,
+    width: usize,
+    n: usize,
+    accept: &R,
+    limit: u64,
+) -> Result<Vec<TranscriptBound<usize>>, ChallengerError>
+    requires within { width ≤ C.most_bits }
+    requires callable { R.IsAlwaysCallable accept.now }
+    ensures { (rule : Rule ℕ) → ComputesOfValues R.Fn accept.now rule → TakesAll (C.uniform true width).draw rule limit
+        n values_of (C.state challenger.old) result (C.state challenger.new) }
+{
+    let mut bounds = Vec::with_capacity(alloc, n)?;
+    let mut kept = Vec::with_capacity(alloc, n)?;
+    for _ in 0..n {
+        let number = draw_taken_number::<F, C, R>(challenger, width, &kept, accept, limit)?;
+        kept.push_reserved(number);
+        bounds.push_reserved(bind(number));
+    }
+    Ok(bounds)
+}
+
+impl<D: DigestHasher> DriverTurn<D> {
+    /// Draws so many numbers of `width` uniform bits.
+    pub fn draw_uniform_bits<F, C: CanSampleUniformBits<F>>(
+        &mut self,
+        challenger: &mut C,
+        label: Label,
+        width: usize,
+        n: usize,
+    ) -> Result<Vec<TranscriptBound<usize>>, TranscriptError>
+        requires { width ≤ C.most_bits }
+        ensures { PlaysOrRefuses
+            (meaning.drawn_all {Symbol = C.Symbol} (uniform_bits_step label.now width (Length.Fixed n))
+            (C.uniform true width).draw n)
+            (turn_of (C.state challenger.old) self.old) values_of result (turn_of (C.state challenger.new) self.new) }
+    {
+        self.steps
+            .take_uniform_bits(label, width, Length::Fixed(n))?;
+        let bounds = draw_uniform_numbers::<F, C>(challenger, self.alloc, width, n)?;
+        self.steps.done();
+        Ok(bounds)
+    }
+
+    /// Draws numbers of `width` uniform bits until the rule `accept` has taken `n`, which refuses fewer than
+    /// `limit` in a row.
+    pub fn draw_uniform_bits_rejecting<
+        F,
+        C: CanSampleUniformBits<F>,
+        R: Fn(usize, &[usize]) -> bool,
+    >(
+        &mut self,
+        challenger: &mut C,
+        label: Label,
+        width: usize,
+        n: usize,
+        accept: &R,
+        limit: u64,
+    ) -> Result<Vec<TranscriptBound<usize>>, TranscriptError>
+        requires within { width ≤ C.most_bits }
+        requires callable { R.IsAlwaysCallable accept.now }
+        ensures played { (rule : Rule ℕ) → ComputesOfValues R.Fn accept.now rule → PlaysOrRefuses
+            (drawn_rejecting {Symbol = C.Symbol} (uniform_bits_step label.now width (Length.Fixed n))
+            (C.uniform true width).draw rule limit n)
+            (turn_of (C.state challenger.old) self.old) values_of result (turn_of (C.state challenger.new) self.new) }
+        ensures spent { IfErr result (λ _. (playing_of self.new.steps).finished ≡ true) }
+    {
+        self.steps
+            .take_uniform_bits(label, width, Length::Fixed(n))?;
+        let bounds = draw_accepted_numbers::<F, C, R>(
+            challenger, self.alloc, width, n, accept, limit,
+        )?;
+        self.steps.done();
+        Ok(bounds)
+    }
+}
