@@ -1,9 +1,11 @@
--- What it is that a step feeds just the symbols that it names, and that one draws alone.
-use Rattle.std.specs.Prelude.{◌≡◌, List, [], ◌∷◌, ◌++◌}
+-- What it is that a step feeds just the symbols that it names, that one draws alone, and that one does both.
+use Rattle.std.specs.Prelude.{◌≡◌, List, [], ◌∷◌, ◌++◌, IsSome}
 use Rattle.p3_challenger_core.specs.Sponge.{IsFed, IsStepsOn}
 use Rattle.p3_challenger_core.specs.Observation.{LeavesFed, LeavesAfter}
+use Rattle.p3_challenger_core.specs.Sampling.{RefusesDraw}
 use Rattle.p3_challenger_core.specs.declared.error.ChallengerError.{ChallengerError}
 use Rattle.p3_driver_core.specs.Effects.{Effect}
+use Rattle.p3_driver_core.specs.Working.{Work}
 
 -- The effect feeds its symbols: the state after it is one to which just these were fed, and where it is refused, a
 -- front of them was. After a symbol no outputs are left that could be dropped, so there both hold exactly.
@@ -21,3 +23,30 @@ pub record OnlyDraws {S Symbol A : Type 0} (next : S → S) (effect : Effect S S
   pub no_symbols : effect.symbols ≡ []
   pub steps : (s : S) → IsStepsOn next s (effect.after s)
   pub leaves : (e : ChallengerError) (s t : S) → effect.refuses e s t → IsStepsOn next s t
+
+-- symbols are fed to a state, after some number of the smallest draws and before some
+pub record FedAmidDraws {S Symbol : Type 0} (next : S → S) (fed : S → List Symbol → S) (s : S) (symbols : List Symbol)
+    (t : S) : Type 0 where
+  pub first : S
+  pub last : S
+  pub before : IsStepsOn next s first
+  pub feeds : IsFed fed first symbols last
+  pub after : IsStepsOn next last t
+
+-- a front of them is
+pub record LeavesAmidDraws {S Symbol : Type 0} (next : S → S) (fed : S → List Symbol → S) (s : S)
+    (symbols : List Symbol) (t : S) : Type 0 where
+  pub first : S
+  pub last : S
+  pub before : IsStepsOn next s first
+  pub feeds : LeavesFed fed first symbols last
+  pub after : IsStepsOn next last t
+
+-- A check feeds the symbols of its witness, whether the witness passes or not, and draws before them and after them.
+-- Where the check is refused, a front of them was fed.
+pub record FeedsItsWitness {S Symbol W : Type 0} (next : S → S) (fed : S → List Symbol → S) (work : Work S Symbol W)
+    (x : W) : Type 0 where
+  pub feeds : (s : S) → IsSome ((work.check x).sampled s) →
+      FedAmidDraws next fed s (work.symbols x) ((work.check x).after s)
+  pub leaves : (e : ChallengerError) (s t : S) → RefusesDraw (work.check x) e s t →
+      LeavesAmidDraws next fed s (work.symbols x) t

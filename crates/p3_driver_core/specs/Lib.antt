@@ -8,3 +8,5 @@ pub mod Meanings
 pub mod Opened
 pub mod Rejecting
 pub mod Turns
+pub mod Working
+pub mod WorkingLaws

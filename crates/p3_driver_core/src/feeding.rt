@@ -1,14 +1,16 @@
 // Each step feeds just the symbols that its meaning names: laws, of every challenger, codec and alphabet.
-ghost use Rattle.std.specs.Prelude.{◌≡◌, ℕ, true, List, length};
+ghost use Rattle.std.specs.Prelude.{◌≡◌, ℕ, true, Some, List, length};
 ghost use Rattle.p3_driver_core.specs.Counts.{count_bytes};
 ghost use Rattle.p3_driver_core.specs.Effects.{alphabet_of, untouched, observing, observing_all, observing_bytes};
 ghost use Rattle.p3_driver_core.specs.Effects.{drawing, drawing_all, in_turn};
-ghost use Rattle.p3_driver_core.specs.Feeding.{Feeds, OnlyDraws};
+ghost use Rattle.p3_driver_core.specs.Feeding.{Feeds, OnlyDraws, FeedsItsWitness};
 ghost use Rattle.p3_driver_core.specs.Rejecting.{Rule, drawing_rejecting};
+ghost use Rattle.p3_driver_core.specs.Working.{work_of, checking};
+ghost use Rattle.p3_fs_core.specs.Steps.{Step};
 
 use p3_challenger_core::{CanObserve, CanSampleBits, ChallengerError, Sponge};
 use p3_codecs::{Codec, Unit};
-use p3_grinding::CanSampleUniformBits;
+use p3_grinding::{CanSampleUniformBits, GrindingChallenger};
 
 /// A step of one value feeds just the value's symbols, and a step of a list those of its values in order. Where it is
 /// refused, a front of these was fed.
@@ -77,6 +79,19 @@ pub fn uniform_draws_feed_nothing<F, C: CanSampleUniformBits<F>>()
         OnlyDraws {Symbol = C.Symbol} C.next (drawing_all (C.uniform true width).draw n) }
     ensures rejecting { (width : ℕ) (rule : Rule ℕ) (limit n : ℕ) →
         OnlyDraws {Symbol = C.Symbol} C.next (drawing_rejecting (C.uniform true width).draw rule limit n) }
+{}
+
+/// A step of a proof of work feeds just the symbols of its witness, with draws before them and after them. Where it is
+/// refused, a front of these was fed. One of 0 bits lets each witness pass, feeds nothing, and leaves the challenger as
+/// it is.
+///
+/// A law: the body is empty, and a caller cites the clause.
+pub fn work_feeds_its_witness<C: GrindingChallenger>()
+    ensures feeds { (step : Step) (bits : ℕ) (x : C.Witness) → FeedsItsWitness C.next C.fed
+        (work_of step C.Witness.residues C.before_witness C.observation C.bits_sampling bits) x }
+    ensures free { (step : Step) (x : C.Witness) (s : C.State) →
+        let work = work_of step C.Witness.residues C.before_witness C.observation C.bits_sampling 0 in
+        ((checking work x).gives s ≡ Some x) × ((checking work x).after s ≡ s) }
 {}
 
 /// A step of a marker or of a hint feeds nothing, and leaves the challenger as it is.

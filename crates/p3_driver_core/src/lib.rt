@@ -12,13 +12,14 @@ mod steps;
 mod symmetric;
 mod turn;
 mod uniform;
+mod work;
 
 pub use bound::{TranscriptBound, bind};
 pub use counts::{count_width, counted, observe_count};
 pub use feeding::{
     bit_draws_feed_nothing, bytes_feed_their_symbols, counted_values_feed_their_symbols,
     draws_feed_nothing, markers_and_hints_feed_nothing, opaque_values_feed_their_symbols,
-    uniform_draws_feed_nothing, values_feed_their_symbols,
+    uniform_draws_feed_nothing, values_feed_their_symbols, work_feeds_its_witness,
 };
 pub use lists::{bind_all, draw_numbers, draw_values, observe_values};
 pub use rejecting::draw_accepted;
@@ -26,3 +27,4 @@ pub use steps::Steps;
 pub use symmetric::{Driver, SymmetricSteps};
 pub use turn::DriverTurn;
 pub use uniform::{draw_accepted_numbers, draw_uniform_numbers};
+pub use work::check_work;

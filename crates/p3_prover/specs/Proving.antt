@@ -1,11 +1,15 @@
 -- A prover as contracts see it, and what a step makes of it.
-use Rattle.std.specs.Prelude.{◌≡◌, ◌≤◌, ◌⊎◌, ◌++◌, List, ℕ, Result, MatchResult}
+use Rattle.std.specs.Prelude.{◌≡◌, ◌≤◌, ◌⊎◌, ◌++◌, List, ℕ, take, Result, MatchResult}
 use Rattle.p3_fs_core.specs.declared.error.TranscriptError.{TranscriptError}
 use Rattle.p3_fs_core.specs.declared.error.TranscriptError.TheVariants.{Challenger, OutOfMemory}
 use Rattle.p3_challenger_core.specs.declared.error.ChallengerError.TheVariants as challenger
+use Rattle.p3_fs_core.specs.Encoding.{Encoding}
+use Rattle.p3_grinding.specs.Checks.{IsLeast}
 use Rattle.p3_symmetric.specs.declared.digest_hasher.DigestHasher.{Ghosts}
 use Rattle.p3_driver_core.specs.Opened.{turn_of}
 use Rattle.p3_driver_core.specs.Turns.{Meaning, Turn, Plays, Refuses, RefusesLength, LeavesWire, PlaysOrRefuses}
+use Rattle.p3_driver_core.specs.Turns.{GivesUp}
+use Rattle.p3_driver_core.specs.Working.{Work, sent_work, RefusesToGrind, GrindsOrRefuses}
 use Rattle.p3_prover.specs.declared.prover.ProverState.{ProverState}
 
 -- its challenger and its pattern as it is played, and the bytes of the proof so far
@@ -64,6 +68,33 @@ KeepsWithin len max m before value result after =
     MatchResult result (λ r. (len ≤ max) × Plays m before.turn (value r) after.turn)
     (λ e. RefusesList len max before e after ⊎ ((len ≤ max) × Refuses m before.turn e after.turn))
     × (after.narg ≡ before.narg)
+
+-- ---- proof of work
+
+-- a witness was found, and memory was refused while it was written: a beginning of its bytes is added
+pub record Unwritten {S Symbol W : Type 0} (work : Work S Symbol W) (enc : Encoding W) (before : Proving S)
+    (e : TranscriptError) (after : Proving S) : Type 0 where
+  pub memory : e ≡ OutOfMemory
+  pub witness : W
+  pub least : IsLeast work.residues work.check before.turn.challenger witness
+  pub gives_up : GivesUp work.interaction before.turn (λ s t. t ≡ (work.check witness).after s) after.turn
+  pub wire : (n : ℕ) × (after.narg ≡ before.narg ++ take n (enc.wire witness))
+
+-- the step is played: the least witness that passes is found, and its bytes are added; or the step is refused
+abbrev pub GrindsAndWrites : {S Symbol W R : Type 0} → Work S Symbol W → Encoding W → (S → Type 0) → Proving S →
+    Result R TranscriptError → Proving S → Type 0
+GrindsAndWrites {S} {Symbol} {W} work enc may_run_out before result after =
+    MatchResult result
+    (λ _. (x : W) × IsLeast work.residues work.check before.turn.challenger x
+    × Writes (sent_work work enc x) before x after)
+    (λ e. (RefusesToGrind work may_run_out before.turn e after.turn × (after.narg ≡ before.narg))
+    ⊎ Unwritten work enc before e after)
+
+-- the same where the answer is the witness, and the proof stays as it is
+abbrev pub GrindsAndKeeps : {S Symbol W R : Type 0} → Work S Symbol W → (S → Type 0) → Proving S → (R → W) →
+    Result R TranscriptError → Proving S → Type 0
+GrindsAndKeeps work may_run_out before value result after =
+    GrindsOrRefuses work may_run_out before.turn value result after.turn × (after.narg ≡ before.narg)
 
 -- why a driver could not be made: its seed is too long for the alphabet, or memory was refused
 abbrev pub RefusesStart : Type 0 → TranscriptError → Type 0

@@ -1,0 +1,111 @@
+-- Proof of work in a step.
+use Rattle.std.specs.Prelude.{◌≡◌, ℕ, zero, suc, ◌⊎◌, Bool, false, List, [], Option, Some, None, codes}
+use Rattle.std.specs.Prelude.{if◌then◌else◌, Result, MatchResult}
+use Rattle.p3_field_core.specs.Residues.{Residues}
+use Rattle.p3_challenger_core.specs.Observation.{Observation}
+use Rattle.p3_challenger_core.specs.Sampling.{Sampling, RefusesDraw}
+use Rattle.p3_challenger_core.specs.declared.error.ChallengerError.TheVariants as challenger
+use Rattle.p3_grinding.specs.Checks.{all_zero, check_of, IsLeast, RefusesSearch}
+use Rattle.p3_fs_core.specs.Encoding.{Encoding}
+use Rattle.p3_fs_core.specs.Errors.{IsBadShape}
+use Rattle.p3_fs_core.specs.Steps.{Step}
+use Rattle.p3_fs_core.specs.declared.error.TranscriptError.{TranscriptError}
+use Rattle.p3_fs_core.specs.declared.error.TranscriptError.TheVariants.{Pattern, BadProofShape, Challenger, OutOfMemory}
+use Rattle.p3_driver_core.specs.Effects.{Effect}
+use Rattle.p3_driver_core.specs.Turns.{Meaning, Turn, Plays, Refuses, RefusesTurn, GivesUp, without_wire}
+
+abbrev pub too_few_zero_bits : List ℕ
+too_few_zero_bits = codes "pow witness does not produce enough zero bits"
+
+-- what a step asks for: what the pattern must have next, the numbers of the witnesses, what a witness feeds, and its
+-- check
+pub record Work (S Symbol W : Type 0) : Type 1 where
+  pub interaction : Step
+  pub residues : Residues W
+  pub symbols : W → List Symbol
+  pub check : W → Sampling S Bool
+
+-- what is fed of a witness, where its check is of so many bits
+abbrev pub symbols_of_check : {Symbol : Type 0} → ℕ → List Symbol → List Symbol
+symbols_of_check zero symbols = []
+symbols_of_check (suc more) symbols = symbols
+
+-- work of so many bits, by what a challenger draws before it observes a witness, and how it draws bits
+abbrev pub work_of : {S Symbol W : Type 0} → Step → Residues W → Sampling S (Unit {0}) → Observation S Symbol W →
+    (ℕ → Sampling S ℕ) → ℕ → Work S Symbol W
+work_of interaction r before o bit_draws bits =
+    record {
+      interaction = interaction;
+      residues = r;
+      symbols = λ x. symbols_of_check bits (o.symbols x);
+      check = check_of before o (all_zero (bit_draws bits)) bits;
+    }
+
+-- the witness, where it passes
+abbrev pub where_passed : {W : Type 0} → W → Option Bool → Option W
+where_passed x None = None
+where_passed x (Some passes) = if passes then Some x else None
+
+-- why a check refuses a witness, and what is left: too few bits are 0, or the challenger refused
+abbrev pub RefusesWitness : {S : Type 0} → Sampling S Bool → TranscriptError → S → S → Type 0
+RefusesWitness check (BadProofShape reason) s t =
+    (reason.now ≡ too_few_zero_bits) × (check.sampled s ≡ Some false) × (t ≡ check.after s)
+RefusesWitness check (Challenger challenger.OutOfMemory) s t = ⊥
+RefusesWitness check (Challenger e) s t = RefusesDraw check e s t
+RefusesWitness check OutOfMemory s t = RefusesDraw check challenger.OutOfMemory s t
+RefusesWitness check _ s t = ⊥
+
+module _ {S Symbol W : Type 0} (work : Work S Symbol W) where
+  -- ---- a witness is checked
+
+  abbrev pub checking : W → Effect S Symbol W
+  checking x =
+      record {
+        symbols = work.symbols x;
+        fits = Unit {0};
+        gives = λ s. where_passed x ((work.check x).sampled s);
+        after = (work.check x).after;
+        refuses = λ e s t. RefusesDraw (work.check x) e s t;
+      }
+
+  -- one that does not stand in the proof
+  abbrev pub observed_work : W → Meaning S Symbol W
+  observed_work x = without_wire work.interaction (checking x)
+
+  -- one that is sent
+  abbrev pub sent_work : Encoding W → W → Meaning S Symbol W
+  sent_work e x = record { interaction = work.interaction; effect = checking x; wire = e.wire x }
+
+  -- the step was the next one, and too few bits are 0: the witness is checked, and no step may follow
+  pub record FailsCheck (x : W) (before : Turn S) (e : TranscriptError) (after : Turn S) : Type 0 where
+    pub told : IsBadShape too_few_zero_bits e
+    pub gives_up : GivesUp work.interaction before
+        (λ s t. ((work.check x).sampled s ≡ Some false) × (t ≡ (work.check x).after s)) after
+
+  -- the step is played, with this witness; or it is refused
+  abbrev pub ChecksOrRefuses : {R : Type 0} → W → Turn S → Result R TranscriptError → Turn S → Type 0
+  ChecksOrRefuses x before result after =
+      MatchResult result (λ _. Plays (observed_work x) before x after)
+      (λ e. Refuses (observed_work x) before e after ⊎ FailsCheck x before e after)
+
+  -- ---- a witness is searched for
+
+  -- why none is found, and what is left: the step may not be played; or no witness passes, or memory was refused, and
+  -- the challenger is as it was
+  abbrev pub RefusesToGrind : (S → Type 0) → Turn S → TranscriptError → Turn S → Type 0
+  RefusesToGrind may_run_out before (Pattern e) after = RefusesTurn work.interaction before (Pattern e) after
+  RefusesToGrind may_run_out before (Challenger challenger.OutOfMemory) after = ⊥
+  RefusesToGrind may_run_out before (Challenger e) after =
+      GivesUp work.interaction before (RefusesSearch work.residues may_run_out work.check e) after
+  RefusesToGrind may_run_out before OutOfMemory after =
+      GivesUp work.interaction before (RefusesSearch work.residues may_run_out work.check challenger.OutOfMemory) after
+  RefusesToGrind may_run_out before _ after = ⊥
+
+  -- the step is played, with the least witness that passes; or it is refused
+  abbrev pub GrindsOrRefuses : {R : Type 0} → (S → Type 0) → Turn S → (R → W) → Result R TranscriptError → Turn S →
+      Type 0
+  GrindsOrRefuses may_run_out before value result after =
+      MatchResult result
+      (λ r. IsLeast work.residues work.check before.challenger (value r)
+      × Plays (observed_work (value r)) before (value r) after)
+      (λ e. RefusesToGrind may_run_out before e after)
