@@ -16,6 +16,7 @@ use Rattle.p3_driver_core.specs.Effects.{Effect, Alphabet, untouched, observing,
 use Rattle.p3_driver_core.specs.Effects.{in_turn}
 use Rattle.p3_challenger_core.specs.declared.error.ChallengerError.TheVariants as challenger
 use Rattle.p3_driver_core.specs.Turns.{bytes_step, LeavesBeginning}
+use Rattle.p3_driver_core.specs.Working.{Work, checking}
 
 -- why nothing is read, the bytes that are left then, and what the challenger has absorbed
 pub record Unreadable (S : Type 0) : Type 0 where
@@ -181,6 +182,10 @@ TellsList read observed MayLeave value s result left t =
 -- a value is received
 abbrev pub received : {S Symbol A : Type 0} → Step → Observation S Symbol A → Encoding A → Reading S Symbol A
 received interaction o e = reading_first interaction (read_value e) (observing o)
+
+-- the witness of a proof of work is received
+abbrev pub received_work : {S Symbol W : Type 0} → Work S Symbol W → Encoding W → Reading S Symbol W
+received_work work e = reading_first work.interaction (read_value e) (checking work)
 
 -- so many bytes are received
 abbrev pub received_bytes : {S Symbol I : Type 0} → Kind → List ℕ → Alphabet S Symbol I → ℕ →

@@ -7,10 +7,12 @@ use Rattle.p3_symmetric.specs.declared.digest_hasher.DigestHasher.{Ghosts}
 use Rattle.p3_driver_core.specs.Opened.{turn_of}
 use Rattle.p3_driver_core.specs.Turns.{Meaning, Turn, Plays, Refuses, RefusesTurn, GivesUp, PlaysOrRefuses, IsNext}
 use Rattle.p3_driver_core.specs.Turns.{step_on}
+use Rattle.p3_driver_core.specs.Working.{Work, FailsCheck, ChecksOrRefuses}
 use Rattle.p3_driver_core.specs.Turns.{RefusesCarried, IsOtherLength, longer_list, another_length}
+use Rattle.p3_fs_core.specs.Encoding.{Encoding}
 use Rattle.p3_fs_core.specs.Errors.{misfit_of}
 use Rattle.p3_patterns.specs.Playing.{FaultOfPlayEnd, IsPlayed, next_step}
-use Rattle.p3_verifier.specs.Reads.{Reading, Unreadable, trailing_bytes}
+use Rattle.p3_verifier.specs.Reads.{Reading, Unreadable, trailing_bytes, received_work}
 use Rattle.p3_verifier.specs.declared.verifier.VerifierState.{VerifierState}
 
 -- its challenger and its pattern as it is played, and the bytes of the proof that are left to read
@@ -73,6 +75,28 @@ abbrev pub KeepsOrRefuses : {S Symbol A R : Type 0} → Meaning S Symbol A → V
     Result R TranscriptError → Verifying S → Type 0
 KeepsOrRefuses m before value result after =
     PlaysOrRefuses m before.turn value result after.turn × (after.unread ≡ before.unread)
+
+-- ---- proof of work
+
+-- a witness is read, and too few bits are 0
+pub record FailsWork {S Symbol W : Type 0} (work : Work S Symbol W) (enc : Encoding W) (before : Verifying S)
+    (e : TranscriptError) (after : Verifying S) : Type 0 where
+  pub witness : W
+  pub read : (received_work work enc).read before.unread ≡ Ok (witness, after.unread)
+  pub fails : FailsCheck work witness before.turn e after.turn
+
+-- the step is played: a witness is read, and passes; or the step is refused
+abbrev pub ReceivesWork : {S Symbol W R : Type 0} → Work S Symbol W → Encoding W → Verifying S →
+    Result R TranscriptError → Verifying S → Type 0
+ReceivesWork {S} {Symbol} {W} work enc before result after =
+    MatchResult result (λ _. (x : W) × Receives (received_work work enc) before x after)
+    (λ e. RefusesToRead (received_work work enc) before e after ⊎ FailsWork work enc before e after)
+
+-- the same of a witness that the caller carries: the bytes that are left stay as they are
+abbrev pub ChecksAndKeeps : {S Symbol W R : Type 0} → Work S Symbol W → W → Verifying S → Result R TranscriptError →
+    Verifying S → Type 0
+ChecksAndKeeps work x before result after =
+    ChecksOrRefuses work x before.turn result after.turn × (after.unread ≡ before.unread)
 
 -- ---- lists that the caller carries
 

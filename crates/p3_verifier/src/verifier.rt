@@ -11,6 +11,7 @@ ghost use Rattle.p3_verifier.specs.VerifierLends.{lends_challenger};
 mod known;
 mod receiving;
 mod uniform;
+mod work;
 
 use p3_challenger_core::{CanObserve, Sponge};
 use p3_codecs::Unit;

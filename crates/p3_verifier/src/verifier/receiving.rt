@@ -251,7 +251,7 @@ impl<'a, C: Sponge + Drop, U, D: DigestHasher> VerifierState<'a, C, U, D> {
     }
 
     // Reads so many bytes. Where there are fewer, none is passed.
-    fn read_bytes(&mut self, len: usize) -> Result<&'a [u8], TranscriptError>
+    pub(super) fn read_bytes(&mut self, len: usize) -> Result<&'a [u8], TranscriptError>
         ensures read { TellsRead (reads.read_bytes {S = C.State} len self.old.unread.now) (λ bytes. bytes.now) result
             self.new.unread.now }
         ensures turn { self.new.turn ≡ self.old.turn }
