@@ -15,16 +15,16 @@ spells g =
 
 pub returns-clause-mirrors : goal.returns-clause-mirrors
 returns-clause-mirrors g c = λ step bits x.
-    work-mirrored (work_of step g.C.Witness.PrimeCharacteristicRing.residues g.C.GrindingChallenger.before_witness
+    work-mirrored (work_of step g.C.Witness.PrimeCharacteristicRing.residues g.C.PrepareCheck.before_witness
     g.C.CanObserve.observation g.C.CanSampleBits.bits_sampling bits)
     (encoding g.C.Witness.PrimeCharacteristicRing.residues g.C.Witness.Field.bit_length) (spells g) x
 
 pub returns-clause-follows : goal.returns-clause-follows
 returns-clause-follows g c = λ step bits x.
-    work-followed (work_of step g.C.Witness.PrimeCharacteristicRing.residues g.C.GrindingChallenger.before_witness
+    work-followed (work_of step g.C.Witness.PrimeCharacteristicRing.residues g.C.PrepareCheck.before_witness
     g.C.CanObserve.observation g.C.CanSampleBits.bits_sampling bits)
-    (check-limit g.C.GrindingChallenger.before_witness g.C.CanObserve.observation
-    (all_zero (g.C.CanSampleBits.bits_sampling bits)) g.met.C.GrindingChallenger.prepares.limit_gives_none
+    (check-limit g.C.PrepareCheck.before_witness g.C.CanObserve.observation
+    (all_zero (g.C.CanSampleBits.bits_sampling bits)) g.met.C.PrepareCheck.prepares.limit_gives_none
     (all_zero-limit (g.C.CanSampleBits.bits_sampling bits) (g.met.C.CanSampleBits.samples_bits bits).limit_gives_none)
     bits) x
     (encoding g.C.Witness.PrimeCharacteristicRing.residues g.C.Witness.Field.bit_length) (spells g)
