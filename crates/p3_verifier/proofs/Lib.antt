@@ -3,3 +3,4 @@ pub mod ReadBack
 pub mod Refusals
 pub mod ValuesInTurn
 pub mod WorkedRows
+pub mod WorkMirrors

@@ -8,13 +8,16 @@ ghost use Rattle.std.specs.Prelude.{◌^◌, ◌<◌, ◌≤◌, ℕ, List, leng
 ghost use Rattle.p3_fs_core.specs.Steps.{Step};
 ghost use Rattle.p3_driver_core.specs.Effects.{alphabet_of};
 ghost use Rattle.p3_driver_core.specs.Meanings as meaning;
-ghost use Rattle.p3_verifier.specs.Following.{Follows};
+ghost use Rattle.p3_driver_core.specs.Working.{work_of, sent_work};
+ghost use Rattle.p3_fs_core.specs.Scalar.{encoding};
+ghost use Rattle.p3_verifier.specs.Following.{Follows, FollowsWork};
 ghost use Rattle.p3_verifier.specs.Mirrors.{Mirrors};
 ghost use Rattle.p3_verifier.specs.Reads as reads;
 
 use p3_challenger_core::{CanObserve, Sponge};
 use p3_codecs::{Codec, Unit};
 use p3_fs_core::Kind;
+use p3_grinding::GrindingChallenger;
 
 /// What a prover writes of one value, a verifier reads: whatever follows it in the proof, the verifier's step reads
 /// that value, leaves what follows, and does to the challenger what the prover's step does. So it follows the prover's.
@@ -97,4 +100,18 @@ pub fn counted_hint_is_received<C: Sponge>()
     ensures follows { (label : List ℕ) (max : ℕ) (bytes : List ℕ) → length bytes ≤ max → max < 2 ^ 64 →
         Follows {S = C.State} {Symbol = C.Symbol} (meaning.hinted_bounded label max bytes)
         (reads.hint_received_bounded label max) bytes }
+{}
+
+/// What a prover writes of a witness, a verifier reads, and follows it: the witness passes the verifier's check, which is
+/// refused for want of memory alone.
+///
+/// A law: the body is empty, and a caller cites the clauses.
+pub fn sent_work_is_received<C: GrindingChallenger>()
+    ensures mirrors { (step : Step) (bits : ℕ) (x : C.Witness) →
+        let work = work_of step C.Witness.residues C.before_witness C.observation C.bits_sampling bits in
+        let spelling = encoding C.Witness.residues C.Witness.bit_length in
+        Mirrors (sent_work work spelling x) (reads.received_work work spelling) x }
+    ensures follows { (step : Step) (bits : ℕ) (x : C.Witness) →
+        let work = work_of step C.Witness.residues C.before_witness C.observation C.bits_sampling bits in
+        FollowsWork work (encoding C.Witness.residues C.Witness.bit_length) x }
 {}
