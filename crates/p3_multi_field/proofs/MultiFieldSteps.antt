@@ -9,12 +9,12 @@ use Rattle.std.proofs.Math.Nat.{add-div_left, add-mod_left, div-eq_of_lt, mod-eq
 use Rattle.p3_challenger_core.specs.Segments.{Call, observe, observe_empty_array, draw, Run, stays, run_before}
 use Rattle.p3_challenger_core.specs.SegmentLaws.{StepsAgree}
 use Rattle.p3_multi_field.specs.MultiFieldCalls.{FieldPair, Symbol, scalar, digest, MultiFieldSponge, batch_of, row_of}
-use Rattle.p3_multi_field.specs.MultiFieldCalls.{cell, scalars_over, words_over, blocks_within, blocks, absorbing}
+use Rattle.p3_multi_field.specs.MultiFieldCalls.{scalars_over, words_over, blocks_within, blocks, absorbing}
 use Rattle.p3_multi_field.specs.MultiFieldCalls.{appended, digit_in_row, last_output, one_taken, permuting, duplexed}
-use Rattle.p3_multi_field.specs.MultiFieldCalls.{scalar_observed, emptied, words_absorbed, digest_observed}
+use Rattle.p3_multi_field.specs.MultiFieldCalls.{scalar_observed, emptied, words_absorbed}
 use Rattle.p3_multi_field.specs.MultiFieldCalls.{after_sampled, handed_by_emptying, handed_by_words, run_call, run_end}
 use Rattle.p3_multi_field.specs.MultiFieldCalls.{multi_field_by_calls}
-use Rattle.p3_multi_field.specs.MultiFieldSegments.{block_count, SpongeRun, absorbed_batches, handed_batches}
+use Rattle.p3_multi_field.specs.MultiFieldSegments.{block_count, absorbed_batches, handed_batches}
 use Rattle.p3_multi_field.specs.MultiFieldSegments.{outputs_after, absorbed, run_scalars, absorbed_words, handed_words}
 use Rattle.p3_multi_field.specs.MultiFieldSegments.{run_words, opened, run_digest, stretches, run_stretches, run_symbols}
 use Rattle.p3_multi_field.specs.MultiFieldSegments.{permuted, handed_in_turn, output_at, left_after, outputs_from}

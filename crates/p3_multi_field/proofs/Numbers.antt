@@ -1,7 +1,6 @@
 -- What a challenger keeps of its numbers, as its calls change them.
-use Rattle.std.proofs.Common.{◌≡◌, ℕ, suc, ◌<◌, ◌≤◌, ◌+◌, ◌-◌, ◌*◌, ◌/◌, inl, inr, refl, arith}
+use Rattle.std.proofs.Common.{◌≡◌, ℕ, ◌<◌, ◌≤◌, ◌-◌, ◌*◌, ◌/◌, arith}
 use Rattle.std.proofs.Math.Nat.{mul-le-mul_left, mul-le-mul_right, div-lt_iff_lt-mul}
-use Rattle.std.proofs.lemmas.Bool.{cases_lt}
 use Rattle.p3_multi_field.specs.MultiFieldState.{KeepsNumbers}
 
 -- a product of two numbers that are not 0

@@ -1,5 +1,5 @@
 -- What is fed is read back.
-use Rattle.std.proofs.Common.{◌≡◌, ℕ, suc, List, [], ◌∷◌, ◌++◌, length, map, refl, ap, ◌∙◌, arith}
+use Rattle.std.proofs.Common.{◌≡◌, ℕ, List, [], ◌∷◌, ◌++◌, length, map, refl, ap, ◌∙◌, arith}
 use Rattle.p3_challenger_core.specs.Reading.{IsPrefixCode, IsPrefixCodeOn}
 use Rattle.p3_multi_field.specs.MultiFieldCalls.{Symbol, scalar, digest}
 

@@ -1,8 +1,8 @@
 -- Words of a digest that are absorbed a block at a time.
-use Rattle.std.proofs.Common.{◌≡◌, ℕ, zero, suc, ◌<◌, ◌≤◌, ◌+◌, ◌-◌, List, [], ◌∷◌, length, take, drop, refl, sym, ap, ◌∙◌}
+use Rattle.std.proofs.Common.{◌≡◌, ℕ, zero, suc, ◌<◌, ◌≤◌, List, [], ◌∷◌, length, take, drop, refl, ap}
 use Rattle.std.proofs.Common.{arith}
 use Rattle.std.proofs.lemmas.List.{length-drop}
-use Rattle.p3_multi_field.specs.MultiFieldCalls.{FieldPair, MultiFieldSponge, scalars_over, absorbing, blocks_within}
+use Rattle.p3_multi_field.specs.MultiFieldCalls.{FieldPair, absorbing, blocks_within}
 use Rattle.p3_multi_field.specs.MultiFieldCalls.{blocks, permuting, emptied}
 
 -- where something is pending it is absorbed

@@ -1,7 +1,6 @@
 -- A multi-field challenger over segments of calls: what it draws, and what it hands to its permutation, as a
 -- function of whole segments.
 use Rattle.std.specs.Prelude.{ℕ, zero, suc, ◌+◌, ◌-◌, ◌*◌, ◌/◌, ◌%◌, List, [], ◌∷◌, ◌++◌, length, take, drop}
-use Rattle.p3_field_core.specs.Residues.{Residues}
 use Rattle.p3_challenger_core.specs.Segments.{Run, stays, run_before, BySegments}
 use Rattle.p3_multi_field.specs.MultiFieldCalls.{FieldPair, Symbol, scalar, digest, MultiFieldSponge, batch_of, row_of}
 use Rattle.p3_multi_field.specs.MultiFieldCalls.{scalars_over, words_over, digit_in_row}

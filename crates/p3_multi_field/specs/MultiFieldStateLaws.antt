@@ -1,7 +1,6 @@
 -- Laws of a multi-field challenger call by call.
 use Rattle.std.proofs.Common.{◌≡◌, ℕ, zero, suc, ◌%◌, ◌^◌, List, [], ◌∷◌, ◌++◌, Some, ◌∙◌, refl, map}
 use Rattle.std.specs.List.{flat_map}
-use Rattle.p3_field_core.specs.Residues.{Residues}
 use Rattle.p3_challenger_core.specs.Sponge.{IsStepsOn}
 use Rattle.p3_challenger_core.specs.Observation as observation
 use Rattle.p3_challenger_core.specs.Observation.{IsObservation, observed_all}
@@ -11,7 +10,7 @@ use Rattle.p3_challenger_core.specs.Sampling.{IsSampling}
 use Rattle.p3_challenger_core.specs.SamplingLaws.{no_steps, one_step, steps-then, unrefused_draw-is_sampling}
 use Rattle.p3_multi_field.specs.MultiFieldCalls.{FieldPair, Symbol, scalar, digest}
 use Rattle.p3_multi_field.specs.MultiFieldState.{MultiFieldState, fed, observed, scalar_observed, scalars_observed}
-use Rattle.p3_multi_field.specs.MultiFieldState.{digest_observed, digests_observed, sampled, after_sampled, drawn, after_drawn}
+use Rattle.p3_multi_field.specs.MultiFieldState.{digests_observed, sampled, after_sampled, drawn, after_drawn}
 
 -- observing a list and then another is observing both
 pub observed_all-append : {S T : Type 0} (step : S → T → S) (s : S) (xs ys : List T)

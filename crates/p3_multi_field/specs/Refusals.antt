@@ -1,5 +1,5 @@
 -- When two fields do not make a multi-field challenger, and what is told then.
-use Rattle.std.specs.Prelude.{◌≡◌, ℕ, ◌<◌, ◌≤◌, ◌*◌, ◌^◌, ◌-◌, List, min}
+use Rattle.std.specs.Prelude.{◌≡◌, ℕ, ◌<◌, ◌≤◌, ◌^◌, ◌-◌, List, min}
 use Rattle.p3_multi_field.specs.declared.error.MultiField32ChallengerError.{MultiField32ChallengerError}
 use Rattle.p3_multi_field.specs.declared.error.MultiField32ChallengerError.TheVariants.{FieldOrderNotIncreasing}
 use Rattle.p3_multi_field.specs.declared.error.MultiField32ChallengerError.TheVariants.{AbsorbLengthTagOverflow}

@@ -1,4 +1,4 @@
-use Rattle.std.proofs.Common.{◌≡◌, ◌≤◌, ◌*◌, ap, arith}
+use Rattle.std.proofs.Common.{◌≡◌, ◌*◌, ap, arith}
 use Rattle.p3_multi_field.proofs.multi_field_challenger.MultiField32Challenger.batch_len.Goals as goal
 
 -- the rate packs at most 255 scalars

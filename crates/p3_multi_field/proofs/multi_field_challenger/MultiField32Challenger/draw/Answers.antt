@@ -1,4 +1,4 @@
-use Rattle.std.proofs.Common.{◌≡◌, ◌<◌, ◌≤◌, ◌-◌, ◌*◌, ◌/◌, length, arith}
+use Rattle.std.proofs.Common.{arith}
 use Rattle.p3_multi_field.proofs.Numbers.{place-inside}
 use Rattle.p3_multi_field.proofs.multi_field_challenger.MultiField32Challenger.draw.Goals as goal
 

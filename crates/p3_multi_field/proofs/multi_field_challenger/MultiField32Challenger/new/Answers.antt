@@ -1,4 +1,4 @@
-use Rattle.std.proofs.Common.{rules, ◌≡◌, ◌*◌, ◌<◌, ◌≤◌, ℕ, min, arith}
+use Rattle.std.proofs.Common.{rules, ◌≡◌, ◌<◌, ◌≤◌, ℕ, min, arith}
 use Rattle.p3_multi_field.proofs.Numbers.{keeps_none}
 use Rattle.p3_multi_field.proofs.multi_field_challenger.MultiField32Challenger.new.Goals as goal
 

@@ -1,4 +1,4 @@
-use Rattle.std.proofs.Common.{◌≡◌, ◌<◌, ◌≤◌, ◌*◌, ◌∙◌, ap, arith}
+use Rattle.std.proofs.Common.{◌≡◌, ◌≤◌, ◌*◌, ap, arith}
 use Rattle.p3_field_bridge.specs.BridgeLaws.{counts_below_64}
 use Rattle.p3_multi_field.proofs.Numbers.{small_row, rate-short}
 use Rattle.p3_multi_field.proofs.multi_field_challenger.MultiField32Challenger.row_len.Goals as goal
