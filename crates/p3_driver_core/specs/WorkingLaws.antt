@@ -1,9 +1,5 @@
 -- Laws of proof of work in a step.
-<<<<<<< HEAD
-use Rattle.std.proofs.Common.{◌≡◌, ℕ, zero, suc, Bool, List, [], ◌++◌, length, Option, Some, None, IsSome, is_some}
-=======
 use Rattle.std.proofs.Common.{◌≡◌, ℕ, zero, suc, Bool, true, false, List, [], ◌++◌, length, Option, Some, None, IsSome, is_some}
->>>>>>> a66b2bf503ee66a0d0a6a3eca90e441ff4ba275a
 use Rattle.std.proofs.Common.{option_and_then, if◌then◌else◌, refl, sym, inl, inr, subst, rules}
 use Rattle.std.proofs.Math.Seq.{take-length}
 use Rattle.p3_field_core.specs.Residues.{Residues}
@@ -18,9 +14,6 @@ use Rattle.p3_challenger_core.specs.declared.error.ChallengerError.TheVariants.{
 use Rattle.p3_grinding.specs.Checks.{all_zero, checked}
 use Rattle.p3_fs_core.specs.Steps.{Step}
 use Rattle.p3_driver_core.specs.Feeding.{FedAmidDraws, LeavesAmidDraws, FeedsItsWitness}
-<<<<<<< HEAD
-use Rattle.p3_driver_core.specs.Working.{work_of}
-=======
 use Rattle.p3_driver_core.specs.Working.{work_of, where_passed}
 
 -- what is given where a witness passes says that it does
@@ -28,7 +21,6 @@ pub where_passed-true : {W : Type 0} (x y : W) (o : Option Bool) → where_passe
 where_passed-true x y None is = search (rules, is)
 where_passed-true x y (Some true) is = refl
 where_passed-true x y (Some false) is = search (rules, is)
->>>>>>> a66b2bf503ee66a0d0a6a3eca90e441ff4ba275a
 
 module _ {S Symbol : Type 0} (next : S → S) (fed : S → List Symbol → S) (fed_nothing : (s : S) → fed s [] ≡ s)
     (fed_more : (s : S) (a b : List Symbol) → fed (fed s a) b ≡ fed s (a ++ b)) where

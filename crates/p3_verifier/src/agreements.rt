@@ -18,11 +18,7 @@ ghost use Rattle.p3_verifier.specs.Verifying.{Verifying, RefusesList};
 use p3_challenger_core::{CanObserve, CanSampleBits, Sponge};
 use p3_codecs::{Codec, Unit};
 use p3_fs_core::Length;
-<<<<<<< HEAD
-use p3_grinding::CanSampleUniformBits;
-=======
 use p3_grinding::{CanSampleUniformBits, GrindingChallenger};
->>>>>>> a66b2bf503ee66a0d0a6a3eca90e441ff4ba275a
 
 /// Containers are opened and closed alike.
 ///
@@ -82,8 +78,6 @@ pub fn drawn_uniform_bits_agree<F, C: CanSampleUniformBits<F>>()
         Agrees {Symbol = C.Symbol} (drawn_rejecting step (C.uniform true width).draw rule limit n) }
 {}
 
-<<<<<<< HEAD
-=======
 /// A witness that a prover has answered passes the check of a verifier whose caller carries it, which is refused for want
 /// of memory alone.
 ///
@@ -93,7 +87,6 @@ pub fn carried_work_agrees<C: GrindingChallenger>()
         (work_of step C.Witness.residues C.before_witness C.observation C.bits_sampling bits) x }
 {}
 
->>>>>>> a66b2bf503ee66a0d0a6a3eca90e441ff4ba275a
 /// A list that a caller carries is let through by a verifier of which no step was refused: where it is no longer than
 /// its step lets it be, and where it is as long as the next step says.
 ///

@@ -7,14 +7,9 @@ mod symmetric;
 mod verifier;
 
 pub use agreements::{
-<<<<<<< HEAD
-    carried_lists_are_let_through, drawn_bits_agree, drawn_uniform_bits_agree, drawn_values_agree,
-    markers_agree, observed_counted_values_agree, observed_values_agree, opaque_values_agree,
-=======
     carried_lists_are_let_through, carried_work_agrees, drawn_bits_agree, drawn_uniform_bits_agree,
     drawn_values_agree, markers_agree, observed_counted_values_agree, observed_values_agree,
     opaque_values_agree,
->>>>>>> a66b2bf503ee66a0d0a6a3eca90e441ff4ba275a
 };
 pub use mirrors::{
     counted_hint_is_received, hint_is_received, sent_bytes_are_received,
