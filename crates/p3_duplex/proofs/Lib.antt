@@ -4,3 +4,4 @@ pub mod DuplexHanded
 pub mod DuplexSteps
 pub mod Overwriting
 pub mod Pushing
+pub mod Uniform

@@ -2,3 +2,5 @@ pub mod DuplexCalls
 pub mod DuplexSegments
 pub mod DuplexState
 pub mod DuplexStateLaws
+pub mod DuplexUniform
+pub mod DuplexUniformLaws

@@ -11,6 +11,8 @@ ghost use Rattle.p3_challenger_core.specs.declared.error.ChallengerError.{Challe
 
 mod bits;
 mod digests;
+mod grinding;
+mod uniform;
 
 use p3_challenger_core::{CanFinalizeDigest, CanObserve, CanSample, ChallengerError, Sponge};
 use p3_field_core::{BasedVectorSpace, PrimeCharacteristicRing, PrimeField64};

@@ -11,6 +11,7 @@ ghost use Rattle.p3_challenger_core.specs.Sampling.{RefusesDraws, unrefused_draw
 ghost use Rattle.p3_challenger_core.specs.declared.error.ChallengerError.{ChallengerError};
 
 mod digests;
+mod grinding;
 
 use p3_challenger_core::{CanFinalizeDigest, CanObserve, CanSample, ChallengerError, Sponge};
 use p3_symmetric::CryptographicHasher;

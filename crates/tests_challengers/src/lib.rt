@@ -2,6 +2,12 @@
 #![tactic(auto)]
 
 #[cfg(test)]
+mod candidates;
+#[cfg(test)]
 mod hash;
 #[cfg(test)]
 mod symmetric;
+#[cfg(test)]
+mod uniform;
+#[cfg(test)]
+mod work;

@@ -1,0 +1,40 @@
+-- Uniform bits that are drawn from a duplex challenger.
+use Rattle.std.specs.Prelude.{ℕ, zero, suc, ◌-◌, ◌/◌, List, Some, Bool, true, false, nat_eq, nat_lt}
+use Rattle.std.specs.List.{count_by, range_with_len}
+use Rattle.p3_field_core.specs.Residues.{Residues}
+use Rattle.p3_field_core.specs.UniformBounds.{uniform_bound}
+use Rattle.p3_challenger_core.specs.Sampling.{Sampling, unrefused_draw}
+use Rattle.p3_grinding.specs.UniformDraws.{UniformDraw, no_bits, low_bits, bits_of_one, in_halves}
+use Rattle.p3_duplex.specs.DuplexState.{DuplexState, sampled, after_sampled}
+
+-- a draw of one element
+abbrev pub base_draw : {F P : Type 0} → Residues F → (P → List F → List F) → ℕ → Sampling (DuplexState F P) F
+base_draw r permute rate = unrefused_draw (λ c. Some (sampled r permute rate c)) (after_sampled r permute rate)
+
+-- how many elements are drawn at most, until one is below its bound
+abbrev pub draws_allowed : {F P : Type 0} → DuplexState F P → ℕ
+draws_allowed c = c.draw_limit
+
+-- how many of the elements whose numbers are below the bound for so many bits give a value as their bits
+abbrev pub how_many_give : {F : Type 0} → Residues F → ℕ → ℕ → ℕ
+how_many_give r bits value =
+    count_by (λ n. nat_eq (low_bits r bits (r.of n)) value) (range_with_len 0 (uniform_bound r.order bits))
+
+module _ {F P : Type 0} (r : Residues F) (permute : P → List F → List F) (rate : ℕ) (resample : Bool) where
+  -- so many bits of one element
+  abbrev pub single : ℕ → UniformDraw (DuplexState F P)
+  single bits =
+      bits_of_one r (base_draw r permute rate) draws_allowed resample (uniform_bound r.order bits) bits
+
+  -- a low half of the bits, and then a high one
+  abbrev pub halved : ℕ → UniformDraw (DuplexState F P)
+  halved bits = in_halves (bits / 2) (single (bits / 2)) (single (bits - bits / 2))
+
+  abbrev pub of_size : Bool → ℕ → UniformDraw (DuplexState F P)
+  of_size true bits = halved bits
+  of_size false bits = single bits
+
+  -- so many bits: none of nothing, and in halves where one element does not serve for them
+  abbrev pub uniform_bits : ℕ → ℕ → UniformDraw (DuplexState F P)
+  uniform_bits most_of_one zero = no_bits
+  uniform_bits most_of_one (suc more) = of_size (nat_lt most_of_one (suc more)) (suc more)

@@ -1,0 +1,178 @@
+-- Laws of uniform bits that are drawn from a duplex challenger.
+use Rattle.std.proofs.Common.{◌≡◌, ℕ, zero, suc, ◌<◌, ◌≤◌, ◌+◌, ◌-◌, ◌*◌, ◌/◌, ◌%◌, ◌^◌, Bool, true, false, List, [], ◌∷◌}
+use Rattle.std.proofs.Common.{Option, Some, None, inl, inr, nat_eq, nat_lt, if◌then◌else◌, refl, sym, ap, ap₂, ◌∙◌, subst}
+use Rattle.std.proofs.Common.{arith, rules, cond}
+use Rattle.std.proofs.Math.Nat.{mod-eq_of_lt}
+use Rattle.std.specs.List.{count_by, range_with_len}
+use Rattle.std.proofs.lemmas.List.Sums.{sum_by-cons}
+use Rattle.p3_field_core.specs.UniformBoundLaws.{bound-within, bound-shared}
+use Rattle.p3_field_core.specs.Residues.{Residues, IsResidues}
+use Rattle.p3_field_core.specs.UniformBounds.{uniform_bound}
+use Rattle.p3_challenger_core.specs.BitLaws.{low_bits-below}
+use Rattle.p3_challenger_core.specs.Sampling.{IsSampling}
+use Rattle.p3_challenger_core.specs.SamplingLaws.{one_step, unrefused_draw-is_sampling}
+use Rattle.p3_challenger_core.specs.Observation.{unrefused_observe}
+use Rattle.p3_grinding.specs.Candidates.{first_accepted}
+use Rattle.p3_grinding.specs.CandidateLaws.{none_left_behind, accepted-is}
+use Rattle.std.proofs.lemmas.Bool.Decides.{nat_tests}
+use Rattle.std.specs.Option.{option_map}
+use Rattle.p3_grinding.specs.Checks.{check_of, draws_nothing, zero_and_uniform}
+use Rattle.p3_grinding.specs.UniformDraws.{IsUniformDraw, bits_of_one, is_below, low_bits}
+use Rattle.p3_grinding.specs.UniformDrawLaws.{no_bits-is_uniform, bits_of_one-is_uniform, bits_of_one-below}
+use Rattle.p3_grinding.specs.UniformDrawLaws.{in_halves-is_uniform, both-below}
+use Rattle.p3_duplex.specs.DuplexState.{DuplexState, observed, sampled, after_sampled}
+use Rattle.p3_duplex.specs.DuplexUniform.{how_many_give, base_draw, draws_allowed, single, of_size, uniform_bits}
+
+under : (n bound : ℕ) → nat_lt n bound ≡ true → n < bound
+under n bound h = grind (arith, nat_tests)
+
+not_more : (most bits : ℕ) → bits ≤ most → nat_lt most bits ≡ false
+not_more most bits few = grind (arith, nat_tests)
+
+given : {m n : ℕ} → Some m ≡ Some n → m ≡ n
+given e = search (rules, e)
+
+below_order : (n : ℕ) {m k : ℕ} → n < m → m ≤ k → n < k
+below_order n below within = omega (arith, below, within)
+
+counted-same : (f g : ℕ → Bool) (bound a n : ℕ) → a + n ≤ bound → ((k : ℕ) → k < bound → f k ≡ g k)
+    → count_by f (range_with_len a n) ≡ count_by g (range_with_len a n)
+counted-same f g bound a zero within same = refl
+counted-same f g bound a (suc n) within same =
+    sum_by-cons (λ x. cond (f x) 1 0) a (range_with_len (a + 1) n)
+    ∙ ap₂ (λ b m. cond b 1 0 + m) (same a (omega (arith, within)))
+    (counted-same f g bound (a + 1) n (omega (arith, within)) same)
+    ∙ sym (sum_by-cons (λ x. cond (g x) 1 0) a (range_with_len (a + 1) n))
+
+-- each value of the bits is given by equally many elements below the bound
+pub elements-shared : {F : Type 0} (r : Residues F) → IsResidues r → (bits value : ℕ) → value < 2 ^ bits
+    → how_many_give r bits value ≡ uniform_bound r.order bits / 2 ^ bits
+elements-shared r laws bits value small =
+    let within = bound-within r.order bits in
+    counted-same (λ n. nat_eq (low_bits r bits (r.of n)) value) (λ n. nat_eq (n % 2 ^ bits) value)
+    (uniform_bound r.order bits) 0 (uniform_bound r.order bits) (omega arith)
+    (λ n below. ap (λ m. nat_eq (m % 2 ^ bits) value)
+    (laws.number_of n ∙ mod-eq_of_lt (below_order n below within)))
+    ∙ bound-shared r.order bits value small
+
+module _ {F P : Type 0} (r : Residues F) (permute : P → List F → List F) (rate : ℕ) where
+  pub base_draw-is_sampling : IsSampling (after_sampled r permute rate) (base_draw r permute rate)
+  base_draw-is_sampling =
+      unrefused_draw-is_sampling (after_sampled r permute rate) (λ c. Some (sampled r permute rate c))
+      (after_sampled r permute rate) (one_step (after_sampled r permute rate))
+
+  given-below : (b : Bool) (bits bound : ℕ) (x : F) (value : ℕ) → b ≡ is_below r bound x
+      → (if b then Some (low_bits r bits x) else None) ≡ Some value
+      → (y : F) × (r.number y < bound) × (low_bits r bits y ≡ value)
+  given-below true bits bound x value is e = (x, under (r.number x) bound (sym is), given e)
+  given-below false bits bound x value is e = search (rules, e)
+
+  mapped-of_element : (bits bound : ℕ) (o : Option F) (value : ℕ) → ((x : F) → o ≡ Some x → is_below r bound x ≡ true)
+      → option_map (low_bits r bits) o ≡ Some value
+      → (y : F) × (r.number y < bound) × (low_bits r bits y ≡ value)
+  mapped-of_element bits bound None value accepted e = search (rules, e)
+  mapped-of_element bits bound (Some x) value accepted e =
+      (x, under (r.number x) bound (accepted x refl), given e)
+
+  one-of_element : (resample : Bool) (bound bits : ℕ) (c : DuplexState F P) (value : ℕ)
+      → (bits_of_one r (base_draw r permute rate) draws_allowed resample bound bits).draw.sampled c ≡ Some value
+      → (y : F) × (r.number y < bound) × (low_bits r bits y ≡ value)
+  one-of_element true bound bits c value e =
+      mapped-of_element bits bound (first_accepted (base_draw r permute rate) (is_below r bound) c.draw_limit c) value
+      (accepted-is (base_draw r permute rate) (is_below r bound) c.draw_limit c) e
+  one-of_element false bound bits c value e =
+      let x = sampled r permute rate c in
+      given-below (is_below r bound x) bits bound x value refl e
+
+  one-takes_no_memory : (resample : Bool) (bound bits : ℕ) (c d : DuplexState F P)
+      → ¬ ((bits_of_one r (base_draw r permute rate) draws_allowed resample bound bits).draw.may_leave c d)
+  one-takes_no_memory true bound bits c d h =
+      none_left_behind (base_draw r permute rate) (is_below r bound) (λ s t no_memory. no_memory) c.draw_limit c d h
+  one-takes_no_memory false bound bits c d h = h
+
+  module _ (resample : Bool) where
+    pub single-is_uniform : (bits : ℕ)
+        → IsUniformDraw (after_sampled r permute rate) resample (single r permute rate resample bits)
+    single-is_uniform bits =
+        bits_of_one-is_uniform (after_sampled r permute rate) r (base_draw r permute rate) base_draw-is_sampling
+        draws_allowed resample (uniform_bound r.order bits) bits
+
+    of_size-is_uniform : (size : Bool) (bits : ℕ)
+        → IsUniformDraw (after_sampled r permute rate) resample (of_size r permute rate resample size bits)
+    of_size-is_uniform true bits =
+        in_halves-is_uniform (after_sampled r permute rate) resample (bits / 2)
+        (single r permute rate resample (bits / 2)) (single r permute rate resample (bits - bits / 2))
+        (single-is_uniform (bits / 2)) (single-is_uniform (bits - bits / 2))
+    of_size-is_uniform false bits = single-is_uniform bits
+
+    pub uniform_bits-is_uniform : (most_of_one bits : ℕ)
+        → IsUniformDraw (after_sampled r permute rate) resample (uniform_bits r permute rate resample most_of_one bits)
+    uniform_bits-is_uniform most_of_one zero = no_bits-is_uniform (after_sampled r permute rate) resample
+    uniform_bits-is_uniform most_of_one (suc more) = of_size-is_uniform (nat_lt most_of_one (suc more)) (suc more)
+
+    single-below : (bits : ℕ) (c : DuplexState F P) (x : ℕ)
+        → (single r permute rate resample bits).draw.sampled c ≡ Some x → x < 2 ^ bits
+    single-below bits c x drawn =
+        bits_of_one-below (after_sampled r permute rate) r (base_draw r permute rate) base_draw-is_sampling
+        draws_allowed resample (uniform_bound r.order bits) bits c x drawn
+
+    both_halves : (bits : ℕ) → bits / 2 + (bits - bits / 2) ≡ bits
+    both_halves bits = omega arith
+
+    of_size-below : (size : Bool) (bits : ℕ) (c : DuplexState F P) (x : ℕ)
+        → (of_size r permute rate resample size bits).draw.sampled c ≡ Some x → x < 2 ^ bits
+    of_size-below true bits c x drawn =
+        let low = single r permute rate resample (bits / 2) in
+        let high = single r permute rate resample (bits - bits / 2) in
+        subst (λ n. x < 2 ^ n) (both_halves bits)
+        (both-below (bits / 2) (bits - bits / 2) (low.draw.sampled c) (high.draw.sampled (low.draw.after c)) x
+        (λ y is. single-below (bits / 2) c y is) (λ y is. single-below (bits - bits / 2) (low.draw.after c) y is) drawn)
+    of_size-below false bits c x drawn = single-below bits c x drawn
+
+    pub uniform_bits-below : (most_of_one bits : ℕ) (c : DuplexState F P) (x : ℕ)
+        → (uniform_bits r permute rate resample most_of_one bits).draw.sampled c ≡ Some x → x < 2 ^ bits
+    uniform_bits-below most_of_one zero c x drawn = low_bits-below 0 0 x drawn
+    uniform_bits-below most_of_one (suc more) c x drawn =
+        of_size-below (nat_lt most_of_one (suc more)) (suc more) c x drawn
+
+    -- such draws take no memory
+    single-takes_no_memory : (bits : ℕ) (c d : DuplexState F P)
+        → ¬ ((single r permute rate resample bits).draw.may_leave c d)
+    single-takes_no_memory bits c d = one-takes_no_memory resample (uniform_bound r.order bits) bits c d
+
+    of_size-takes_no_memory : (size : Bool) (bits : ℕ) (c d : DuplexState F P)
+        → ¬ ((of_size r permute rate resample size bits).draw.may_leave c d)
+    of_size-takes_no_memory true bits c d (inl low) = single-takes_no_memory (bits / 2) c d low
+    of_size-takes_no_memory true bits c d (inr high) =
+        single-takes_no_memory (bits - bits / 2) ((single r permute rate resample (bits / 2)).draw.after c) d high.1
+    of_size-takes_no_memory false bits c d h = single-takes_no_memory bits c d h
+
+    pub uniform_bits-take_no_memory : (most_of_one bits : ℕ) (c d : DuplexState F P)
+        → ¬ ((uniform_bits r permute rate resample most_of_one bits).draw.may_leave c d)
+    uniform_bits-take_no_memory most_of_one zero c d h = h
+    uniform_bits-take_no_memory most_of_one (suc more) c d h =
+        of_size-takes_no_memory (nat_lt most_of_one (suc more)) (suc more) c d h
+
+    -- nor does a check of a witness by them
+    pub check-takes_no_memory : (most_of_one bits : ℕ) (witness : F) (c d : DuplexState F P)
+        → ¬ ((check_of draws_nothing (unrefused_observe (λ x. x ∷ []) (observed r permute rate))
+        (zero_and_uniform (uniform_bits r permute rate resample most_of_one bits)) bits witness).may_leave c d)
+    check-takes_no_memory most_of_one zero witness c d h = h
+    check-takes_no_memory most_of_one (suc more) witness c d (inl drawn) = drawn
+    check-takes_no_memory most_of_one (suc more) witness c d (inr (is, inl seen)) = seen
+    check-takes_no_memory most_of_one (suc more) witness c d (inr (is, inr tested)) =
+        uniform_bits-take_no_memory most_of_one (suc more) (observed r permute rate c witness) d tested
+
+    -- the answer of a draw of one element is the bits of an element below the bound
+    pub single-of_element : (bits : ℕ) (c : DuplexState F P) (value : ℕ)
+        → (single r permute rate resample bits).draw.sampled c ≡ Some value
+        → (x : F) × (r.number x < uniform_bound r.order bits) × (low_bits r bits x ≡ value)
+    single-of_element bits c value drawn = one-of_element resample (uniform_bound r.order bits) bits c value drawn
+
+    -- no more bits than one element serves for are drawn from one
+    pub uniform_bits-single : (most_of_one bits : ℕ) (c : DuplexState F P) → 0 < bits → bits ≤ most_of_one
+        → (uniform_bits r permute rate resample most_of_one bits).draw.sampled c
+        ≡ (single r permute rate resample bits).draw.sampled c
+    uniform_bits-single most_of_one zero c some few = absurd (omega (arith, some))
+    uniform_bits-single most_of_one (suc more) c some few =
+        ap (λ b. (of_size r permute rate resample b (suc more)).draw.sampled c) (not_more most_of_one (suc more) few)

@@ -1,0 +1,150 @@
+// Uniform bits, drawn from a duplex challenger: the low bits of elements that are below the bound of the field for so
+// many bits. As few bits as one element serves for are drawn from one, and more of them in two halves.
+ghost use Rattle.std.specs.Prelude.{◌≡◌, ◌<◌, ◌≤◌, ◌^◌, ◌/◌, ℕ, Bool, Some, OnOk, IfOk, IfErr};
+ghost use Rattle.p3_field_core.specs.UniformBounds.{uniform_bound};
+ghost use Rattle.p3_challenger_core.specs.Sampling.{RefusesDraw};
+ghost use Rattle.p3_grinding.specs.Candidates.{accepted_within};
+ghost use Rattle.p3_grinding.specs.UniformDraws.{is_below, low_bits, RefusesUniform};
+
+use crate::DuplexChallenger;
+use p3_challenger_core::ChallengerError;
+use p3_field_core::UniformSamplingField;
+use p3_grinding::{CanSampleUniformBits, ResamplingError, UniformBitsError};
+use p3_symmetric::CryptographicPermutation;
+
+impl<
+    F: UniformSamplingField,
+    P: CryptographicPermutation<[F; WIDTH]>,
+    const WIDTH: usize,
+    const RATE: usize,
+> DuplexChallenger<F, P, WIDTH, RATE> {
+    ghost use Rattle.p3_duplex.specs.DuplexUniform.{base_draw, draws_allowed, single, halved, how_many_give};
+    ghost use Rattle.p3_duplex.specs.DuplexState.{DuplexState};
+
+    /// Bits that are drawn from one element have no bias: a value is that of the low bits of an element below the bound
+    /// for so many, and each value of the bits is that of as many of these elements as the bound has multiples of `2^bits`.
+    ///
+    /// A law: the body is empty, and a caller cites the clauses.
+    pub fn uniform_bits_have_no_bias(&self)
+        ensures single { (resample : Bool) (bits : ℕ) (c : DuplexState F P) → 0 < bits →
+            bits ≤ F.MAX_SINGLE_SAMPLE_BITS →
+            (⟦<DuplexChallenger<F, P, WIDTH, RATE> as CanSampleUniformBits<F>>⟧.uniform resample bits).draw.sampled c
+            ≡ (single F.residues P.permutation RATE resample bits).draw.sampled c }
+        ensures of_element { (resample : Bool) (bits : ℕ) (c : DuplexState F P) (value : ℕ) →
+            (single F.residues P.permutation RATE resample bits).draw.sampled c ≡ Some value →
+            (x : F) × (F.residues.number x < uniform_bound F.residues.order bits)
+            × (low_bits F.residues bits x ≡ value) }
+        ensures shared { (bits value : ℕ) → value < 2 ^ bits → how_many_give F.residues bits value
+            ≡ uniform_bound F.residues.order bits / 2 ^ bits }
+    {
+        let _ = &self.outputs_left;
+    }
+
+    // The first element below a bound, of as many as the draw limit allows.
+    fn first_below(&mut self, bound: u64) -> Result<F, ChallengerError>
+        ensures drawn { IfOk result (λ x. (accepted_within (base_draw F.residues P.permutation RATE)
+            (is_below F.residues bound) draws_allowed).sampled self.old ≡ Some x) }
+        ensures after { OnOk result (self.new ≡ (accepted_within (base_draw F.residues P.permutation RATE)
+            (is_below F.residues bound) draws_allowed).after self.old) }
+        ensures err { IfErr result (λ e. RefusesDraw (accepted_within (base_draw F.residues P.permutation RATE)
+            (is_below F.residues bound) draws_allowed) e self.old self.new) }
+    {
+        for _ in 0..self.draw_limit {
+            let element = self.draw();
+            if element.as_canonical_u64() < bound {
+                return Ok(element);
+            }
+        }
+        Err(ChallengerError::DrawLimit)
+    }
+
+    // An element below the bound for so many bits: the next one, or the first one where others may be drawn.
+    fn uniform_element(&mut self, bits: usize, resample: bool) -> Result<F, UniformBitsError>
+        ensures bits { IfOk result (λ x.
+            (single F.residues P.permutation RATE resample bits).draw.sampled self.old
+            ≡ Some (low_bits F.residues bits x)) }
+        ensures after { OnOk result
+            (self.new ≡ (single F.residues P.permutation RATE resample bits).draw.after self.old) }
+        ensures err { IfErr result (λ e.
+            RefusesUniform (single F.residues P.permutation RATE resample bits) e self.old self.new) }
+    {
+        let bound = F::sampling_bits_m(bits);
+        if resample {
+            return Ok(self.first_below(bound)?);
+        }
+        let element = self.draw();
+        let number = element.as_canonical_u64();
+        if number < bound {
+            Ok(element)
+        } else {
+            Err(UniformBitsError::Resampling(ResamplingError::new(number, bound)))
+        }
+    }
+
+    // So many bits of one element.
+    fn single_bits(&mut self, bits: usize, resample: bool) -> Result<usize, UniformBitsError>
+        requires { bits < 64 }
+        ensures drawn { IfOk result
+            (λ x. (single F.residues P.permutation RATE resample bits).draw.sampled self.old ≡ Some x) }
+        ensures after { OnOk result
+            (self.new ≡ (single F.residues P.permutation RATE resample bits).draw.after self.old) }
+        ensures err { IfErr result (λ e.
+            RefusesUniform (single F.residues P.permutation RATE resample bits) e self.old self.new) }
+        ensures below { IfOk result (λ x. x < 2 ^ bits) }
+    {
+        let element = self.uniform_element(bits, resample)?;
+        Ok((element.as_canonical_u64() % (1 << bits)) as usize)
+    }
+
+    // So many bits in two halves, the low one first.
+    fn halved_bits(&mut self, bits: usize, resample: bool) -> Result<usize, UniformBitsError>
+        requires { bits < 64 }
+        ensures drawn { IfOk result
+            (λ x. (halved F.residues P.permutation RATE resample bits).draw.sampled self.old ≡ Some x) }
+        ensures after { OnOk result
+            (self.new ≡ (halved F.residues P.permutation RATE resample bits).draw.after self.old) }
+        ensures err { IfErr result (λ e.
+            RefusesUniform (halved F.residues P.permutation RATE resample bits) e self.old self.new) }
+    {
+        let low_count = bits / 2;
+        let low = self.single_bits(low_count, resample)?;
+        let high = self.single_bits(bits - low_count, resample)?;
+        Ok(low + (high << low_count))
+    }
+}
+
+impl<
+    F: UniformSamplingField,
+    P: CryptographicPermutation<[F; WIDTH]>,
+    const WIDTH: usize,
+    const RATE: usize,
+> CanSampleUniformBits<F> for DuplexChallenger<F, P, WIDTH, RATE> {
+    ghost use Rattle.p3_duplex.specs.DuplexUniform.{uniform_bits};
+    ghost use Rattle.p3_duplex.specs.DuplexUniformLaws.{uniform_bits-is_uniform, uniform_bits-below};
+
+    // Nothing is drawn for 0 bits. As many bits as one element serves for are its low ones, where it is below the bound
+    // for so many; more of them are drawn in two halves, each with a bound of its own and the whole draw limit.
+    ghost uniform = { λ resample bits.
+        uniform_bits F.residues P.permutation RATE resample F.MAX_SINGLE_SAMPLE_BITS bits };
+
+    ghost draws_uniform = { λ resample bits.
+        uniform_bits-is_uniform F.residues P.permutation RATE resample F.MAX_SINGLE_SAMPLE_BITS bits };
+
+    ghost uniform_below = { λ resample bits c x _ drawn.
+        uniform_bits-below F.residues P.permutation RATE resample F.MAX_SINGLE_SAMPLE_BITS bits c x drawn };
+
+    fn sample_uniform_bits(
+        &mut self,
+        bits: usize,
+        resample: bool,
+    ) -> Result<usize, UniformBitsError> {
+        if bits == 0 {
+            return Ok(0);
+        }
+        if bits > F::MAX_SINGLE_SAMPLE_BITS {
+            self.halved_bits(bits, resample)
+        } else {
+            self.single_bits(bits, resample)
+        }
+    }
+}

@@ -1,0 +1,54 @@
+-- Drawing candidates until one is accepted, so many at most.
+use Rattle.std.specs.Prelude.{◌≡◌, ℕ, zero, suc, Bool, false, ◌⊎◌, Option, Some, None, option_and_then}
+use Rattle.std.specs.Prelude.{if◌then◌else◌}
+use Rattle.p3_challenger_core.specs.Sampling.{Sampling}
+
+-- the state after a candidate, where it was drawn and refused: that after the candidates that follow it
+abbrev pub after_refused : {S T : Type 0} → (T → Bool) → (S → S) → Option T → S → S
+after_refused accepts more None t = t
+after_refused accepts more (Some x) t = if accepts x then t else more t
+
+module _ {S T : Type 0} (d : Sampling S T) (accepts : T → Bool) where
+  -- the first accepted one of so many candidates; none where each of them is refused, or where a draw meets its own
+  -- limit
+  unfoldable pub first_accepted : ℕ → S → Option T
+  first_accepted zero s = None
+  first_accepted (suc more) s =
+      option_and_then (λ x. if accepts x then Some x else first_accepted more (d.after s)) (d.sampled s)
+
+  -- the state after it; where there is none, after all of them, or after the draw that meets its own limit
+  unfoldable pub after_first_accepted : ℕ → S → S
+  after_first_accepted zero s = s
+  after_first_accepted (suc more) s = after_refused accepts (after_first_accepted more) (d.sampled s) (d.after s)
+
+  -- each of so many candidates is refused, or a draw meets its own limit and those before it are refused
+  unfoldable pub MeetsLimit : ℕ → S → Type 0
+  MeetsLimit zero s = Unit {0}
+  MeetsLimit (suc more) s =
+      d.meets_limit s ⊎ ((x : T) × (d.sampled s ≡ Some x) × (accepts x ≡ false) × MeetsLimit more (d.after s))
+
+  -- memory is refused in a draw, and those before it are refused candidates
+  unfoldable pub MayLeave : ℕ → S → S → Type 0
+  MayLeave zero s t = ⊥
+  MayLeave (suc more) s t =
+      d.may_leave s t ⊎ ((x : T) × (d.sampled s ≡ Some x) × (accepts x ≡ false) × MayLeave more (d.after s) t)
+
+  -- a draw of the first accepted one of so many candidates
+  abbrev pub accepted_of : ℕ → Sampling S T
+  accepted_of limit =
+      record {
+        sampled = first_accepted limit;
+        after = after_first_accepted limit;
+        meets_limit = MeetsLimit limit;
+        may_leave = MayLeave limit;
+      }
+
+  -- the same where the state says how many candidates there may be
+  abbrev pub accepted_within : (S → ℕ) → Sampling S T
+  accepted_within limit =
+      record {
+        sampled = λ s. first_accepted (limit s) s;
+        after = λ s. after_first_accepted (limit s) s;
+        meets_limit = λ s. MeetsLimit (limit s) s;
+        may_leave = λ s t. MayLeave (limit s) s t;
+      }

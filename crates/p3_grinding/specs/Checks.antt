@@ -1,0 +1,107 @@
+-- Proof of work: when a witness passes, what its check leaves, and the least witness that passes.
+use Rattle.std.specs.Prelude.{◌≡◌, ℕ, zero, suc, ◌==◌, ◌<◌, ◌⊎◌, Bool, true, false, List, Option, Some, None, IsSome}
+use Rattle.std.specs.Prelude.{is_some, option_and_then, if◌then◌else◌}
+use Rattle.std.specs.Option.{option_map}
+use Rattle.p3_field_core.specs.Residues.{Residues}
+use Rattle.p3_challenger_core.specs.Observation.{Observation}
+use Rattle.p3_challenger_core.specs.Sampling.{Sampling, unrefused_draw, made_of}
+use Rattle.p3_grinding.specs.UniformDraws.{UniformDraw}
+use Rattle.p3_challenger_core.specs.declared.error.ChallengerError.{ChallengerError}
+use Rattle.p3_challenger_core.specs.declared.error.ChallengerError.TheVariants.{OutOfMemory, NoWitness}
+
+-- ---- a check
+
+-- the bits that are drawn are all 0
+abbrev pub all_zero : {S : Type 0} → Sampling S ℕ → Sampling S Bool
+all_zero d = made_of (λ n. n == 0) d
+
+-- the same of uniform bits; where a value is rejected, they are not
+abbrev pub zero_and_uniform : {S : Type 0} → UniformDraw S → Sampling S Bool
+zero_and_uniform u =
+    record {
+      sampled = λ s. if is_some (u.rejects s) then Some false else option_map (λ n. n == 0) (u.draw.sampled s);
+      after = u.draw.after;
+      meets_limit = u.draw.meets_limit;
+      may_leave = u.draw.may_leave;
+    }
+
+-- nothing is drawn before the witness
+abbrev pub draws_nothing : {S : Type 0} → Sampling S (Unit {0})
+draws_nothing = unrefused_draw (λ _. Some tt) (λ s. s)
+
+-- What a check of a witness answers, which is none where a draw meets its limit, and what it leaves: it draws what
+-- comes before the witness, observes the witness, and tests what is drawn then.
+abbrev pub checked : {S Symbol W : Type 0} → Sampling S (Unit {0}) → Observation S Symbol W → Sampling S Bool → W
+    → Sampling S Bool
+checked before o test witness =
+    let ready = before.after in
+    record {
+      sampled = λ s. option_and_then (λ _. test.sampled (o.observed (ready s) witness)) (before.sampled s);
+      after = λ s. if is_some (before.sampled s) then test.after (o.observed (ready s) witness) else ready s;
+      meets_limit = λ s. before.meets_limit s
+          ⊎ (IsSome (before.sampled s) × test.meets_limit (o.observed (ready s) witness));
+      may_leave = λ s t. before.may_leave s t
+          ⊎ (IsSome (before.sampled s)
+          × (o.may_leave (ready s) witness t ⊎ test.may_leave (o.observed (ready s) witness) t));
+    }
+
+-- with 0 bits each witness passes, and nothing is touched
+abbrev pub passed : {S : Type 0} → Sampling S Bool
+passed = unrefused_draw (λ _. Some true) (λ s. s)
+
+-- a check of so many bits
+abbrev pub check_of : {S Symbol W : Type 0} → Sampling S (Unit {0}) → Observation S Symbol W → Sampling S Bool → ℕ → W
+    → Sampling S Bool
+check_of before o test zero witness = passed
+check_of before o test (suc more) witness = checked before o test witness
+
+-- A check of a candidate that feeds bytes as one slice, and tests as many bytes as are drawn then.
+abbrev pub byte_check : {S Symbol : Type 0} → Observation S Symbol (List ℕ) → Sampling S (List ℕ) → (ℕ → List ℕ)
+    → (List ℕ → Bool) → ℕ → Sampling S Bool
+byte_check o d encoded accepted n = checked draws_nothing o (made_of accepted d) (encoded n)
+
+-- ---- a search
+
+-- of candidates in order, one passes its check
+abbrev pub PassesAt : {S : Type 0} → (ℕ → Sampling S Bool) → S → ℕ → Type 0
+PassesAt check s n = (check n).sampled s ≡ Some true
+
+-- the first candidate that passes, of so many
+pub record IsFirst {S : Type 0} (check : ℕ → Sampling S Bool) (s : S) (count n : ℕ) : Type 0 where
+  pub below : n < count
+  pub passes : PassesAt check s n
+  pub first : (k : ℕ) → k < n → ¬ (PassesAt check s k)
+
+-- none of so many candidates passes
+abbrev pub NoneOf : {S : Type 0} → (ℕ → Sampling S Bool) → S → ℕ → Type 0
+NoneOf check s count = (n : ℕ) → n < count → ¬ (PassesAt check s n)
+
+-- what a search for a candidate finds: the first one, or none where none passes
+abbrev pub Finds : {S : Type 0} → (ℕ → Sampling S Bool) → S → ℕ → Option ℕ → Type 0
+Finds check s count None = NoneOf check s count
+Finds check s count (Some n) = IsFirst check s count n
+
+-- a check accepts the witness of a number
+abbrev pub Passes : {S W : Type 0} → Residues W → (W → Sampling S Bool) → S → ℕ → Type 0
+Passes r check s n = (check (r.of n)).sampled s ≡ Some true
+
+-- the witness is the one of the least number that passes
+pub record IsLeast {S W : Type 0} (r : Residues W) (check : W → Sampling S Bool) (s : S) (witness : W) : Type 0 where
+  pub passes : (check witness).sampled s ≡ Some true
+  pub least : (n : ℕ) → n < r.number witness → ¬ (Passes r check s n)
+
+-- no witness passes
+abbrev pub NonePasses : {S W : Type 0} → Residues W → (W → Sampling S Bool) → S → Type 0
+NonePasses r check s = (n : ℕ) → n < r.order → ¬ (Passes r check s n)
+
+-- a search for a witness may be refused for memory: a copy may be, or the check of a witness
+abbrev pub MayRunOut : {S W : Type 0} → Type 0 → (W → Sampling S Bool) → S → Type 0
+MayRunOut {S} {W} copies_may_fail check s =
+    copies_may_fail ⊎ ((witness : W) × (t : S) × (check witness).may_leave s t)
+
+-- what a search that answers this error leaves: the challenger as it was; there is no witness, or memory was refused
+abbrev pub RefusesSearch : {S W : Type 0} → Residues W → (S → Type 0) → (W → Sampling S Bool) → ChallengerError → S → S
+    → Type 0
+RefusesSearch r may_run_out check OutOfMemory s t = may_run_out s × (t ≡ s)
+RefusesSearch r may_run_out check NoWitness s t = NonePasses r check s × (t ≡ s)
+RefusesSearch r may_run_out check _ s t = ⊥

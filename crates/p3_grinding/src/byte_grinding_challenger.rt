@@ -1,0 +1,91 @@
+ghost use Rattle.std.specs.Prelude.{◌≡◌, ◌<◌, ◌^◌, ℕ, List, Bool, Some, IfOk, IfErr};
+ghost use Rattle.p3_challenger_core.specs.Observation.{in_slice};
+ghost use Rattle.p3_challenger_core.specs.Reading.{IsByte, IsPrefixCodeOn};
+ghost use Rattle.p3_challenger_core.specs.Sampling.{in_row, RefusesDraw};
+ghost use Rattle.p3_challenger_core.specs.declared.error.ChallengerError.TheVariants.{OutOfMemory};
+ghost use Rattle.p3_grinding.specs.Checks.{byte_check, Finds, MayRunOut};
+
+use crate::Replica;
+use p3_challenger_core::{CanObserve, CanSample, ChallengerError, sample_array};
+
+/// Candidates of a search, each of which is a string of `W` bytes, and which of the strings of `S` bytes that may be drawn
+/// after one it is to pass with.
+pub trait ByteCandidates<const W: usize, const S: usize> {
+    // The bytes of each candidate.
+    ghost encoded: { Self → ℕ → List ℕ };
+
+    // Whether so many drawn bytes let a candidate pass.
+    ghost accepted: { Self → List ℕ → Bool };
+
+    /// The bytes of a candidate.
+    fn encode(&self, candidate: u64) -> [u8; W]
+        ensures { result ≡ encoded self.now candidate };
+
+    /// Whether a candidate passes after which these bytes are drawn.
+    fn accepts(&self, drawn: &[u8; S]) -> bool
+        ensures { result ≡ accepted self.now drawn.now };
+
+    // Such strings fit in memory.
+    ghost encoded_fit: { W < 2 ^ 63 };
+
+    ghost drawn_fit: { S < 2 ^ 63 };
+}
+
+/// A challenger of bytes that candidates are tried on, each of which feeds `W` bytes, and is tested by the next `S` bytes
+/// that are drawn.
+pub trait ByteGrindingChallenger<const W: usize, const S: usize>: Replica
+    + CanObserve<u8>
+    + CanSample<u8> {
+    /// The least candidate below `num_candidates` that passes, or `None` where none does. Nothing changes.
+    ///
+    /// A candidate passes where the `S` bytes are accepted that are drawn once its `W` bytes were observed as one slice.
+    /// One whose draws meet a limit does not. The one error is [`ChallengerError::OutOfMemory`].
+    fn find_witness<K: ByteCandidates<W, S>>(
+        &self,
+        num_candidates: u64,
+        candidates: &K,
+    ) -> Result<Option<u64>, ChallengerError>
+        ensures found { IfOk result (Finds (byte_check
+            (in_slice Self.CanObserve.observation Self.CanObserve.slice_may_leave)
+            (in_row Self.CanSample.sampling S) (K.encoded candidates.now) (K.accepted candidates.now))
+            (Self.state self.now) num_candidates) }
+        ensures err { IfErr result (λ e. (e ≡ OutOfMemory) × MayRunOut Self.Replica.copies_may_fail (byte_check
+            (in_slice Self.CanObserve.observation Self.CanObserve.slice_may_leave)
+            (in_row Self.CanSample.sampling S) (K.encoded candidates.now) (K.accepted candidates.now))
+            (Self.state self.now)) }
+    {
+        let mut trial = self.copy()?;
+        for candidate in 0..num_candidates {
+            match check_bytes::<Self, K, W, S>(&mut trial, candidates, candidate) {
+                Ok(true) => return Ok(Some(candidate)),
+                Ok(false) => trial.copy_from(self)?,
+                Err(ChallengerError::DrawLimit) => trial.copy_from(self)?,
+                Err(error) => return Err(error),
+            }
+        }
+        Ok(None)
+    }
+
+    // What bytes feed tells them apart.
+    ghost tells_bytes: { IsPrefixCodeOn IsByte Self.CanObserve.observation.symbols };
+}
+
+// Whether a candidate passes, on the challenger itself.
+fn check_bytes<
+    C: CanObserve<u8> + CanSample<u8>,
+    K: ByteCandidates<W, S>,
+    const W: usize,
+    const S: usize,
+>(challenger: &mut C, candidates: &K, candidate: u64) -> Result<bool, ChallengerError>
+    ensures answered { IfOk result (λ passes. (byte_check (in_slice C.observation C.slice_may_leave)
+        (in_row C.sampling S) (K.encoded candidates.now) (K.accepted candidates.now) candidate).sampled
+        (C.state challenger.old) ≡ Some passes) }
+    ensures err { IfErr result (λ e. RefusesDraw (byte_check (in_slice C.observation C.slice_may_leave)
+        (in_row C.sampling S) (K.encoded candidates.now) (K.accepted candidates.now) candidate) e
+        (C.state challenger.old) (C.state challenger.new)) }
+{
+    let bytes = candidates.encode(candidate);
+    challenger.observe_slice(&bytes[..])?;
+    let drawn = sample_array(challenger)?;
+    Ok(candidates.accepts(&drawn))
+}

@@ -1,0 +1,55 @@
+ghost use Rattle.std.specs.Prelude.{◌≡◌};
+ghost use Rattle.p3_grinding.specs.declared.error.UniformBitsError.TheVariants.{Challenger};
+
+use p3_challenger_core::ChallengerError;
+use thiserror::Error;
+
+/// A drawn value was rejected, and drawing another one in its place was not allowed.
+#[derive(Clone, Copy, Debug, PartialEq, Eq, Error)]
+#[error("sampled value {value} is not below rejection bound {m}, but resampling is disabled")]
+pub struct ResamplingError {
+    value: u64,
+    m: u64,
+}
+
+impl ResamplingError {
+    /// That a value was drawn which is not below the bound.
+    pub fn new(value: u64, m: u64) -> Self
+        ensures { result ≡ record { value = value; m = m } }
+    {
+        ResamplingError { value, m }
+    }
+
+    /// The value that was drawn: a canonical number, at or above the bound.
+    pub fn value(&self) -> u64
+        ensures { result ≡ self.now.value }
+    {
+        self.value
+    }
+
+    /// The bound that values had to be below.
+    pub fn m(&self) -> u64
+        ensures { result ≡ self.now.m }
+    {
+        self.m
+    }
+}
+
+/// Why a draw of uniform bits was refused.
+#[derive(Clone, Copy, Debug, PartialEq, Eq, Error)]
+pub enum UniformBitsError {
+    /// A drawn value was rejected, and another one was not to be drawn in its place.
+    #[error(transparent)]
+    Resampling(ResamplingError),
+    /// The challenger refused a draw.
+    #[error(transparent)]
+    Challenger(ChallengerError),
+}
+
+impl From<ChallengerError> for UniformBitsError {
+    ghost from_gives = { λ error e. e ≡ Challenger error };
+
+    fn from(error: ChallengerError) -> UniformBitsError {
+        UniformBitsError::Challenger(error)
+    }
+}

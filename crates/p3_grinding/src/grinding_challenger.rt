@@ -1,0 +1,76 @@
+ghost use Rattle.std.specs.Prelude.{◌≡◌, ◌≤◌, Some, OnOk, IfOk, IfErr};
+ghost use Rattle.p3_challenger_core.specs.Reading.{TellsApart};
+ghost use Rattle.p3_challenger_core.specs.Sampling.{RefusesDraw};
+ghost use Rattle.p3_grinding.specs.Checks.{all_zero, check_of, IsLeast, RefusesSearch};
+
+use crate::PrepareCheck;
+use crate::search::check_plainly;
+use p3_challenger_core::{CanObserve, CanSampleBits, ChallengerError};
+use p3_field_core::PrimeField64;
+
+/// A challenger that proofs of work are made on: a witness is searched for, such that bits drawn after it are 0.
+pub trait GrindingChallenger: PrepareCheck + CanObserve<Self::Witness> + CanSampleBits<usize> {
+    /// What is searched for.
+    type Witness: PrimeField64;
+
+    // Where a search may be refused for memory.
+    ghost may_run_out: { Self.State → Type 0 };
+
+    /// The least witness that passes a check of `bits` bits, at most [`max_bits`](CanSampleBits::max_bits). The
+    /// challenger is left as that check leaves it.
+    ///
+    /// The errors are [`ChallengerError::NoWitness`] where none passes, and [`ChallengerError::OutOfMemory`]. After
+    /// either the challenger is as it was.
+    fn grind(&mut self, bits: usize) -> Result<Self::Witness, ChallengerError>
+        requires { bits ≤ Self.most_bits }
+        ensures least { IfOk result (λ witness. IsLeast Self.Witness.residues (check_of Self.before_witness
+            Self.observation (all_zero (Self.bits_sampling bits)) bits)
+            (Self.state self.old) witness) }
+        ensures after { IfOk result (λ witness. Self.state self.new ≡ (check_of Self.before_witness
+            Self.observation (all_zero (Self.bits_sampling bits)) bits witness).after
+            (Self.state self.old)) }
+        ensures err { IfErr result (λ e. RefusesSearch Self.Witness.residues may_run_out (check_of Self.before_witness
+            Self.observation (all_zero (Self.bits_sampling bits)) bits) e
+            (Self.state self.old) (Self.state self.new)) };
+
+    /// Whether a witness passes: it is observed, and the next `bits` bits, at most
+    /// [`max_bits`](CanSampleBits::max_bits), are all 0. With 0 bits each witness passes, and nothing is touched.
+    ///
+    /// The errors are those of [`CanObserve::observe`] and [`CanSampleBits::sample_bits`].
+    fn check_witness(
+        &mut self,
+        bits: usize,
+        witness: Self::Witness,
+    ) -> Result<bool, ChallengerError>
+        requires { bits ≤ Self.most_bits }
+        ensures answered { IfOk result (λ passes. (check_of Self.before_witness Self.observation
+            (all_zero (Self.bits_sampling bits)) bits witness).sampled (Self.state self.old)
+            ≡ Some passes) }
+        ensures after { OnOk result (Self.state self.new ≡ (check_of Self.before_witness Self.observation
+            (all_zero (Self.bits_sampling bits)) bits witness).after (Self.state self.old)) }
+        ensures err { IfErr result (λ e. RefusesDraw (check_of Self.before_witness Self.observation
+            (all_zero (Self.bits_sampling bits)) bits witness) e
+            (Self.state self.old) (Self.state self.new)) }
+    {
+        check_plainly(self, bits, witness)
+    }
+
+    // What witnesses feed tells them apart.
+    ghost tells_witnesses: { TellsApart Self.observation.symbols };
+}
+
+impl<C: GrindingChallenger> GrindingChallenger for &mut C {
+    type Witness = C::Witness;
+
+    ghost may_run_out = { C.may_run_out };
+
+    ghost tells_witnesses = { C.tells_witnesses };
+
+    fn grind(&mut self, bits: usize) -> Result<C::Witness, ChallengerError> {
+        (**self).grind(bits)
+    }
+
+    fn check_witness(&mut self, bits: usize, witness: C::Witness) -> Result<bool, ChallengerError> {
+        (**self).check_witness(bits, witness)
+    }
+}

@@ -1,0 +1,50 @@
+ghost use Rattle.std.specs.Prelude.{◌≡◌, ◌^◌, ◌<◌, ◌≤◌, ℕ, Bool, Some, OnOk, IfOk, IfErr};
+ghost use Rattle.p3_grinding.specs.UniformDraws.{UniformDraw, IsUniformDraw, RefusesUniform};
+
+use crate::UniformBitsError;
+use p3_challenger_core::CanSampleBits;
+
+/// A challenger that bits are drawn from without bias, where the values that it draws have none.
+pub trait CanSampleUniformBits<F>: CanSampleBits<usize> {
+    // A draw of so many bits; whether another value may be drawn in the place of a rejected one.
+    ghost uniform: { Bool → ℕ → UniformDraw Self.State };
+
+    /// Draws a number of `bits` bits, at most [`max_bits`](CanSampleBits::max_bits). `resample` says whether another
+    /// value is drawn in the place of one that is rejected.
+    ///
+    /// The errors are those of [`CanSample::sample`](p3_challenger_core::CanSample::sample), and, where `resample` is
+    /// false alone, [`UniformBitsError::Resampling`]: the rejected value and those before it are consumed.
+    fn sample_uniform_bits(
+        &mut self,
+        bits: usize,
+        resample: bool,
+    ) -> Result<usize, UniformBitsError>
+        requires { bits ≤ Self.CanSampleBits.most_bits }
+        ensures drawn { IfOk result (λ x. (uniform resample bits).draw.sampled (Self.state self.old) ≡ Some x) }
+        ensures after { OnOk result (Self.state self.new ≡ (uniform resample bits).draw.after (Self.state self.old)) }
+        ensures err { IfErr result (λ e.
+            RefusesUniform (uniform resample bits) e (Self.state self.old) (Self.state self.new)) };
+
+    // Each of these draws is made of the smallest ones; a value is rejected only where no other is to be drawn.
+    ghost draws_uniform: { (resample : Bool) (bits : ℕ) → IsUniformDraw Self.next resample (uniform resample bits) };
+
+    // A draw of so many bits is below that power of two.
+    ghost uniform_below: { (resample : Bool) (bits : ℕ) (s : Self.State) (x : ℕ) →
+        bits ≤ Self.CanSampleBits.most_bits → (uniform resample bits).draw.sampled s ≡ Some x → x < 2 ^ bits };
+}
+
+impl<F, C: CanSampleUniformBits<F>> CanSampleUniformBits<F> for &mut C {
+    ghost uniform = { C.uniform };
+
+    ghost draws_uniform = { C.draws_uniform };
+
+    ghost uniform_below = { C.uniform_below };
+
+    fn sample_uniform_bits(
+        &mut self,
+        bits: usize,
+        resample: bool,
+    ) -> Result<usize, UniformBitsError> {
+        (**self).sample_uniform_bits(bits, resample)
+    }
+}

@@ -1,0 +1,91 @@
+// The search for the least witness by uniform bits: as `search` has it for plain ones.
+ghost use Rattle.std.specs.Prelude.{◌≡◌, ◌≤◌, Some, OnOk, IfOk, IfErr};
+ghost use Rattle.p3_grinding.specs.Checks.{zero_and_uniform, check_of, IsLeast};
+ghost use Rattle.p3_grinding.specs.Checks.{RefusesSearch, MayRunOut};
+ghost use Rattle.p3_challenger_core.specs.Sampling.{RefusesDraw};
+
+use crate::{CanSampleUniformBits, PrepareCheck, Replica, UniformBitsError};
+use p3_challenger_core::{CanObserve, ChallengerError};
+use p3_field_core::PrimeField64;
+use std::mem;
+
+/// The least witness that passes a check of `bits` uniform bits, where `resample` says whether another value is drawn in
+/// the place of one that is rejected. The challenger is left as that check leaves it.
+///
+/// A witness whose check meets a draw limit does not pass. The errors are those of [`least_witness`].
+pub fn least_uniform_witness<
+    W: PrimeField64,
+    C: PrepareCheck + CanObserve<W> + CanSampleUniformBits<W> + Replica,
+>(challenger: &mut C, bits: usize, resample: bool) -> Result<W, ChallengerError>
+    requires { bits ≤ C.most_bits }
+    ensures least { IfOk result (λ witness. IsLeast W.residues
+        (check_of C.before_witness C.observation (zero_and_uniform (C.uniform resample bits)) bits)
+        (C.state challenger.old) witness) }
+    ensures after { IfOk result (λ witness. C.state challenger.new
+        ≡ (check_of C.before_witness C.observation (zero_and_uniform (C.uniform resample bits)) bits witness).after
+        (C.state challenger.old)) }
+    ensures err { IfErr result (λ e.
+        let check = check_of C.before_witness C.observation (zero_and_uniform (C.uniform resample bits)) bits in
+        RefusesSearch W.residues (MayRunOut C.copies_may_fail check) check e
+        (C.state challenger.old) (C.state challenger.new)) }
+{
+    let mut trial = challenger.copy()?;
+    for candidate in 0..W::ORDER_U64 {
+        let witness = W::from_canonical(candidate);
+        match check_uniformly(&mut trial, bits, resample, witness) {
+            Ok(true) => {
+                mem::swap(challenger, &mut trial);
+                return Ok(witness);
+            }
+            Ok(false) => trial.copy_from(challenger)?,
+            Err(ChallengerError::DrawLimit) => trial.copy_from(challenger)?,
+            Err(error) => return Err(error),
+        }
+    }
+    Err(ChallengerError::NoWitness)
+}
+
+/// Whether a witness passes a check of `bits` uniform bits, by what is done where a value is rejected.
+///
+/// The errors are those of [`CanObserve::observe`] and of a draw.
+pub(crate) fn check_uniformly<
+    W: PrimeField64,
+    C: PrepareCheck + CanObserve<W> + CanSampleUniformBits<W>,
+>(challenger: &mut C, bits: usize, resample: bool, witness: W) -> Result<bool, ChallengerError>
+    requires { bits ≤ C.most_bits }
+    ensures answered { IfOk result (λ passes. (check_of C.before_witness C.observation
+        (zero_and_uniform (C.uniform resample bits)) bits witness).sampled (C.state challenger.old) ≡ Some passes) }
+    ensures after { OnOk result (C.state challenger.new ≡ (check_of C.before_witness C.observation
+        (zero_and_uniform (C.uniform resample bits)) bits witness).after (C.state challenger.old)) }
+    ensures err { IfErr result (λ e. RefusesDraw (check_of C.before_witness C.observation
+        (zero_and_uniform (C.uniform resample bits)) bits witness) e
+        (C.state challenger.old) (C.state challenger.new)) }
+{
+    if bits == 0 {
+        return Ok(true);
+    }
+    challenger.prepare_check()?;
+    challenger.observe(witness)?;
+    zero_uniform_bits::<W, C>(challenger, bits, resample)
+}
+
+// Whether so many uniform bits are all 0. Where a value is rejected and no other is to be drawn, they are not.
+fn zero_uniform_bits<F, C: CanSampleUniformBits<F>>(
+    challenger: &mut C,
+    bits: usize,
+    resample: bool,
+) -> Result<bool, ChallengerError>
+    requires { bits ≤ C.most_bits }
+    ensures answered { IfOk result (λ passes. (zero_and_uniform (C.uniform resample bits)).sampled
+        (C.state challenger.old) ≡ Some passes) }
+    ensures after { OnOk result
+        (C.state challenger.new ≡ (zero_and_uniform (C.uniform resample bits)).after (C.state challenger.old)) }
+    ensures err { IfErr result (λ e. RefusesDraw (zero_and_uniform (C.uniform resample bits)) e
+        (C.state challenger.old) (C.state challenger.new)) }
+{
+    match challenger.sample_uniform_bits(bits, resample) {
+        Ok(value) => Ok(value == 0),
+        Err(UniformBitsError::Resampling(_)) => Ok(false),
+        Err(UniformBitsError::Challenger(error)) => Err(error),
+    }
+}

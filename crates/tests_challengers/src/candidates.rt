@@ -1,0 +1,85 @@
+use p3_challenger_core::{CanSample, ChallengerError};
+use p3_grinding::{ByteCandidates, ByteGrindingChallenger};
+use p3_hash_challenger::HashChallenger;
+use p3_test_support::{LengthHasher, SumHasher};
+use std::test::Fail;
+
+// Candidate c is the byte c, and passes before this drawn byte.
+#[derive(Drop)]
+struct OneByte(u8);
+
+impl ByteCandidates<1, 1> for OneByte {
+    ghost use Rattle.std.specs.Prelude.{nat_eq, ◌%◌, [], ◌∷◌, slice_index};
+    ghost use Rattle.std.proofs.Common.{lit<};
+
+    ghost encoded = { λ _ candidate. candidate % 256 ∷ [] };
+
+    ghost accepted = { λ before drawn. nat_eq (slice_index drawn 0) before.0 };
+
+    ghost encoded_fit = { lit< tt };
+
+    ghost drawn_fit = { lit< tt };
+
+    fn encode(&self, candidate: u64) -> [u8; 1] {
+        [(candidate % 256) as u8]
+    }
+
+    fn accepts(&self, drawn: &[u8; 1]) -> bool {
+        drawn[0] == self.0
+    }
+}
+
+// Each candidate is no byte.
+#[derive(Drop)]
+struct NoByte(u8);
+
+impl ByteCandidates<0, 1> for NoByte {
+    ghost use Rattle.std.specs.Prelude.{nat_eq, [], slice_index};
+    ghost use Rattle.std.proofs.Common.{lit<};
+
+    ghost encoded = { λ _ _. [] };
+
+    ghost accepted = { λ before drawn. nat_eq (slice_index drawn 0) before.0 };
+
+    ghost encoded_fit = { lit< tt };
+
+    ghost drawn_fit = { lit< tt };
+
+    fn encode(&self, _candidate: u64) -> [u8; 0] {
+        []
+    }
+
+    fn accepts(&self, drawn: &[u8; 1]) -> bool {
+        drawn[0] == self.0
+    }
+}
+
+fn find<const W: usize, C: ByteGrindingChallenger<W, 1>, K: ByteCandidates<W, 1> + Drop>(
+    challenger: &C,
+    count: u64,
+    candidates: K,
+) -> Result<Option<u64>, ChallengerError> {
+    challenger.find_witness(count, &candidates)
+}
+
+#[test]
+fn least_candidate_that_passes_is_found(rt: HostRuntime) -> Result<(), Fail> {
+    let initial_state = vec![in rt.alloc(); 0u8, 1, 2, 3]?;
+    let challenger = HashChallenger::new(initial_state, SumHasher);
+    assert_eq!(rt; find(&challenger, 11, OneByte(40))?, Some(3));
+    assert_eq!(rt; find(&challenger, 3, OneByte(40))?, None);
+    assert_eq!(rt; find(&challenger, 11, OneByte(47))?, Some(10));
+    assert_eq!(rt; find(&challenger, 10, OneByte(47))?, None);
+    Ok(())
+}
+
+#[test]
+fn candidates_of_no_byte_keep_the_output(rt: HostRuntime) -> Result<(), Fail> {
+    let initial_state = vec![in rt.alloc(); 0u8, 1, 2, 3]?;
+    let mut challenger = HashChallenger::new(initial_state, LengthHasher);
+    assert_eq!(rt; challenger.sample()?, 35);
+    assert_eq!(rt; find(&challenger, 5, NoByte(34))?, Some(0));
+    assert_eq!(rt; find(&challenger, 5, NoByte(35))?, None);
+    assert_eq!(rt; challenger.sample()?, 34);
+    Ok(())
+}

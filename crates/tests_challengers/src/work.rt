@@ -1,0 +1,83 @@
+use p3_challenger_core::{CanObserve, CanSample, ChallengerError};
+use p3_duplex::DuplexChallenger;
+use p3_field::{F257, PrimeCharacteristicRing};
+use p3_grinding::{GrindingChallenger, UniformGrindingChallenger};
+use p3_symmetric::Turn;
+use std::test::Fail;
+
+type Sponge<const K: usize> = DuplexChallenger<F257, Turn<K>, 3, 2>;
+
+fn fresh<const K: usize>(draw_limit: u64) -> Sponge<K> {
+    DuplexChallenger::new(Turn, draw_limit)
+}
+
+fn element(number: u64) -> F257 {
+    F257::from_u64(number)
+}
+
+// Whether these numbers are drawn next.
+fn draws<C: CanSample<F257>>(challenger: &mut C, numbers: &[u64]) -> Result<bool, ChallengerError> {
+    for number in numbers {
+        if challenger.sample()? != element(*number) {
+            return Ok(false);
+        }
+    }
+    Ok(true)
+}
+
+#[test]
+fn least_witness_is_found_and_observed(rt: HostRuntime) -> Result<(), Fail> {
+    let mut challenger = fresh::<2>(10);
+    assert_eq!(rt; challenger.grind(3)?, element(6));
+    assert!(rt; draws(&mut challenger, &[2, 4])?);
+    let mut challenger = fresh::<2>(10);
+    assert_eq!(rt; (&mut challenger).grind(8)?, element(254));
+    assert!(rt; draws(&mut challenger, &[2, 4])?);
+    Ok(())
+}
+
+#[test]
+fn no_witness_leaves_the_challenger(rt: HostRuntime) -> Result<(), Fail> {
+    let mut challenger = fresh::<1>(10);
+    assert_eq!(rt; challenger.grind(1), Err(ChallengerError::NoWitness));
+    assert!(rt; draws(&mut challenger, &[2, 1, 5, 3])?);
+    let mut challenger = fresh::<1>(10);
+    challenger.observe(element(5))?;
+    assert_eq!(rt; challenger.grind(1)?, element(0));
+    Ok(())
+}
+
+#[test]
+fn no_bits_ask_for_no_work(rt: HostRuntime) -> Result<(), Fail> {
+    let mut challenger = fresh::<1>(10);
+    assert_eq!(rt; challenger.grind(0)?, element(0));
+    assert!(rt; challenger.check_witness(0, element(7))?);
+    assert_eq!(rt; challenger.grind_uniform(0)?, element(0));
+    assert!(rt; challenger.check_witness_uniform(0, element(7))?);
+    assert!(rt; challenger.check_witness_uniform_may_error(0, element(7))?);
+    assert!(rt; draws(&mut challenger, &[2, 1])?);
+    Ok(())
+}
+
+#[test]
+fn uniform_work_draws_again_or_fails(rt: HostRuntime) -> Result<(), Fail> {
+    let mut challenger = fresh::<2>(2);
+    assert_eq!(rt; challenger.grind_uniform(8)?, element(255));
+    assert!(rt; draws(&mut challenger, &[2, 4])?);
+    let mut challenger = fresh::<2>(2);
+    assert_eq!(rt; challenger.grind_uniform_may_error(8)?, element(255));
+    assert!(rt; draws(&mut challenger, &[2, 4])?);
+    let mut challenger = fresh::<2>(2);
+    assert_eq!(rt; challenger.grind(8)?, element(254));
+    assert!(rt; draws(&mut challenger, &[2, 4])?);
+    Ok(())
+}
+
+#[test]
+fn uniform_check_may_meet_the_limit(rt: HostRuntime) -> Result<(), Fail> {
+    assert_eq!(rt; fresh::<2>(1).grind_uniform(8)?, element(255));
+    let limit = Err(ChallengerError::DrawLimit);
+    assert_eq!(rt; fresh::<2>(1).check_witness_uniform(8, element(254)), limit);
+    assert!(rt; !fresh::<2>(1).check_witness_uniform_may_error(8, element(254))?);
+    Ok(())
+}
