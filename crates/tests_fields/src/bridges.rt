@@ -1,8 +1,7 @@
 // Packing and digits, through the bound and at each bridge.
 ghost use Rattle.std.specs.Prelude.{◌<◌};
 
-use p3_field::{BabyBear, F257, Goldilocks, PrimeCharacteristicRing, PrimeField64};
-use p3_field::FieldBridge;
+use p3_field::{BabyBear, F257, FieldBridge, Goldilocks, PrimeCharacteristicRing, PrimeField64};
 
 // The number of the element that packs values.
 fn packed_number<F: PrimeField64, PF: PrimeField64 + FieldBridge<F, PF>>(values: &[F]) -> u64 {
