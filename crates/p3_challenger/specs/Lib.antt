@@ -38,6 +38,8 @@ pub use Rattle.p3_duplex.specs.DuplexUniform
 pub use Rattle.p3_duplex.specs.DuplexUniformLaws
 pub use Rattle.p3_serializing.specs.Bytes
 pub use Rattle.p3_serializing.specs.BytesLaws
+pub use Rattle.p3_serializing.specs.SerializingGrinding
+pub use Rattle.p3_serializing.specs.SerializingGrindingLaws
 pub use Rattle.p3_serializing.specs.SerializingGroups
 pub use Rattle.p3_serializing.specs.SerializingState
 pub use Rattle.p3_serializing.specs.SerializingStateLaws
@@ -96,6 +98,8 @@ pub use Rattle.p3_driver_core.specs.Meanings
 pub use Rattle.p3_driver_core.specs.Opened
 pub use Rattle.p3_driver_core.specs.Rejecting
 pub use Rattle.p3_driver_core.specs.Turns
+pub use Rattle.p3_driver_core.specs.Working
+pub use Rattle.p3_driver_core.specs.WorkingLaws
 pub use Rattle.p3_prover.specs.ProverLends
 pub use Rattle.p3_prover.specs.Proving
 pub use Rattle.p3_verifier.specs.Following
@@ -121,6 +125,9 @@ pub use Rattle.p3_goldilocks.specs.declared.goldilocks.Goldilocks
 pub use Rattle.p3_field_core.specs.declared.coeffs.Coeffs
 pub use Rattle.p3_symmetric.specs.declared.sha256.Sha256Hasher
 pub use Rattle.p3_challenger_core.specs.declared.error.ChallengerError
+pub use Rattle.p3_grinding.specs.declared.error.ResamplingError
+pub use Rattle.p3_grinding.specs.declared.error.UniformBitsError
+pub use Rattle.p3_multi_field.specs.declared.error.MultiField32ChallengerError
 pub use Rattle.p3_fs_core.specs.declared.error.TranscriptError
 pub use Rattle.p3_fs_core.specs.declared.error.PatternError
 pub use Rattle.p3_fs_core.specs.declared.interaction.Interaction
