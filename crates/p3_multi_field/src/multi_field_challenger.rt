@@ -14,6 +14,7 @@ ghost use Rattle.p3_multi_field.specs.Refusals.{MakeChallenger, Refuses};
 
 mod bits;
 mod digests;
+mod grinding;
 
 use crate::{MultiField32ChallengerError, MultiFieldSymbol, Paired};
 use p3_challenger_core::{CanFinalizeDigest, CanObserve, CanSample, ChallengerError, Sponge};
@@ -208,14 +209,14 @@ impl<
     pub fn absorb_num_f_elms(&self) -> usize
         ensures { result ≡ PF.ABSORB_COUNT }
     {
-        PF::ABSORB_COUNT
+        PF::absorb_num()
     }
 
     /// How many digits of one cell are drawn.
     pub fn squeeze_num_f_elms(&self) -> usize
         ensures { result ≡ PF.SQUEEZE_COUNT }
     {
-        PF::SQUEEZE_COUNT
+        PF::squeeze_num()
     }
 
     /// How many digits a draw has queued that were neither drawn since nor dropped: 0 after an absorb, until the next
@@ -244,7 +245,7 @@ impl<
     }
 
     // What is pending, in the order in which it was observed.
-    fn pending(&self) -> &[F]
+    pub(crate) fn pending(&self) -> &[F]
         ensures values { result.now ≡ self.now.sponge.pending }
         ensures short { length result.now < PF.ABSORB_COUNT * RATE }
     {
