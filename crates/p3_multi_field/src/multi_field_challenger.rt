@@ -192,8 +192,8 @@ impl<
     pub fn observes_are_not_refused(&self)
         ensures { (values : List F) (e : ChallengerError) (s t : multi_state.MultiFieldState F PF P) →
             ¬ (RefusesObserve (LeavesInCalls
-            ⟦<MultiField32Challenger<F, PF, P, WIDTH, RATE> as CanObserve<F>>⟧.observation.observed
-            ⟦<MultiField32Challenger<F, PF, P, WIDTH, RATE> as CanObserve<F>>⟧.observation.may_leave s values) e t) }
+            ⟦<Self as CanObserve<F>>⟧.observation.observed
+            ⟦<Self as CanObserve<F>>⟧.observation.may_leave s values) e t) }
     {
         let _ = &self.outputs_left;
     }
@@ -314,7 +314,8 @@ impl<
     // Makes scalars pending that the rate packs with what is pending, and absorbs them all if it packs no more.
     fn push_within(&mut self, values: &[F])
         requires { length self.old.sponge.pending + length values.now ≤ PF.ABSORB_COUNT * RATE }
-        ensures fed { self.new ≡ multi_state.scalars_observed ⟦<PF as Paired<F>>⟧.pair P.permutation RATE self.old values.now }
+        ensures fed { self.new
+            ≡ multi_state.scalars_observed ⟦<PF as Paired<F>>⟧.pair P.permutation RATE self.old values.now }
         ensures full { length self.old.sponge.pending + length values.now ≡ PF.ABSORB_COUNT * RATE
             → self.new.sponge.pending ≡ [] }
     {
@@ -352,7 +353,8 @@ impl<
     fn absorb_batch(&mut self, batch: &[F])
         requires none { self.old.sponge.pending ≡ [] }
         requires whole { length batch.now ≡ PF.ABSORB_COUNT * RATE }
-        ensures fed { self.new ≡ multi_state.scalars_observed ⟦<PF as Paired<F>>⟧.pair P.permutation RATE self.old batch.now }
+        ensures fed { self.new
+            ≡ multi_state.scalars_observed ⟦<PF as Paired<F>>⟧.pair P.permutation RATE self.old batch.now }
         ensures none_left { self.new.sponge.pending ≡ [] }
     {
         let row_len = self.row_len();
@@ -364,7 +366,8 @@ impl<
     // Makes scalars pending in order, and absorbs each batch that they fill. The first scalars fill up what is
     // pending, and the batches after them are not copied into it.
     pub(crate) fn push_all(&mut self, values: &[F])
-        ensures { self.new ≡ multi_state.scalars_observed ⟦<PF as Paired<F>>⟧.pair P.permutation RATE self.old values.now }
+        ensures { self.new
+            ≡ multi_state.scalars_observed ⟦<PF as Paired<F>>⟧.pair P.permutation RATE self.old values.now }
     {
         let batch_len = self.batch_len();
         let (front, mut rest) = values.split_at(self.room().min(values.len()));
