@@ -6,6 +6,8 @@ mod candidates;
 #[cfg(test)]
 mod hash;
 #[cfg(test)]
+mod multi_field;
+#[cfg(test)]
 mod symmetric;
 #[cfg(test)]
 mod uniform;
