@@ -5,6 +5,5 @@ pub mod MultiFieldSteps
 pub mod Numbers
 pub mod Overwriting
 pub mod Packing
-pub mod PrefixCodes
 pub mod WordBlocks
 pub mod WorkedRows

@@ -16,9 +16,10 @@ use Rattle.p3_multi_field.specs.MultiFieldCalls.{after_sampled, handed_by_emptyi
 use Rattle.p3_multi_field.specs.MultiFieldCalls.{multi_field_by_calls}
 use Rattle.p3_multi_field.specs.MultiFieldSegments.{block_count, absorbed_batches, handed_batches}
 use Rattle.p3_multi_field.specs.MultiFieldSegments.{outputs_after, absorbed, run_scalars, absorbed_words, handed_words}
-use Rattle.p3_multi_field.specs.MultiFieldSegments.{run_words, opened, run_digest, stretches, run_stretches, run_symbols}
-use Rattle.p3_multi_field.specs.MultiFieldSegments.{permuted, handed_in_turn, output_at, left_after, outputs_from}
-use Rattle.p3_multi_field.specs.MultiFieldSegments.{draws_from, run_draws, digest_after, multi_field_by_segments}
+use Rattle.p3_multi_field.specs.MultiFieldSegments.{run_words, opened, run_digest, stretches, run_stretches}
+use Rattle.p3_multi_field.specs.MultiFieldSegments.{run_symbols, permuted, handed_in_turn, output_at, left_after}
+use Rattle.p3_multi_field.specs.MultiFieldSegments.{outputs_from, draws_from, run_draws, digest_after}
+use Rattle.p3_multi_field.specs.MultiFieldSegments.{multi_field_by_segments}
 
 -- what a challenger keeps: fewer scalars are pending than the rate packs, no more outputs are left than it gives
 -- digits, and none where a scalar is pending
@@ -254,7 +255,8 @@ module _ {F PF : Type 0} (pair : FieldPair F PF) (permute : List PF → List PF)
       let left : length rest ≡ length words - rate = length-drop rate words in
       let fewer : length rest ≤ n = omega (arith, left, enough, positive) in
       ap (λ k. absorbed_words pair permute rate k cells words) (count-next rate (length words) positive some)
-      ∙ ap (λ k. absorbed_words pair permute rate (block_count rate k) (permute (block_over cells words)) rest) (sym left)
+      ∙ ap (λ k. absorbed_words pair permute rate (block_count rate k) (permute (block_over cells words)) rest)
+      (sym left)
       ∙ words-cells n (permute (block_over cells words)) rest fewer
 
   words-handed : (n : ℕ) (cells words : List PF) → length words ≤ n
@@ -349,7 +351,8 @@ module _ {F PF : Type 0} (pair : FieldPair F PF) (permute : List PF → List PF)
   emptied-fits cells left h = record { short = some_batch; left = h; none_left = λ more. absurd (omega (arith, more)) }
 
   observed-fits-by : (b : Bool) (s : Sponge) (x : F) → Fits pair rate s
-      → (length (s.pending ++ x ∷ []) == batch_of pair rate) ≡ b → Fits pair rate (scalar_observed pair permute rate s x)
+      → (length (s.pending ++ x ∷ []) == batch_of pair rate) ≡ b
+      → Fits pair rate (scalar_observed pair permute rate s x)
   observed-fits-by true s x fits full =
       subst (λ (run : Steps). Fits pair rate run.after) (sym (observed-full s x full))
       (emptied-fits _ (row_of pair rate) (omega arith))

@@ -1,6 +1,6 @@
 -- Writing over the rate, as the code does it.
-use Rattle.std.proofs.Common.{◌≡◌, ℕ, zero, suc, ◌<◌, ◌≤◌, ◌+◌, ◌-◌, List, [], ◌∷◌, ◌++◌, length, take, drop, replicate, set, refl, sym, ap}
-use Rattle.std.proofs.Common.{◌∙◌, append_assoc, add-one, arith}
+use Rattle.std.proofs.Common.{◌≡◌, ℕ, zero, suc, ◌<◌, ◌≤◌, ◌+◌, ◌-◌, List, [], ◌∷◌, ◌++◌, length, take, drop}
+use Rattle.std.proofs.Common.{replicate, set, refl, sym, ap, ◌∙◌, append_assoc, add-one, arith}
 use Rattle.std.proofs.lemmas.List.{take_at, drop_at, set_at, drop-drop, length-replicate, replicate_more, length-append}
 use Rattle.std.proofs.Math.Seq.{drop-cons}
 use Rattle.p3_multi_field.specs.MultiFieldCalls.{FieldPair, packed_cells}

@@ -19,7 +19,8 @@ module _ {F PF : Type 0} (pair : FieldPair F PF) (n : ℕ) (scalars : List F) wh
   -- the cell at place i is packed
   pub has_packed-next : (cells after : List PF) (i : ℕ) (rest left : List F) (x : PF) → i < n → length cells ≡ n
       → x ≡ packed pair.inner pair.outer pair.bits (take pair.absorb rest) → left ≡ drop pair.absorb rest
-      → after ≡ set cells i x → HasPacked (take i cells) (n - i) rest → HasPacked (take (i + 1) after) (n - (i + 1)) left
+      → after ≡ set cells i x → HasPacked (take i cells) (n - i) rest
+      → HasPacked (take (i + 1) after) (n - (i + 1)) left
   has_packed-next cells after i rest left x more long is dropped wrote so_far =
       let one : n - i ≡ suc (n - (i + 1)) = omega arith in
       let inside : i < length cells = omega (arith, more, long) in

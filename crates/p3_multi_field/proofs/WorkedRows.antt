@@ -1,7 +1,8 @@
 -- Worked rows, computed on the definitions: scalars of the field of order 257 in three cells of that of order
 -- 2013265921, of which two are the rate, under a turn by two places, which makes (c + 1, a + 2, b + 3) of the
 -- cells (a, b, c).
-use Rattle.std.proofs.Common.{◌≡◌, ℕ, List, [], ◌∷◌, map, refl}
+use Rattle.std.proofs.Common.{◌≡◌, ℕ, zero, suc, ◌%◌, ◌^◌, ◌==◌, Bool, true, if◌then◌else◌, List, [], ◌∷◌, map, refl}
+use Rattle.std.proofs.Common.{slice_index}
 use Rattle.p3_small_primes.specs.BabyBearResidues.{BabyBear, residues as baby_bear}
 use Rattle.p3_small_primes.specs.F257Residues.{F257, residues as f257}
 use Rattle.p3_symmetric.specs.Turn.{turned}
@@ -10,7 +11,8 @@ use Rattle.p3_challenger_core.specs.Segments.{run_calls, run_calls_to_digest, ru
 use Rattle.p3_multi_field.specs.MultiFieldCalls.{FieldPair, pair_of, Symbol, scalar, digest, MultiFieldSponge, fresh}
 use Rattle.p3_multi_field.specs.MultiFieldCalls.{packed_cells, multi_field_by_calls}
 use Rattle.p3_multi_field.specs.MultiFieldSegments.{multi_field_by_segments, absorbed_batches, handed_batches}
-use Rattle.p3_multi_field.specs.MultiFieldSegments.{absorbed_words, handed_words, permuted, handed_in_turn, outputs_from}
+use Rattle.p3_multi_field.specs.MultiFieldSegments.{absorbed_words, handed_words, permuted, handed_in_turn}
+use Rattle.p3_multi_field.specs.MultiFieldSegments.{outputs_from}
 
 abbrev pair : FieldPair F257 BabyBear
 pair = pair_of f257 baby_bear 9 3 2
@@ -103,3 +105,28 @@ one_word = refl
 one_word_by_segments : drawn_by_segments (digest_observed (5 ∷ []) ∷ four_draws) ≡ 0 ∷ 7 ∷ 0 ∷ 2 ∷ []
 unfolding absorbed_words handed_words absorbed_batches handed_batches permuted handed_in_turn outputs_from
 one_word_by_segments = refl
+
+-- ---- proof of work, after the scalars 1 and 2
+
+-- whether a candidate passes a check of so many bits: the bits that are drawn after it are 0
+abbrev passes : ℕ → ℕ → Bool
+passes bits candidate =
+    slice_index (drawn (observed 1 ∷ observed 2 ∷ observed candidate ∷ draw ∷ [])) 0 % 2 ^ bits == 0
+
+-- how many of the first candidates pass
+abbrev count_passing : ℕ → ℕ → ℕ
+count_passing bits zero = 0
+count_passing bits (suc n) = if passes bits n then suc (count_passing bits n) else count_passing bits n
+
+one_bit : (count_passing 1 33 ≡ 0) × (passes 1 33 ≡ true)
+one_bit = (refl, refl)
+
+two_bits : (count_passing 2 65 ≡ 0) × (passes 2 65 ≡ true)
+two_bits = (refl, refl)
+
+eight_bits : (count_passing 8 65 ≡ 0) × (passes 8 65 ≡ true)
+eight_bits = (refl, refl)
+
+-- the check takes the first of these digits
+draws_after_work : drawn (observed 1 ∷ observed 2 ∷ observed 65 ∷ four_draws) ≡ 256 ∷ 2 ∷ 0 ∷ 4 ∷ []
+draws_after_work = refl

@@ -2,4 +2,5 @@ pub mod MultiFieldCalls
 pub mod MultiFieldSegments
 pub mod MultiFieldState
 pub mod MultiFieldStateLaws
+pub mod MultiFieldSymbolLaws
 pub mod Refusals

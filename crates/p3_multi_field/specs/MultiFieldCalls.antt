@@ -74,7 +74,8 @@ scalars_over pair rate cells scalars =
 
 -- the cells with words written over the rate, and zeros after them: the number of words is the tag
 abbrev pub words_over : {PF : Type 0} → Residues PF → ℕ → List PF → List PF → List PF
-words_over r rate cells words = with_rate r rate cells (words ++ replicate (rate - length words) (r.of 0)) (length words)
+words_over r rate cells words =
+    with_rate r rate cells (words ++ replicate (rate - length words) (r.of 0)) (length words)
 
 -- a list in blocks of so many values, of which only the last may be shorter: at most so many blocks
 abbrev pub blocks_within : {T : Type 0} → ℕ → ℕ → List T → List (List T)

@@ -12,7 +12,8 @@ pub enum MultiField32ChallengerError {
         sponge_field: &'static str,
     },
     /// So many scalars are absorbed at once that the tag that counts them passes a byte.
-    #[error("a full absorb batch contains {batch_len} sampled-field elements, exceeding the u8 length-tag limit of {max}")]
+    #[error("a full absorb batch contains {batch_len} sampled-field elements, \
+         exceeding the u8 length-tag limit of {max}")]
     AbsorbLengthTagOverflow {
         /// How many scalars the rate packs.
         batch_len: usize,

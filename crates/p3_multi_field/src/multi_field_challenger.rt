@@ -14,6 +14,7 @@ ghost use Rattle.p3_multi_field.specs.Refusals.{MakeChallenger, Refuses};
 
 mod bits;
 mod digests;
+mod grinding;
 
 use crate::{MultiField32ChallengerError, MultiFieldSymbol, Paired};
 use p3_challenger_core::{CanFinalizeDigest, CanObserve, CanSample, ChallengerError, Sponge};
@@ -191,8 +192,8 @@ impl<
     pub fn observes_are_not_refused(&self)
         ensures { (values : List F) (e : ChallengerError) (s t : multi_state.MultiFieldState F PF P) →
             ¬ (RefusesObserve (LeavesInCalls
-            ⟦<MultiField32Challenger<F, PF, P, WIDTH, RATE> as CanObserve<F>>⟧.observation.observed
-            ⟦<MultiField32Challenger<F, PF, P, WIDTH, RATE> as CanObserve<F>>⟧.observation.may_leave s values) e t) }
+            ⟦<Self as CanObserve<F>>⟧.observation.observed
+            ⟦<Self as CanObserve<F>>⟧.observation.may_leave s values) e t) }
     {
         let _ = &self.outputs_left;
     }
@@ -208,14 +209,14 @@ impl<
     pub fn absorb_num_f_elms(&self) -> usize
         ensures { result ≡ PF.ABSORB_COUNT }
     {
-        PF::ABSORB_COUNT
+        PF::absorb_num()
     }
 
     /// How many digits of one cell are drawn.
     pub fn squeeze_num_f_elms(&self) -> usize
         ensures { result ≡ PF.SQUEEZE_COUNT }
     {
-        PF::SQUEEZE_COUNT
+        PF::squeeze_num()
     }
 
     /// How many digits a draw has queued that were neither drawn since nor dropped: 0 after an absorb, until the next
@@ -244,7 +245,7 @@ impl<
     }
 
     // What is pending, in the order in which it was observed.
-    fn pending(&self) -> &[F]
+    pub(crate) fn pending(&self) -> &[F]
         ensures values { result.now ≡ self.now.sponge.pending }
         ensures short { length result.now < PF.ABSORB_COUNT * RATE }
     {
@@ -313,7 +314,8 @@ impl<
     // Makes scalars pending that the rate packs with what is pending, and absorbs them all if it packs no more.
     fn push_within(&mut self, values: &[F])
         requires { length self.old.sponge.pending + length values.now ≤ PF.ABSORB_COUNT * RATE }
-        ensures fed { self.new ≡ multi_state.scalars_observed ⟦<PF as Paired<F>>⟧.pair P.permutation RATE self.old values.now }
+        ensures fed { self.new
+            ≡ multi_state.scalars_observed ⟦<PF as Paired<F>>⟧.pair P.permutation RATE self.old values.now }
         ensures full { length self.old.sponge.pending + length values.now ≡ PF.ABSORB_COUNT * RATE
             → self.new.sponge.pending ≡ [] }
     {
@@ -351,7 +353,8 @@ impl<
     fn absorb_batch(&mut self, batch: &[F])
         requires none { self.old.sponge.pending ≡ [] }
         requires whole { length batch.now ≡ PF.ABSORB_COUNT * RATE }
-        ensures fed { self.new ≡ multi_state.scalars_observed ⟦<PF as Paired<F>>⟧.pair P.permutation RATE self.old batch.now }
+        ensures fed { self.new
+            ≡ multi_state.scalars_observed ⟦<PF as Paired<F>>⟧.pair P.permutation RATE self.old batch.now }
         ensures none_left { self.new.sponge.pending ≡ [] }
     {
         let row_len = self.row_len();
@@ -363,7 +366,8 @@ impl<
     // Makes scalars pending in order, and absorbs each batch that they fill. The first scalars fill up what is
     // pending, and the batches after them are not copied into it.
     pub(crate) fn push_all(&mut self, values: &[F])
-        ensures { self.new ≡ multi_state.scalars_observed ⟦<PF as Paired<F>>⟧.pair P.permutation RATE self.old values.now }
+        ensures { self.new
+            ≡ multi_state.scalars_observed ⟦<PF as Paired<F>>⟧.pair P.permutation RATE self.old values.now }
     {
         let batch_len = self.batch_len();
         let (front, mut rest) = values.split_at(self.room().min(values.len()));

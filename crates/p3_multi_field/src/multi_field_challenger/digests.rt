@@ -27,18 +27,14 @@ impl<
     /// A law: the body is empty, and a caller cites the clauses.
     pub fn lent_caps_are_caps<'a, const N: usize>()
         ensures symbols { (cap : _) →
-            ⟦<MultiField32Challenger<F, PF, P, WIDTH, RATE> as CanObserve<&'a MerkleCap<F, [PF; N]>>>⟧.observation.symbols cap
-            ≡ ⟦<MultiField32Challenger<F, PF, P, WIDTH, RATE> as CanObserve<MerkleCap<F, [PF; N]>>>⟧.observation.symbols cap.now }
+            ⟦<Self as CanObserve<&'a MerkleCap<F, [PF; N]>>>⟧.observation.symbols cap
+            ≡ ⟦<Self as CanObserve<MerkleCap<F, [PF; N]>>>⟧.observation.symbols cap.now }
         ensures observed { (s : multi_state.MultiFieldState F PF P) (cap : _) →
-            ⟦<MultiField32Challenger<F, PF, P, WIDTH, RATE> as CanObserve<&'a MerkleCap<F, [PF; N]>>>⟧.observation.observed
-            s cap
-            ≡ ⟦<MultiField32Challenger<F, PF, P, WIDTH, RATE> as CanObserve<MerkleCap<F, [PF; N]>>>⟧.observation.observed
-            s cap.now }
+            ⟦<Self as CanObserve<&'a MerkleCap<F, [PF; N]>>>⟧.observation.observed s cap
+            ≡ ⟦<Self as CanObserve<MerkleCap<F, [PF; N]>>>⟧.observation.observed s cap.now }
         ensures left { (s : multi_state.MultiFieldState F PF P) (cap : _) (t : multi_state.MultiFieldState F PF P) →
-            ⟦<MultiField32Challenger<F, PF, P, WIDTH, RATE> as CanObserve<&'a MerkleCap<F, [PF; N]>>>⟧.observation.may_leave
-            s cap t
-            ↔ ⟦<MultiField32Challenger<F, PF, P, WIDTH, RATE> as CanObserve<MerkleCap<F, [PF; N]>>>⟧.observation.may_leave
-            s cap.now t }
+            ⟦<Self as CanObserve<&'a MerkleCap<F, [PF; N]>>>⟧.observation.may_leave s cap t
+            ↔ ⟦<Self as CanObserve<MerkleCap<F, [PF; N]>>>⟧.observation.may_leave s cap.now t }
     {}
 
     // Absorbs what is pending. Where nothing is, the outputs left are dropped.
@@ -73,7 +69,8 @@ impl<
 
     // Observes a digest of words: they are absorbed in blocks, after what is pending.
     fn push_digest(&mut self, words: &[PF])
-        ensures { self.new ≡ multi_state.digest_observed ⟦<PF as Paired<F>>⟧.pair P.permutation RATE self.old words.now }
+        ensures { self.new
+            ≡ multi_state.digest_observed ⟦<PF as Paired<F>>⟧.pair P.permutation RATE self.old words.now }
     {
         let _ = &self.sponge_state;
         self.empty();
@@ -88,7 +85,8 @@ impl<
     // Makes the scalars of parts pending, part by part.
     fn push_parts<Part: AsSlice<F>>(&mut self, parts: &[Part])
         ensures { self.new ≡ observed_all
-            (λ s part. multi_state.scalars_observed ⟦<PF as Paired<F>>⟧.pair P.permutation RATE s (Part.items part)) self.old parts.now }
+            (λ s part. multi_state.scalars_observed ⟦<PF as Paired<F>>⟧.pair P.permutation RATE s (Part.items part))
+            self.old parts.now }
     {
         for i in 0..parts.len() {
             self.push_all(parts[i].as_slice());
@@ -99,7 +97,8 @@ impl<
     fn push_lists<Part: AsSlice<F>, V: AsSlice<Part>>(&mut self, values: &[V])
         ensures { self.new ≡ observed_all
             (λ s value. observed_all
-            (λ u part. multi_state.scalars_observed ⟦<PF as Paired<F>>⟧.pair P.permutation RATE u (Part.items part)) s (V.items value))
+            (λ u part. multi_state.scalars_observed ⟦<PF as Paired<F>>⟧.pair P.permutation RATE u (Part.items part))
+            s (V.items value))
             self.old values.now }
     {
         for i in 0..values.len() {
@@ -110,7 +109,8 @@ impl<
     // Observes digests one after another.
     fn push_digests<D: AsSlice<PF>>(&mut self, digests: &[D])
         ensures { self.new ≡ observed_all
-            (λ s words. multi_state.digest_observed ⟦<PF as Paired<F>>⟧.pair P.permutation RATE s (D.items words)) self.old digests.now }
+            (λ s words. multi_state.digest_observed ⟦<PF as Paired<F>>⟧.pair P.permutation RATE s (D.items words))
+            self.old digests.now }
     {
         for i in 0..digests.len() {
             self.push_digest(digests[i].as_slice());
@@ -121,7 +121,8 @@ impl<
     fn push_caps<D: AsSlice<PF>, V: AsSlice<D>>(&mut self, caps: &[V])
         ensures { self.new ≡ observed_all
             (λ s cap. observed_all
-            (λ u words. multi_state.digest_observed ⟦<PF as Paired<F>>⟧.pair P.permutation RATE u (D.items words)) s (V.items cap))
+            (λ u words. multi_state.digest_observed ⟦<PF as Paired<F>>⟧.pair P.permutation RATE u (D.items words))
+            s (V.items cap))
             self.old caps.now }
     {
         for i in 0..caps.len() {
@@ -205,14 +206,16 @@ impl<
 
     // An observation takes no memory: it is never refused.
     ghost observation = { unrefused_observe (λ lists. flat_map (λ list. map scalar list.items) lists.items)
-        (λ s lists. observed_all (λ u list. multi_state.scalars_observed ⟦<PF as Paired<F>>⟧.pair P.permutation RATE u list.items)
+        (λ s lists. observed_all
+        (λ u list. multi_state.scalars_observed ⟦<PF as Paired<F>>⟧.pair P.permutation RATE u list.items)
         s lists.items) };
 
     ghost slice_may_leave = { λ _ _ _. ⊥ };
 
-    ghost observes = { is_observation ⟦<PF as Paired<F>>⟧.pair P.permutation RATE (λ lists. flat_map (λ list. map scalar list.items) lists.items)
-        (λ s lists. observed_all (λ u list. multi_state.scalars_observed ⟦<PF as Paired<F>>⟧.pair P.permutation RATE u list.items)
-        s lists.items)
+    ghost observes = { is_observation ⟦<PF as Paired<F>>⟧.pair P.permutation RATE
+        (λ lists. flat_map (λ list. map scalar list.items) lists.items)
+        (λ s lists. observed_all
+        (λ u list. multi_state.scalars_observed ⟦<PF as Paired<F>>⟧.pair P.permutation RATE u list.items) s lists.items)
         (λ s lists. lists-fed ⟦<PF as Paired<F>>⟧.pair P.permutation RATE (λ list. list.items) s lists.items) };
 
     ghost slice_leaves = { λ _ _ _ h. absurd h };
@@ -249,7 +252,8 @@ impl<
 
     ghost slice_may_leave = { λ _ _ _. ⊥ };
 
-    ghost observes = { is_observation ⟦<PF as Paired<F>>⟧.pair P.permutation RATE (λ words. digest (values_of words) ∷ [])
+    ghost observes = { is_observation ⟦<PF as Paired<F>>⟧.pair P.permutation RATE
+        (λ words. digest (values_of words) ∷ [])
         (λ s words. multi_state.digest_observed ⟦<PF as Paired<F>>⟧.pair P.permutation RATE s (values_of words))
         (λ _ _. refl) };
 

@@ -1,4 +1,4 @@
-use Rattle.p3_multi_field.proofs.PrefixCodes.{scalar-prefix_code}
+use Rattle.p3_multi_field.specs.MultiFieldSymbolLaws.{scalar-prefix_code}
 use Rattle.p3_multi_field.proofs.prefix_code.multi_field_scalars_are_prefix_code.Goals as goal
 
 pub returns : goal.returns

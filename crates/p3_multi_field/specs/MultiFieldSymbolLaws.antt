@@ -1,4 +1,4 @@
--- What is fed is read back.
+-- Laws of the symbols that a multi-field challenger is fed: they are read back.
 use Rattle.std.proofs.Common.{◌≡◌, ℕ, List, [], ◌∷◌, ◌++◌, length, map, refl, ap, ◌∙◌, arith}
 use Rattle.p3_challenger_core.specs.Reading.{IsPrefixCode, IsPrefixCodeOn}
 use Rattle.p3_multi_field.specs.MultiFieldCalls.{Symbol, scalar, digest}
