@@ -172,8 +172,8 @@ module _ {I F : Type 0} (fed : I → List ℕ → I) (r : Residues F) (n : ℕ) 
 
 -- ---- all calls
 
-module _ {I Symbol F : Type 0} (o : Observation I Symbol ℕ) (slice_may_leave : I → List ℕ → I → Type 0) (d : Sampling I ℕ)
-    (gives : (i : I) → IsSome (d.sampled i)) (r : Residues F) (n : ℕ) (zero_element : F) where
+module _ {I Symbol F : Type 0} (o : Observation I Symbol ℕ) (slice_may_leave : I → List ℕ → I → Type 0)
+    (d : Sampling I ℕ) (gives : (i : I) → IsSome (d.sampled i)) (r : Residues F) (n : ℕ) (zero_element : F) where
   abbrev by : CallByCall (SerializingState I) F
   by = by_calls (element_observed o slice_may_leave r n).observed
       (space_element_drawn d n r 1 (element_of_one zero_element)) (bits_drawn d n)
@@ -223,8 +223,8 @@ module _ {I Symbol F : Type 0} (o : Observation I Symbol ℕ) (slice_may_leave :
       ap (answers_by_calls by calls) there ∙ later.1.answers ∙ ap (answers_off r limit calls) (sym done) in (
         words,
         record {
-          reads = subst (λ (i : I). Reads slice_fed (group d n) s.inner (byte_calls r n limit (draw ∷ calls) words) words
-              i) (sym (ap (λ t. (after_calls by calls t).inner) there)) read_off;
+          reads = subst (λ (i : I). Reads slice_fed (group d n) s.inner (byte_calls r n limit (draw ∷ calls) words)
+              words i) (sym (ap (λ t. (after_calls by calls t).inner) there)) read_off;
           answers = λ j. element (answer j) ∷ answers j;
           limit = ap (λ t. (after_calls by calls t).draw_limit) there ∙ later.1.limit;
         },

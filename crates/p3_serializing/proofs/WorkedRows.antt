@@ -63,8 +63,8 @@ goldilocks_drawn : goldilocks.sampled start ≡ Some 2025808526418453027
 unfolding first_accepted number_of draws greatest_below
 goldilocks_drawn = refl
 
--- Of 92 bytes the first group is 123, 122, 121, 120, which is above the order: the second one is drawn, where two may be
--- tried, and else the limit is met.
+-- Of 92 bytes the first group is 123, 122, 121, 120, which is above the order: the second one is drawn, where two may
+-- be tried, and else the limit is met.
 second_group : baby_bear.sampled (over (replicate 92 0) 2) ≡ Some 1953855095
 unfolding first_accepted number_of draws after_draws greatest_below
 second_group = refl
@@ -84,8 +84,8 @@ unfolding first_accepted number_of draws after_draws greatest_below
 nine_bits = refl
 
 -- the element 258 is the bytes 2, 1, 0, 0, and so is the word 258, of 8 bytes
-element_bytes : ((element_observed observed (λ _ _ _. ⊥) (numbers 2013265921) 4).observed start 258).inner.sponge.pending
-    ≡ 0 ∷ 1 ∷ 2 ∷ 3 ∷ 2 ∷ 1 ∷ 0 ∷ 0 ∷ []
+element_bytes : let o = element_observed observed (λ _ _ _. ⊥) (numbers 2013265921) 4 in
+    (o.observed start 258).inner.sponge.pending ≡ 0 ∷ 1 ∷ 2 ∷ 3 ∷ 2 ∷ 1 ∷ 0 ∷ 0 ∷ []
 unfolding bytes_of
 element_bytes = refl
 

@@ -8,8 +8,8 @@ use Rattle.p3_serializing.specs.SerializingState.{SerializingState, element_obse
 
 module _ {I Symbol F : Type 0} (o : Observation I Symbol ℕ) (slice_may_leave : I → List ℕ → I → Type 0)
     (d : Sampling I ℕ) (r : Residues F) (n : ℕ) where
-  -- A check of so many bits, of at least one: a byte is drawn and dropped, the witness is observed, and then the low bits
-  -- of the next group are all 0. With 0 bits each witness passes, and nothing is touched.
+  -- A check of so many bits, of at least one: a byte is drawn and dropped, the witness is observed, and then the low
+  -- bits of the next group are all 0. With 0 bits each witness passes, and nothing is touched.
   abbrev pub serializing_check : ℕ → F → Sampling (SerializingState I) Bool
   serializing_check bits =
       check_of (byte_dropped d) (element_observed o slice_may_leave r n) (all_zero (bits_drawn d n bits)) bits

@@ -75,7 +75,8 @@ module _ {F : Type 0} (r : Residues F) where
   abbrev pub is_element : ℕ → Bool
   is_element word = nat_lt (cut word) r.order
 
-  -- how many of these groups a draw of an element takes: up to and with the first that is one, and no more than the limit
+  -- how many of these groups a draw of an element takes: up to and with the first that is one, and no more than the
+  -- limit
   unfoldable pub taken : ℕ → List ℕ → ℕ
   taken zero words = zero
   taken (suc more) [] = zero
@@ -102,8 +103,8 @@ module _ {F : Type 0} (r : Residues F) where
       replicate (taken limit words) read ++ byte_calls n limit calls (drop (taken limit words) words)
   byte_calls n limit (draw_bits k ∷ calls) words = read ∷ byte_calls n limit calls (drop 1 words)
 
--- Calls, done one by one, are calls on the inner challenger that read these groups: the answers are read off the groups,
--- the inner challenger ends where its calls lead, and the draw limit stays.
+-- Calls, done one by one, are calls on the inner challenger that read these groups: the answers are read off the
+-- groups, the inner challenger ends where its calls lead, and the draw limit stays.
 pub record AreRead {I F : Type 0} (fed : I → List ℕ → I) (group : Sampling I ℕ) (r : Residues F) (n : ℕ)
     (by : CallByCall (SerializingState I) F) (calls : List (SerializingCall F)) (s : SerializingState I)
     (words : List ℕ) : Type 0 where

@@ -12,9 +12,10 @@ impl<
     Inner: CanObserve<u8> + CanSample<u8>,
     const BYTES: usize,
 > SerializingChallenger<F, Inner, BYTES> {
-    /// Every list of calls is one on the inner challenger: the bytes of each observed element as one slice, and for each
-    /// draw the groups that it takes. The answers are read off these groups, and the inner challenger ends where these
-    /// calls leave it. The draw limit stays. This holds where the inner challenger's draws meet no limit of their own.
+    /// Every list of calls is one on the inner challenger: the bytes of each observed element as one slice, and for
+    /// each draw the groups that it takes. The answers are read off these groups, and the inner challenger ends where
+    /// these calls leave it. The draw limit stays. This holds where the inner challenger's draws meet no limit of their
+    /// own.
     ///
     /// A law: the body is empty, and a caller cites the clause.
     pub fn follows_groups()

@@ -3,12 +3,13 @@ use p3_challenger_core::{
     sample_array,
 };
 use p3_field::{BabyBear, Coeffs, F257, Field, Goldilocks, PrimeCharacteristicRing};
-use p3_grinding::{CanSampleUniformBits, GrindingChallenger};
+use p3_grinding::{CanSampleUniformBits, GrindingChallenger, UniformBitsError};
 use p3_hash_challenger::HashChallenger;
 use p3_serializing::{SerializingChallenger32, SerializingChallenger64};
 use p3_symmetric::{Hash, MerkleCap};
 use p3_test_support::{LengthHasher, SumHasher, length_challenger};
 use std::alloc::{AllocError, Global};
+use std::process::Abort;
 use std::test::Fail;
 
 type Over32<F, H> = SerializingChallenger32<F, HashChallenger<u8, H, 32>>;
@@ -43,6 +44,45 @@ fn draws<F: Field, C: CanSample<F>>(
     Ok(challenger.sample()? == element)
 }
 
+// Bits, a check and a search, each of as many bits as may be asked for.
+
+fn bits<C: CanSampleBits<usize>>(
+    rt: &impl Abort,
+    challenger: &mut C,
+    bits: usize,
+) -> Result<usize, ChallengerError> {
+    assert!(rt; bits <= C::max_bits());
+    challenger.sample_bits(bits)
+}
+
+fn uniform_bits<C: CanSampleUniformBits<Goldilocks>>(
+    rt: &impl Abort,
+    challenger: &mut C,
+    bits: usize,
+) -> Result<usize, UniformBitsError> {
+    assert!(rt; bits <= C::max_bits());
+    challenger.sample_uniform_bits(bits, false)
+}
+
+fn passes<C: GrindingChallenger<Witness = F257>>(
+    rt: &impl Abort,
+    challenger: &mut C,
+    bits: usize,
+    number: u64,
+) -> Result<bool, ChallengerError> {
+    assert!(rt; bits <= C::max_bits());
+    challenger.check_witness(bits, F257::from_u64(number))
+}
+
+fn grind<C: GrindingChallenger<Witness = F257>>(
+    rt: &impl Abort,
+    challenger: &mut C,
+    bits: usize,
+) -> Result<F257, ChallengerError> {
+    assert!(rt; bits <= C::max_bits());
+    challenger.grind(bits)
+}
+
 fn short(number: u64) -> BabyBear {
     BabyBear::from_u64(number)
 }
@@ -68,7 +108,7 @@ fn short_elements_and_digests_are_bytes(rt: HostRuntime) -> Result<(), Fail> {
         short(1061175618),
     ];
     assert_eq!(rt; drawn, Coeffs::new(coefficients));
-    assert_eq!(rt; challenger.sample_bits(5)?, 30);
+    assert_eq!(rt; bits(&rt, &mut challenger, 5)?, 30);
     assert_eq!(rt; challenger.finalize()[0], 32);
     Ok(())
 }
@@ -94,8 +134,8 @@ fn long_elements_and_digests_are_bytes(rt: HostRuntime) -> Result<(), Fail> {
     let bytes: MerkleCap<Goldilocks, [u8; 1]> = MerkleCap::new(vec![in alloc; [1u8], [2]]?);
     observe_many(&mut challenger, &[&bytes])?;
     assert!(rt; draws(&mut challenger, Goldilocks::from_u64(3038570946151526449))?);
-    assert_eq!(rt; challenger.sample_bits(12)?, 2089);
-    assert_eq!(rt; challenger.sample_uniform_bits(3, false)?, 1);
+    assert_eq!(rt; bits(&rt, &mut challenger, 12)?, 2089);
+    assert_eq!(rt; uniform_bits(&rt, &mut challenger, 3)?, 1);
     let drawn: Coeffs<Goldilocks, 4> = challenger.sample_algebra_element()?;
     let coefficients = [
         Goldilocks::from_u64(1302406798037686297),
@@ -111,7 +151,7 @@ fn long_elements_and_digests_are_bytes(rt: HostRuntime) -> Result<(), Fail> {
 #[test]
 fn draws_go_on_from_group_to_group(rt: HostRuntime) -> Result<(), Fail> {
     let mut challenger = over_four_bytes(rt.alloc())?;
-    assert_eq!(rt; challenger.clone()?.sample_bits(5)?, 3);
+    assert_eq!(rt; bits(&rt, &mut challenger.clone()?, 5)?, 3);
     assert!(rt; draws(&mut challenger, short(539042339))?);
     let drawn: [BabyBear; 2] = sample_array(&mut challenger)?;
     assert_eq!(rt; drawn, [short(471670303), short(404298267)]);
@@ -136,9 +176,9 @@ fn limit_is_met_after_as_many_groups(rt: HostRuntime) -> Result<(), Fail> {
 fn byte_is_dropped_before_a_witness(rt: HostRuntime) -> Result<(), Fail> {
     let alloc = rt.alloc();
     let mut challenger = over_no_bytes(alloc);
-    assert_eq!(rt; challenger.grind(3)?, F257::from_u64(1));
+    assert_eq!(rt; grind(&rt, &mut challenger, 3)?, F257::from_u64(1));
     assert!(rt; draws(&mut challenger, F257::from_u64(256))?);
-    assert!(rt; (&mut challenger).check_witness(3, F257::from_u64(1))?);
+    assert!(rt; passes(&rt, &mut &mut challenger, 3, 1)?);
     assert!(rt; draws(&mut challenger, F257::from_u64(47))?);
     Ok(())
 }
@@ -147,10 +187,10 @@ fn byte_is_dropped_before_a_witness(rt: HostRuntime) -> Result<(), Fail> {
 fn no_witness_leaves_the_challenger(rt: HostRuntime) -> Result<(), Fail> {
     let five = length_challenger(rt.alloc(), 5)?;
     let mut challenger: Over32<F257, LengthHasher> = SerializingChallenger32::new(five, 10);
-    assert!(rt; !challenger.clone()?.check_witness(1, F257::from_u64(0))?);
-    assert_eq!(rt; challenger.grind(1), Err(ChallengerError::NoWitness));
-    assert!(rt; challenger.check_witness(0, F257::from_u64(9))?);
-    assert_eq!(rt; challenger.grind(0)?, F257::from_u64(0));
+    assert!(rt; !passes(&rt, &mut challenger.clone()?, 1, 0)?);
+    assert_eq!(rt; grind(&rt, &mut challenger, 1), Err(ChallengerError::NoWitness));
+    assert!(rt; passes(&rt, &mut challenger, 0, 9)?);
+    assert_eq!(rt; grind(&rt, &mut challenger, 0)?, F257::from_u64(0));
     assert!(rt; draws(&mut challenger, F257::from_u64(63))?);
     Ok(())
 }
