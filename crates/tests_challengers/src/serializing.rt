@@ -188,7 +188,10 @@ fn no_witness_leaves_the_challenger(rt: HostRuntime) -> Result<(), Fail> {
     let five = length_challenger(rt.alloc(), 5)?;
     let mut challenger: Over32<F257, LengthHasher> = SerializingChallenger32::new(five, 10);
     assert!(rt; !passes(&rt, &mut challenger.clone()?, 1, 0)?);
-    assert_eq!(rt; grind(&rt, &mut challenger, 1), Err(ChallengerError::NoWitness));
+    assert_eq!(rt;
+        grind(&rt, &mut challenger, 1),
+        Err(ChallengerError::NoWitness)
+    );
     assert!(rt; passes(&rt, &mut challenger, 0, 9)?);
     assert_eq!(rt; grind(&rt, &mut challenger, 0)?, F257::from_u64(0));
     assert!(rt; draws(&mut challenger, F257::from_u64(63))?);
