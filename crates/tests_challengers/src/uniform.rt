@@ -1,3 +1,5 @@
+ghost use Rattle.std.specs.Prelude.{◌≤◌};
+
 use p3_challenger_core::{CanObserve, CanSample, ChallengerError};
 use p3_duplex::DuplexChallenger;
 use p3_field::{BabyBear, PrimeCharacteristicRing};
@@ -8,7 +10,9 @@ use std::test::Fail;
 // The largest element, 2013265920, which is no uniform value of few bits, is drawn next.
 fn before_largest(
     draw_limit: u64,
-) -> Result<DuplexChallenger<BabyBear, Turn<2>, 3, 2>, ChallengerError> {
+) -> Result<DuplexChallenger<BabyBear, Turn<2>, 3, 2>, ChallengerError>
+    requires { 1 ≤ draw_limit }
+{
     let mut challenger = DuplexChallenger::new(Turn, draw_limit);
     challenger.observe(BabyBear::from_u64(2013265918))?;
     Ok(challenger)
@@ -17,7 +21,9 @@ fn before_largest(
 // The largest element is the second one that is drawn.
 fn before_other_and_largest(
     draw_limit: u64,
-) -> Result<DuplexChallenger<BabyBear, Turn<1>, 3, 2>, ChallengerError> {
+) -> Result<DuplexChallenger<BabyBear, Turn<1>, 3, 2>, ChallengerError>
+    requires { 1 ≤ draw_limit }
+{
     let mut challenger = DuplexChallenger::new(Turn, draw_limit);
     challenger.observe(BabyBear::from_u64(7))?;
     challenger.observe(BabyBear::from_u64(2013265919))?;

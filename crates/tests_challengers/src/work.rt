@@ -1,3 +1,5 @@
+ghost use Rattle.std.specs.Prelude.{◌≤◌};
+
 use p3_challenger_core::{CanObserve, CanSample, ChallengerError};
 use p3_duplex::DuplexChallenger;
 use p3_field::{F257, PrimeCharacteristicRing};
@@ -7,7 +9,9 @@ use std::test::Fail;
 
 type Sponge<const K: usize> = DuplexChallenger<F257, Turn<K>, 3, 2>;
 
-fn fresh<const K: usize>(draw_limit: u64) -> Sponge<K> {
+fn fresh<const K: usize>(draw_limit: u64) -> Sponge<K>
+    requires { 1 ≤ draw_limit }
+{
     DuplexChallenger::new(Turn, draw_limit)
 }
 
