@@ -2,12 +2,12 @@
 use crate::line::Step;
 use crate::subject::Way;
 use crate::words::split_name;
-use crate::{duplex, hash, multi_field, serializing};
+use crate::{duplex, hash};
 use anyhow::{Result, bail};
 use std::alloc::Global;
 
-/// The first call with another answer, on a new challenger: `duplex F K W R`, `multi F PF K W R`, `hash H [HEX]`, or
-/// `ser32 F H [HEX]` or `ser64 F H [HEX]`. After the word `by-reference` each call is made on a reference to it.
+/// The first call with another answer, on a new challenger: `duplex F K W R`, or `hash H [HEX]`. After the word
+/// `by-reference` each call is made on a reference to it.
 pub fn difference(
     alloc: Global,
     spec: &str,
@@ -29,8 +29,6 @@ fn difference_by_way(
     match kind {
         "duplex" => duplex::difference(alloc, way, spec, steps),
         "hash" => hash::difference(alloc, way, spec, steps),
-        "multi" => multi_field::difference(alloc, way, spec, steps),
-        "ser32" | "ser64" => serializing::difference(alloc, way, kind, spec, steps),
         _ => bail!("an unknown subject"),
     }
 }

@@ -1,5 +1,4 @@
 use crate::answer;
-use crate::candidates::least_candidate;
 use crate::challenger_call::{ArraysKind, ChallengerCall, Draw, Form, Observation, RowKind};
 use crate::line::Step;
 use crate::replay::{Replayed, first_difference};
@@ -79,10 +78,7 @@ impl<H: CryptographicHasher<u8, [u8; 32]>> Replayed for Hashing<H> {
                 Ok(hex::encode(alloc, &digest[..])?)
             }
             ChallengerCall::State => state(alloc, &self.challenger),
-            ChallengerCall::FindWitness(search) => {
-                least_candidate(alloc, &self.challenger, search)
-            }
-            ChallengerCall::Permute | ChallengerCall::Work(_) => bail!("bytes are no field"),
+            ChallengerCall::Permute => bail!("bytes are no field"),
         }
     }
 }
@@ -114,13 +110,8 @@ fn observe_arrays<H: CryptographicHasher<u8, [u8; 32]>, const N: usize>(
     rest: &[Vec<u8>],
 ) -> Result<()> {
     match kind {
-        ArraysKind::Cap => observe(alloc, subject, form, cap::<u8, u8, N>(alloc, first, rest)?),
-        ArraysKind::CapByReference => observe(
-            alloc,
-            subject,
-            form,
-            &cap::<u8, u8, N>(alloc, first, rest)?,
-        ),
+        ArraysKind::Cap => observe(alloc, subject, form, cap(alloc, first, rest)?),
+        ArraysKind::CapByReference => observe(alloc, subject, form, &cap(alloc, first, rest)?),
         ArraysKind::Array if rest.is_empty() => observe(alloc, subject, form, first),
         ArraysKind::Digest if rest.is_empty() => {
             observe(alloc, subject, form, Hash::<u8, u8, N>::from(first))

@@ -48,37 +48,14 @@ macro_rules! with_challenger {
     };
 }
 
-// The first difference on a new challenger of the shape that the line has, which the macro `$new` makes over `$fields`.
-// (Each array has to be seen to fit in memory, so no function that makes a challenger is generic over the field.)
-macro_rules! difference_over {
-    ($new:ident, $fields:tt, $alloc:expr, $way:expr, $shape:expr, $steps:expr) => {
-        match $shape {
-            "1 2 1" => first_difference($alloc, $new!($fields, 1, 2, 1, $way), $steps),
-            "1 3 2" => first_difference($alloc, $new!($fields, 1, 3, 2, $way), $steps),
-            "2 3 2" => first_difference($alloc, $new!($fields, 2, 3, 2, $way), $steps),
-            "2 4 2" => first_difference($alloc, $new!($fields, 2, 4, 2, $way), $steps),
-            "1 5 3" => first_difference($alloc, $new!($fields, 1, 5, 3, $way), $steps),
-            "2 5 3" => first_difference($alloc, $new!($fields, 2, 5, 3, $way), $steps),
-            "5 8 4" => first_difference($alloc, $new!($fields, 5, 8, 4, $way), $steps),
-            "9 16 8" => first_difference($alloc, $new!($fields, 9, 16, 8, $way), $steps),
-            _ => bail!("an unknown shape"),
-        }
-    };
-}
-
 pub mod answer;
-mod candidates;
 pub mod challenger_call;
 pub mod challengers;
 mod duplex;
-mod elements;
 mod hash;
 pub mod line;
-mod multi_field;
 pub mod replay;
-mod serializing;
 mod subject;
 pub mod symbol;
 pub mod symmetric;
 pub mod words;
-mod work;

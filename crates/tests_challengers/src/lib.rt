@@ -6,12 +6,6 @@ mod candidates;
 #[cfg(test)]
 mod hash;
 #[cfg(test)]
-mod multi_field;
-#[cfg(test)]
 mod serializing;
 #[cfg(test)]
 mod symmetric;
-#[cfg(test)]
-mod uniform;
-#[cfg(test)]
-mod work;
