@@ -26,13 +26,13 @@ pub record Tried {S : Type 0} (check : ℕ → Sampling S Bool) (start trial : S
 false_not_true : Some false ≡ Some true → ⊥
 false_not_true e = search (rules, e)
 
-none_not_some : None ≡ Some true → ⊥
+pub none_not_some : None ≡ Some true → ⊥
 none_not_some e = search (rules, e)
 
-nothing_below : (k : ℕ) → k < 0 → ⊥
+pub nothing_below : (k : ℕ) → k < 0 → ⊥
 nothing_below k h = omega arith
 
-below_least : (k : ℕ) {m n : ℕ} → k < m → m ≤ n → k < n
+pub below_least : (k : ℕ) {m n : ℕ} → k < m → m ≤ n → k < n
 below_least k h at_most = omega arith
 
 module _ {S W : Type 0} (r : Residues W) (check : W → Sampling S Bool) (start : S) where

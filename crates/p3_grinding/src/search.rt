@@ -1,8 +1,8 @@
-// Searches for the least witness that passes: each candidate in order is checked on a copy, which is set back for the
-// next one. The copy that passed takes the challenger's place.
+// Searches for the least witness that passes. What a check draws before its witness is drawn once, on a copy; each candidate
+// in order is tested on a copy of that one, which is set back for the next. The copy that passed takes the challenger's place.
 ghost use Rattle.std.specs.Prelude.{◌≡◌, ◌≤◌, Some, OnOk, IfOk, IfErr};
-ghost use Rattle.p3_grinding.specs.Checks.{all_zero, check_of, IsLeast};
-ghost use Rattle.p3_grinding.specs.Checks.{RefusesSearch, MayRunOut};
+ghost use Rattle.p3_grinding.specs.Checks.{all_zero, draws_nothing, checked, check_of, IsLeast};
+ghost use Rattle.p3_grinding.specs.Checks.{RefusesReady, RefusesSearch, MayRunOut};
 ghost use Rattle.p3_challenger_core.specs.Sampling.{RefusesDraw};
 
 use crate::{PrepareCheck, Replica};
@@ -30,10 +30,54 @@ pub fn least_witness<
         RefusesSearch W.residues (MayRunOut C.copies_may_fail check) check e
         (C.state challenger.old) (C.state challenger.new)) }
 {
+    if bits == 0 {
+        return Ok(W::from_canonical(0));
+    }
+    let mut prepared = prepared_copy(challenger)?;
+    let witness = least_prepared(&mut prepared, bits)?;
+    mem::swap(challenger, &mut prepared);
+    Ok(witness)
+}
+
+/// An equal challenger, from which was drawn what a check draws before its witness.
+///
+/// The errors are [`ChallengerError::NoWitness`] where that meets a draw limit, so that no witness passes, and
+/// [`ChallengerError::OutOfMemory`].
+pub(crate) fn prepared_copy<C: PrepareCheck + Replica>(challenger: &C) -> Result<C, ChallengerError>
+    ensures drawn { OnOk result (C.before_witness.sampled (C.state challenger.now) ≡ Some tt) }
+    ensures after { IfOk result (λ c. C.state c ≡ C.before_witness.after (C.state challenger.now)) }
+    ensures err { IfErr result (λ e.
+        RefusesReady C.copies_may_fail C.before_witness e (C.state challenger.now)) }
+{
+    let mut prepared = challenger.copy()?;
+    match prepared.prepare_check() {
+        Ok(()) => Ok(prepared),
+        Err(ChallengerError::DrawLimit) => Err(ChallengerError::NoWitness),
+        Err(error) => Err(error),
+    }
+}
+
+// The least witness that passes on a challenger which is ready for one.
+fn least_prepared<W: PrimeField64, C: CanObserve<W> + CanSampleBits<usize> + Replica>(
+    challenger: &mut C,
+    bits: usize,
+) -> Result<W, ChallengerError>
+    requires { bits ≤ C.most_bits }
+    ensures least { IfOk result (λ witness. IsLeast W.residues
+        (checked draws_nothing C.observation (all_zero (C.bits_sampling bits)))
+        (C.state challenger.old) witness) }
+    ensures after { IfOk result (λ witness. C.state challenger.new
+        ≡ (checked draws_nothing C.observation (all_zero (C.bits_sampling bits)) witness).after
+        (C.state challenger.old)) }
+    ensures err { IfErr result (λ e.
+        let check = checked draws_nothing C.observation (all_zero (C.bits_sampling bits)) in
+        RefusesSearch W.residues (MayRunOut C.copies_may_fail check) check e
+        (C.state challenger.old) (C.state challenger.new)) }
+{
     let mut trial = challenger.copy()?;
     for candidate in 0..W::ORDER_U64 {
         let witness = W::from_canonical(candidate);
-        match check_plainly(&mut trial, bits, witness) {
+        match passes(&mut trial, bits, witness) {
             Ok(true) => {
                 mem::swap(challenger, &mut trial);
                 return Ok(witness);
@@ -65,6 +109,23 @@ pub(crate) fn check_plainly<
         return Ok(true);
     }
     challenger.prepare_check()?;
+    passes(challenger, bits, witness)
+}
+
+// Whether a witness passes on a challenger which is ready for one.
+fn passes<W: PrimeField64, C: CanObserve<W> + CanSampleBits<usize>>(
+    challenger: &mut C,
+    bits: usize,
+    witness: W,
+) -> Result<bool, ChallengerError>
+    requires { bits ≤ C.most_bits }
+    ensures answered { IfOk result (λ passes. (checked draws_nothing C.observation
+        (all_zero (C.bits_sampling bits)) witness).sampled (C.state challenger.old) ≡ Some passes) }
+    ensures after { OnOk result (C.state challenger.new ≡ (checked draws_nothing C.observation
+        (all_zero (C.bits_sampling bits)) witness).after (C.state challenger.old)) }
+    ensures err { IfErr result (λ e. RefusesDraw (checked draws_nothing C.observation
+        (all_zero (C.bits_sampling bits)) witness) e (C.state challenger.old) (C.state challenger.new)) }
+{
     challenger.observe(witness)?;
     Ok(challenger.sample_bits(bits)? == 0)
 }

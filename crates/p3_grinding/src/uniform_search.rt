@@ -1,9 +1,10 @@
 // The search for the least witness by uniform bits: as `search` has it for plain ones.
 ghost use Rattle.std.specs.Prelude.{◌≡◌, ◌≤◌, Some, OnOk, IfOk, IfErr};
-ghost use Rattle.p3_grinding.specs.Checks.{zero_and_uniform, check_of, IsLeast};
+ghost use Rattle.p3_grinding.specs.Checks.{zero_and_uniform, draws_nothing, checked, check_of, IsLeast};
 ghost use Rattle.p3_grinding.specs.Checks.{RefusesSearch, MayRunOut};
 ghost use Rattle.p3_challenger_core.specs.Sampling.{RefusesDraw};
 
+use crate::search::prepared_copy;
 use crate::{CanSampleUniformBits, PrepareCheck, Replica, UniformBitsError};
 use p3_challenger_core::{CanObserve, ChallengerError};
 use p3_field_core::PrimeField64;
@@ -29,10 +30,37 @@ pub fn least_uniform_witness<
         RefusesSearch W.residues (MayRunOut C.copies_may_fail check) check e
         (C.state challenger.old) (C.state challenger.new)) }
 {
+    if bits == 0 {
+        return Ok(W::from_canonical(0));
+    }
+    let mut prepared = prepared_copy(challenger)?;
+    let witness = least_prepared(&mut prepared, bits, resample)?;
+    mem::swap(challenger, &mut prepared);
+    Ok(witness)
+}
+
+// The least witness that passes on a challenger which is ready for one.
+fn least_prepared<W: PrimeField64, C: CanObserve<W> + CanSampleUniformBits<W> + Replica>(
+    challenger: &mut C,
+    bits: usize,
+    resample: bool,
+) -> Result<W, ChallengerError>
+    requires { bits ≤ C.most_bits }
+    ensures least { IfOk result (λ witness. IsLeast W.residues
+        (checked draws_nothing C.observation (zero_and_uniform (C.uniform resample bits)))
+        (C.state challenger.old) witness) }
+    ensures after { IfOk result (λ witness. C.state challenger.new
+        ≡ (checked draws_nothing C.observation (zero_and_uniform (C.uniform resample bits)) witness).after
+        (C.state challenger.old)) }
+    ensures err { IfErr result (λ e.
+        let check = checked draws_nothing C.observation (zero_and_uniform (C.uniform resample bits)) in
+        RefusesSearch W.residues (MayRunOut C.copies_may_fail check) check e
+        (C.state challenger.old) (C.state challenger.new)) }
+{
     let mut trial = challenger.copy()?;
     for candidate in 0..W::ORDER_U64 {
         let witness = W::from_canonical(candidate);
-        match check_uniformly(&mut trial, bits, resample, witness) {
+        match passes(&mut trial, bits, resample, witness) {
             Ok(true) => {
                 mem::swap(challenger, &mut trial);
                 return Ok(witness);
@@ -65,6 +93,25 @@ pub(crate) fn check_uniformly<
         return Ok(true);
     }
     challenger.prepare_check()?;
+    passes(challenger, bits, resample, witness)
+}
+
+// Whether a witness passes on a challenger which is ready for one.
+fn passes<W: PrimeField64, C: CanObserve<W> + CanSampleUniformBits<W>>(
+    challenger: &mut C,
+    bits: usize,
+    resample: bool,
+    witness: W,
+) -> Result<bool, ChallengerError>
+    requires { bits ≤ C.most_bits }
+    ensures answered { IfOk result (λ passes. (checked draws_nothing C.observation
+        (zero_and_uniform (C.uniform resample bits)) witness).sampled (C.state challenger.old) ≡ Some passes) }
+    ensures after { OnOk result (C.state challenger.new ≡ (checked draws_nothing C.observation
+        (zero_and_uniform (C.uniform resample bits)) witness).after (C.state challenger.old)) }
+    ensures err { IfErr result (λ e. RefusesDraw (checked draws_nothing C.observation
+        (zero_and_uniform (C.uniform resample bits)) witness) e
+        (C.state challenger.old) (C.state challenger.new)) }
+{
     challenger.observe(witness)?;
     zero_uniform_bits::<W, C>(challenger, bits, resample)
 }

@@ -1,11 +1,11 @@
-use Rattle.p3_grinding.specs.Checks.{zero_and_uniform, check_of}
+use Rattle.p3_grinding.specs.Checks.{zero_and_uniform, draws_nothing, checked}
 use Rattle.p3_grinding.proofs.Searching.{Searched}
-use Rattle.p3_grinding.proofs.uniform_search.least_uniform_witness.Given as goal
+use Rattle.p3_grinding.proofs.uniform_search.least_prepared.Given as goal
 
 -- no candidate so far passes, and the copy is set back
 abbrev pub invariant-loop-candidate : goal.invariant-loop-candidate
 invariant-loop-candidate g l =
     Searched g.W.PrimeCharacteristicRing.residues
-    (check_of g.C.PrepareCheck.before_witness g.C.CanObserve.observation
-    (zero_and_uniform (g.C.CanSampleUniformBits.uniform l.resample l.bits)) l.bits)
+    (checked draws_nothing g.C.CanObserve.observation
+    (zero_and_uniform (g.C.CanSampleUniformBits.uniform l.resample l.bits)))
     (g.C.Sponge.state l.initial.challenger) (g.C.Sponge.state l.challenger) (g.C.Sponge.state l.trial) l.candidate
