@@ -8,6 +8,7 @@ mod hash;
 mod patterns;
 mod seeds;
 mod timing;
+mod work;
 
 use anyhow::Result;
 use std::env;
@@ -34,7 +35,8 @@ fn main(rt: HostRuntime) -> Result<()> {
     let seeds = seeds::measure(&rt, runs, text.as_slice())?;
     let patterns = patterns::measure(&rt, runs)?;
     let drivers = drivers::measure(&rt, runs)?;
+    let work = work::measure(&rt, runs)?;
     // The sums are shown so that nothing of what makes them can be left out.
-    println!(rt; "sums: {duplex} {hash} {seeds} {patterns} {drivers}")?;
+    println!(rt; "sums: {duplex} {hash} {seeds} {patterns} {drivers} {work}")?;
     Ok(())
 }

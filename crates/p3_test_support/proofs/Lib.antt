@@ -5,3 +5,4 @@ pub mod FieldRows
 pub mod HashRows
 pub mod Lies
 pub mod Observed
+pub mod UniformRows

@@ -1,12 +1,16 @@
 -- Implementations that lie about themselves, and effects that do: the laws refuse each.
-use Rattle.std.proofs.Common.{◌≡◌, ℕ, zero, suc, ◌<◌, ◌≤◌, List, [], ◌∷◌, ◌++◌, length, replicate, Some}
-use Rattle.std.proofs.Common.{Ok, refl, lit<, inl, inr, arith}
+use Rattle.std.proofs.Common.{◌≡◌, ℕ, zero, suc, ◌<◌, ◌≤◌, List, [], ◌∷◌, ◌++◌, length, replicate, Option, Some, None}
+use Rattle.std.proofs.Common.{Bool, true, false, Ok, refl, lit<, inl, inr, arith}
 use Rattle.p3_symmetric.specs.Digests.{IsDigest}
-use Rattle.p3_challenger_core.specs.Reading.{IsByte, AreBytes, OneBegins}
+use Rattle.p3_field_core.specs.Residues.{Residues}
+use Rattle.p3_challenger_core.specs.Reading.{IsByte, AreBytes, IsPrefixCodeOn, OneBegins, TellsApart}
 use Rattle.p3_challenger_core.specs.Sponge.{IsFed, after_steps}
 use Rattle.p3_challenger_core.specs.Observation.{Observation, IsObservation}
 use Rattle.p3_challenger_core.specs.Sampling.{Sampling, IsSampling}
-use Rattle.p3_challenger_core.specs.declared.error.ChallengerError.TheVariants.{OutOfMemory}
+use Rattle.p3_challenger_core.specs.declared.error.ChallengerError.{ChallengerError}
+use Rattle.p3_challenger_core.specs.declared.error.ChallengerError.TheVariants.{OutOfMemory, DrawLimit, NoWitness, TooLong}
+use Rattle.p3_grinding.specs.UniformDraws.{UniformDraw, IsUniformDraw}
+use Rattle.p3_grinding.specs.Checks.{passed, IsLeast, RefusesSearch}
 use Rattle.p3_fs_core.specs.Alphabet.{AreItems}
 use Rattle.p3_fs_core.specs.Encoding.{Encoding, IsEncoding}
 use Rattle.p3_driver_core.specs.Effects.{Effect}
@@ -184,3 +188,45 @@ short-refused digest short is = absurd (omega (arith, short, is.places))
 -- a place of it is no byte
 above-refused : IsDigest (256 ∷ replicate 31 0) → ⊥
 above-refused is = absurd (omega (arith, is.bytes 0))
+
+-- ---- uniform bits, and proof of work
+
+-- a draw that gives this, and rejects 9 for not being below 8
+abbrev rejecting : (ℕ → Option ℕ) → (ℕ → Type 0) → UniformDraw ℕ
+rejecting given meets_limit =
+    record {
+      draw = record { sampled = given; after = suc; meets_limit = meets_limit; may_leave = λ _ _. ⊥ };
+      rejects = λ _. Some (record { value = 9; m = 8 });
+    }
+
+-- a value is rejected where another one is to be drawn in its place
+stubborn-refused : IsUniformDraw suc true (rejecting (λ _. None) (λ _. ⊥)) → ⊥
+stubborn-refused laws = let none = laws.resampled refl 0 in cc
+
+-- a rejected value is given all the same
+giving-refused : IsUniformDraw suc false (rejecting Some (λ _. ⊥)) → ⊥
+giving-refused laws = let none = laws.rejected_gives_none 0 refl in cc
+
+-- a rejected value is said to meet the limit as well
+limiting-refused : IsUniformDraw suc false (rejecting (λ _. None) (λ _. Unit {0})) → ⊥
+limiting-refused laws = laws.rejected_or_limit 0 refl tt
+
+-- a witness feeds nothing
+unfed_witness-refused : TellsApart {T = ℕ} {S = ℕ} (λ _. []) → ⊥
+unfed_witness-refused laws = absurd (omega (arith, (laws.prefix_code 0 1 [] [] refl).0))
+
+-- the bytes of candidates feed nothing
+unfed_bytes-refused : IsPrefixCodeOn {T = ℕ} {S = ℕ} IsByte (λ _. []) → ⊥
+unfed_bytes-refused tells = absurd (omega (arith, (tells 0 1 [] [] (lit< tt) (lit< tt) refl).0))
+
+-- a refused search leaves something else than it found
+scribbling_search-refused : (r : Residues ℕ) (may_run_out : ℕ → Type 0) (check : ℕ → Sampling ℕ Bool)
+    (e : ChallengerError) → RefusesSearch r may_run_out check e 0 77 → ⊥
+scribbling_search-refused r may_run_out check OutOfMemory h = absurd (omega (arith, h.1))
+scribbling_search-refused r may_run_out check NoWitness h = absurd (omega (arith, h.1))
+scribbling_search-refused r may_run_out check DrawLimit h = h
+scribbling_search-refused r may_run_out check TooLong h = h
+
+-- a search answers a witness after another one that passes
+later_witness-refused : (order : ℕ) → IsLeast {S = ℕ} {W = ℕ} (record { order = order; number = λ x. x; of = λ n. n }) (λ _. passed) 0 1 → ⊥
+later_witness-refused order found = found.least 0 (lit< tt) refl
