@@ -106,8 +106,8 @@ RefusesSearch r may_run_out check OutOfMemory s t = may_run_out s × (t ≡ s)
 RefusesSearch r may_run_out check NoWitness s t = NonePasses r check s × (t ≡ s)
 RefusesSearch r may_run_out check _ s t = ⊥
 
--- why no copy of a challenger is made ready for witnesses: memory was refused, or what is drawn before a witness meets a
--- limit, so that there is no witness
+-- why no copy of a challenger is made ready for witnesses: memory was refused, or what is drawn before a witness
+-- meets a limit, so that there is no witness
 abbrev pub RefusesReady : {S : Type 0} → Type 0 → Sampling S (Unit {0}) → ChallengerError → S → Type 0
 RefusesReady {S} copies_may_fail before OutOfMemory s = copies_may_fail ⊎ ((t : S) × before.may_leave s t)
 RefusesReady copies_may_fail before NoWitness s = before.sampled s ≡ None

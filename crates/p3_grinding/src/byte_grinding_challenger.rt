@@ -8,8 +8,8 @@ ghost use Rattle.p3_grinding.specs.Checks.{byte_check, Finds, MayRunOut};
 use crate::Replica;
 use p3_challenger_core::{CanObserve, CanSample, ChallengerError, sample_array};
 
-/// Candidates of a search, each of which is a string of `W` bytes, and which of the strings of `S` bytes that may be drawn
-/// after one it is to pass with.
+/// Candidates of a search, each of which is a string of `W` bytes, and which of the strings of `S` bytes that may be
+/// drawn after one it is to pass with.
 pub trait ByteCandidates<const W: usize, const S: usize> {
     // The bytes of each candidate.
     ghost encoded: { Self → ℕ → List ℕ };
@@ -31,15 +31,15 @@ pub trait ByteCandidates<const W: usize, const S: usize> {
     ghost drawn_fit: { S < 2 ^ 63 };
 }
 
-/// A challenger of bytes that candidates are tried on, each of which feeds `W` bytes, and is tested by the next `S` bytes
-/// that are drawn.
+/// A challenger of bytes that candidates are tried on, each of which feeds `W` bytes, and is tested by the next `S`
+/// bytes that are drawn.
 pub trait ByteGrindingChallenger<const W: usize, const S: usize>: Replica
     + CanObserve<u8>
     + CanSample<u8> {
     /// The least candidate below `num_candidates` that passes, or `None` where none does. Nothing changes.
     ///
-    /// A candidate passes where the `S` bytes are accepted that are drawn once its `W` bytes were observed as one slice.
-    /// One whose draws meet a limit does not. The one error is [`ChallengerError::OutOfMemory`].
+    /// A candidate passes where the `S` bytes are accepted that are drawn once its `W` bytes were observed as one
+    /// slice. One whose draws meet a limit does not. The one error is [`ChallengerError::OutOfMemory`].
     fn find_witness<K: ByteCandidates<W, S>>(
         &self,
         num_candidates: u64,

@@ -11,8 +11,8 @@ use p3_challenger_core::ChallengerError;
 /// With 0 bits each witness passes, and nothing is touched.
 pub trait UniformGrindingChallenger: GrindingChallenger + CanSampleUniformBits<Self::Witness> {
     /// The least witness that passes [`check_witness_uniform`](UniformGrindingChallenger::check_witness_uniform), with
-    /// `bits` at most `max_bits`. The challenger is left as that check leaves it. A witness whose check meets a draw limit
-    /// does not pass.
+    /// `bits` at most `max_bits`. The challenger is left as that check leaves it. A witness whose check meets a draw
+    /// limit does not pass.
     ///
     /// The errors are [`ChallengerError::NoWitness`] where none passes, and [`ChallengerError::OutOfMemory`]. After
     /// either the challenger is as it was.
@@ -41,8 +41,8 @@ pub trait UniformGrindingChallenger: GrindingChallenger + CanSampleUniformBits<S
             Self.before_witness Self.observation (zero_and_uniform (Self.uniform false bits)) bits) e
             (Self.state self.old) (Self.state self.new)) };
 
-    /// Whether a witness passes: it is observed, and the next `bits` uniform bits, at most `max_bits`, are all 0. Another
-    /// value is drawn in the place of one that is rejected.
+    /// Whether a witness passes: it is observed, and the next `bits` uniform bits, at most `max_bits`, are all 0.
+    /// Another value is drawn in the place of one that is rejected.
     ///
     /// The errors are those of [`CanObserve::observe`](p3_challenger_core::CanObserve::observe) and of a draw.
     fn check_witness_uniform(

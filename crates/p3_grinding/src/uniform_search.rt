@@ -10,8 +10,8 @@ use p3_challenger_core::{CanObserve, ChallengerError};
 use p3_field_core::PrimeField64;
 use std::mem;
 
-/// The least witness that passes a check of `bits` uniform bits, where `resample` says whether another value is drawn in
-/// the place of one that is rejected. The challenger is left as that check leaves it.
+/// The least witness that passes a check of `bits` uniform bits, where `resample` says whether another value is drawn
+/// in the place of one that is rejected. The challenger is left as that check leaves it.
 ///
 /// A witness whose check meets a draw limit does not pass. The errors are those of [`least_witness`].
 pub fn least_uniform_witness<

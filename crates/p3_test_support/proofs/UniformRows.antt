@@ -1,5 +1,6 @@
--- Worked rows of uniform bits and of searches, computed on the definitions: three cells, of which two are the rate, under
--- turns by one place and by two, which make (b + 1, c + 2, a + 3) and (c + 1, a + 2, b + 3) of the cells (a, b, c).
+-- Worked rows of uniform bits and of searches, computed on the definitions: three cells, of which two are the rate,
+-- under turns by one place and by two, which make (b + 1, c + 2, a + 3) and (c + 1, a + 2, b + 3) of the cells (a, b,
+-- c).
 use Rattle.std.proofs.Common.{◌≡◌, ℕ, Bool, true, false, List, [], ◌∷◌, Option, Some, None, refl}
 use Rattle.p3_field_core.specs.Residues.{Residues}
 use Rattle.p3_small_primes.specs.BabyBearResidues as baby_bear

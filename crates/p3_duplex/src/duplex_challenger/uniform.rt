@@ -22,7 +22,8 @@ impl<
     ghost use Rattle.p3_duplex.specs.DuplexState.{DuplexState};
 
     /// Bits that are drawn from one element have no bias: a value is that of the low bits of an element below the bound
-    /// for so many, and each value of the bits is that of as many of these elements as the bound has multiples of `2^bits`.
+    /// for so many, and each value of the bits is that of as many of these elements as the bound has multiples of
+    /// `2^bits`.
     ///
     /// A law: the body is empty, and a caller cites the clauses.
     pub fn uniform_bits_have_no_bias(&self)
