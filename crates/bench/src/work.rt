@@ -4,8 +4,8 @@ use crate::hash::{Chain, new_chain};
 use crate::timing::least;
 use anyhow::Result;
 use p3_challenger::{
-    CanObserve, CanSample, CanSampleBits, CanSampleUniformBits, GrindingChallenger,
-    DuplexChallenger, SerializingChallenger32, UniformGrindingChallenger,
+    CanObserve, CanSample, CanSampleBits, CanSampleUniformBits, DuplexChallenger,
+    GrindingChallenger, SerializingChallenger32, UniformGrindingChallenger,
 };
 use p3_field::{BabyBear, PrimeCharacteristicRing, PrimeField64};
 use p3_symmetric::Turn;
@@ -40,9 +40,11 @@ pub fn measure(rt: &HostRuntime, runs: u32) -> Result<u64> {
     )?;
     let serializing = measure_serializing(rt, runs)?;
     let duplex = measure_duplex(rt, runs)?;
-    Ok([rounds, uniform, serializing, duplex]
-        .iter()
-        .fold(0, |sum: u64, part| sum.wrapping_add(*part)))
+    Ok(
+        [rounds, uniform, serializing, duplex]
+            .iter()
+            .fold(0, |sum: u64, part| sum.wrapping_add(*part)),
+    )
 }
 
 fn measure_serializing(rt: &HostRuntime, runs: u32) -> Result<u64> {
