@@ -9,3 +9,7 @@ mod hash;
 mod serializing;
 #[cfg(test)]
 mod symmetric;
+#[cfg(test)]
+mod uniform;
+#[cfg(test)]
+mod work;
