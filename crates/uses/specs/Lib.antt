@@ -1,4 +1,6 @@
 pub mod BoundValues
+pub mod CommitPhase
 pub mod ExtraValue
+pub mod Protocol
 pub mod SentAndDrawn
 pub mod ThreeCalls

@@ -7,8 +7,10 @@
 #![tactic(auto)]
 
 mod bound_values;
+pub mod commit_phase;
 mod extra_value;
 mod line;
+pub mod protocol;
 mod round;
 mod three_calls;
 

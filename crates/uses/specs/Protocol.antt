@@ -1,0 +1,22 @@
+-- What the small protocol's place is drawn of.
+use Rattle.std.specs.Prelude.{◌≡◌, ◌==◌, Bool, Some, not}
+use Rattle.p3_challenger.specs.BabyBearResidues.{BabyBear, residues}
+use Rattle.p3_challenger.specs.Observation.{Observation}
+use Rattle.p3_challenger.specs.Residues.{sum_of, product_of}
+use Rattle.p3_challenger.specs.Sampling.{Sampling}
+use Rattle.uses.specs.declared.protocol.Claim.{Claim}
+
+-- the place is drawn of a challenger that observed the slope, and then the offset
+pub record IsDrawnAfterLine {S Symbol : Type 0} (o : Observation S Symbol BabyBear) (d : Sampling S BabyBear) (s : S)
+    (claim : Claim) : Type 0 where
+  pub drawn : d.sampled (o.observed (o.observed s claim.slope) claim.offset) ≡ Some claim.place
+
+-- the quotient is that of the line's value at the place
+abbrev pub IsQuotient : Claim → Type 0
+IsQuotient claim =
+    product_of residues claim.quotient claim.divisor
+    ≡ sum_of residues (product_of residues claim.slope claim.place) claim.offset
+
+-- an element that may be a divisor: any but 0
+abbrev pub may_divide : BabyBear → Bool
+may_divide x = not (residues.number x == 0)

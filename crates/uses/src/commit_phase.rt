@@ -1,0 +1,164 @@
+//! The commit phase of FRI, and its queries, on any challenger: what a prover of a polynomial commitment does with the
+//! challenger itself, where the proof is a struct of its own and no typed transcript is played.
+//!
+//! Merkle caps are observed one after another, and after each a challenge in an extension is drawn. Then comes a proof
+//! of work, and then indices are drawn as uniform bits, each once. [`prove`] and [`verify`] differ in one call, and
+//! have one contract: that what they answer is drawn of what was observed, in this order.
+ghost use Rattle.std.specs.Prelude.{◌≡◌, ◌≤◌, true, IfOk, IfSome, OnOk};
+ghost use Rattle.p3_challenger.specs.Checks.{all_zero, check_of};
+ghost use Rattle.p3_challenger.specs.Sampling.{in_row};
+ghost use Rattle.uses.specs.CommitPhase.{AreDrawnInTurn, AreQueries, IsCommitPhase, kept_with};
+
+use p3_challenger::{
+    CanObserve, CanSampleUniformBits, ChallengerError, FieldChallenger, GrindingChallenger,
+    UniformBitsError,
+};
+use p3_field::{BasedVectorSpace, PrimeField64};
+use std::alloc::Global;
+
+/// How much is asked of a prover.
+#[derive(Clone, Copy)]
+pub struct Demands {
+    /// How many bits its proof of work has.
+    pub work_bits: usize,
+    /// How many bits an index has.
+    pub index_bits: usize,
+    /// How many indices are drawn.
+    pub queries: usize,
+}
+
+/// What is drawn of a commit phase.
+#[derive(Debug, Drop)]
+pub struct Challenges<EF> {
+    /// A challenge after each cap, by which the prover folds.
+    pub folds: Vec<EF>,
+    /// Where the verifier looks.
+    pub queries: Vec<usize>,
+}
+
+/// Observes the caps of a prover, and searches for its witness. A cap is what is observed of each round: a
+/// `&MerkleCap`, for most.
+///
+/// The errors are those of the challenger, among them that no witness passes, and that memory is out.
+///
+/// Condition: the bits of the work and of an index are at most what the challenger draws.
+pub fn prove<
+    EF: BasedVectorSpace<C::Witness> + Drop,
+    Cap: Copy,
+    C: GrindingChallenger
+        + FieldChallenger<C::Witness>
+        + CanObserve<Cap>
+        + CanSampleUniformBits<C::Witness>,
+>(
+    alloc: Global,
+    challenger: &mut C,
+    caps: &[Cap],
+    demands: Demands,
+) -> Result<(C::Witness, Challenges<EF>), UniformBitsError>
+    requires work { demands.work_bits ≤ C.most_bits }
+    requires index { demands.index_bits ≤ C.most_bits }
+    ensures { IfOk result (λ sent. IsCommitPhase
+        (AreDrawnInTurn ⟦<C as CanObserve<Cap>>⟧.observation.observed (in_row C.sampling EF.DIMENSION)
+        EF.coefficients caps.now sent.1.folds.items)
+        (check_of C.before_witness ⟦<C as CanObserve<C::Witness>>⟧.observation
+        (all_zero (C.bits_sampling demands.work_bits)) demands.work_bits sent.0)
+        (AreQueries (C.uniform true demands.index_bits).draw demands.queries sent.1.queries.items)
+        (C.state challenger.old) (C.state challenger.new)) }
+{
+    let folds = fold_challenges::<C::Witness, EF, Cap, C>(alloc, challenger, caps)?;
+    let witness = challenger.grind(demands.work_bits)?;
+    let queries = query_indices::<C::Witness, C>(alloc, challenger, demands)?;
+    Ok((witness, Challenges { folds, queries }))
+}
+
+/// Observes the caps of a proof, and checks its witness. It answers none where the witness does not pass.
+///
+/// The errors are those of the challenger, and that memory is out.
+///
+/// Condition: the bits of the work and of an index are at most what the challenger draws.
+pub fn verify<
+    EF: BasedVectorSpace<C::Witness> + Drop,
+    Cap: Copy,
+    C: GrindingChallenger
+        + FieldChallenger<C::Witness>
+        + CanObserve<Cap>
+        + CanSampleUniformBits<C::Witness>,
+>(
+    alloc: Global,
+    challenger: &mut C,
+    caps: &[Cap],
+    witness: C::Witness,
+    demands: Demands,
+) -> Result<Option<Challenges<EF>>, UniformBitsError>
+    requires work { demands.work_bits ≤ C.most_bits }
+    requires index { demands.index_bits ≤ C.most_bits }
+    ensures { IfOk result (λ found. IfSome found (λ challenges. IsCommitPhase
+        (AreDrawnInTurn ⟦<C as CanObserve<Cap>>⟧.observation.observed (in_row C.sampling EF.DIMENSION)
+        EF.coefficients caps.now challenges.folds.items)
+        (check_of C.before_witness ⟦<C as CanObserve<C::Witness>>⟧.observation
+        (all_zero (C.bits_sampling demands.work_bits)) demands.work_bits witness)
+        (AreQueries (C.uniform true demands.index_bits).draw demands.queries challenges.queries.items)
+        (C.state challenger.old) (C.state challenger.new))) }
+{
+    let folds = fold_challenges::<C::Witness, EF, Cap, C>(alloc, challenger, caps)?;
+    if !challenger.check_witness(demands.work_bits, witness)? {
+        return Ok(None);
+    }
+    let queries = query_indices::<C::Witness, C>(alloc, challenger, demands)?;
+    Ok(Some(Challenges { folds, queries }))
+}
+
+// Both sides observe the caps, and draw a challenge after each.
+fn fold_challenges<
+    F: PrimeField64,
+    EF: BasedVectorSpace<F> + Drop,
+    Cap: Copy,
+    C: FieldChallenger<F> + CanObserve<Cap>,
+>(alloc: Global, challenger: &mut C, caps: &[Cap]) -> Result<Vec<EF>, ChallengerError>
+    ensures { IfOk result (λ folds. AreDrawnInTurn ⟦<C as CanObserve<Cap>>⟧.observation.observed
+        (in_row C.sampling EF.DIMENSION) EF.coefficients caps.now folds.items
+        (C.state challenger.old) (C.state challenger.new)) }
+{
+    let mut folds = Vec::new(alloc);
+    for cap in caps {
+        challenger.observe(*cap)?;
+        folds.push(challenger.sample_algebra_element::<EF>()?)?;
+    }
+    Ok(folds)
+}
+
+// How often an index may be drawn again for each that is kept.
+const MOST_REPEATS: u64 = 1000;
+
+// Both sides draw indices until there are enough, and pass over those that came before.
+fn query_indices<F, C: CanSampleUniformBits<F>>(
+    alloc: Global,
+    challenger: &mut C,
+    demands: Demands,
+) -> Result<Vec<usize>, UniformBitsError>
+    requires { demands.index_bits ≤ C.most_bits }
+    ensures { IfOk result (λ queries. AreQueries (C.uniform true demands.index_bits).draw demands.queries queries.items
+        (C.state challenger.old) (C.state challenger.new)) }
+{
+    let mut queries: Vec<usize> = Vec::new(alloc);
+    for _ in 0..MOST_REPEATS {
+        if queries.len() == demands.queries {
+            return Ok(queries);
+        }
+        keep(
+            &mut queries,
+            challenger.sample_uniform_bits(demands.index_bits, true)?,
+        )?;
+    }
+    Err(ChallengerError::DrawLimit.into())
+}
+
+// Keeps an index that did not come before.
+fn keep(queries: &mut Vec<usize>, index: usize) -> Result<(), ChallengerError>
+    ensures { OnOk result (queries.new.items ≡ kept_with queries.old.items index) }
+{
+    if !queries.contains(&index) {
+        queries.push(index)?;
+    }
+    Ok(())
+}

@@ -1,0 +1,174 @@
+//! A small protocol, whole: the pattern of its steps, a prover and a verifier.
+//!
+//! The prover sends a line over a field. A place is drawn, and a divisor other than 0. The prover hands over what the
+//! line's value at the place is, divided by the divisor. That number is a hint: the challenger takes no part in it, and
+//! the verifier checks it by itself. So a challenge that depended on it would be worth nothing, and one that did not
+//! depend on the line would be worth less: the contract of [`verify`] says what the place was drawn of.
+ghost use Rattle.std.specs.Prelude.{◌≡◌, true, [], IfOk, IfSome};
+ghost use Rattle.p3_challenger.specs.HashCalls.{absorbing};
+ghost use Rattle.p3_challenger.specs.SeparatorSeed.{seed_of_separator};
+ghost use Rattle.p3_challenger.specs.Verifying.{verifying_of};
+ghost use Rattle.uses.specs.Protocol.{IsDrawnAfterLine, IsQuotient, may_divide};
+
+use p3_challenger::fs::{
+    BytesToFieldCodec, Codec, DomainSeparator, Hierarchy, Interaction, InteractionPattern, Kind,
+    Length, Pattern, PatternState, ProverState, SymmetricSteps, TranscriptError, TranscriptField,
+    VerifierState,
+};
+use p3_challenger::{HashChallenger, Sponge};
+use p3_field::{BabyBear, PrimeCharacteristicRing, PrimeField32, PrimeField64};
+use p3_symmetric::{DigestHasher, Sha256Hasher};
+use std::alloc::Global;
+
+type Challenger = HashChallenger<u8, Sha256Hasher, 32>;
+
+type Scalars = BytesToFieldCodec<BabyBear>;
+
+/// What binds a transcript to the protocol: its version, its name and its pattern.
+pub type Separator = DomainSeparator<u8, Sha256Hasher>;
+
+type Prover = ProverState<Challenger, u8, Sha256Hasher>;
+
+type Verifier<'a> = VerifierState<'a, Challenger, u8, Sha256Hasher>;
+
+/// What a verifier has read and drawn.
+#[derive(Clone, Copy, Debug)]
+pub struct Claim {
+    /// How much the line rises from one place to the next.
+    pub slope: BabyBear,
+    /// The line's value at 0.
+    pub offset: BabyBear,
+    /// The place that was drawn.
+    pub place: BabyBear,
+    /// The divisor that was drawn.
+    pub divisor: BabyBear,
+    /// The line's value at the place, divided.
+    pub quotient: BabyBear,
+}
+
+/// Sends the line, and gives the bytes of the proof. The one error in fact is that memory is out.
+pub fn prove(
+    alloc: Global,
+    separator: &Separator,
+    slope: BabyBear,
+    offset: BabyBear,
+) -> Result<Vec<u8>, TranscriptError> {
+    let mut prover = Prover::new(alloc, challenger(alloc), separator)?;
+    let sent = send(&mut prover, alloc, slope, offset);
+    // A prover has to be spent, also where a step was refused.
+    sent.and(prover.finalize())
+}
+
+fn send(
+    prover: &mut Prover,
+    alloc: Global,
+    slope: BabyBear,
+    offset: BabyBear,
+) -> Result<(), TranscriptError> {
+    prover.add_scalar::<BabyBear, Scalars>("slope", &slope)?;
+    prover.add_scalar::<BabyBear, Scalars>("offset", &offset)?;
+    let place = prover.challenge_scalar::<BabyBear, Scalars>("place")?;
+    let divisor = draw_divisor(prover)?;
+    let value = slope * place.into_inner() + offset;
+    let quotient = value * divisor.exp_u64(BabyBear::ORDER_U64 - 2);
+    let mut hint = Vec::new(alloc);
+    BabyBear::encode(&quotient, &mut hint)?;
+    prover.add_hint("quotient", &hint)
+}
+
+/// Reads a proof, and gives the claim that it makes, or none where its quotient is wrong.
+///
+/// The errors are those of the transcript: a proof that is too short or too long, a number that is no element of the
+/// field, and want of memory.
+pub fn verify(
+    alloc: Global,
+    separator: &Separator,
+    proof: &[u8],
+) -> Result<Option<Claim>, TranscriptError>
+    ensures { let seed = seed_of_separator ⟦<Sha256Hasher as DigestHasher>⟧.digest_of separator.now in
+        IfOk result (λ found. IfSome found (λ claim.
+        IsDrawnAfterLine ⟦<Scalars as Codec<Challenger, BabyBear>>⟧.observation
+        ⟦<Scalars as Codec<Challenger, BabyBear>>⟧.sampling
+        (record { sponge = absorbing seed; hasher = record {} }) claim
+        × (may_divide claim.divisor ≡ true) × IsQuotient claim)) }
+{
+    let mut verifier = Verifier::new(alloc, challenger(alloc), separator, proof)?;
+    let received = receive(&mut verifier);
+    let end = verifier.finalize();
+    let claim = received?;
+    end?;
+    let value = claim.slope * claim.place + claim.offset;
+    if claim.quotient * claim.divisor == value {
+        Ok(Some(claim))
+    } else {
+        Ok(None)
+    }
+}
+
+fn receive(verifier: &mut Verifier<'_>) -> Result<Claim, TranscriptError>
+    ensures place { IfOk result (IsDrawnAfterLine ⟦<Scalars as Codec<Challenger, BabyBear>>⟧.observation
+        ⟦<Scalars as Codec<Challenger, BabyBear>>⟧.sampling
+        (verifying_of ⟦<Challenger as Sponge>⟧.state verifier.old).turn.challenger) }
+    ensures divisor { IfOk result (λ claim. may_divide claim.divisor ≡ true) }
+{
+    let slope = verifier.next_scalar::<BabyBear, Scalars>("slope")?;
+    let offset = verifier.next_scalar::<BabyBear, Scalars>("offset")?;
+    let place = verifier.challenge_scalar::<BabyBear, Scalars>("place")?;
+    let divisor = draw_divisor(verifier)?;
+    let quotient = BabyBear::decode(verifier.next_hint("quotient", 4)?)?;
+    Ok(Claim {
+        slope: slope.into_inner(),
+        offset: offset.into_inner(),
+        place: place.into_inner(),
+        divisor,
+        quotient,
+    })
+}
+
+// Both sides draw it: any element but 0.
+fn draw_divisor<S: SymmetricSteps<Challenger = Challenger>>(
+    side: &mut S,
+) -> Result<BabyBear, TranscriptError>
+    ensures { IfOk result (λ divisor. may_divide divisor ≡ true) }
+{
+    let accept = |divisor: &BabyBear, _kept: &[BabyBear]| -> bool
+        ensures { result ≡ may_divide divisor.now }
+    { divisor.as_canonical_u32() != 0 };
+    let drawn = side.challenge_extensions_rejecting::<BabyBear, BabyBear, Scalars, _>(
+        "divisor", 1, &accept, 100,
+    )?;
+    Ok(drawn[0].into_inner())
+}
+
+// What both sides begin with.
+fn challenger(alloc: Global) -> Challenger
+    ensures { result.sponge ≡ absorbing [] }
+{
+    Challenger::new(Vec::new(alloc), Sha256Hasher)
+}
+
+/// What every challenge depends on besides the messages: version, name, and the pattern of the steps.
+///
+/// The one error in fact is that memory is out.
+pub fn separator(alloc: Global) -> Result<Separator, TranscriptError> {
+    let mut recorder = PatternState::<u8>::new(alloc);
+    let recorded = record(&mut recorder);
+    let pattern = recorded.and(recorder.finalize())?;
+    Ok(Separator::new(alloc, 1, b"line", pattern)?)
+}
+
+// The steps in order. Each names its value's type, so that a proof of one type is not read as another.
+fn record(recorder: &mut PatternState<u8>) -> Result<(), TranscriptError> {
+    let leaf = Hierarchy::Atomic;
+    let slope = Interaction::algebra::<BabyBear, BabyBear, Sha256Hasher>(
+        leaf,
+        Kind::Message,
+        "slope",
+        Length::Scalar,
+    );
+    recorder.interact(slope)?;
+    recorder.interact(slope.of_same_type(leaf, Kind::Message, "offset", Length::Scalar))?;
+    recorder.interact(slope.of_same_type(leaf, Kind::Challenge, "place", Length::Scalar))?;
+    recorder.interact(slope.of_same_type(leaf, Kind::Challenge, "divisor", Length::Fixed(1)))?;
+    recorder.interact(Interaction::bytes(leaf, Kind::Hint, "quotient", Length::Fixed(4)))
+}
