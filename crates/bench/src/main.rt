@@ -5,6 +5,7 @@
 mod drivers;
 mod duplex;
 mod hash;
+mod multi_field;
 mod patterns;
 mod seeds;
 mod timing;
@@ -32,11 +33,12 @@ fn main(rt: HostRuntime) -> Result<()> {
     let text: Vec<u8> = (0..MEBIBYTE).map(|i| (i % 251) as u8).collect(rt.alloc())?;
     let duplex = duplex::measure(&rt, runs)?;
     let hash = hash::measure(&rt, runs, text.as_slice())?;
+    let multi_field = multi_field::measure(&rt, runs)?;
     let seeds = seeds::measure(&rt, runs, text.as_slice())?;
     let patterns = patterns::measure(&rt, runs)?;
     let drivers = drivers::measure(&rt, runs)?;
     let work = work::measure(&rt, runs)?;
     // The sums are shown so that nothing of what makes them can be left out.
-    println!(rt; "sums: {duplex} {hash} {seeds} {patterns} {drivers} {work}")?;
+    println!(rt; "sums: {duplex} {hash} {multi_field} {seeds} {patterns} {drivers} {work}")?;
     Ok(())
 }
