@@ -35,8 +35,8 @@ pub record Agrees {S Symbol A : Type 0} (m : Meaning S Symbol A) : Type 0 where
 
 -- ---- proof of work
 
--- A prover has played a step with this witness, and a verifier stands at the same turn, with the witness's spelling next.
--- Then the verifier follows: what it reads passes, and it is refused for want of memory alone.
+-- A prover has played a step with this witness, and a verifier stands at the same turn, with the witness's spelling
+-- next. Then the verifier follows: what it reads passes, and it is refused for want of memory alone.
 pub record FollowsWork {S Symbol W : Type 0} (work : Work S Symbol W) (enc : Encoding W) (x : W) : Type 0 where
   pub follows : Follows (sent_work work enc x) (received_work work enc) x
   pub refuses : (before after : Turn S) (rest : List ℕ) (start end : Verifying S) (e : TranscriptError) →

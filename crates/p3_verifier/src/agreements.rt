@@ -78,8 +78,8 @@ pub fn drawn_uniform_bits_agree<F, C: CanSampleUniformBits<F>>()
         Agrees {Symbol = C.Symbol} (drawn_rejecting step (C.uniform true width).draw rule limit n) }
 {}
 
-/// A witness that a prover has answered passes the check of a verifier whose caller carries it, which is refused for want
-/// of memory alone.
+/// A witness that a prover has answered passes the check of a verifier whose caller carries it, which is refused for
+/// want of memory alone.
 ///
 /// A law: the body is empty, and a caller cites the clause.
 pub fn carried_work_agrees<C: GrindingChallenger>()

@@ -102,8 +102,8 @@ pub fn counted_hint_is_received<C: Sponge>()
         (reads.hint_received_bounded label max) bytes }
 {}
 
-/// What a prover writes of a witness, a verifier reads, and follows it: the witness passes the verifier's check, which is
-/// refused for want of memory alone.
+/// What a prover writes of a witness, a verifier reads, and follows it: the witness passes the verifier's check, which
+/// is refused for want of memory alone.
 ///
 /// A law: the body is empty, and a caller cites the clauses.
 pub fn sent_work_is_received<C: GrindingChallenger>()

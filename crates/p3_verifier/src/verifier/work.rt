@@ -15,8 +15,8 @@ use p3_grinding::GrindingChallenger;
 use p3_symmetric::DigestHasher;
 
 impl<C: GrindingChallenger + Drop, U, D: DigestHasher> VerifierState<'_, C, U, D> {
-    /// Reads a witness, and checks it: `bits` bits are 0 that are drawn after it. With 0 bits each witness passes, and is
-    /// read all the same.
+    /// Reads a witness, and checks it: `bits` bits are 0 that are drawn after it. With 0 bits each witness passes, and
+    /// is read all the same.
     ///
     /// Where too few bits are 0, the step is refused with [`TranscriptError::BadProofShape`] and `pow witness does not
     /// produce enough zero bits`: the check is done then. Bytes that spell no witness are passed. Condition: `bits` is
@@ -43,8 +43,8 @@ impl<C: GrindingChallenger + Drop, U, D: DigestHasher> VerifierState<'_, C, U, D
     /// Checks a witness that the caller carries: `bits` bits are 0 that are drawn after it. With 0 bits each witness
     /// passes.
     ///
-    /// Where too few bits are 0, the step is refused as by [`check_pow`](VerifierState::check_pow). Condition: `bits` is
-    /// at most [`max_bits`](p3_challenger_core::CanSampleBits::max_bits).
+    /// Where too few bits are 0, the step is refused as by [`check_pow`](VerifierState::check_pow). Condition: `bits`
+    /// is at most [`max_bits`](p3_challenger_core::CanSampleBits::max_bits).
     pub fn observe_pow(
         &mut self,
         label: Label,
