@@ -1,10 +1,11 @@
 -- Worked rows, computed on the definitions: numbers below 257, and a challenger that keeps the numbers that it is fed,
 -- the last one first.
-use Rattle.std.proofs.Common.{◌≡◌, ◌≤◌, ℕ, ◌%◌, List, [], ◌∷◌, Some, true, false, codes, replicate, refl, inl, inr}
-use Rattle.std.proofs.Common.{arith, le_refl, lit<}
+use Rattle.std.proofs.Common.{◌≡◌, ◌≤◌, ◌<◌, ℕ, zero, suc, ◌+◌, ◌%◌, ◌^◌, List, [], ◌∷◌, Some, true, false}
+use Rattle.std.proofs.Common.{codes, replicate, refl, inl, inr, arith, rules, le_refl, lit<}
 use Rattle.p3_field_core.specs.Residues.{Residues}
 use Rattle.p3_challenger_core.specs.Observation.{Observation, unrefused_observe}
-use Rattle.p3_challenger_core.specs.declared.error.ChallengerError.TheVariants.{TooLong}
+use Rattle.p3_challenger_core.specs.Sampling.{Sampling, unrefused_draw}
+use Rattle.p3_challenger_core.specs.declared.error.ChallengerError.TheVariants.{NoWitness, TooLong}
 use Rattle.p3_fs_core.specs.Encoding.{Encoding}
 use Rattle.p3_fs_core.specs.Interactions.{step_of}
 use Rattle.p3_fs_core.specs.Packing.{packed, first_chunks}
@@ -12,14 +13,16 @@ use Rattle.p3_fs_core.specs.Scalar as scalar
 use Rattle.p3_fs_core.specs.declared.error.PatternError.TheVariants.{Finished, WrongStep, OverCap}
 use Rattle.p3_fs_core.specs.declared.error.TranscriptError.TheVariants.{Pattern, Challenger, OutOfMemory}
 use Rattle.p3_fs_core.specs.declared.interaction.Interaction.{Interaction}
-use Rattle.p3_fs_core.specs.declared.step.Kind.TheVariants.{Message}
-use Rattle.p3_fs_core.specs.declared.step.Length.TheVariants.{Bounded}
+use Rattle.p3_fs_core.specs.declared.step.Kind.TheVariants.{Message, Pow}
+use Rattle.p3_fs_core.specs.declared.step.Length.TheVariants.{Bounded, Fixed}
+use Rattle.p3_grinding.specs.Checks.{draws_nothing, IsLeast}
 use Rattle.p3_patterns.specs.Playing.{Playing, next_step}
 use Rattle.p3_driver_core.specs.Counts.{count_width}
 use Rattle.p3_driver_core.specs.Effects.{Alphabet, alphabet_of}
 use Rattle.p3_driver_core.specs.Meanings.{sent_bounded, sent_bytes_bounded, hinted}
 use Rattle.p3_driver_core.specs.Turns.{Meaning, IsNext, step_on, algebra_step}
-use Rattle.p3_prover.specs.Proving.{Proving, Writes, RefusesToWrite, RefusesList}
+use Rattle.p3_driver_core.specs.Working.{Work, work_of, sent_work, RefusesToGrind}
+use Rattle.p3_prover.specs.Proving.{Proving, Writes, RefusesToWrite, RefusesList, Unwritten}
 
 -- in two bytes each
 abbrev numbers : Residues ℕ
@@ -145,3 +148,78 @@ count_fed playing next =
       wire = refl;
       order = inl refl;
     }
+
+-- ---- proof of work
+
+-- bits are drawn of the sum of all that was fed, and a draw leaves a 0
+abbrev total : List ℕ → ℕ
+total [] = 0
+total (x ∷ xs) = x + total xs
+
+abbrev next_bits : ℕ → Sampling (List ℕ) ℕ
+next_bits bits = unrefused_draw (λ s. Some (total s % 2 ^ bits)) (λ s. 0 ∷ s)
+
+abbrev work : ℕ → Work (List ℕ) ℕ ℕ
+work bits =
+    work_of (algebra_step Pow (codes "w") 257 1 (replicate 32 0) (codes "F257") (Fixed bits)) numbers draws_nothing kept
+    next_bits bits
+
+differs : Some false ≡ Some true → ⊥
+differs e = search (rules, e)
+
+-- of three bits: 9 and 7 are 16, and no smaller number does
+below_seven : (n : ℕ) → n < 7 → ((work 3).check (n % 257)).sampled (9 ∷ []) ≡ Some true → ⊥
+below_seven zero h e = differs e
+below_seven (suc zero) h e = differs e
+below_seven (suc (suc zero)) h e = differs e
+below_seven (suc (suc (suc zero))) h e = differs e
+below_seven (suc (suc (suc (suc zero)))) h e = differs e
+below_seven (suc (suc (suc (suc (suc zero))))) h e = differs e
+below_seven (suc (suc (suc (suc (suc (suc zero)))))) h e = differs e
+below_seven (suc (suc (suc (suc (suc (suc (suc n))))))) h e = absurd (omega (arith, h))
+
+seven_is_least : IsLeast numbers (work 3).check (9 ∷ []) 7
+seven_is_least = record { passes = refl; least = below_seven }
+
+seven_written : (playing : Playing) → IsNext playing (work 3).interaction →
+    Writes (sent_work (work 3) spelled 7) (before playing) 7
+    (proving (step_on playing) (0 ∷ 7 ∷ 9 ∷ []) (0xaa ∷ 0 ∷ 7 ∷ []))
+seven_written playing next =
+    record {
+      plays = record { is_next = next; fits = tt; gives = refl; challenger = refl; playing = refl };
+      wire = refl;
+    }
+
+-- memory is refused where one byte of it was written
+seven_cut : (playing : Playing) → IsNext playing (work 3).interaction →
+    Unwritten (work 3) spelled (before playing) OutOfMemory
+    (proving (closed playing) (0 ∷ 7 ∷ 9 ∷ []) (0xaa ∷ 0 ∷ []))
+seven_cut playing next =
+    record {
+      memory = refl;
+      witness = 7;
+      least = seven_is_least;
+      gives_up = record { is_next = next; leaves = refl; finished = refl };
+      wire = (1, refl);
+    }
+
+-- of no bits: 0 is written, and the challenger is as it was
+zero_written : (playing : Playing) → IsNext playing (work 0).interaction →
+    Writes (sent_work (work 0) spelled 0) (before playing) 0
+    (proving (step_on playing) (9 ∷ []) (0xaa ∷ 0 ∷ 0 ∷ []))
+zero_written playing next =
+    record {
+      plays = record { is_next = next; fits = tt; gives = refl; challenger = refl; playing = refl };
+      wire = refl;
+    }
+
+-- where each draw gives 1, no witness passes
+abbrev hopeless : Work (List ℕ) ℕ ℕ
+hopeless =
+    work_of (algebra_step Pow (codes "w") 257 1 (replicate 32 0) (codes "F257") (Fixed 1)) numbers draws_nothing kept
+    (λ _. unrefused_draw (λ s. Some 1) (λ s. 0 ∷ s)) 1
+
+none_found : (playing : Playing) → IsNext playing hopeless.interaction →
+    RefusesToGrind hopeless (λ _. ⊥) (before playing).turn (Challenger NoWitness) (before (closed playing)).turn
+none_found playing next =
+    record { is_next = next; leaves = (λ n h e. differs e, refl); finished = refl }

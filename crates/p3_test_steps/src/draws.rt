@@ -21,6 +21,10 @@ pub enum Draw {
     ThreeBits(usize),
     /// So many elements of an extension that are at least 8, fewer than so many refused in a row.
     AtLeastEight(usize, u64),
+    /// So many numbers of three uniform bits.
+    UniformThreeBits(usize),
+    /// So many numbers of three uniform bits that are at least 4, fewer than so many refused in a row.
+    UniformAtLeastFour(usize, u64),
 }
 
 impl Draw {
@@ -33,6 +37,15 @@ impl Draw {
             }
             Draw::ThreeBits(n) => {
                 Interaction::bits(Hierarchy::Atomic, Kind::Challenge, "x", 3, Length::Fixed(n))
+            }
+            Draw::UniformThreeBits(n) | Draw::UniformAtLeastFour(n, _) => {
+                Interaction::uniform_bits(
+                    Hierarchy::Atomic,
+                    Kind::Challenge,
+                    "x",
+                    3,
+                    Length::Fixed(n),
+                )
             }
         }
     }
@@ -75,6 +88,33 @@ pub fn prover_draws(
             )?;
             Ok(numbers(alloc, &bounds)?)
         }
+        uniform => prover_draws_uniform_bits(prover, alloc, uniform),
+    }
+}
+
+// Has a prover draw uniform bits.
+fn prover_draws_uniform_bits(
+    prover: &mut Prover<World>,
+    alloc: Global,
+    draw: Draw,
+) -> Result<Vec<u64>, TranscriptError> {
+    let width = World::max_bits().min(3);
+    match draw {
+        Draw::UniformThreeBits(n) => {
+            let bounds = prover.challenge_uniform_bits::<F257>("x", width, n)?;
+            Ok(wide(alloc, &bounds)?)
+        }
+        Draw::UniformAtLeastFour(n, limit) => {
+            let bounds = prover.challenge_uniform_bits_rejecting::<F257, _>(
+                "x",
+                width,
+                n,
+                &at_least_four,
+                limit,
+            )?;
+            Ok(wide(alloc, &bounds)?)
+        }
+        _ => Ok(Vec::new(alloc)),
     }
 }
 
@@ -115,12 +155,44 @@ pub fn verifier_draws(
             )?;
             Ok(numbers(alloc, &bounds)?)
         }
+        uniform => verifier_draws_uniform_bits(verifier, alloc, uniform),
+    }
+}
+
+// Has a verifier draw uniform bits.
+fn verifier_draws_uniform_bits(
+    verifier: &mut Verifier<'_, World>,
+    alloc: Global,
+    draw: Draw,
+) -> Result<Vec<u64>, TranscriptError> {
+    let width = World::max_bits().min(3);
+    match draw {
+        Draw::UniformThreeBits(n) => {
+            let bounds = verifier.challenge_uniform_bits::<F257>("x", width, n)?;
+            Ok(wide(alloc, &bounds)?)
+        }
+        Draw::UniformAtLeastFour(n, limit) => {
+            let bounds = verifier.challenge_uniform_bits_rejecting::<F257, _>(
+                "x",
+                width,
+                n,
+                &at_least_four,
+                limit,
+            )?;
+            Ok(wide(alloc, &bounds)?)
+        }
+        _ => Ok(Vec::new(alloc)),
     }
 }
 
 // A rule that takes elements whose number is at least 8, whatever was kept.
 fn at_least_eight(candidate: &F257, _kept: &[F257]) -> bool {
     candidate.as_canonical_u64() >= 8
+}
+
+// A rule that takes numbers that are at least 4, whatever was kept.
+fn at_least_four(candidate: usize, _kept: &[usize]) -> bool {
+    candidate >= 4
 }
 
 // The numbers of elements.

@@ -10,6 +10,7 @@ mod markers;
 mod messages;
 mod rows;
 mod small_world;
+mod work;
 
 pub use alike::{alike_steps, play_alike};
 pub use draws::{Draw, prover_draws, verifier_draws};
@@ -28,4 +29,8 @@ pub use small_world::{
     Alphabet, Notes, Prover, Scalars, Separator, Verifier, World, after, bytes, challenge, drawn,
     noted, notes, noting_prover, noting_verifier, prover_of, scalars, separator, verifier_of,
     world,
+};
+pub use work::{
+    Work, WorkRow, prover_works, prover_works_after, verifier_checks, verifier_checks_after,
+    work_rows,
 };

@@ -77,7 +77,7 @@ pub fn worked_rows<'a>(two: &'a [F257]) -> [WorkedRow<'a>; 6] {
 }
 
 /// Each draw. Right after the seed the draws are 2, 6, 8, 132, 134, 6.
-pub fn draw_rows<'a>() -> [DrawRow<'a>; 8] {
+pub fn draw_rows<'a>() -> [DrawRow<'a>; 12] {
     [
         (Draw::Scalar, &[2], 6),
         (Draw::Scalars(3), &[2, 6, 8], 132),
@@ -88,6 +88,11 @@ pub fn draw_rows<'a>() -> [DrawRow<'a>; 8] {
         (Draw::ThreeBits(4), &[2, 6, 0, 4], 134),
         (Draw::AtLeastEight(3, 3), &[8, 132, 134], 6),
         (Draw::AtLeastEight(0, 0), &[], 2),
+        // Each of them is below 256, which three bits divide.
+        (Draw::UniformThreeBits(4), &[2, 6, 0, 4], 134),
+        (Draw::UniformThreeBits(0), &[], 2),
+        (Draw::UniformAtLeastFour(3, 2), &[6, 4, 6], 6),
+        (Draw::UniformAtLeastFour(0, 0), &[], 2),
     ]
 }
 

@@ -12,7 +12,7 @@ use Rattle.p3_driver_core.specs.Turns.{Turn, Plays, Refuses}
 use Rattle.p3_driver_core.specs.Working.{Work, sent_work, observed_work, FailsCheck}
 use Rattle.p3_driver_core.specs.WorkingLaws.{where_passed-true}
 use Rattle.p3_verifier.proofs.ReadBack.{value-back}
-use Rattle.p3_verifier.specs.Following.{FollowsWork, AgreesOnWork}
+use Rattle.p3_verifier.specs.Following.{IsOwnRefusal, FollowsWork, AgreesOnWork}
 use Rattle.p3_verifier.specs.FollowingLaws.{mirror-follows, meaning-agrees}
 use Rattle.p3_verifier.specs.Mirrors.{Mirrors}
 use Rattle.p3_verifier.specs.Reads.{received_work}
@@ -63,16 +63,19 @@ module _ {S Symbol W : Type 0} (work : Work S Symbol W) (limits : (x : W) → Li
           = ap (λ y. (work.check y).sampled start.turn.challenger) (sym same) ∙ fails.fails.gives_up.leaves.0 in
           true_not_false (sym passes ∙ is) refl
 
+      own_refusal : (e : TranscriptError) → RefusesToRead (received_work work enc) start e end → IsOwnRefusal e
+      own_refusal e refuses =
+          (mirror-follows _ _ _ (work-mirrored work enc encodes x)).refuses before after rest start end e plays at refuses
+
       only_memory : (e : TranscriptError) → RefusesToRead (received_work work enc) start e end → e ≡ OutOfMemory
       only_memory (MissingBegin info) refuses = absurd refuses
       only_memory (InvalidKind info) refuses = absurd refuses
       only_memory (MismatchedBeginEnd info) refuses = absurd refuses
       only_memory (MissingEnd info) refuses = absurd refuses
       only_memory (BadProofShape reason) refuses =
-          absurd ((mirror-follows _ _ _ (work-mirrored work enc encodes x)).refuses before after rest start end (BadProofShape reason) plays
-          at refuses)
+          absurd (own_refusal (BadProofShape reason) refuses)
       only_memory (Pattern e) refuses =
-          absurd ((mirror-follows _ _ _ (work-mirrored work enc encodes x)).refuses before after rest start end (Pattern e) plays at refuses)
+          absurd (own_refusal (Pattern e) refuses)
       only_memory (Challenger challenger.OutOfMemory) refuses = absurd refuses
       only_memory (Challenger challenger.DrawLimit) refuses =
           let same = same_witness refuses.value refuses.read in

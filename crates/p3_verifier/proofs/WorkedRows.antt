@@ -1,23 +1,26 @@
 -- Worked rows, computed on the definitions: elements of the field of 31 bits, and a challenger that keeps the numbers
 -- that it is fed, the last one first.
-use Rattle.std.proofs.Common.{◌≡◌, ℕ, ◌%◌, true, List, [], ◌∷◌, Ok, Err, codes, replicate, refl}
+use Rattle.std.proofs.Common.{◌≡◌, ℕ, ◌+◌, ◌%◌, ◌^◌, true, List, [], ◌∷◌, Ok, Err, Some, codes, replicate, refl}
 use denote.Ref.{Bor}
 use Rattle.p3_field_core.specs.Residues.{Residues}
 use Rattle.p3_challenger_core.specs.Observation.{Observation, unrefused_observe}
+use Rattle.p3_challenger_core.specs.Sampling.{Sampling, unrefused_draw}
+use Rattle.p3_grinding.specs.Checks.{draws_nothing}
 use Rattle.p3_fs_core.specs.Encoding.{Encoding}
 use Rattle.p3_fs_core.specs.Scalar as scalar
 use Rattle.p3_fs_core.specs.Steps.{Step}
 use Rattle.p3_fs_core.specs.declared.error.TranscriptError.TheVariants.{BadProofShape}
-use Rattle.p3_fs_core.specs.declared.step.Kind.TheVariants.{Message}
+use Rattle.p3_fs_core.specs.declared.step.Kind.TheVariants.{Message, Pow}
 use Rattle.p3_fs_core.specs.declared.step.Length.{Length}
 use Rattle.p3_fs_core.specs.declared.step.Length.TheVariants.{Scalar, Fixed, Bounded}
 use Rattle.p3_patterns.specs.Playing.{Playing, IsPlayed}
 use Rattle.p3_driver_core.specs.Counts.{count_width}
 use Rattle.p3_driver_core.specs.Effects.{Alphabet, alphabet_of}
 use Rattle.p3_driver_core.specs.Turns.{IsNext, step_on, algebra_step}
+use Rattle.p3_driver_core.specs.Working.{Work, work_of}
 use Rattle.p3_verifier.specs.Reads.{Read, Reading, read_each, received, received_all, received_bounded}
-use Rattle.p3_verifier.specs.Reads.{received_bytes, received_bytes_bounded, hint_received_bounded}
-use Rattle.p3_verifier.specs.Verifying.{Verifying, Receives, ReadsNothing, EndsReading, RefusesEnd}
+use Rattle.p3_verifier.specs.Reads.{received_bytes, received_bytes_bounded, hint_received_bounded, received_work}
+use Rattle.p3_verifier.specs.Verifying.{Verifying, Receives, ReadsNothing, FailsWork, EndsReading, RefusesEnd}
 
 -- the numbers below the order, in four bytes each
 abbrev numbers : Residues ℕ
@@ -234,3 +237,52 @@ byte_left playing reason played is = (played, (λ none. cc), is)
 
 none_left : (playing : Playing) → IsPlayed playing → EndsReading (before playing [])
 none_left playing played = record { played = played; whole = refl }
+
+-- ---- proof of work
+
+-- bits are drawn of the sum of all that was fed, and a draw leaves a 0
+abbrev total : List ℕ → ℕ
+total [] = 0
+total (x ∷ xs) = x + total xs
+
+abbrev next_bits : ℕ → Sampling (List ℕ) ℕ
+next_bits bits = unrefused_draw (λ s. Some (total s % 2 ^ bits)) (λ s. 0 ∷ s)
+
+abbrev work : ℕ → Work (List ℕ) ℕ ℕ
+work bits =
+    work_of (algebra_step Pow (codes "w") 2013265921 1 (replicate 32 0) (codes "BabyBear") (Fixed bits)) numbers
+    draws_nothing kept next_bits bits
+
+-- of three bits: 9 and 15 are 24, though 9 and 7 would do
+fifteen_passes : (playing : Playing) → IsNext playing (work 3).interaction →
+    Receives (received_work (work 3) spelled) (before playing (0 ∷ 0 ∷ 0 ∷ 15 ∷ 1 ∷ [])) 15
+    (verifying (step_on playing) (0 ∷ 15 ∷ 9 ∷ []) (1 ∷ []))
+fifteen_passes playing next =
+    record { is_next = next; read = refl; fits = tt; gives = refl; challenger = refl; playing = refl }
+
+-- 9 and 8 are not: the witness is read and checked
+eight_fails : (playing : Playing) (reason : Bor (List ℕ)) → IsNext playing (work 3).interaction →
+    reason.now ≡ codes "pow witness does not produce enough zero bits" →
+    FailsWork (work 3) spelled (before playing (0 ∷ 0 ∷ 0 ∷ 8 ∷ 1 ∷ [])) (BadProofShape reason)
+    (verifying (closed playing) (0 ∷ 8 ∷ 9 ∷ []) (1 ∷ []))
+eight_fails playing reason next is =
+    record {
+      witness = 8;
+      read = refl;
+      fails = record {
+        told = is;
+        gives_up = record { is_next = next; leaves = (refl, refl); finished = refl };
+      };
+    }
+
+-- of no bits: a witness is read all the same, and the challenger is as it was
+any_passes : (playing : Playing) → IsNext playing (work 0).interaction →
+    Receives (received_work (work 0) spelled) (before playing (0 ∷ 0 ∷ 0 ∷ 5 ∷ [])) 5
+    (verifying (step_on playing) (9 ∷ []) [])
+any_passes playing next =
+    record { is_next = next; read = refl; fits = tt; gives = refl; challenger = refl; playing = refl }
+
+-- and bytes that are none are passed and refused
+none_passes : (received_work (work 0) spelled).read (0x78 ∷ 0 ∷ 0 ∷ 1 ∷ [])
+    ≡ nothing_read (codes "field encoding outside canonical range") [] (λ s. s)
+none_passes = refl

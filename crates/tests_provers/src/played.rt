@@ -78,7 +78,11 @@ fn containers_leave_no_trace(rt: HostRuntime) -> Result<(), Fail> {
 fn steps_of_both_sides_are_played(rt: HostRuntime) -> Result<(), Fail> {
     let separator = separator(rt.alloc(), alike_steps(rt.alloc())?)?;
     let mut expected = after(rt.alloc(), &[12, 9])?;
-    let numbers = (drawn(&mut expected)?, drawn(&mut expected)?);
+    let numbers = (
+        drawn(&mut expected)?,
+        drawn(&mut expected)?,
+        drawn(&mut expected)? % 8,
+    );
     let mut prover = ProverState::new(rt.alloc(), world(), &separator)?;
     let played = play_alike(&mut prover);
     let narg = prover.finalize()?;

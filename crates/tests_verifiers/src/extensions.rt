@@ -1,42 +1,60 @@
 // Elements of an extension of four coefficients, each step of theirs once.
+use p3_challenger_core::{CanObserve, CanSample};
+use p3_driver_core::TranscriptBound;
 use p3_field::BabyBear;
 use p3_fs_core::TranscriptError;
 use p3_symmetric::Sha256Hasher;
 use p3_test_steps::{
-    Coefficients, Wide, WideAlphabet, WideWorld, push_numbers, wide, wide_draws, wide_observed,
+    Coefficients, Wide, WideAlphabet, push_numbers, wide, wide_draws, wide_observed,
     wide_separator, wide_world,
 };
 use p3_verifier::VerifierState;
 use std::alloc::Global;
 use std::test::Fail;
 
-type Verifier<'a> = VerifierState<'a, WideWorld, WideAlphabet, Sha256Hasher>;
+type Verifier<'a, C> = VerifierState<'a, C, WideAlphabet, Sha256Hasher>;
 
 // Gives the element that was read.
-fn observe(verifier: &mut Verifier<'_>) -> Result<Wide, TranscriptError> {
+fn observe<C: CanObserve<BabyBear> + CanSample<BabyBear> + Drop>(
+    verifier: &mut Verifier<'_, C>,
+) -> Result<Wide, TranscriptError> {
     let carried = verifier.next_extension::<BabyBear, Wide, Coefficients>("carried")?;
     verifier.observe_extension::<BabyBear, Wide, Coefficients>("one", &wide(21))?;
-    verifier.observe_extensions::<BabyBear, Wide, Coefficients>("two", &[wide(31), wide(41)])?;
-    verifier.observe_extensions_bounded::<BabyBear, Wide, Coefficients>("few", &[wide(51)], 3)?;
+    observe_lists(verifier)?;
     Ok(carried.into_inner())
 }
 
+fn observe_lists<C: CanObserve<BabyBear> + CanSample<BabyBear> + Drop>(
+    verifier: &mut Verifier<'_, C>,
+) -> Result<(), TranscriptError> {
+    verifier.observe_extensions::<BabyBear, Wide, Coefficients>("two", &[wide(31), wide(41)])?;
+    verifier.observe_extensions_bounded::<BabyBear, Wide, Coefficients>("few", &[wide(51)], 3)?;
+    Ok(())
+}
+
 // The numbers of all coefficients that are drawn.
-fn draw(verifier: &mut Verifier<'_>, alloc: Global) -> Result<Vec<u64>, TranscriptError> {
+fn draw<C: CanObserve<BabyBear> + CanSample<BabyBear> + Drop>(
+    verifier: &mut Verifier<'_, C>,
+    alloc: Global,
+) -> Result<Vec<u64>, TranscriptError> {
     let mut numbers = Vec::new(alloc);
     let first = verifier.challenge_extension::<BabyBear, Wide, Coefficients>("c")?;
     push_numbers(&mut numbers, first.as_inner())?;
     for bound in verifier.challenge_extensions::<BabyBear, Wide, Coefficients>("d", 2)? {
         push_numbers(&mut numbers, bound.as_inner())?;
     }
-    let accept = |_candidate: &Wide, _kept: &[Wide]| true;
-    let kept = verifier.challenge_extensions_rejecting::<BabyBear, Wide, Coefficients, _>(
-        "r", 1, &accept, 1,
-    )?;
-    for bound in kept {
+    for bound in draw_any(verifier)? {
         push_numbers(&mut numbers, bound.as_inner())?;
     }
     Ok(numbers)
+}
+
+// Draws one by a rule that refuses none.
+fn draw_any<C: CanObserve<BabyBear> + CanSample<BabyBear> + Drop>(
+    verifier: &mut Verifier<'_, C>,
+) -> Result<Vec<TranscriptBound<Wide>>, TranscriptError> {
+    let accept = |_candidate: &Wide, _kept: &[Wide]| true;
+    verifier.challenge_extensions_rejecting::<BabyBear, Wide, Coefficients, _>("r", 1, &accept, 1)
 }
 
 #[test]

@@ -19,6 +19,8 @@ mod rejecting;
 #[cfg(test)]
 mod too_long;
 #[cfg(test)]
+mod work;
+#[cfg(test)]
 mod worked;
 #[cfg(test)]
 mod wrong_steps;

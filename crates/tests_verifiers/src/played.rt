@@ -75,7 +75,11 @@ fn containers_leave_no_trace(rt: HostRuntime) -> Result<(), Fail> {
 fn steps_of_both_sides_are_played(rt: HostRuntime) -> Result<(), Fail> {
     let separator = separator(rt.alloc(), alike_steps(rt.alloc())?)?;
     let mut expected = after(rt.alloc(), &[12, 9])?;
-    let numbers = (drawn(&mut expected)?, drawn(&mut expected)?);
+    let numbers = (
+        drawn(&mut expected)?,
+        drawn(&mut expected)?,
+        drawn(&mut expected)? % 8,
+    );
     let mut verifier = VerifierState::new(rt.alloc(), world(), &separator, b"")?;
     let played = play_alike(&mut verifier);
     let ended = verifier.finalize();
