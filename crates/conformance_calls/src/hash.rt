@@ -1,7 +1,5 @@
 use crate::answer;
-use crate::candidates::least_candidate;
 use crate::challenger_call::{ArraysKind, ChallengerCall, Draw, Form, Observation, RowKind};
-use crate::digests::observe_digests;
 use crate::line::Step;
 use crate::replay::{Replayed, first_difference};
 use crate::subject::{
@@ -15,7 +13,7 @@ use anyhow::{Context, Result, bail};
 use p3_challenger::fs::{BytesToFieldCodec, ExtensionFieldCodec};
 use p3_challenger::{CanObserve, CanSample, HashChallenger};
 use p3_field::{BabyBear, Coeffs};
-use p3_symmetric::{CryptographicHasher, Sha256Hasher};
+use p3_symmetric::{CryptographicHasher, Hash, Sha256Hasher};
 use p3_test_support::{LengthHasher, SumHasher};
 use std::alloc::Global;
 
@@ -80,10 +78,7 @@ impl<H: CryptographicHasher<u8, [u8; 32]>> Replayed for Hashing<H> {
                 Ok(hex::encode(alloc, &digest[..])?)
             }
             ChallengerCall::State => state(alloc, &self.challenger),
-            ChallengerCall::FindWitness(search) => {
-                least_candidate(alloc, &self.challenger, search)
-            }
-            ChallengerCall::Permute | ChallengerCall::Work(_) => bail!("bytes are no field"),
+            ChallengerCall::Permute => bail!("bytes are no field"),
         }
     }
 }
@@ -115,18 +110,13 @@ fn observe_arrays<H: CryptographicHasher<u8, [u8; 32]>, const N: usize>(
     rest: &[Vec<u8>],
 ) -> Result<()> {
     match kind {
-        ArraysKind::CapByReference => observe(
-            alloc,
-            subject,
-            form,
-            &cap::<u8, u8, N>(alloc, first, rest)?,
-        ),
+        ArraysKind::Cap => observe(alloc, subject, form, cap(alloc, first, rest)?),
+        ArraysKind::CapByReference => observe(alloc, subject, form, &cap(alloc, first, rest)?),
         ArraysKind::Array if rest.is_empty() => observe(alloc, subject, form, first),
-        _ => {
-            with_challenger!(subject, challenger => {
-                observe_digests::<u8, u8, _, N>(alloc, challenger, form, kind, first, rest)
-            })
+        ArraysKind::Digest if rest.is_empty() => {
+            observe(alloc, subject, form, Hash::<u8, u8, N>::from(first))
         }
+        _ => bail!("more than one array"),
     }
 }
 

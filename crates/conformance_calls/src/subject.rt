@@ -13,9 +13,6 @@ use p3_field::{BasedVectorSpace, PrimeField64};
 use p3_symmetric::MerkleCap;
 use std::alloc::Global;
 
-/// The draw limit of the challengers that have one. No call of the files meets it.
-pub const DRAW_LIMIT: u64 = 1 << 20;
-
 /// How the calls of a line are made.
 #[derive(Clone, Copy)]
 pub enum Way {
@@ -32,7 +29,7 @@ pub struct Subject<C> {
     pub way: Way,
 }
 
-/// Observes a value in this form, through the challenger or a reference to it.
+/// Observes a value in this form.
 pub fn observe<V: Drop, C: CanObserve<V>>(
     alloc: Global,
     subject: &mut Subject<C>,
@@ -42,8 +39,7 @@ pub fn observe<V: Drop, C: CanObserve<V>>(
     with_challenger!(subject, challenger => observe_in_form(alloc, challenger, form, value))
 }
 
-/// Observes a value in this form.
-pub fn observe_in_form<V: Drop, C: CanObserve<V>>(
+fn observe_in_form<V: Drop, C: CanObserve<V>>(
     alloc: Global,
     challenger: &mut C,
     form: Form,
@@ -60,11 +56,11 @@ pub fn observe_in_form<V: Drop, C: CanObserve<V>>(
 }
 
 /// The cap of these roots, each of the length of the first one.
-pub fn cap<M, T: Copy, const N: usize>(
+pub fn cap<T: Copy, const N: usize>(
     alloc: Global,
     first: [T; N],
     rest: &[Vec<T>],
-) -> Result<MerkleCap<M, [T; N]>> {
+) -> Result<MerkleCap<T, [T; N]>> {
     let mut roots = Vec::new(alloc);
     roots.push(first)?;
     for root in rest {

@@ -1,9 +1,6 @@
 // Bytes and elements of fields, by the numbers that a file writes for them.
 use anyhow::{Context, Result, bail};
-use p3_field::{
-    Algebra, BabyBear, BasedVectorSpace, Coeffs, F257, Goldilocks, PrimeField64,
-    UniformSamplingField,
-};
+use p3_field::{Algebra, BabyBear, BasedVectorSpace, Coeffs, F257, Goldilocks, PrimeField64};
 use std::alloc::Global;
 
 /// What a challenger observes and draws.
@@ -56,7 +53,7 @@ impl Symbol for F257 {
 }
 
 /// A field, and what the files observe and draw of it beside its own elements.
-pub trait Extended: UniformSamplingField + Symbol {
+pub trait Extended: PrimeField64 + Symbol {
     ghost use Rattle.std.specs.Prelude.{◌<◌};
 
     /// The elements of four coefficients.
@@ -90,8 +87,8 @@ impl Extended for F257 {
     ghost has_bytes = { lit< tt };
 }
 
-/// The element of a canonical number.
-pub fn element<F: PrimeField64>(number: u64) -> Result<F> {
+// The element of a canonical number.
+fn element<F: PrimeField64>(number: u64) -> Result<F> {
     F::from_canonical_checked(number).context("a value that is no canonical number")
 }
 
