@@ -10,6 +10,7 @@ mod bound_values;
 pub mod commit_phase;
 mod extra_value;
 mod line;
+pub mod opening;
 pub mod protocol;
 mod round;
 mod three_calls;
