@@ -3,6 +3,7 @@ pub mod BoundValues
 pub mod CommitPhase
 pub mod Either
 pub mod MerkleOpening
+pub mod OwnHasher
 pub mod Rejecting
 pub mod SentAndDrawn
 pub mod ThreeCalls
