@@ -1,8 +1,8 @@
 -- A hash challenger that begins a transcript.
-use Rattle.std.proofs.Common.{◌≡◌, List, [], ◌∷◌, ◌++◌, ap, subst, ◌∙◌}
+use Rattle.std.proofs.Common.{◌≡◌, List, [], ◌∷◌, ◌++◌, ap, subst, sym, ◌∙◌}
 use Rattle.p3_challenger.specs.HashCalls.{absorbing}
-use Rattle.p3_challenger.specs.HashState.{HashState, observed}
-use Rattle.p3_challenger.specs.HashStateLaws.{observed_all-fed}
+use Rattle.p3_challenger.specs.HashState.{HashState, fed, observed}
+use Rattle.p3_challenger.specs.HashStateLaws.{fed-append, observed_all-fed}
 use Rattle.p3_challenger.specs.BabyBearResidues.{BabyBear}
 use Rattle.p3_challenger.specs.Observation.{Observation, observed_all}
 use Rattle.p3_challenger.specs.Sampling.{Sampling}
@@ -25,3 +25,12 @@ begun-as s u values is empty = is ∙ begun s values empty
 pub drawn-as : {S Symbol : Type 0} {o : Observation S Symbol BabyBear} {d : Sampling S BabyBear} {s t : S}
     {claim : Claim} → s ≡ t → IsDrawnAfterLine o d s claim → IsDrawnAfterLine o d t claim
 drawn-as {S} {Symbol} {o} {d} {s} {t} {claim} same is = subst (λ u. IsDrawnAfterLine o d u claim) same is
+
+-- the same, once more values are observed
+pub begun-then : {T H : Type 0} (s u : HashState T H) (values : List T) → u ≡ observed_all observed s values →
+    s.sponge ≡ absorbing [] → (more : List T) →
+    observed_all observed u more ≡ record { sponge = absorbing (values ++ more); hasher = s.hasher }
+begun-then s u values is empty more =
+    ap (λ v. observed_all observed v more) (is ∙ observed_all-fed s values)
+    ∙ observed_all-fed (fed s values) more ∙ fed-append s values more ∙ sym (observed_all-fed s (values ++ more))
+    ∙ begun s (values ++ more) empty

@@ -2,6 +2,8 @@ pub mod Begun
 pub mod BoundValues
 pub mod CommitPhase
 pub mod Either
+pub mod MerkleOpening
+pub mod OwnHasher
 pub mod Rejecting
 pub mod SentAndDrawn
 pub mod ThreeCalls

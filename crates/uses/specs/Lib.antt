@@ -1,6 +1,9 @@
 pub mod BoundValues
 pub mod CommitPhase
 pub mod ExtraValue
+pub mod MerkleOpening
+pub mod OwnHasher
+pub mod OwnPermutation
 pub mod Protocol
 pub mod SentAndDrawn
 pub mod ThreeCalls

@@ -1,16 +1,20 @@
-// A round of a protocol, on a prover of any challenger and codec: a scalar is sent, and then one is drawn. The
-// contracts of the two steps, and the laws of what steps feed, alone say what the drawn one depends on.
+//! A round of a protocol over any challenger, codec and alphabet: a scalar is sent, and then one is drawn.
+//!
+//! [`send_and_draw`] is the prover's side, and [`receive_and_draw`] the verifier's. Both have contracts of their own, on
+//! what the drawn scalar depends on: just the symbols of the sent one. Nothing is known here of the challenger and the
+//! codec; the contracts of the drivers' steps and three laws say it, each called in a body for its clause.
 ghost use Rattle.std.specs.Prelude.{◌≡◌, ◌≤◌, ◌++◌, Some, flat_map, IfOk, OnErr};
 ghost use Rattle.p3_challenger.specs.Bound.{value_of};
 ghost use Rattle.p3_challenger.specs.Proving.{proving_of};
 ghost use Rattle.p3_challenger.specs.SeparatorSeed.{seed_of_separator};
+ghost use Rattle.p3_challenger.specs.Verifying.{verifying_of};
 ghost use Rattle.uses.specs.SentAndDrawn.{DrawnAfter, LeavesRound};
 ghost use Rattle.uses.specs.ThreeCalls.{DrawsAfter};
 
 use p3_challenger::CanObserve;
 use p3_challenger::fs::{
     Codec, DomainSeparator, ProverState, TranscriptBound, TranscriptError, TranscriptField, Unit,
-    bytes_feed_their_symbols, draws_feed_nothing, values_feed_their_symbols,
+    VerifierState, bytes_feed_their_symbols, draws_feed_nothing, values_feed_their_symbols,
 };
 use p3_field::{AlgebraIdentity, Named};
 use p3_symmetric::DigestHasher;
@@ -45,6 +49,42 @@ pub fn send_and_draw<
     draws_feed_nothing::<F, C, Cdc>();
     prover.add_scalar::<F, Cdc>("sent", value)?;
     prover.challenge_scalar::<F, Cdc>("drawn")
+}
+
+/// What a verifier has of a round.
+#[derive(Clone, Copy, Debug)]
+pub struct Round<F> {
+    /// The scalar that was sent.
+    pub sent: F,
+    /// The scalar that was drawn.
+    pub drawn: F,
+}
+
+/// Reads a scalar, and then draws one. Between the two, the challenger was fed just the symbols of the one that was
+/// read.
+///
+/// The errors are those of the two steps.
+///
+/// Condition: the codec has at least [`MIN_CHALLENGE_SECURITY_BITS`](p3_challenger::fs::MIN_CHALLENGE_SECURITY_BITS) of
+/// security.
+pub fn receive_and_draw<
+    F: TranscriptField + AlgebraIdentity<F> + Named,
+    U: Unit,
+    C: CanObserve<U::Item> + Drop,
+    D: DigestHasher,
+    Cdc: Codec<C, F>,
+>(verifier: &mut VerifierState<'_, C, U, D>) -> Result<Round<F>, TranscriptError>
+    requires { 128 ≤ Cdc.SECURITY_BITS }
+    ensures { IfOk result (λ round. DrawsAfter C.fed Cdc.sampling (Cdc.observation.symbols round.sent) round.drawn
+        (verifying_of C.state verifier.old).turn.challenger (verifying_of C.state verifier.new).turn.challenger) }
+{
+    values_feed_their_symbols::<F, C, Cdc>();
+    let sent = verifier.next_scalar::<F, Cdc>("sent")?;
+    let drawn = verifier.challenge_scalar::<F, Cdc>("drawn")?;
+    Ok(Round {
+        sent: sent.into_inner(),
+        drawn: drawn.into_inner(),
+    })
 }
 
 /// The first challenge of a protocol that begins with a scalar: it is drawn from a challenger that was fed just the

@@ -1,0 +1,11 @@
+use Rattle.uses.proofs.OwnHasher.{evaluated-more, evaluated-all}
+use Rattle.uses.proofs.own_hasher.evaluate.Goals as goal
+
+pub loop-byte-preserved : goal.loop-byte-preserved
+loop-byte-preserved c =
+    evaluated-more c.args.bytes.now c.loop-byte.byte-index c.loop-byte.value c.loop-byte-test.true
+    c.loop-byte.invariant
+
+pub returns : goal.returns
+returns c =
+    evaluated-all c.args.bytes.now c.loop-byte.byte-index c.loop-byte.value c.loop-byte-test.false c.loop-byte.invariant

@@ -1,0 +1,51 @@
+//! A hasher of one's own, for a [`HashChallenger`](p3_challenger::HashChallenger) and for the digests of patterns.
+//!
+//! What a challenger needs is a function of lists, and that each digest has all its places; what a separator needs is a
+//! function of bytes that the type alone gives, whose digests are 32 bytes. That digests are hard to find no contract
+//! says. [`Polynomial`] shows the form and is of no strength.
+ghost use Rattle.std.specs.Prelude.{◌≡◌};
+ghost use Rattle.uses.specs.OwnHasher.{evaluated};
+
+use p3_symmetric::{CryptographicHasher, DigestHasher};
+
+/// The bytes are the coefficients of a polynomial, and its value at 31 modulo 256 stands in each place of the digest.
+#[derive(Clone, Copy, Debug)]
+pub struct Polynomial;
+
+impl CryptographicHasher<u8, [u8; 32]> for Polynomial {
+    ghost use Rattle.std.specs.Prelude.{refl};
+    ghost use Rattle.uses.specs.OwnHasher.{polynomial_digest};
+
+    ghost hash = { λ _ message. polynomial_digest message };
+
+    ghost filler = { 0 };
+
+    ghost digests = { λ _ _. refl };
+
+    fn hash_slice(&self, input: &[u8]) -> [u8; 32] {
+        [evaluate(input); 32]
+    }
+}
+
+impl DigestHasher for Polynomial {
+    ghost use Rattle.uses.specs.OwnHasher.{polynomial_digest, polynomial-is_digest};
+
+    ghost digest_of = { polynomial_digest };
+
+    ghost digests = { polynomial-is_digest };
+
+    fn digest(message: &[u8]) -> [u8; 32] {
+        [evaluate(message); 32]
+    }
+}
+
+// The value of the polynomial, the first byte being the highest coefficient.
+fn evaluate(bytes: &[u8]) -> u8
+    ensures { result ≡ evaluated 0 bytes.now }
+{
+    let mut value = 0u8;
+    for byte in bytes {
+        value = value.wrapping_mul(31).wrapping_add(*byte);
+    }
+    value
+}

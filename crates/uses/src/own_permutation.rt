@@ -1,0 +1,46 @@
+//! A permutation of one's own, for a [`DuplexChallenger`](p3_challenger::DuplexChallenger).
+//!
+//! What a challenger needs is one method and one line of contract: which function of the cells the permutation is. That
+//! it is hard to invert, or a permutation at all, no contract says; it is the word of who brings it. [`Stir`] shows the
+//! form and is of no strength.
+ghost use Rattle.std.specs.Prelude.{◌≡◌, ◌+◌, slice_index_or};
+ghost use Rattle.p3_challenger.specs.BabyBearResidues.{residues};
+ghost use Rattle.p3_challenger.specs.Residues.{power_of, plus};
+
+use p3_challenger::DuplexChallenger;
+use p3_field::{BabyBear, PrimeCharacteristicRing};
+use p3_symmetric::CryptographicPermutation;
+
+/// Each of four cells gets its place and one added and is taken to the seventh power; and then all get the sum of all.
+#[derive(Clone, Copy, Debug)]
+pub struct Stir;
+
+/// A challenger over it: four cells, of which two are the rate.
+pub type StirChallenger = DuplexChallenger<BabyBear, Stir, 4, 2>;
+
+impl CryptographicPermutation<[BabyBear; 4]> for Stir {
+    ghost use Rattle.uses.specs.OwnPermutation.{stirred};
+
+    ghost permutation = { λ _ cells. stirred cells };
+
+    fn permute_mut(&self, state: &mut [BabyBear; 4]) {
+        let first = stirred_cell(state[0], 1);
+        let second = stirred_cell(state[1], 2);
+        let third = stirred_cell(state[2], 3);
+        let fourth = stirred_cell(state[3], 4);
+        let total = first + second + third + fourth;
+        *state = [first + total, second + total, third + total, fourth + total];
+    }
+}
+
+// A cell with a number added, to the seventh power.
+fn stirred_cell(cell: BabyBear, constant: u64) -> BabyBear
+    ensures { result ≡ power_of residues (plus residues cell constant) 7 }
+{
+    (cell + BabyBear::from_u64(constant)).exp_u64(7)
+}
+
+/// A challenger that observed nothing yet, and draws at most so many values for one that is not rejected.
+pub fn stir_challenger() -> StirChallenger {
+    StirChallenger::new(Stir, 1000)
+}
