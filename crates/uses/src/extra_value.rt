@@ -1,4 +1,4 @@
-// A value that no step carries is observed through the challenger that a driver lends, and then a step is played.
+//! A value that no step carries is observed through the challenger that a driver lends, and then a step is played.
 ghost use Rattle.std.specs.Prelude.{IfOk};
 ghost use Rattle.p3_challenger.specs.Bound.{value_of};
 ghost use Rattle.p3_challenger.specs.Meanings as meaning;

@@ -1,5 +1,5 @@
-// A small protocol as a user would write it, with a prover and a verifier. The prover sends a line over a field, the
-// verifier draws a place, and the prover sends the line's value there.
+//! A small protocol as a user would write it, with a prover and a verifier. The prover sends a line over a field, the
+//! verifier draws a place, and the prover sends the line's value there.
 ghost use Rattle.std.specs.Prelude.{◌≡◌, IfSome, IfOk};
 ghost use Rattle.p3_challenger.specs.BabyBearResidues.{residues};
 ghost use Rattle.p3_challenger.specs.Residues.{sum_of, product_of};
