@@ -5,8 +5,8 @@ use p3_challenger::fs::{Label, SymmetricSteps, TranscriptBound, TranscriptError}
 use p3_challenger::{CanObserve, CanSample};
 use p3_field::{F257, PrimeField64};
 
-// More refusals in a row than any script has.
-const REFUSALS: u64 = 1 << 16;
+/// More refusals in a row than any script has.
+pub const REFUSALS: u64 = 1 << 16;
 
 /// Plays a step, and keeps the numbers that it draws.
 pub fn play<S: SymmetricSteps>(
@@ -41,6 +41,11 @@ where
             keep(draws, &drawn)
         }
     }
+}
+
+/// A rule that takes a number which was not among those kept before.
+pub fn is_new(candidate: usize, kept: &[usize]) -> bool {
+    !kept.contains(&candidate)
 }
 
 /// Keeps the numbers of what was drawn.

@@ -1,6 +1,6 @@
 // A script on both sides, and how a file writes what it answers.
 use crate::line::Line;
-use crate::proving::{Proved, prove};
+use crate::proving::{Found, Proved, prove};
 use crate::recording::record;
 use crate::verifying::{Verdict, verify};
 use crate::world::{Separator, World};
@@ -16,17 +16,28 @@ pub fn answer(alloc: Global, line: &Line<'_>) -> Result<String> {
     let separator = separator(alloc, line)?;
     let Proved {
         wire: mut proof,
-        draws,
+        found: Found {
+            draws,
+            witnesses,
+            carried,
+        },
         challenger,
     } = prove(alloc, &separator, steps)?;
     let wire = hex::encode(alloc, proof.as_slice())?;
     line.change.apply(&mut proof)?;
-    let verdict = verify(alloc, &separator, steps, proof.as_slice())?;
+    let verdict = verify(
+        alloc,
+        &separator,
+        steps,
+        carried.as_slice(),
+        proof.as_slice(),
+    )?;
     let draws = spaced(alloc, draws.as_slice())?;
+    let witnesses = spaced(alloc, numbers(alloc, witnesses.as_slice())?.as_slice())?;
     let next = next_draws(alloc, challenger)?;
     let verdict = written(alloc, verdict)?;
     Ok(format!(in alloc;
-        "wire {wire} ; draws {draws} ; witnesses  ; next {next} ; verify {verdict}"
+        "wire {wire} ; draws {draws} ; witnesses {witnesses} ; next {next} ; verify {verdict}"
     )?)
 }
 
@@ -66,6 +77,15 @@ fn written(alloc: Global, verdict: Verdict) -> Result<String> {
             error => Err(error).context(format_args!("step {position}")),
         },
     }
+}
+
+// The numbers of elements.
+fn numbers(alloc: Global, elements: &[F257]) -> Result<Vec<u64>> {
+    let mut numbers = Vec::new(alloc);
+    for element in elements {
+        numbers.push(element.as_canonical_u64())?;
+    }
+    Ok(numbers)
 }
 
 // Numbers with spaces between.

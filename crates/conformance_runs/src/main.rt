@@ -8,9 +8,9 @@
 //! are those of [`steps::Call`], each with the values that the prover has for it. After them may stand one of
 //! [`change::Change`], which is what becomes of the proof before the verifier reads it.
 //!
-//! The answer is `wire HEX ; draws n.. ; witnesses ; next a b ; verify VERDICT`: the bytes of the proof, the numbers
-//! that were drawn, no witnesses, and the next two elements that the prover's challenger draws. The verdict is
-//! `accepted n.. next a b`, with what the verifier drew and what its challenger draws next, or
+//! The answer is `wire HEX ; draws n.. ; witnesses n.. ; next a b ; verify VERDICT`: the bytes of the proof, the
+//! numbers that were drawn, the witnesses that were found, and the next two elements that the challenger of the prover
+//! draws. The verdict is `accepted n.. next a b`, with what the verifier drew and what its challenger draws next, or
 //! `refused POSITION REASON`, with the position of the step, counted from 0, or the number of steps for the end.
 #![tactic(auto)]
 

@@ -1,8 +1,8 @@
 // The prover's side of a script.
-use crate::alike::{keep, keep_numbers, play};
-use crate::steps::{Bytes, Call, Draw, Step, Value, Values};
-use crate::world::{Prover, Scalars, Separator, World, world};
-use p3_challenger::fs::{Label, TranscriptError};
+use crate::alike::{REFUSALS, is_new, keep, keep_numbers, play};
+use crate::steps::{Bytes, Call, Draw, Step, Value, Values, Work};
+use crate::world::{BitWidth, Prover, Scalars, Separator, World, world};
+use p3_challenger::fs::{Label, TranscriptError, TranscriptField};
 use p3_field::F257;
 use std::alloc::Global;
 
@@ -11,10 +11,21 @@ use std::alloc::Global;
 pub struct Proved {
     /// The bytes of the proof.
     pub wire: Vec<u8>,
-    /// The numbers that were drawn.
-    pub draws: Vec<u64>,
+    /// The numbers that were drawn, and the witnesses that were found.
+    pub found: Found,
     /// The challenger.
     pub challenger: World,
+}
+
+/// What a prover draws and finds.
+#[derive(Drop)]
+pub struct Found {
+    /// The numbers that were drawn.
+    pub draws: Vec<u64>,
+    /// The witnesses, in order.
+    pub witnesses: Vec<F257>,
+    /// Those that the proof does not carry.
+    pub carried: Vec<F257>,
 }
 
 /// Plays the steps, each with its values.
@@ -24,9 +35,13 @@ pub fn prove(
     steps: &[Step],
 ) -> Result<Proved, TranscriptError> {
     let mut prover = Prover::new(alloc, world(), separator)?;
-    let mut draws = Vec::new(alloc);
+    let mut found = Found {
+        draws: Vec::new(alloc),
+        witnesses: Vec::new(alloc),
+        carried: Vec::new(alloc),
+    };
     for step in steps {
-        if let Err(refused) = send(&mut prover, step, &mut draws) {
+        if let Err(refused) = send(&mut prover, step, &mut found) {
             // A prover has to be spent, also where a step was refused.
             prover.abort();
             return Err(refused);
@@ -35,19 +50,20 @@ pub fn prove(
     let (wire, challenger) = prover.finish()?;
     Ok(Proved {
         wire,
-        draws,
+        found,
         challenger,
     })
 }
 
-fn send(prover: &mut Prover, step: &Step, draws: &mut Vec<u64>) -> Result<(), TranscriptError> {
+fn send(prover: &mut Prover, step: &Step, found: &mut Found) -> Result<(), TranscriptError> {
     let label = step.label;
     match &step.call {
-        Call::Alike(alike) => play(prover, label, *alike, draws),
+        Call::Alike(alike) => play(prover, label, *alike, &mut found.draws),
         Call::Bytes(bytes, items) => send_bytes(prover, label, *bytes, items.as_slice()),
         Call::Value(value, item) => send_value(prover, label, *value, item),
         Call::Values(values, items) => send_values(prover, label, *values, items.as_slice()),
-        Call::Draw(draw) => draw_numbers(prover, label, *draw, draws),
+        Call::Draw(draw) => draw_numbers(prover, label, *draw, &mut found.draws),
+        Call::Work(work, width) => find(prover, label, *work, *width, found),
     }
 }
 
@@ -116,5 +132,39 @@ fn draw_numbers(
         Draw::Bits(width, n) => {
             keep_numbers(draws, &prover.challenge_bits(label, width.bits, n)?)
         }
+        Draw::UniformBits(width, n) => keep_numbers(
+            draws,
+            &prover.challenge_uniform_bits::<F257>(label, width.bits, n)?,
+        ),
+        Draw::DistinctUniformBits(width, n) => keep_numbers(
+            draws,
+            &prover.challenge_uniform_bits_rejecting::<F257, _>(
+                label, width.bits, n, &is_new, REFUSALS,
+            )?,
+        ),
     }
+}
+
+fn find(
+    prover: &mut Prover,
+    label: Label,
+    work: Work,
+    width: BitWidth,
+    found: &mut Found,
+) -> Result<(), TranscriptError> {
+    match work {
+        Work::Sent => {
+            prover.pow(label, width.bits)?;
+            // The step ends with the witness.
+            let proof = prover.narg();
+            let witness = F257::decode(&proof[proof.len().saturating_sub(F257::wire_len())..])?;
+            found.witnesses.push(witness)?;
+        }
+        Work::Carried => {
+            let witness = prover.observe_pow(label, width.bits)?;
+            found.witnesses.push(witness)?;
+            found.carried.push(witness)?;
+        }
+    }
+    Ok(())
 }

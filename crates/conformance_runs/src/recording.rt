@@ -38,6 +38,7 @@ fn interaction(step: &Step) -> Interaction {
             elements(kind, label, length)
         }
         Call::Draw(draw) => of_draw(label, *draw),
+        Call::Work(_, width) => elements(Kind::Pow, label, Length::Fixed(width.bits)),
     }
 }
 
@@ -87,6 +88,15 @@ fn of_draw(label: Label, draw: Draw) -> Interaction {
             width.bits,
             Length::Fixed(n),
         ),
+        Draw::UniformBits(width, n) | Draw::DistinctUniformBits(width, n) => {
+            Interaction::uniform_bits(
+                Hierarchy::Atomic,
+                Kind::Challenge,
+                label,
+                width.bits,
+                Length::Fixed(n),
+            )
+        }
     }
 }
 

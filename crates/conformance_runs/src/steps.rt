@@ -27,6 +27,8 @@ pub enum Call {
     Values(Values, Vec<F257>),
     /// A draw.
     Draw(Draw),
+    /// Proof of work of so many bits.
+    Work(Work, BitWidth),
 }
 
 /// A step that both sides play by one trait.
@@ -97,6 +99,19 @@ pub enum Draw {
     Extensions(usize),
     /// `cb LABEL width n`: n numbers of so many bits.
     Bits(BitWidth, usize),
+    /// `cu LABEL width n`: n numbers of so many uniform bits.
+    UniformBits(BitWidth, usize),
+    /// `cur LABEL width n`: until n of these are kept, each of which was not among those before it.
+    DistinctUniformBits(BitWidth, usize),
+}
+
+/// How a witness reaches the verifier.
+#[derive(Clone, Copy)]
+pub enum Work {
+    /// `pow LABEL bits`: it is sent.
+    Sent,
+    /// `opow LABEL bits`: it is carried beside the proof.
+    Carried,
 }
 
 // The labels of the file, which are texts of the program itself.
@@ -132,6 +147,8 @@ impl Call {
                 let numbers = parse_row(alloc, words)?;
                 Ok(Call::Values(values, symbols(alloc, numbers.as_slice())?))
             }
+            "pow" => Ok(Call::Work(Work::Sent, BitWidth::new(words.parse()?)?)),
+            "opow" => Ok(Call::Work(Work::Carried, BitWidth::new(words.parse()?)?)),
             _ => Ok(Call::Draw(Draw::parse(name, words)?)),
         }
     }
@@ -197,11 +214,20 @@ impl Draw {
             "chs" => Ok(Draw::Scalar),
             "chv" => Ok(Draw::Scalars(words.parse()?)),
             "chev" => Ok(Draw::Extensions(words.parse()?)),
-            "cb" => {
+            "cb" | "cu" | "cur" => {
                 let (width, n) = split_name(words);
-                Ok(Draw::Bits(BitWidth::new(width.parse()?)?, n.parse()?))
+                Draw::of_bits(name, BitWidth::new(width.parse()?)?, n.parse()?)
             }
             _ => bail!("an unknown step"),
+        }
+    }
+
+    fn of_bits(name: &str, width: BitWidth, n: usize) -> Result<Draw> {
+        match name {
+            "cb" => Ok(Draw::Bits(width, n)),
+            "cu" => Ok(Draw::UniformBits(width, n)),
+            "cur" => Ok(Draw::DistinctUniformBits(width, n)),
+            _ => bail!("no step that draws bits"),
         }
     }
 }

@@ -1,10 +1,11 @@
 // The verifier's side of a script.
-use crate::alike::{keep, keep_numbers, play};
-use crate::steps::{Bytes, Call, Draw, Step, Value, Values};
+use crate::alike::{REFUSALS, is_new, keep, keep_numbers, play};
+use crate::steps::{Bytes, Call, Draw, Step, Value, Values, Work};
 use crate::world::{Scalars, Separator, Verifier, World, world};
 use p3_challenger::fs::{Label, TranscriptError};
 use p3_field::F257;
 use std::alloc::Global;
+use std::slice::Iter;
 
 /// What a verifier ends with.
 #[derive(Drop)]
@@ -21,17 +22,19 @@ pub enum Verdict {
     },
 }
 
-/// Reads a proof step by step.
+/// Reads a proof step by step. The witnesses that it does not carry stand beside it.
 pub fn verify(
     alloc: Global,
     separator: &Separator,
     steps: &[Step],
+    carried: &[F257],
     proof: &[u8],
 ) -> Result<Verdict, TranscriptError> {
     let mut verifier = Verifier::new(alloc, world(), separator, proof)?;
     let mut draws = Vec::new(alloc);
+    let mut carried = carried.iter();
     for (position, step) in steps.iter().enumerate() {
-        if let Err(error) = receive(&mut verifier, step, &mut draws) {
+        if let Err(error) = receive(&mut verifier, step, &mut draws, &mut carried) {
             // A verifier has to be spent, also where a step was refused.
             verifier.abort();
             return Ok(Verdict::Refused { position, error });
@@ -50,6 +53,7 @@ fn receive(
     verifier: &mut Verifier<'_>,
     step: &Step,
     draws: &mut Vec<u64>,
+    carried: &mut Iter<'_, F257>,
 ) -> Result<(), TranscriptError> {
     let label = step.label;
     match &step.call {
@@ -60,6 +64,12 @@ fn receive(
             receive_values(verifier, label, *values, items.as_slice())
         }
         Call::Draw(draw) => draw_numbers(verifier, label, *draw, draws),
+        Call::Work(Work::Sent, width) => verifier.check_pow(label, width.bits),
+        Call::Work(Work::Carried, width) => {
+            // The prover found one for each of these steps.
+            let witness = carried.next().copied().unwrap_or_default();
+            verifier.observe_pow(label, width.bits, witness)
+        }
     }
 }
 
@@ -131,5 +141,15 @@ fn draw_numbers(
         Draw::Bits(width, n) => {
             keep_numbers(draws, &verifier.challenge_bits(label, width.bits, n)?)
         }
+        Draw::UniformBits(width, n) => keep_numbers(
+            draws,
+            &verifier.challenge_uniform_bits::<F257>(label, width.bits, n)?,
+        ),
+        Draw::DistinctUniformBits(width, n) => keep_numbers(
+            draws,
+            &verifier.challenge_uniform_bits_rejecting::<F257, _>(
+                label, width.bits, n, &is_new, REFUSALS,
+            )?,
+        ),
     }
 }
