@@ -107,12 +107,13 @@ fn show_opening(rt: &HostRuntime) -> anyhow::Result<()> {
     let mut proof = opening::prove(rt.alloc(), &separator, &leaves)?;
     println!(rt; "opening: {} bytes", proof.len())?;
     let opened = opening::verify(rt.alloc(), &separator, &proof)?;
-    println!(rt; "{opened:?}")?;
+    let leaf = opened.map(|opened| (opened.place, opened.bytes));
+    println!(rt; "opened: {leaf:?}")?;
     if let Some(byte) = proof.last_mut() {
         *byte ^= 1;
     }
     let opened = opening::verify(rt.alloc(), &separator, &proof)?;
-    println!(rt; "a sibling changed: {opened:?}")?;
+    println!(rt; "a sibling changed: {:?}", opened.is_some())?;
     Ok(())
 }
 

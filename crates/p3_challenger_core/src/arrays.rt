@@ -1,3 +1,4 @@
+//! Arrays drawn from a challenger, place 0 first.
 ghost use Rattle.std.specs.Prelude.{◌≡◌, [], length, Some, OnOk, IfOk, IfErr};
 ghost use Rattle.p3_challenger_core.specs.Sampling.{draws, after_draws, RefusesDraws};
 

@@ -1,3 +1,12 @@
+//! What every challenger promises, as traits.
+//!
+//! A value goes in by [`CanObserve`], and feeds the challenger its symbols. A value comes out by [`CanSample`], made of
+//! the challenger's smallest draws. Contracts say both of one state, which [`Sponge`] names:
+//!
+//! ```text
+//! observe x:   s  ->  fed s (symbols of x)
+//! sample:      s  ->  sampled s, and the state after so many of the smallest draws
+//! ```
 ghost use Rattle.std.specs.Prelude.{◌≡◌, List, [], ◌∷◌, ◌++◌, Option, Some, OnOk, IfOk, IfErr, ◌<◌, ◌≤◌, ◌^◌, ℕ};
 ghost use Rattle.std.specs.Prelude.{length};
 ghost use Rattle.p3_challenger_core.specs.Observation.{Observation, IsObservation, observed_all, LeavesInCalls};

@@ -1,3 +1,4 @@
+//! Why a challenger refuses a call.
 ghost use Rattle.std.specs.Prelude.{◌≡◌};
 ghost use Rattle.p3_field_core.specs.Equality.{IsExact};
 ghost use Rattle.p3_challenger_core.specs.declared.error.ChallengerError.TheVariants.{OutOfMemory};

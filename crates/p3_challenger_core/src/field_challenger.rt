@@ -1,3 +1,5 @@
+//! Elements of vector spaces over a challenger's field: each is observed and drawn by its coefficients, coefficient 0
+//! first.
 ghost use Rattle.std.specs.Prelude.{◌≡◌, ◌-◌, ◌∷◌, Some, OnOk, IfOk, IfErr, replicate};
 ghost use Rattle.p3_challenger_core.specs.Observation.{observed_all, in_row, LeavesInCalls, RefusesObserve};
 ghost use Rattle.p3_challenger_core.specs.Sampling.{draws, after_draws, RefusesDraws};

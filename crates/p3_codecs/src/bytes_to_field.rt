@@ -1,3 +1,10 @@
+//! The codec of a scalar through a challenger of bytes.
+//!
+//! ```text
+//! in the proof:  the number of the scalar, as few bytes as hold every element, the highest first
+//! observed:      these bytes
+//! drawn:         16 bytes more than these, as a number modulo the order
+//! ```
 ghost use Rattle.std.specs.Prelude.{◌≡◌, ◌+◌, ◌*◌};
 ghost use Rattle.p3_codecs.specs.BytesToField.{challenge_of};
 

@@ -1,3 +1,4 @@
+//! What a codec owes: how a value is spelled in the proof, how a challenger observes it, and how it is drawn.
 ghost use Rattle.std.specs.Prelude.{◌≡◌, ℕ, ◌<◌, ◌≤◌, List, ◌++◌, take, drop, length, Some, Ok, Err, OnOk, OnErr, IfOk};
 ghost use Rattle.std.specs.Prelude.{IfErr};
 ghost use Rattle.p3_challenger_core.specs.Observation.{Observation, RefusesObserve};

@@ -1,3 +1,5 @@
+//! The codec of an element of a vector space: each coefficient in turn through a codec of the field, coefficient 0
+//! first.
 ghost use Rattle.std.specs.Prelude.{◌*◌, ◌≤◌, length};
 ghost use Rattle.p3_codecs.specs.Extension as extension;
 ghost use Rattle.p3_fs_core.specs.Errors.{Decodes};

@@ -1,3 +1,4 @@
+//! The codec of a scalar through a challenger of its own field: the scalar itself is observed and drawn.
 use crate::{Codec, ScalarCodec};
 use p3_challenger_core::{CanObserve, CanSample, ChallengerError};
 use p3_field_core::PrimeField64;

@@ -1,3 +1,5 @@
+//! The alphabets: what a byte string is to a challenger. To one of bytes it is those bytes; to one of a field it is its
+//! length and then elements, each of as many bytes as are sure to be below the order.
 ghost use Rattle.std.specs.Prelude.{◌≡◌, ℕ, ◌<◌, ◌≤◌, List, [], ◌∷◌, ◌++◌, length, flat_map, OnOk, IfErr};
 ghost use Rattle.p3_challenger_core.specs.Observation.{observed_all, LeavesInCalls, RefusesObserve};
 ghost use Rattle.p3_challenger_core.specs.Sponge.{IsFed};

@@ -1,4 +1,4 @@
-// The algebras that steps were of: each identity is hashed once.
+//! The algebras that steps were of: each identity is hashed once.
 ghost use Rattle.std.specs.Prelude.{◌≡◌, IsTrue, IfSome};
 ghost use Rattle.p3_fs_core.specs.Interactions.{step_of};
 ghost use Rattle.p3_fs_core.specs.Steps.{step_with};

@@ -1,3 +1,4 @@
+//! A value that a transcript has bound: it was observed, or drawn.
 ghost use Rattle.std.specs.Prelude.{◌≡◌};
 ghost use Rattle.p3_driver_core.specs.Bound.{value_of};
 

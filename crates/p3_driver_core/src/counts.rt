@@ -1,4 +1,4 @@
-// The count of a bounded step.
+//! The count of a bounded step.
 ghost use Rattle.std.specs.Prelude.{◌≡◌, ◌≤◌, ◌<◌, ◌^◌, take, IfErr};
 ghost use Rattle.p3_driver_core.specs.Counts.{count_width, count_bytes};
 ghost use Rattle.p3_driver_core.specs.Effects.{alphabet_of, observing_bytes, Does};

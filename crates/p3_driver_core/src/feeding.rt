@@ -1,4 +1,4 @@
-// Each step feeds just the symbols that its meaning names: laws, of every challenger, codec and alphabet.
+//! Each step feeds just the symbols that its meaning names: laws, of every challenger, codec and alphabet.
 ghost use Rattle.std.specs.Prelude.{◌≡◌, ℕ, true, Some, List, length};
 ghost use Rattle.p3_driver_core.specs.Counts.{count_bytes};
 ghost use Rattle.p3_driver_core.specs.Effects.{alphabet_of, untouched, observing, observing_all, observing_bytes};

@@ -1,5 +1,5 @@
-// Values in a list: observed one after another, drawn one after another, and handed out as ones that went through the
-// transcript.
+//! Values in a list: observed one after another, drawn one after another, and handed out as ones that went through the
+//! transcript.
 ghost use Rattle.std.specs.Prelude.{◌≡◌, ◌≤◌, Some, OnOk, IfOk, IfErr};
 ghost use Rattle.p3_challenger_core.specs.Observation.{observed_all, LeavesInCalls, RefusesObserve};
 ghost use Rattle.p3_challenger_core.specs.Sampling.{draws, after_draws, RefusesDrawVec};

@@ -1,4 +1,4 @@
-// Draws until a rule has taken so many of the candidates.
+//! Draws until a rule has taken so many of the candidates.
 ghost use Rattle.std.specs.Prelude.{◌≡◌, ◌≤◌, true, IfErr};
 ghost use Rattle.p3_driver_core.specs.Bound.{values_of};
 ghost use Rattle.p3_driver_core.specs.Opened.{playing_of, turn_of};

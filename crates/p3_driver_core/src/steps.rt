@@ -1,4 +1,4 @@
-// The pattern as a driver plays it: each step is held against the next one before anything else is done.
+//! The pattern as a driver plays it: each step is held against the next one before anything else is done.
 ghost use Rattle.std.specs.Prelude.{◌≡◌, ◌≤◌, ◌<◌, ◌↔◌, false, IfErr, OnOk, IsOk, IsTrue};
 ghost use Rattle.std.specs.Option.{option_map};
 ghost use Rattle.p3_fs_core.specs.Errors.{misfit_of};

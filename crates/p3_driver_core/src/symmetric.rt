@@ -1,4 +1,4 @@
-// The steps that a prover and a verifier play alike, for code that plays either side.
+//! The steps that a prover and a verifier play alike, for code that plays either side.
 ghost use Rattle.std.specs.Prelude.{◌≡◌, ◌≤◌, ℕ, true, List, IsOk};
 ghost use Rattle.p3_fs_core.specs.Steps.{marker_of};
 ghost use Rattle.p3_driver_core.specs.Bound.{value_of, values_of};

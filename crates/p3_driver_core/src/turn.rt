@@ -1,4 +1,5 @@
-// What both drivers have beside a challenger, and the steps that both play alike: those that take no part in the proof.
+//! What both drivers have beside a challenger, and the steps that both play alike: those that take no part in the
+//! proof.
 ghost use Rattle.std.specs.Prelude.{◌≡◌, ◌≤◌, length, IfErr, IsOk, OnOk};
 ghost use Rattle.p3_fs_core.specs.Steps.{marker_of};
 ghost use Rattle.p3_driver_core.specs.Bound.{value_of, values_of};

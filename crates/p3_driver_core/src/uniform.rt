@@ -1,4 +1,4 @@
-// Numbers of uniform bits, drawn one after another, and until a rule has taken so many.
+//! Numbers of uniform bits, drawn one after another, and until a rule has taken so many.
 ghost use Rattle.std.specs.Prelude.{◌≡◌, ◌≤◌, ℕ, true, Some, OnOk, IfOk, IfErr};
 ghost use Rattle.p3_challenger_core.specs.Sampling.{draws, after_draws, RefusesDraw, RefusesDrawVec};
 ghost use Rattle.p3_driver_core.specs.Bound.{values_of};

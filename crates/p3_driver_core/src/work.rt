@@ -1,4 +1,4 @@
-// Proof of work in a step: a witness is searched for, or checked.
+//! Proof of work in a step: a witness is searched for, or checked.
 ghost use Rattle.std.specs.Prelude.{◌≡◌, ◌≤◌, true, Some, OnOk, IfErr};
 ghost use Rattle.p3_grinding.specs.Checks.{all_zero, check_of};
 ghost use Rattle.p3_driver_core.specs.Opened.{turn_of};

@@ -1,3 +1,17 @@
+//! The challenger made of a permutation, and what it does with values and arrays.
+//!
+//! ```text
+//! observe ->  pending values, fewer than RATE
+//!                |  RATE of them, or a draw where some are pending or no output is left
+//!                v
+//!             [ cells 0 .. RATE of the rate | capacity ]   the values written over the front, zeros up to RATE,
+//!                |                                         and their number added to the cell after the rate
+//!                |  the permutation
+//!                v
+//! sample  <-  outputs: the first RATE cells, the last of them first
+//! ```
+//!
+//! An observe drops the outputs that are left. Where nothing is pending, the cells are permuted as they are.
 ghost use Rattle.std.specs.Prelude.{◌≡◌, ◌<◌, ◌≤◌, ◌+◌, ℕ, List, [], Some, length, replicate, take};
 ghost use Rattle.std.specs.List.{All};
 ghost use Rattle.p3_field_core.specs.Residues.{plus};

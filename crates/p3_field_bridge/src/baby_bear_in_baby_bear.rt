@@ -1,3 +1,4 @@
+//! `BabyBear` in itself: a cell is one scalar.
 use crate::FieldBridge;
 use p3_small_primes::BabyBear;
 

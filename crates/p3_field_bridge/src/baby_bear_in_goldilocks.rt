@@ -1,3 +1,4 @@
+//! `BabyBear` in `Goldilocks`: two scalars to a cell.
 use crate::FieldBridge;
 use p3_goldilocks::Goldilocks;
 use p3_small_primes::BabyBear;

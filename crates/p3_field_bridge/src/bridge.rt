@@ -1,3 +1,5 @@
+//! A bridge from a smaller field to a larger one: elements of the smaller one are packed into one of the larger, and an
+//! element of the larger one has digits that are elements of the smaller.
 ghost use Rattle.std.specs.Prelude.{◌≡◌, ℕ};
 ghost use Rattle.p3_field_bridge.specs.Bridges.{packed, digit_of, AreRadixBits, AreCounts};
 

@@ -1,3 +1,4 @@
+//! `F257` in `BabyBear`.
 use crate::FieldBridge;
 use p3_small_primes::{BabyBear, F257};
 

@@ -1,4 +1,4 @@
-// What follows of every bridge.
+//! What follows of every bridge.
 ghost use Rattle.std.specs.Prelude.{◌≡◌, ℕ, ◌^◌, ◌%◌, ◌<◌, ◌≤◌, ◌↔◌, List, length, slice_index_or};
 ghost use Rattle.p3_field_bridge.specs.Bridges.{packed, digit_of};
 

@@ -1,3 +1,4 @@
+//! Vector spaces over a field and algebras, by their coefficients; a field is one over itself.
 ghost use Rattle.std.specs.Prelude.{◌≡◌, ℕ, ◌-◌, ◌<◌, ◌≤◌, List, ◌∷◌, length, replicate, slice_set};
 ghost use Rattle.p3_field_core.specs.Equality.{IsExact};
 

@@ -1,3 +1,4 @@
+//! An element of a vector space as an array of coefficients.
 ghost use Rattle.std.specs.Prelude.{◌≡◌, length};
 
 use crate::{Algebra, AlgebraIdentity, BasedVectorSpace, BinomiallyExtendable, Field, Named};

@@ -1,3 +1,4 @@
+//! Powers by squaring.
 ghost use Rattle.std.specs.Prelude.{◌≡◌};
 ghost use Rattle.p3_field_core.specs.Residues.{power_of};
 

@@ -1,3 +1,4 @@
+//! Fields, and prime fields whose elements are numbers of at most 64 bits or 32.
 ghost use Rattle.std.specs.Prelude.{◌≡◌, ℕ, ◌+◌, ◌*◌, ◌^◌, ◌<◌, ◌≤◌, Option, Some, None};
 ghost use Rattle.std.specs.Mem.{FitsInMemory};
 

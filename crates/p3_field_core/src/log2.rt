@@ -1,3 +1,4 @@
+//! The least number of bits in which so many values have a number each.
 ghost use Rattle.std.specs.Prelude.{ℕ, ◌^◌, ◌≤◌};
 
 /// The least `k` for which `2^k` is at least `n`.

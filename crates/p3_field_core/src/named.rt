@@ -1,3 +1,4 @@
+//! Types with a name, which steps of a protocol carry.
 ghost use Rattle.std.specs.Prelude.{◌≡◌, ℕ, List};
 
 /// A type with a name, which tells apart what is made for different types.

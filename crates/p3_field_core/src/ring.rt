@@ -1,3 +1,4 @@
+//! Rings whose elements are residues modulo their order.
 ghost use Rattle.std.specs.Prelude.{◌≡◌, ℕ, ◌-◌};
 ghost use Rattle.p3_field_core.specs.Equality.{IsExact};
 ghost use Rattle.p3_field_core.specs.Residues.{Residues, IsResidues, sum_of, difference_of, product_of, power_of};

@@ -1,3 +1,4 @@
+//! Bounds of uniform bits: of the numbers below a bound, as many have each value of their low bits.
 ghost use Rattle.std.specs.Prelude.{◌≡◌, ℕ, ◌^◌, ◌/◌, ◌%◌, ◌<◌, ◌≤◌};
 ghost use Rattle.p3_field_core.specs.UniformBounds.{uniform_bound, how_many_have};
 

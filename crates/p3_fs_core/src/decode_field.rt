@@ -1,4 +1,4 @@
-// The one spelling of an element of a prime field, shared by the codecs.
+//! The one spelling of an element of a prime field, shared by the codecs.
 ghost use Rattle.std.specs.Prelude.{◌≡◌, ℕ, ◌≤◌, ◌++◌, take, OnOk, OnErr, IfErr};
 ghost use Rattle.p3_fs_core.specs.BigEndian.{bytes_for};
 ghost use Rattle.p3_fs_core.specs.Scalar.{wire, read};

@@ -1,3 +1,4 @@
+//! Why a transcript, a pattern or a step is refused.
 ghost use Rattle.std.specs.Prelude.{◌≡◌};
 
 use crate::Interaction;

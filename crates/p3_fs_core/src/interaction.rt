@@ -1,4 +1,4 @@
-// One step of an interactive protocol.
+//! One step of an interactive protocol.
 ghost use Rattle.std.specs.Prelude.{◌≡◌, ◌↔◌, ℕ, true, Some, codes, IsTrue};
 ghost use Rattle.p3_fs_core.specs.StepFits.{FitsLength, IsEnd, FitsTag, IsProgramStep};
 ghost use Rattle.p3_fs_core.specs.StepFitLaws.{IsProgramStep-prop};

@@ -1,3 +1,4 @@
+//! The prime field of order 2^64 - 2^32 + 1, its elements as their numbers below the order.
 ghost use Rattle.std.specs.Prelude.{◌<◌};
 
 mod folding;

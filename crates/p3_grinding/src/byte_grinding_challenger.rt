@@ -1,3 +1,4 @@
+//! Candidates of bytes: each is observed on a copy of the challenger, and passes by the bytes that are drawn after it.
 ghost use Rattle.std.specs.Prelude.{◌≡◌, ◌<◌, ◌^◌, ℕ, List, Bool, Some, IfOk, IfErr};
 ghost use Rattle.p3_challenger_core.specs.Observation.{in_slice};
 ghost use Rattle.p3_challenger_core.specs.Reading.{IsByte, IsPrefixCodeOn};

@@ -1,3 +1,4 @@
+//! Why a draw of uniform bits is refused.
 ghost use Rattle.std.specs.Prelude.{◌≡◌};
 ghost use Rattle.p3_grinding.specs.declared.error.UniformBitsError.TheVariants.{Challenger};
 

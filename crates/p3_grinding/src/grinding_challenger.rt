@@ -1,3 +1,9 @@
+//! Proof of work: a witness passes where, after it is observed, so many drawn bits are 0.
+//!
+//! ```text
+//! prover    grind(bits)             ->  the least witness that passes; the challenger is as its check leaves it
+//! verifier  check_witness(bits, w)  ->  whether w passes; the challenger is the same
+//! ```
 ghost use Rattle.std.specs.Prelude.{◌≡◌, ◌≤◌, Some, OnOk, IfOk, IfErr};
 ghost use Rattle.p3_challenger_core.specs.Reading.{TellsApart};
 ghost use Rattle.p3_challenger_core.specs.Sampling.{RefusesDraw};

@@ -1,3 +1,4 @@
+//! What a check draws before it observes the witness. A search does it once for all its candidates.
 ghost use Rattle.std.specs.Prelude.{◌≡◌, Some, OnOk, IfErr};
 ghost use Rattle.p3_challenger_core.specs.Sampling.{Sampling, IsSampling, RefusesDraw};
 

@@ -1,3 +1,4 @@
+//! A challenger that is copied once, and set back for each candidate, without memory being asked for again.
 ghost use Rattle.std.specs.Prelude.{◌≡◌, OnOk, IfOk, IfErr};
 ghost use Rattle.p3_challenger_core.specs.declared.error.ChallengerError.TheVariants.{OutOfMemory};
 

@@ -1,6 +1,7 @@
-// Searches for the least witness that passes. What a check draws before its witness is drawn once, on a copy; each
-// candidate in order is tested on a copy of that one, which is set back for the next. The copy that passed takes the
-// challenger's place.
+//! Searches for the least witness that passes. What a check draws before its witness is drawn once, on a copy; each
+//! candidate in order is tested on a copy of that one, which is set back for the next. The copy that passed takes the
+//! challenger's place.
+//!
 ghost use Rattle.std.specs.Prelude.{◌≡◌, ◌≤◌, Some, OnOk, IfOk, IfErr};
 ghost use Rattle.p3_grinding.specs.Checks.{all_zero, draws_nothing, checked, check_of, IsLeast};
 ghost use Rattle.p3_grinding.specs.Checks.{RefusesReady, RefusesSearch, MayRunOut};

@@ -1,3 +1,5 @@
+//! Draws of uniform bits. A drawn value at or above a multiple of 2^bits is rejected: then another one is drawn, or the
+//! draw is refused.
 ghost use Rattle.std.specs.Prelude.{◌≡◌, ◌^◌, ◌<◌, ◌≤◌, ℕ, Bool, Some, OnOk, IfOk, IfErr};
 ghost use Rattle.p3_grinding.specs.UniformDraws.{UniformDraw, IsUniformDraw, RefusesUniform};
 

@@ -1,3 +1,4 @@
+//! Proof of work by uniform bits.
 ghost use Rattle.std.specs.Prelude.{◌≡◌, ◌≤◌, Bool, true, false, Some, OnOk, IfOk, IfErr};
 ghost use Rattle.p3_challenger_core.specs.Sampling.{RefusesDraw};
 ghost use Rattle.p3_grinding.specs.Checks.{zero_and_uniform, check_of, IsLeast, RefusesSearch};

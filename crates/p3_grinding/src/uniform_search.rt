@@ -1,4 +1,4 @@
-// The search for the least witness by uniform bits: as `search` has it for plain ones.
+//! The search for the least witness by uniform bits: as `search` has it for plain ones.
 ghost use Rattle.std.specs.Prelude.{◌≡◌, ◌≤◌, Some, OnOk, IfOk, IfErr};
 ghost use Rattle.p3_grinding.specs.Checks.{zero_and_uniform, draws_nothing, checked, check_of, IsLeast};
 ghost use Rattle.p3_grinding.specs.Checks.{RefusesSearch, MayRunOut};

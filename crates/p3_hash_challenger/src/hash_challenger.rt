@@ -1,3 +1,16 @@
+//! The challenger made of a hash function, and what it does with values and arrays.
+//!
+//! ```text
+//! observe ->  pending values  <-------------------+
+//!                |  a draw where no output is left |
+//!                v                                 |
+//!             the digest of all that is pending ---+   is what is pending then
+//!                |
+//!                v
+//! sample  <-  outputs: the places of the digest, the last of them first
+//! ```
+//!
+//! An observe drops the outputs that are left.
 ghost use Rattle.std.specs.Prelude.{◌≡◌, ◌<◌, ℕ, List, Some, OnOk, OnErr, IfOk, IfErr};
 ghost use Rattle.std.specs.List.{All};
 ghost use Rattle.p3_challenger_core.specs.Segments.{Call, segments, run_calls, run_calls_to_digest};

@@ -1,3 +1,4 @@
+//! Why two fields make no challenger.
 use thiserror::Error;
 
 /// Why two fields do not make a multi-field challenger. No challenger stands after either.

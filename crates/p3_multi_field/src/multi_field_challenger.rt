@@ -1,3 +1,16 @@
+//! The challenger of scalars of one field over a sponge of cells of a larger one, and what it does with scalars.
+//!
+//! ```text
+//! observe ->  pending scalars, fewer than the rate packs
+//!                |  packed, so many to a cell, the first ones lowest; their number is added to the cell after the rate
+//!                v
+//!             [ rate | capacity ]
+//!                |  the permutation
+//!                v
+//! sample  <-  digits of the cells of the rate, the last one first
+//! ```
+//!
+//! A digest of cells is absorbed at once: its words are written over the rate, and their number is added.
 ghost use Rattle.std.specs.Prelude.{◌≡◌, ◌*◌, ◌/◌, ◌<◌, ◌≤◌, ◌+◌, ℕ, List, [], Some, IfOk, IfErr, length, take};
 ghost use Rattle.std.specs.List.{All};
 ghost use Rattle.p3_field_core.specs.Residues.{plus};

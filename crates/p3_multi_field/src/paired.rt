@@ -1,3 +1,4 @@
+//! What the two fields owe.
 use p3_field_bridge::FieldBridge;
 use p3_field_core::PrimeField64;
 

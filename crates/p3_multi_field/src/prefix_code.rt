@@ -1,4 +1,4 @@
-// What a multi-field challenger feeds is a prefix code: the premises of the laws on symbols.
+//! What a multi-field challenger feeds is a prefix code: the premises of the laws on symbols.
 ghost use Rattle.std.specs.Prelude.{◌≡◌, List, length};
 ghost use Rattle.p3_challenger_core.specs.Reading.{IsPrefixCode, IsPrefixCodeOn};
 

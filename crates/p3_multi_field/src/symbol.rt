@@ -1,3 +1,4 @@
+//! What a multi-field challenger is fed: a scalar, or a digest with all its words.
 use std::marker::Model;
 
 /// What a multi-field challenger absorbs at once, as contracts see it: a scalar, or a digest with all its words.

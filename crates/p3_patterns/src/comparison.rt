@@ -1,4 +1,4 @@
-// How patterns compare: as the lists of their steps.
+//! How patterns compare: as the lists of their steps.
 ghost use Rattle.std.specs.Cmp.Lexicographic.{pointwise, slice_cmp, slice_partial_cmp, lists_per, lists_equiv};
 ghost use Rattle.std.specs.Cmp.Lexicographic.{lists_agrees, lists_total, lists_ties, lists_po};
 ghost use Rattle.std.specs.Cmp.{on_per, on_equiv, on_po, on_total};

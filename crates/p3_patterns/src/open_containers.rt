@@ -1,4 +1,4 @@
-// The containers that steps leave open.
+//! The containers that steps leave open.
 ghost use Rattle.std.specs.Prelude.{◌≡◌, ◌↔◌, [], map, IfSome, IfNone, IsTrue, OnOk, OnErr};
 ghost use Rattle.p3_fs_core.specs.Interactions.{step_of};
 ghost use Rattle.p3_patterns.specs.PatternGrammar.{IsPattern, IsInnermost};

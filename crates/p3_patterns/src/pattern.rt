@@ -1,4 +1,4 @@
-// What takes the steps of a protocol: a recorder or a player.
+//! What takes the steps of a protocol: a recorder or a player.
 ghost use Rattle.std.specs.Prelude.{OnOk, IfErr};
 ghost use Rattle.p3_fs_core.specs.Steps.{Step, marker_of};
 ghost use Rattle.p3_fs_core.specs.Interactions.{step_of};

@@ -1,4 +1,4 @@
-// Playing a pattern step by step.
+//! Playing a pattern step by step.
 ghost use Rattle.std.specs.Prelude.{◌≡◌, ◌↔◌, ◌+◌, [], false, Some, length, option_copied, IsTrue, IfErr, OnOk, IsOk};
 ghost use Rattle.std.specs.Option.{option_map};
 ghost use Rattle.p3_fs_core.specs.Errors.{misfit_of};

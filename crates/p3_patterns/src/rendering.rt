@@ -1,4 +1,4 @@
-// The text of a whole pattern, and its digest.
+//! The text of a whole pattern, and its digest.
 ghost use Rattle.std.specs.Prelude.{◌≡◌, ◌↔◌, ◌+◌, ◌*◌, ◌<◌, ◌^◌, ◌++◌, ℕ, List, Some, map, length, replicate, codes};
 ghost use Rattle.std.specs.Prelude.{IfOk, string_bytes, if◌then◌else◌};
 ghost use Rattle.std.specs.Fmt.{decimal};

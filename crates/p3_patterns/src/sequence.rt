@@ -1,4 +1,9 @@
-// The steps of a whole protocol.
+//! The steps of a whole protocol.
+//!
+//! ```text
+//! a recorder's steps, or a list  ->  InteractionPattern  ->  its text and digest, for the separator
+//!                                                        ->  a player, which drivers hold their steps against
+//! ```
 ghost use Rattle.std.specs.Prelude.{◌≡◌, ◌↔◌, ◌⊎◌, ◌<◌, ◌^◌, [], ◌∷◌, ◌++◌, List, map, length, IfOk, IfErr, IfSome};
 ghost use Rattle.std.specs.Prelude.{IfNone, OnOk, IsOk, IsTrue};
 ghost use Rattle.p3_field_core.specs.Equality.{IsExact};

@@ -1,4 +1,4 @@
-// Recording a pattern step by step.
+//! Recording a pattern step by step.
 ghost use Rattle.std.specs.Prelude.{◌≡◌, [], ◌∷◌, ◌++◌, true, false, map, Ok, IfOk, IfErr, OnOk, IsOk};
 ghost use Rattle.p3_fs_core.specs.declared.error.PatternError.TheVariants.{Finished};
 ghost use Rattle.p3_fs_core.specs.declared.error.TranscriptError.TheVariants as error;

@@ -1,4 +1,15 @@
-// The prover's driver: it plays a pattern, and writes the proof. What it is, how it begins and how it ends.
+//! The prover's driver: it plays a pattern, and writes the proof. What it is, how it begins and how it ends.
+//!
+//! ```text
+//! add_scalar, add_bytes ..    value -> its spelling -> the proof
+//!                             value -> its symbols  -> the challenger
+//! challenge_scalar ..         the challenger -> value
+//! observe_scalar ..           value -> its symbols  -> the challenger; nothing is written
+//! add_hint                    bytes -> the proof; the challenger takes no part
+//! finalize                    the pattern is played whole -> the bytes of the proof
+//! ```
+//!
+//! Each step is held against the pattern first.
 ghost use Rattle.std.specs.Borrow.{sem};
 ghost use Rattle.std.specs.Prelude.{◌≡◌, [], false, length, OnOk, IfOk, IfErr, IsOk};
 ghost use Rattle.p3_challenger_core.specs.Observation.{observed_all};

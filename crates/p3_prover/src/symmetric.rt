@@ -1,4 +1,4 @@
-// The steps that a prover plays as the other side does.
+//! The steps that a prover plays as the other side does.
 ghost use Rattle.std.specs.Prelude.{◌≤◌};
 ghost use Rattle.p3_prover.specs.Proving.{proving_of};
 

@@ -1,3 +1,11 @@
+//! A challenger of elements over a challenger of bytes, and what it does with elements and arrays.
+//!
+//! ```text
+//! observe ->  the element's number as BYTES bytes, the lowest first  ->  observed by the inner challenger
+//! sample  <-  the first group of BYTES drawn bytes, cut to the bits of the order, that is below the order
+//! ```
+//!
+//! It keeps nothing of its own: its state is the inner challenger's.
 ghost use Rattle.std.specs.Prelude.{◌≡◌, ◌≤◌, OnOk, IfErr};
 ghost use Rattle.p3_challenger_core.specs.Observation.{RefusesObserve, in_row};
 ghost use Rattle.p3_hash_challenger.specs.HashCalls.{absorbing};

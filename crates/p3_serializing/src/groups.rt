@@ -1,4 +1,4 @@
-// A serializing challenger over whole lists of calls.
+//! A serializing challenger over whole lists of calls.
 ghost use Rattle.std.specs.Prelude.{ℕ, List, IsSome};
 ghost use Rattle.p3_challenger_core.specs.Observation.{in_slice};
 ghost use Rattle.p3_serializing.specs.SerializingState.{group};

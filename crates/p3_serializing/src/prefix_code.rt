@@ -1,5 +1,5 @@
-// What a serializing challenger feeds is a prefix code, where the bytes of its inner challenger are: the premises of
-// the laws on symbols.
+//! What a serializing challenger feeds is a prefix code, where the bytes of its inner challenger are: the premises of
+//! the laws on symbols.
 ghost use Rattle.std.specs.Prelude.{◌≡◌, length};
 ghost use Rattle.p3_challenger_core.specs.Reading.{IsPrefixCode, IsPrefixCodeOn, IsByte, AreBytes, TellsApart};
 ghost use Rattle.p3_symmetric.specs.HashValues.{values_of};

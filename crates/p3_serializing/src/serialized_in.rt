@@ -1,3 +1,4 @@
+//! The prime fields whose elements are numbers of so many bytes.
 ghost use Rattle.std.specs.Prelude.{◌≡◌, ◌≤◌, ◌^◌};
 ghost use Rattle.p3_serializing.specs.Bytes.{bytes_of, number_of};
 

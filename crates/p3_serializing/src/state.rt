@@ -1,3 +1,4 @@
+//! A serializing challenger as contracts see it.
 use std::marker::Model;
 
 /// What contracts see of a [`SerializingChallenger`](crate::SerializingChallenger): the state `S` of the challenger of

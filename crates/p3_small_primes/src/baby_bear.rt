@@ -1,3 +1,4 @@
+//! The field of order 15 * 2^27 + 1.
 use crate::{SmallOrder, SmallPrime};
 use p3_field_core::{AlgebraIdentity, BinomiallyExtendable, Named, UniformSamplingField};
 

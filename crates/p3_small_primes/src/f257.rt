@@ -1,3 +1,4 @@
+//! The field of order 257, small enough for rows that are worked out by hand.
 use crate::{SmallOrder, SmallPrime};
 use p3_field_core::{AlgebraIdentity, Named, UniformSamplingField};
 

@@ -1,3 +1,4 @@
+//! The prime fields whose order is below 2^32: one type of elements, each the number itself.
 ghost use Rattle.std.specs.Prelude.{◌<◌};
 
 use p3_field_core::{

@@ -1,3 +1,4 @@
+//! A hash function of bytes that its type alone gives: what patterns and the identities of algebras are hashed with.
 ghost use Rattle.std.specs.Prelude.{◌≡◌, ℕ, List};
 ghost use Rattle.p3_symmetric.specs.Digests.{IsDigest};
 

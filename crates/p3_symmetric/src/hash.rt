@@ -1,3 +1,4 @@
+//! A digest, of so many words of a hash function over a field.
 ghost use Rattle.std.specs.Prelude.{◌≡◌, length};
 
 use std::alloc::AllocError;

@@ -1,3 +1,4 @@
+//! Hash functions of lists.
 ghost use Rattle.std.specs.Prelude.{◌≡◌, List};
 
 /// What a hash function gives: an array of values.

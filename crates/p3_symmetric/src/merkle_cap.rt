@@ -1,3 +1,4 @@
+//! The roots of a Merkle tree that is cut below its top.
 ghost use Rattle.std.specs.Prelude.{◌≡◌, List};
 
 use std::convert::AsSlice;

@@ -1,3 +1,4 @@
+//! Permutations of arrays.
 ghost use Rattle.std.specs.Prelude.{◌≡◌};
 
 /// A permutation of states, as a sponge uses it.

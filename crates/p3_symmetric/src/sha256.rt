@@ -1,3 +1,4 @@
+//! SHA-256, by the kit's `sha2`.
 ghost use Rattle.std.specs.Prelude.{◌≡◌};
 ghost use Rattle.sha2.specs.Sha256.{sha256};
 

@@ -1,3 +1,4 @@
+//! A permutation for tests, of no cryptographic worth: cells turn round, and a small number is added.
 ghost use Rattle.std.specs.Prelude.{◌≡◌, ◌<◌, ◌+◌, ◌%◌};
 ghost use Rattle.p3_field_core.specs.Residues.{plus};
 ghost use Rattle.p3_symmetric.specs.Turn.{turned};

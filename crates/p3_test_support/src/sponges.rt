@@ -1,4 +1,4 @@
-// The duplex challenger of the worked rows.
+//! The duplex challenger of the worked rows.
 ghost use Rattle.std.specs.Prelude.{◌≡◌};
 ghost use Rattle.p3_duplex.specs.DuplexCalls.{fresh};
 ghost use Rattle.p3_small_primes.specs.F257Residues.{residues};

@@ -1,4 +1,10 @@
-// What binds a transcript to a protocol, its pattern and the instance.
+//! What binds a transcript to a protocol, its pattern and the instance.
+//!
+//! ```text
+//! version and name of the protocol  ->  identifier -+
+//! steps  ->  text  ->  digest                      -+->  seed  ->  what a driver's challenger observes first
+//! instances, in order  ->  label                   -+
+//! ```
 ghost use Rattle.std.specs.Prelude.{◌≡◌, ◌↔◌, ℕ, true, ◌+◌, ◌<◌, ◌≤◌, ◌^◌, List, [], ◌∷◌, ◌++◌, length, OnOk, OnErr};
 ghost use Rattle.std.specs.Prelude.{IfOk, IfErr};
 ghost use Rattle.std.specs.List.{All, flat_map};

@@ -1,8 +1,8 @@
-// The steps that leave the proof as it is: from one turn, a prover and a verifier play them alike.
-//
-// Each law is a function with an empty body: a caller calls it, and cites its clauses. Where the prover's step was
-// played, and the verifier stands at the turn before it, what comes of the verifier's step is the same, and so is the
-// turn after it; or it is refused for the sake of the challenger or of memory alone.
+//! The steps that leave the proof as it is: from one turn, a prover and a verifier play them alike.
+//!
+//! Each law is a function with an empty body: a caller calls it, and cites its clauses. Where the prover's step was
+//! played, and the verifier stands at the turn before it, what comes of the verifier's step is the same, and so is the
+//! turn after it; or it is refused for the sake of the challenger or of memory alone.
 ghost use Rattle.std.specs.Prelude.{◌≡◌, ◌<◌, ◌≤◌, ℕ, List, true, false};
 ghost use Rattle.p3_fs_core.specs.Steps.{Step};
 ghost use Rattle.p3_fs_core.specs.declared.error.TranscriptError.{TranscriptError};

@@ -1,9 +1,9 @@
-// What a prover writes in a step, a verifier reads in the step of the other name.
-//
-// Each law is a function with an empty body: a caller calls it, and cites its clauses. `mirrors` says what is written
-// and read. `follows` is what a caller wants of the two calls: where the prover's step was played, and the verifier
-// stands at the turn before it with the step's bytes next, its step reads the prover's value, leaves what follows, and
-// ends at the prover's turn; or it is refused for the sake of the challenger or of memory alone.
+//! What a prover writes in a step, a verifier reads in the step of the other name.
+//!
+//! Each law is a function with an empty body: a caller calls it, and cites its clauses. `mirrors` says what is written
+//! and read. `follows` is what a caller wants of the two calls: where the prover's step was played, and the verifier
+//! stands at the turn before it with the step's bytes next, its step reads the prover's value, leaves what follows, and
+//! ends at the prover's turn; or it is refused for the sake of the challenger or of memory alone.
 ghost use Rattle.std.specs.Prelude.{◌^◌, ◌<◌, ◌≤◌, ℕ, List, length};
 ghost use Rattle.p3_fs_core.specs.Steps.{Step};
 ghost use Rattle.p3_driver_core.specs.Effects.{alphabet_of};

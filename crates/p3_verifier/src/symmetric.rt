@@ -1,4 +1,4 @@
-// The steps that a verifier plays as the other side does.
+//! The steps that a verifier plays as the other side does.
 ghost use Rattle.std.specs.Prelude.{◌≤◌};
 ghost use Rattle.p3_verifier.specs.Verifying.{verifying_of};
 

@@ -1,4 +1,15 @@
-// The verifier's driver: it plays a pattern, and reads the proof. What it is, how it begins and how it ends.
+//! The verifier's driver: it plays a pattern, and reads the proof. What it is, how it begins and how it ends.
+//!
+//! ```text
+//! next_scalar, next_bytes ..  the proof -> its spelling is read -> value
+//!                             value -> its symbols -> the challenger
+//! challenge_scalar ..         the challenger -> value
+//! observe_scalar ..           value -> its symbols -> the challenger; nothing is read
+//! next_hint                   the proof -> bytes; the challenger takes no part
+//! finalize                    the pattern is played whole, and the proof read whole
+//! ```
+//!
+//! Each step is held against the pattern first.
 ghost use Rattle.std.specs.Borrow.{sem};
 ghost use Rattle.std.specs.Prelude.{◌≡◌, [], false, length, OnOk, IfOk, IfErr, IsOk};
 ghost use Rattle.p3_challenger_core.specs.Observation.{observed_all};

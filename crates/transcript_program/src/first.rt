@@ -1,3 +1,4 @@
+//! A transcript in two functions, without a driver: a scalar is sent, and one is drawn.
 ghost use Rattle.std.specs.Prelude.{◌≡◌, Some, IfOk, IfErr, MatchResult};
 ghost use Rattle.p3_challenger.specs.HashState.{HashState, function_of};
 ghost use Rattle.transcript_program.specs.Scalar.{wire};

@@ -1,3 +1,4 @@
+//! What the program answers to its words.
 ghost use Rattle.std.specs.Prelude.{◌≡◌, Some, map, IfSome, IfNone, IfOk, IfErr, string_bytes};
 ghost use Rattle.p3_challenger.specs.BabyBearResidues.{BabyBear};
 ghost use Rattle.transcript_program.specs.Program.{IsScalarText, Asks, Answers, Refuses, IsAnswer, Tells};

@@ -1,52 +1,158 @@
--- A sibling more on the way to a root, and challengers that are equal.
-use Rattle.std.proofs.Common.{◌≡◌, ℕ, ◌+◌, ◌/◌, List, [], ◌∷◌, ◌++◌, length, arith, ap, sym, subst, ◌∙◌}
-use Rattle.std.proofs.Common.{append_assoc, append-nil, Option, Some, None, IfSome}
-use Rattle.std.proofs.lemmas.List.{length-append}
+-- What a verifier of an opening has read, and a sibling more on the way to a root.
+use Rattle.std.proofs.Common.{◌≡◌, ℕ, ◌+◌, ◌*◌, ◌/◌, ◌≤◌, ◌<◌, ◌⊎◌, Bool, true, false, nat_lt, if◌then◌else◌}
+use Rattle.std.proofs.Common.{List, [], ◌∷◌, ◌++◌, take, drop, length, length-append, length-take, take-append-drop}
+use Rattle.std.proofs.Common.{append_assoc, append-nil, mod-eq_of_lt, Ok, Err, inl, inr, arith, refl, ap, sym, subst, ◌∙◌}
+use Rattle.std.proofs.lemmas.Bool.Decides.{nat_tests}
+use Rattle.std.specs.List.{concat}
 use Rattle.p3_challenger.specs.BabyBearResidues.{BabyBear}
+use Rattle.p3_challenger.specs.BigEndian.{big_endian, in_bytes}
+use Rattle.p3_challenger.specs.Counts.{count_width, count_bytes}
+use Rattle.p3_challenger.specs.Reads.{Read, ended_early, message_too_long, read_bytes, read_count, read_counted_bytes}
+use Rattle.p3_challenger.specs.Reads.{then_read, unreadable}
 use Rattle.p3_challenger.specs.Sampling.{Sampling}
-use Rattle.uses.specs.declared.opening.Opened.{Opened}
-use Rattle.uses.specs.MerkleOpening.{IsDrawnPlace, IsOpened, IsOpenedIfAny, above, climbed}
+use Rattle.uses.specs.MerkleOpening.{AreNodes, IsClimb, IsDrawnPlace, IsOpened, above, climbed, leaf_node_of}
 
-module _ (digest : List ℕ → List ℕ) (start : ℕ) (leaf : List ℕ) where
-  -- so many siblings are climbed over, whatever others follow
-  abbrev pub IsClimbed : ℕ → ℕ → List ℕ → Type 0
-  IsClimbed count place node =
-      (siblings : List (List ℕ)) × (length siblings ≡ count)
-      × ((more : List (List ℕ)) → climbed digest start leaf (siblings ++ more) ≡ climbed digest place node more)
+-- ---- what was read
 
-  pub climbed-more : (count place : ℕ) (node sibling next : List ℕ) → IsClimbed count place node →
-      next ≡ above digest place node sibling → IsClimbed (count + 1) (place / 2) next
-  climbed-more count place node sibling next so_far is = (
-    so_far.0 ++ (sibling ∷ []),
-    omega (arith, so_far.1, length-append so_far.0 (sibling ∷ [])),
-    λ more. ap (climbed digest start leaf) (append_assoc so_far.0 (sibling ∷ []) more)
-        ∙ so_far.2 (sibling ∷ more) ∙ ap (λ top. climbed digest (place / 2) top more) (sym is),
-  )
+one_of : {R : Type 0} (b : Bool) (x y z : R) → (if b then x else y) ≡ z →
+    ((b ≡ true) × (x ≡ z)) ⊎ ((b ≡ false) × (y ≡ z))
+one_of true x y z e = inl (refl, e)
+one_of false x y z e = inr (refl, e)
 
-  pub climbed-end : (count place : ℕ) (node : List ℕ) → count ≡ 3 → IsClimbed count place node →
-      (siblings : List (List ℕ)) × (length siblings ≡ 3) × (node ≡ climbed digest start leaf siblings)
-  climbed-end count place node is all =
-      (all.0, all.1 ∙ is, sym (all.2 []) ∙ ap (climbed digest start leaf) (append-nil all.0))
+-- the leaf's count takes one byte
+one_wide : count_width 64 ≡ 1
+unfolding count_width
+one_wide = refl
 
-module _ {S : Type 0} {d : Sampling S BabyBear} where
-  pub placed-as : {s t : S} {place : ℕ} → s ≡ t → IsDrawnPlace d s place → IsDrawnPlace d t place
-  placed-as {s} {t} {place} same is = subst (λ u. IsDrawnPlace d u place) same is
+count_byte : (n : ℕ) → n ≤ 64 → count_bytes 64 n ≡ n ∷ []
+count_byte n within =
+    let small : n < 256 = omega (arith, within) in
+    ap (λ w. in_bytes w n) one_wide ∙ ap (λ b. b ∷ []) (mod-eq_of_lt small)
 
-  pub opened-as : {digest : List ℕ → List ℕ} {f g : List ℕ → S} {place : ℕ} {bytes : List ℕ} →
-      ((root : List ℕ) → f root ≡ g root) → IsOpened digest d f place bytes → IsOpened digest d g place bytes
-  opened-as same is =
-      record { root = is.root; leaf = is.leaf; place_drawn = placed-as (same is.root) is.place_drawn }
+module _ {S : Type 0} where
+  not_read : {A : Type 0} (reason left : List ℕ) (x : A) (rest : List ℕ) →
+      unreadable {S = S} reason left ≡ Ok (x, rest) → ⊥
+  not_read reason left x rest e = absurd (cc)
 
-module _ {S : Type 0} (d : Sampling S BabyBear) (digest : List ℕ → List ℕ) (f g : List ℕ → S)
-    (same : (root : List ℕ) → f root ≡ g root) where
-  opened-if_any : (found : Option Opened) → IfSome found (λ o. IsOpened digest d f o.place o.bytes.now) →
-      IfSome found (λ o. IsOpened digest d g o.place o.bytes.now)
-  opened-if_any None is = tt
-  opened-if_any (Some opened) is = opened-as same is
+  pub bytes-read : (n : ℕ) (bytes x rest : List ℕ) → read_bytes {S = S} n bytes ≡ Ok (x, rest) →
+      (bytes ≡ x ++ rest) × (length x ≡ n)
+  bytes-read n bytes x rest e = elim (one_of (nat_lt (length bytes) n) _ _ _ e) [
+    | inl short ↦ absurd (not_read ended_early bytes x rest short.1)
+    | inr whole ↦
+        let enough : n ≤ length bytes = grind (arith, nat_tests, whole.0) in
+        let is : ◌≡◌ {A = Read S (List ℕ)} (Ok (take n bytes, drop n bytes)) (Ok (x, rest)) = whole.1 in
+        let both : ◌≡◌ {A = List ℕ × List ℕ} (take n bytes, drop n bytes) (x, rest) = cc in
+        let front : take n bytes ≡ x = ap (λ p. p.0) both in
+        let back : drop n bytes ≡ rest = ap (λ p. p.1) both in
+        (sym (take-append-drop n bytes) ∙ (λ i. front i ++ back i), ap length (sym front) ∙ length-take n bytes enough)
+  ]
 
--- the same of what is answered, if there is any
-pub answered-as : {S : Type 0} {d : Sampling S BabyBear} {digest : List ℕ → List ℕ} {f g : List ℕ → S}
-    {found : Option Opened} → ((root : List ℕ) → f root ≡ g root) → IsOpenedIfAny digest d f found →
-    IsOpenedIfAny digest d g found
-answered-as {S} {d} {digest} {f} {g} {found} same is =
-    record { opened = opened-if_any d digest f g same found is.opened }
+  -- a count of at most 64 in so many bytes
+  counted : ℕ → List ℕ → Read S ℕ
+  counted width bytes =
+      if nat_lt (length bytes) width
+      then unreadable ended_early bytes
+      else (if nat_lt 64 (big_endian (take width bytes))
+      then unreadable message_too_long (drop width bytes)
+      else Ok (big_endian (take width bytes), drop width bytes))
+
+  count_in_one : (bytes : List ℕ) (n : ℕ) (rest : List ℕ) → counted 1 bytes ≡ Ok (n, rest) →
+      (bytes ≡ n ∷ rest) × (n ≤ 64)
+  count_in_one [] n rest e = absurd (not_read ended_early [] n rest e)
+  count_in_one (b ∷ bytes) n rest e = elim (one_of (nat_lt 64 (256 * 0 + b)) _ _ _ e) [
+    | inl long ↦ absurd (not_read message_too_long bytes n rest long.1)
+    | inr short ↦
+        let is : ◌≡◌ {A = Read S ℕ} (Ok (256 * 0 + b, bytes)) (Ok (n, rest)) = short.1 in
+        let both : ◌≡◌ {A = ℕ × List ℕ} (256 * 0 + b, bytes) (n, rest) = cc in
+        let number : 256 * 0 + b ≡ n = ap (λ p. p.0) both in
+        let after : bytes ≡ rest = ap (λ p. p.1) both in
+        let same : b ≡ n = omega (arith, number) in
+        let within : 256 * 0 + b ≤ 64 = grind (arith, nat_tests, short.0) in
+        ((λ i. same i ∷ after i), omega (arith, within, number))
+  ]
+
+  count-read : (bytes : List ℕ) (n : ℕ) (rest : List ℕ) → read_count {S = S} message_too_long 64 bytes ≡ Ok (n, rest) →
+      (bytes ≡ n ∷ rest) × (n ≤ 64)
+  count-read bytes n rest e =
+      count_in_one bytes n rest (subst (λ (w : ℕ). counted w bytes ≡ Ok (n, rest)) one_wide e)
+
+  then-read : {A B : Type 0} (next : A → List ℕ → Read S B) (r : Read S A) (y : B) (rest : List ℕ) →
+      then_read next r ≡ Ok (y, rest) → (x : A) × (left : List ℕ) × (r ≡ Ok (x, left)) × (next x left ≡ Ok (y, rest))
+  then-read next (Ok found) y rest e = (found.0, found.1, refl, e)
+  then-read next (Err failure) y rest e = absurd (cc)
+
+  pub leaf-read : (bytes leaf rest : List ℕ) →
+      read_counted_bytes {S = S} message_too_long 64 bytes ≡ Ok (leaf, rest) →
+      (bytes ≡ (length leaf ∷ leaf) ++ rest) × (length leaf ≤ 64)
+  leaf-read bytes leaf rest e =
+      let parts = then-read read_bytes (read_count message_too_long 64 bytes) leaf rest e in
+      let count = count-read bytes parts.0 parts.1 parts.2.0 in
+      let body = bytes-read parts.0 parts.1 leaf rest parts.2.1 in (
+        count.0 ∙ (λ i. sym body.1 i ∷ body.0 i),
+        omega (arith, count.1, body.1),
+      )
+
+-- ---- siblings
+
+concat-append : (xs ys : List (List ℕ)) → concat (xs ++ ys) ≡ concat xs ++ concat ys
+concat-append [] ys = refl
+concat-append (x ∷ xs) ys =
+    ap (λ zs. x ++ zs) (concat-append xs ys) ∙ sym (append_assoc x (concat xs) (concat ys))
+
+nodes-append : (xs ys : List (List ℕ)) → AreNodes xs → AreNodes ys → AreNodes (xs ++ ys)
+nodes-append [] ys first second = second
+nodes-append (x ∷ xs) ys first second = (first.0, nodes-append xs ys first.1 second)
+
+module _ (digest : List ℕ → List ℕ) (start : ℕ) (leaf bytes : List ℕ) where
+  -- so many siblings are read and climbed over, whatever others follow
+  pub record IsClimbed (count place : ℕ) (node left : List ℕ) : Type 0 where
+    pub siblings : List (List ℕ)
+    pub levels : length siblings ≡ count
+    pub nodes : AreNodes siblings
+    pub spelled : bytes ≡ concat siblings ++ left
+    pub reaches : (more : List (List ℕ)) → climbed digest start leaf (siblings ++ more) ≡ climbed digest place node more
+
+  pub climbed-none : IsClimbed 0 start leaf bytes
+  climbed-none =
+      record { siblings = []; levels = refl; nodes = tt; spelled = refl; reaches = λ more. refl }
+
+  pub climbed-more : (count place : ℕ) (node left sibling rest next : List ℕ) → IsClimbed count place node left →
+      (left ≡ sibling ++ rest) × (length sibling ≡ 32) → next ≡ above digest place node sibling →
+      IsClimbed (count + 1) (place / 2) next rest
+  climbed-more count place node left sibling rest next so_far read is =
+      record {
+        siblings = so_far.siblings ++ (sibling ∷ []);
+        levels = omega (arith, so_far.levels, length-append so_far.siblings (sibling ∷ []));
+        nodes = nodes-append so_far.siblings (sibling ∷ []) so_far.nodes (read.1, tt);
+        spelled = so_far.spelled
+            ∙ ap (λ l. concat so_far.siblings ++ l)
+            (read.0 ∙ ap (λ l. l ++ rest) (sym (append-nil sibling)))
+            ∙ sym (append_assoc (concat so_far.siblings) (sibling ++ []) rest)
+            ∙ ap (λ l. l ++ rest) (sym (concat-append so_far.siblings (sibling ∷ [])));
+        reaches = λ more. ap (climbed digest start leaf) (append_assoc so_far.siblings (sibling ∷ []) more)
+            ∙ so_far.reaches (sibling ∷ more) ∙ ap (λ top. climbed digest (place / 2) top more) (sym is);
+      }
+
+  pub climbed-end : (count place : ℕ) (node left : List ℕ) → count ≡ 3 → IsClimbed count place node left →
+      IsClimb digest start leaf bytes node left
+  climbed-end count place node left is all =
+      record {
+        siblings = all.siblings;
+        levels = all.levels ∙ is;
+        nodes = all.nodes;
+        spelled = all.spelled;
+        reaches = sym (all.reaches []) ∙ ap (climbed digest start leaf) (append-nil all.siblings);
+      }
+
+-- ---- the whole opening
+
+module _ {S : Type 0} (digest : List ℕ → List ℕ) (d : Sampling S BabyBear) (observed : S → List ℕ → S) where
+  -- what is so of bytes and states is so of equal ones
+  pub opened-as : {bytes other : List ℕ} {s t u v : S} {place : ℕ} {leaf left none : List ℕ} → bytes ≡ other → s ≡ t →
+      left ≡ none → u ≡ v → IsOpened digest d observed bytes s place leaf left u →
+      IsOpened digest d observed other t place leaf none v
+  opened-as {bytes} {other} {s} {t} {u} {v} {place} {leaf} {left} {none} same start end finished is =
+      subst (λ x. IsOpened digest d observed x t place leaf none v) same
+      (subst (λ x. IsOpened digest d observed bytes x place leaf none v) start
+      (subst (λ x. IsOpened digest d observed bytes s place leaf x v) end
+      (subst (λ x. IsOpened digest d observed bytes s place leaf left x) finished is)))

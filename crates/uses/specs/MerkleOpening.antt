@@ -1,8 +1,8 @@
 -- A Merkle opening: a leaf with its salt, and the siblings on the way to the root.
-use Rattle.std.specs.Prelude.{◌≡◌, ℕ, ◌==◌, ◌/◌, ◌%◌, List, [], ◌∷◌, ◌++◌, Option, Some, IfSome, length, if◌then◌else◌}
+use Rattle.std.specs.Prelude.{◌≡◌, ℕ, ◌==◌, ◌/◌, ◌%◌, ◌≤◌, List, [], ◌∷◌, ◌++◌, Some, length, if◌then◌else◌}
+use Rattle.std.specs.List.{concat}
 use Rattle.p3_challenger.specs.BabyBearResidues.{BabyBear, residues}
 use Rattle.p3_challenger.specs.Sampling.{Sampling}
-use Rattle.uses.specs.declared.opening.Opened.{Opened}
 
 module _ (digest : List ℕ → List ℕ) where
   -- what is hashed begins with a byte that tells a leaf from a node with two below it
@@ -21,27 +21,39 @@ module _ (digest : List ℕ → List ℕ) where
   climbed place node [] = node
   climbed place node (sibling ∷ siblings) = climbed (place / 2) (above place node sibling) siblings
 
-  -- the bytes are those of a leaf at the place, under this root
-  pub record IsLeafOf (root : List ℕ) (place : ℕ) (bytes : List ℕ) : Type 0 where
-    pub salt : List ℕ
-    pub siblings : List (List ℕ)
-    pub levels : length siblings ≡ 3
-    pub reaches : climbed place (leaf_node_of salt bytes) siblings ≡ root
+-- nodes of 32 bytes, one after another
+abbrev pub AreNodes : List (List ℕ) → Type 0
+AreNodes [] = Unit {0}
+AreNodes (node ∷ nodes) = (length node ≡ 32) × AreNodes nodes
 
--- one of eight places is that of an element that is drawn
-pub record IsDrawnPlace {S : Type 0} (d : Sampling S BabyBear) (s : S) (place : ℕ) : Type 0 where
+-- the bytes begin with three siblings, which make this top of a node at a place; and these bytes are left
+pub record IsClimb (digest : List ℕ → List ℕ) (place : ℕ) (node bytes top left : List ℕ) : Type 0 where
+  pub siblings : List (List ℕ)
+  pub levels : length siblings ≡ 3
+  pub nodes : AreNodes siblings
+  pub spelled : bytes ≡ concat siblings ++ left
+  pub reaches : top ≡ climbed digest place node siblings
+
+-- one of eight places is that of an element that is drawn, which leaves this state
+pub record IsDrawnPlace {S : Type 0} (d : Sampling S BabyBear) (place : ℕ) (s t : S) : Type 0 where
   pub element : BabyBear
   pub drawn : d.sampled s ≡ Some element
   pub is : place ≡ residues.number element % 8
+  pub after : t ≡ d.after s
 
--- The bytes are those of a leaf under a root that the place was drawn after, where this is a state after the root.
-pub record IsOpened {S : Type 0} (digest : List ℕ → List ℕ) (d : Sampling S BabyBear) (after : List ℕ → S) (place : ℕ)
-    (bytes : List ℕ) : Type 0 where
+-- The bytes begin with a root, the leaf after its length, a salt, and the siblings that lead from the leaf to the root;
+-- and these bytes are left. The place was drawn after the root, and then the leaf with its length and the salt were
+-- observed.
+pub record IsOpened {S : Type 0} (digest : List ℕ → List ℕ) (d : Sampling S BabyBear) (observed : S → List ℕ → S)
+    (bytes : List ℕ) (s : S) (place : ℕ) (leaf left : List ℕ) (t : S) : Type 0 where
   pub root : List ℕ
-  pub leaf : IsLeafOf digest root place bytes
-  pub place_drawn : IsDrawnPlace d (after root) place
-
--- what is answered is opened, if there is any
-pub record IsOpenedIfAny {S : Type 0} (digest : List ℕ → List ℕ) (d : Sampling S BabyBear) (after : List ℕ → S)
-    (found : Option Opened) : Type 0 where
-  pub opened : IfSome found (λ o. IsOpened digest d after o.place o.bytes.now)
+  pub salt : List ℕ
+  pub path : List ℕ
+  pub spelled : bytes ≡ root ++ ((length leaf ∷ leaf) ++ (salt ++ path))
+  pub root_bytes : length root ≡ 32
+  pub leaf_bytes : length leaf ≤ 64
+  pub salt_bytes : length salt ≡ 16
+  pub climbs : IsClimb digest place (leaf_node_of digest salt leaf) path root left
+  pub here : S
+  pub drawn : IsDrawnPlace d place (observed s root) here
+  pub challenger : t ≡ observed (observed here (length leaf ∷ leaf)) salt

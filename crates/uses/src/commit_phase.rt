@@ -39,7 +39,8 @@ pub struct Challenges<EF> {
 /// Observes the caps of a prover, and searches for its witness. A cap is what is observed of each round: a
 /// `&MerkleCap`, for most.
 ///
-/// The errors are those of the challenger, among them that no witness passes, and that memory is out.
+/// The errors are those of the challenger, among them that no witness passes, that memory is out, and
+/// [`ChallengerError::DrawLimit`] where fewer than 1000 draws do not find the queries.
 ///
 /// Condition: the bits of the work and of an index are at most what the challenger draws.
 pub fn prove<
@@ -73,7 +74,8 @@ pub fn prove<
 
 /// Observes the caps of a proof, and checks its witness. It answers none where the witness does not pass.
 ///
-/// The errors are those of the challenger, and that memory is out.
+/// The errors are those of the challenger, that memory is out, and [`ChallengerError::DrawLimit`] where fewer than 1000
+/// draws do not find the queries.
 ///
 /// Condition: the bits of the work and of an index are at most what the challenger draws.
 pub fn verify<
@@ -127,8 +129,8 @@ fn fold_challenges<
     Ok(folds)
 }
 
-// How often an index may be drawn again for each that is kept.
-const MOST_REPEATS: u64 = 1000;
+// Fewer draws than these are to find the queries.
+const DRAWS: u64 = 1000;
 
 // Both sides draw indices until there are enough, and pass over those that came before.
 fn query_indices<F, C: CanSampleUniformBits<F>>(
@@ -141,7 +143,7 @@ fn query_indices<F, C: CanSampleUniformBits<F>>(
         (C.state challenger.old) (C.state challenger.new)) }
 {
     let mut queries: Vec<usize> = Vec::new(alloc);
-    for _ in 0..MOST_REPEATS {
+    for _ in 0..DRAWS {
         if queries.len() == demands.queries {
             return Ok(queries);
         }

@@ -3,14 +3,15 @@
 //! A prover sends the root of a tree, and a place is drawn. Then it sends the leaf at the place, at most
 //! [`MOST_LEAF_BYTES`] of it, and a salt, without which the leaf could be guessed from its hash; and it hands over the
 //! siblings on the way to the root. These are hints: they only have to make up the root, which was observed before the
-//! place was drawn. The contract of [`verify`] says that they do. The leaf is lent from the proof itself.
-ghost use Rattle.std.specs.Prelude.{◌≡◌, ◌<◌, ◌↔◌, ◌++◌, [], ◌∷◌, ℕ, List, IsTrue, IfOk, length};
+//! place was drawn. The contract of [`verify`] says that they do, that the proof is these bytes and no others, and that
+//! whatever is drawn next depends on the leaf and the salt too. The leaf is lent from the proof itself.
+ghost use Rattle.std.specs.Prelude.{◌≡◌, ◌<◌, ◌↔◌, ◌++◌, [], ◌∷◌, IsTrue, IfOk, IfSome, OnOk};
 ghost use Rattle.p3_challenger.specs.HashCalls.{absorbing};
 ghost use Rattle.p3_challenger.specs.HashState.{observed};
 ghost use Rattle.p3_challenger.specs.Observation.{observed_all};
 ghost use Rattle.p3_challenger.specs.SeparatorSeed.{seed_of_separator};
 ghost use Rattle.p3_challenger.specs.Verifying.{verifying_of};
-ghost use Rattle.uses.specs.MerkleOpening.{IsDrawnPlace, IsOpenedIfAny, above, climbed, leaf_node_of, parent_of};
+ghost use Rattle.uses.specs.MerkleOpening.{IsClimb, IsDrawnPlace, IsOpened, above, leaf_node_of, parent_of};
 
 use p3_challenger::fs::{
     BytesToFieldCodec, Codec, DomainSeparator, ExtensionFieldCodec, Hierarchy, Interaction,
@@ -58,13 +59,23 @@ pub struct Leaf<'a> {
     pub salt: [u8; SALT_BYTES],
 }
 
-/// A leaf that is in the tree.
-#[derive(Clone, Copy, Debug)]
+/// A leaf that is in the tree, and what the transcript goes on with.
+#[derive(Debug, Drop)]
 pub struct Opened<'a> {
-    /// Where it is.
+    /// Where the leaf is, below [`LEAVES`].
     pub place: usize,
-    /// What is in it.
+    /// What is in it, at most [`MOST_LEAF_BYTES`].
     pub bytes: &'a [u8],
+    /// The challenger, which observed the root, and then the leaf and its salt.
+    pub challenger: Challenger,
+}
+
+// A leaf as it was read, and whether it is in the tree.
+#[derive(Clone, Copy)]
+struct Read<'a> {
+    place: usize,
+    bytes: &'a [u8],
+    in_tree: bool,
 }
 
 /// Sends the root of the tree of these leaves, and opens one of them. The one error in fact is that memory is out, or
@@ -120,6 +131,9 @@ fn root_of(alloc: Global, leaves: &[Leaf<'_>]) -> Result<Node, AllocError> {
 }
 
 /// Reads a proof, and gives the leaf that it opens, or none where it is not in the tree.
+///
+/// The errors are those of the transcript: a proof that is too short or too long, a leaf that is too long, and want of
+/// memory.
 pub fn verify<'a>(
     alloc: Global,
     separator: &Separator,
@@ -127,24 +141,32 @@ pub fn verify<'a>(
 ) -> Result<Option<Opened<'a>>, TranscriptError>
     ensures { let digest = ⟦<Sha256Hasher as DigestHasher>⟧.digest_of in
         let seed = seed_of_separator digest separator.now in
-        IfOk result (IsOpenedIfAny digest ⟦<Coefficient as Codec<Challenger, BabyBear>>⟧.sampling
-        (λ root. record { sponge = absorbing (seed ++ root); hasher = record {} })) }
+        IfOk result (λ found. IfSome found (λ opened. IsOpened digest
+        ⟦<Coefficient as Codec<Challenger, BabyBear>>⟧.sampling (observed_all observed) proof.now
+        (record { sponge = absorbing seed; hasher = record {} }) opened.place opened.bytes.now []
+        (⟦<Challenger as Sponge>⟧.state opened.challenger))) }
 {
     let mut verifier = Verifier::new(alloc, challenger(alloc), separator, proof)?;
     let received = receive(&mut verifier, alloc);
-    let end = verifier.finalize();
-    let opened = received?;
-    end?;
-    Ok(opened)
+    let end = verifier.finish();
+    let leaf = received?;
+    let challenger = end?;
+    if !leaf.in_tree {
+        return Ok(None);
+    }
+    Ok(Some(Opened {
+        place: leaf.place,
+        bytes: leaf.bytes,
+        challenger,
+    }))
 }
 
-fn receive<'a>(
-    verifier: &mut Verifier<'a>,
-    alloc: Global,
-) -> Result<Option<Opened<'a>>, TranscriptError>
-    ensures { let before = (verifying_of ⟦<Challenger as Sponge>⟧.state verifier.old).turn.challenger in
-        IfOk result (IsOpenedIfAny ⟦<Sha256Hasher as DigestHasher>⟧.digest_of
-        ⟦<Coefficient as Codec<Challenger, BabyBear>>⟧.sampling (λ root. observed_all observed before root)) }
+fn receive<'a>(verifier: &mut Verifier<'a>, alloc: Global) -> Result<Read<'a>, TranscriptError>
+    ensures { let before = verifying_of ⟦<Challenger as Sponge>⟧.state verifier.old in
+        let after = verifying_of ⟦<Challenger as Sponge>⟧.state verifier.new in
+        IfOk result (λ leaf. IsTrue leaf.in_tree → IsOpened ⟦<Sha256Hasher as DigestHasher>⟧.digest_of
+        ⟦<Coefficient as Codec<Challenger, BabyBear>>⟧.sampling (observed_all observed) before.unread
+        before.turn.challenger leaf.place leaf.bytes.now after.unread after.turn.challenger) }
 {
     let root = verifier.next_bytes("root", 32)?;
     let place = draw_place(verifier)?;
@@ -152,11 +174,12 @@ fn receive<'a>(
     let salt = verifier.next_salt("salt", SALT_BYTES)?;
     let node = leaf_node(alloc, salt, bytes)?;
     let top = climb(verifier, alloc, place, node)?;
-    if same_bytes(&top, root) {
-        Ok(Some(Opened { place, bytes }))
-    } else {
-        Ok(None)
-    }
+    let in_tree = same_bytes(&top, root);
+    Ok(Read {
+        place,
+        bytes,
+        in_tree,
+    })
 }
 
 // The root that the siblings in the proof make of a node at the place.
@@ -166,8 +189,11 @@ fn climb(
     place: usize,
     leaf: Node,
 ) -> Result<Node, TranscriptError>
-    ensures { IfOk result (λ top. (siblings : List (List ℕ)) × (length siblings ≡ 3)
-        × (top ≡ climbed ⟦<Sha256Hasher as DigestHasher>⟧.digest_of place leaf siblings)) }
+    ensures climbed { IfOk result (λ top. IsClimb ⟦<Sha256Hasher as DigestHasher>⟧.digest_of place leaf
+        (verifying_of ⟦<Challenger as Sponge>⟧.state verifier.old).unread top
+        (verifying_of ⟦<Challenger as Sponge>⟧.state verifier.new).unread) }
+    ensures untouched { OnOk result ((verifying_of ⟦<Challenger as Sponge>⟧.state verifier.new).turn.challenger
+        ≡ (verifying_of ⟦<Challenger as Sponge>⟧.state verifier.old).turn.challenger) }
 {
     let mut node = leaf;
     let mut place = place;
@@ -196,9 +222,10 @@ fn node_above(alloc: Global, place: usize, node: &[u8], sibling: &[u8]) -> Resul
 fn draw_place<S: SymmetricSteps<Challenger = Challenger>>(
     side: &mut S,
 ) -> Result<usize, TranscriptError>
-    ensures drawn { IfOk result
-        (IsDrawnPlace ⟦<Coefficient as Codec<Challenger, BabyBear>>⟧.sampling (S.turn side.old).challenger) }
+    ensures drawn { IfOk result (λ place. IsDrawnPlace ⟦<Coefficient as Codec<Challenger, BabyBear>>⟧.sampling place
+        (S.turn side.old).challenger (S.turn side.new).challenger) }
     ensures below { IfOk result (λ place. place < 8) }
+    ensures bytes { OnOk result (S.bytes side.new ≡ S.bytes side.old) }
 {
     let drawn = side.challenge_extension::<BabyBear, BabyBear, Scalars>("place")?;
     Ok(drawn.into_inner().as_canonical_u32() as usize % LEAVES)

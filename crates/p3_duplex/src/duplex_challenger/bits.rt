@@ -1,4 +1,4 @@
-// Numbers of some bits, drawn from a duplex challenger: the low bits of one element.
+//! Numbers of some bits, drawn from a duplex challenger: the low bits of one element.
 ghost use Rattle.std.specs.Prelude.{◌≡◌, ◌^◌, ◌≤◌, ◌%◌};
 
 use crate::DuplexChallenger;

@@ -1,5 +1,5 @@
-// What a duplex challenger observes beside single values and arrays: digests, caps and lists of
-// lists, each value by value. None of it is ever refused.
+//! What a duplex challenger observes beside single values and arrays: digests, caps and lists of
+//! lists, each value by value. None of it is ever refused.
 ghost use Rattle.std.specs.Prelude.{◌≡◌, ◌↔◌};
 ghost use Rattle.p3_challenger_core.specs.Observation.{observed_all};
 

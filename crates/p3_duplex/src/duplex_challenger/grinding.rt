@@ -1,4 +1,4 @@
-// Proof of work on a duplex challenger: a copy of it takes no memory.
+//! Proof of work on a duplex challenger: a copy of it takes no memory.
 use crate::DuplexChallenger;
 use p3_challenger_core::ChallengerError;
 use p3_field_core::{PrimeField64, UniformSamplingField};

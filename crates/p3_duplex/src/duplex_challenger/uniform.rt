@@ -1,5 +1,5 @@
-// Uniform bits, drawn from a duplex challenger: the low bits of elements that are below the bound of the field for so
-// many bits. As few bits as one element serves for are drawn from one, and more of them in two halves.
+//! Uniform bits, drawn from a duplex challenger: the low bits of elements that are below the bound of the field for so
+//! many bits. As few bits as one element serves for are drawn from one, and more of them in two halves.
 ghost use Rattle.std.specs.Prelude.{◌≡◌, ◌<◌, ◌≤◌, ◌^◌, ◌/◌, ℕ, Bool, Some, OnOk, IfOk, IfErr};
 ghost use Rattle.p3_field_core.specs.UniformBounds.{uniform_bound};
 ghost use Rattle.p3_challenger_core.specs.Sampling.{RefusesDraw};

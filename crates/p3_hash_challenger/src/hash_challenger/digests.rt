@@ -1,5 +1,5 @@
-// What a hash challenger observes beside single values and arrays: digests, caps and lists of lists.
-// Each feeds its values in order, by one call a digest or a list.
+//! What a hash challenger observes beside single values and arrays: digests, caps and lists of lists.
+//! Each feeds its values in order, by one call a digest or a list.
 ghost use Rattle.std.specs.Prelude.{◌≡◌, ◌↔◌, OnOk, IfErr};
 ghost use Rattle.std.specs.List.{flat_map};
 ghost use Rattle.p3_challenger_core.specs.Observation.{RefusesObserve, LeavesBeginning, observed_all};

@@ -1,4 +1,4 @@
-// Proof of work on bytes: candidates are tried on a copy, which takes no memory once it has room.
+//! Proof of work on bytes: candidates are tried on a copy, which takes no memory once it has room.
 use crate::HashChallenger;
 use p3_challenger_core::ChallengerError;
 use p3_grinding::{ByteGrindingChallenger, Replica};

@@ -1,4 +1,4 @@
-// Numbers of some bits, drawn from a multi-field challenger: the low bits of one scalar.
+//! Numbers of some bits, drawn from a multi-field challenger: the low bits of one scalar.
 ghost use Rattle.std.specs.Prelude.{◌≡◌, ◌^◌, ◌≤◌, ◌%◌};
 
 use crate::{MultiField32Challenger, Paired};

@@ -1,5 +1,5 @@
-// What a multi-field challenger observes beside single scalars: arrays and lists of lists of scalars, digests and caps.
-// None of it is ever refused.
+//! What a multi-field challenger observes beside single scalars: arrays and lists of lists of scalars, digests and
+//! caps. None of it is ever refused.
 ghost use Rattle.std.specs.Prelude.{◌≡◌, ◌↔◌, ◌<◌, ◌≤◌, [], length, replicate};
 ghost use Rattle.p3_challenger_core.specs.Observation.{observed_all};
 ghost use Rattle.p3_multi_field.specs.MultiFieldCalls.{words_over, emptied, permuting};

@@ -1,4 +1,4 @@
-// Proof of work on a multi-field challenger: a copy of it takes no memory.
+//! Proof of work on a multi-field challenger: a copy of it takes no memory.
 use crate::MultiField32Challenger;
 use p3_challenger_core::ChallengerError;
 use p3_field_bridge::FieldBridge;

@@ -1,4 +1,4 @@
-// The steps of a prover that write into the proof.
+//! The steps of a prover that write into the proof.
 ghost use Rattle.std.specs.Prelude.{◌≤◌, length};
 ghost use Rattle.p3_driver_core.specs.Bound.{value_of, values_of};
 ghost use Rattle.p3_driver_core.specs.Effects.{alphabet_of};

@@ -1,4 +1,4 @@
-// The steps of a prover that draw uniform bits.
+//! The steps of a prover that draw uniform bits.
 ghost use Rattle.std.specs.Prelude.{◌≡◌, ◌≤◌, ℕ, true, IfErr};
 ghost use Rattle.p3_driver_core.specs.Bound.{values_of};
 ghost use Rattle.p3_driver_core.specs.Meanings as meaning;

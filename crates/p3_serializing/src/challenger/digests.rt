@@ -1,5 +1,5 @@
-// The digests that a serializing challenger observes, of bytes or of words of 64 bits, and caps of them. A digest of
-// bytes reaches the inner challenger as one slice, and a digest of words as a slice of 8 bytes for each word.
+//! The digests that a serializing challenger observes, of bytes or of words of 64 bits, and caps of them. A digest of
+//! bytes reaches the inner challenger as one slice, and a digest of words as a slice of 8 bytes for each word.
 ghost use Rattle.std.specs.Prelude.{◌≡◌, ◌↔◌, OnOk, IfErr};
 ghost use Rattle.p3_challenger_core.specs.Observation.{RefusesObserve};
 

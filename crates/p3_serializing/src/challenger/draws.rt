@@ -1,5 +1,5 @@
-// What a serializing challenger draws: elements of the vector spaces over its field, and so of the field itself, and
-// numbers of some bits. Each is made of groups of bytes of the inner challenger.
+//! What a serializing challenger draws: elements of the vector spaces over its field, and so of the field itself, and
+//! numbers of some bits. Each is made of groups of bytes of the inner challenger.
 ghost use Rattle.std.specs.Prelude.{◌≡◌, ℕ, ◌≤◌, ◌-◌, ◌^◌, Some, OnOk, IfOk, IfErr};
 ghost use Rattle.p3_challenger_core.specs.Sampling.{RefusesDraw};
 ghost use Rattle.p3_serializing.specs.SerializingState.{bits_of_order, group, element_of_groups};

@@ -1,4 +1,4 @@
-// Uniform bits and proof of work on a serializing challenger.
+//! Uniform bits and proof of work on a serializing challenger.
 ghost use Rattle.std.specs.Prelude.{◌≡◌, IfOk, IfErr};
 ghost use Rattle.p3_challenger_core.specs.declared.error.ChallengerError.TheVariants.{OutOfMemory};
 

@@ -1,4 +1,4 @@
-// The steps of a verifier that read nothing: containers, values that the proof does not carry, and draws.
+//! The steps of a verifier that read nothing: containers, values that the proof does not carry, and draws.
 ghost use Rattle.std.specs.Prelude.{◌≡◌, ◌≤◌, true, length, IfErr, IsOk};
 ghost use Rattle.p3_fs_core.specs.Steps.{marker_of};
 ghost use Rattle.p3_driver_core.specs.Bound.{value_of, values_of};

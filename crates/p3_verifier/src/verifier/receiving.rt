@@ -1,4 +1,4 @@
-// The steps of a verifier that read the proof.
+//! The steps of a verifier that read the proof.
 ghost use Rattle.std.specs.Prelude.{◌≡◌, ◌≤◌, ◌↔◌, ◌*◌, IsTrue, length, IfOk, IfErr};
 ghost use Rattle.p3_challenger_core.specs.Observation.{observed_all};
 ghost use Rattle.p3_driver_core.specs.Bound.{value_of, values_of};

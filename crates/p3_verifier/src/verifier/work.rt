@@ -1,4 +1,4 @@
-// The steps of a verifier that are a proof of work.
+//! The steps of a verifier that are a proof of work.
 ghost use Rattle.std.specs.Prelude.{◌≡◌, ◌≤◌};
 ghost use Rattle.p3_driver_core.specs.Turns.{algebra_step};
 ghost use Rattle.p3_driver_core.specs.Working.{work_of};

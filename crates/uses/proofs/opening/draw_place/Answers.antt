@@ -9,4 +9,5 @@ returns-clause-drawn g c =
       element = value_of c.in_ok-drawn.drawn;
       drawn = c.in_ok-drawn.ensures.played.gives;
       is = ap (λ n. n % 8) (c.as_canonical_u32.ensures ∙ ap residues.number c.into_inner.ensures);
+      after = c.in_ok-drawn.ensures.played.challenger;
     }
