@@ -13,7 +13,7 @@ use p3_field::{BabyBear, Coeffs, PrimeCharacteristicRing};
 use p3_symmetric::{MerkleCap, Sha256Hasher};
 use std::alloc::Global;
 use uses::commit_phase::{Challenges, Demands};
-use uses::opening::Leaf;
+use uses::opening::{Leaf, Separator};
 use uses::own_hasher::Polynomial;
 use uses::own_permutation::{StirChallenger, stir_challenger};
 use uses::{Round, commit_phase, opening, protocol, receive_and_draw, send_and_draw};
@@ -106,14 +106,23 @@ fn show_opening(rt: &HostRuntime) -> anyhow::Result<()> {
     leaves[7].bytes = b"seventh";
     let mut proof = opening::prove(rt.alloc(), &separator, &leaves)?;
     println!(rt; "opening: {} bytes", proof.len())?;
-    let opened = opening::verify(rt.alloc(), &separator, &proof)?;
-    let leaf = opened.map(|opened| (opened.place, opened.bytes));
-    println!(rt; "opened: {leaf:?}")?;
+    show_opened(rt, "opened", &separator, &proof)?;
     if let Some(byte) = proof.last_mut() {
         *byte ^= 1;
     }
-    let opened = opening::verify(rt.alloc(), &separator, &proof)?;
-    println!(rt; "a sibling changed: {:?}", opened.is_some())?;
+    show_opened(rt, "a sibling changed", &separator, &proof)
+}
+
+// The place and the bytes of the leaf that the proof opens, if it opens any.
+fn show_opened(
+    rt: &HostRuntime,
+    said: &str,
+    separator: &Separator,
+    proof: &[u8],
+) -> anyhow::Result<()> {
+    let opened = opening::verify(rt.alloc(), separator, proof)?;
+    let leaf = opened.map(|opened| (opened.place, opened.bytes));
+    println!(rt; "{said}: {leaf:?}")?;
     Ok(())
 }
 

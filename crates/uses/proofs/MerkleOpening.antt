@@ -1,12 +1,13 @@
 -- What a verifier of an opening has read, and a sibling more on the way to a root.
 use Rattle.std.proofs.Common.{◌≡◌, ℕ, ◌+◌, ◌*◌, ◌/◌, ◌≤◌, ◌<◌, ◌⊎◌, Bool, true, false, nat_lt, if◌then◌else◌}
-use Rattle.std.proofs.Common.{List, [], ◌∷◌, ◌++◌, take, drop, length, length-append, length-take, take-append-drop}
+use Rattle.std.proofs.Common.{List, [], ◌∷◌, ◌++◌, take, drop, length, length-append, length-take-le, take-append-drop}
 use Rattle.std.proofs.Common.{append_assoc, append-nil, mod-eq_of_lt, Ok, Err, inl, inr, arith, refl, ap, sym, subst, ◌∙◌}
 use Rattle.std.proofs.lemmas.Bool.Decides.{nat_tests}
 use Rattle.std.specs.List.{concat}
 use Rattle.p3_challenger.specs.BabyBearResidues.{BabyBear}
 use Rattle.p3_challenger.specs.BigEndian.{big_endian, in_bytes}
 use Rattle.p3_challenger.specs.Counts.{count_width, count_bytes}
+use Rattle.p3_challenger.specs.Observation.{observed_all}
 use Rattle.p3_challenger.specs.Reads.{Read, ended_early, message_too_long, read_bytes, read_count, read_counted_bytes}
 use Rattle.p3_challenger.specs.Reads.{then_read, unreadable}
 use Rattle.p3_challenger.specs.Sampling.{Sampling}
@@ -29,6 +30,12 @@ count_byte n within =
     let small : n < 256 = omega (arith, within) in
     ap (λ w. in_bytes w n) one_wide ∙ ap (λ b. b ∷ []) (mod-eq_of_lt small)
 
+first_byte : (bytes : List ℕ) → 1 ≤ length bytes → bytes ≡ big_endian (take 1 bytes) ∷ drop 1 bytes
+first_byte [] some = absurd (omega (arith, some))
+first_byte (b ∷ bytes) some =
+    let same : b ≡ 256 * 0 + b = omega arith in
+    ap (λ n. n ∷ bytes) same
+
 module _ {S : Type 0} where
   not_read : {A : Type 0} (reason left : List ℕ) (x : A) (rest : List ℕ) →
       unreadable {S = S} reason left ≡ Ok (x, rest) → ⊥
@@ -44,11 +51,11 @@ module _ {S : Type 0} where
         let both : ◌≡◌ {A = List ℕ × List ℕ} (take n bytes, drop n bytes) (x, rest) = cc in
         let front : take n bytes ≡ x = ap (λ p. p.0) both in
         let back : drop n bytes ≡ rest = ap (λ p. p.1) both in
-        (sym (take-append-drop n bytes) ∙ (λ i. front i ++ back i), ap length (sym front) ∙ length-take n bytes enough)
+        (sym (take-append-drop n bytes) ∙ (λ i. front i ++ back i), ap length (sym front) ∙ length-take-le n bytes enough)
   ]
 
   -- a count of at most 64 in so many bytes
-  counted : ℕ → List ℕ → Read S ℕ
+  abbrev counted : ℕ → List ℕ → Read S ℕ
   counted width bytes =
       if nat_lt (length bytes) width
       then unreadable ended_early bytes
@@ -58,17 +65,19 @@ module _ {S : Type 0} where
 
   count_in_one : (bytes : List ℕ) (n : ℕ) (rest : List ℕ) → counted 1 bytes ≡ Ok (n, rest) →
       (bytes ≡ n ∷ rest) × (n ≤ 64)
-  count_in_one [] n rest e = absurd (not_read ended_early [] n rest e)
-  count_in_one (b ∷ bytes) n rest e = elim (one_of (nat_lt 64 (256 * 0 + b)) _ _ _ e) [
-    | inl long ↦ absurd (not_read message_too_long bytes n rest long.1)
-    | inr short ↦
-        let is : ◌≡◌ {A = Read S ℕ} (Ok (256 * 0 + b, bytes)) (Ok (n, rest)) = short.1 in
-        let both : ◌≡◌ {A = ℕ × List ℕ} (256 * 0 + b, bytes) (n, rest) = cc in
-        let number : 256 * 0 + b ≡ n = ap (λ p. p.0) both in
-        let after : bytes ≡ rest = ap (λ p. p.1) both in
-        let same : b ≡ n = omega (arith, number) in
-        let within : 256 * 0 + b ≤ 64 = grind (arith, nat_tests, short.0) in
-        ((λ i. same i ∷ after i), omega (arith, within, number))
+  count_in_one bytes n rest e = elim (one_of (nat_lt (length bytes) 1) _ _ _ e) [
+    | inl short ↦ absurd (not_read ended_early bytes n rest short.1)
+    | inr enough ↦ elim (one_of (nat_lt 64 (big_endian (take 1 bytes))) _ _ _ enough.1) [
+      | inl long ↦ absurd (not_read message_too_long (drop 1 bytes) n rest long.1)
+      | inr short ↦
+          let some : 1 ≤ length bytes = grind (arith, nat_tests, enough.0) in
+          let is : ◌≡◌ {A = Read S ℕ} (Ok (big_endian (take 1 bytes), drop 1 bytes)) (Ok (n, rest)) = short.1 in
+          let both : ◌≡◌ {A = ℕ × List ℕ} (big_endian (take 1 bytes), drop 1 bytes) (n, rest) = cc in
+          let number : big_endian (take 1 bytes) ≡ n = ap (λ p. p.0) both in
+          let after : drop 1 bytes ≡ rest = ap (λ p. p.1) both in
+          let within : big_endian (take 1 bytes) ≤ 64 = grind (arith, nat_tests, short.0) in
+          (first_byte bytes some ∙ (λ i. number i ∷ after i), omega (arith, within, number))
+    ]
   ]
 
   count-read : (bytes : List ℕ) (n : ℕ) (rest : List ℕ) → read_count {S = S} message_too_long 64 bytes ≡ Ok (n, rest) →
@@ -86,8 +95,8 @@ module _ {S : Type 0} where
       (bytes ≡ (length leaf ∷ leaf) ++ rest) × (length leaf ≤ 64)
   leaf-read bytes leaf rest e =
       let parts = then-read read_bytes (read_count message_too_long 64 bytes) leaf rest e in
-      let count = count-read bytes parts.0 parts.1 parts.2.0 in
-      let body = bytes-read parts.0 parts.1 leaf rest parts.2.1 in (
+      let count = count-read bytes parts.0 parts.1 parts.2 in
+      let body = bytes-read parts.0 parts.1 leaf rest parts.3 in (
         count.0 ∙ (λ i. sym body.1 i ∷ body.0 i),
         omega (arith, count.1, body.1),
       )
@@ -147,12 +156,52 @@ module _ (digest : List ℕ → List ℕ) (start : ℕ) (leaf bytes : List ℕ) 
 -- ---- the whole opening
 
 module _ {S : Type 0} (digest : List ℕ → List ℕ) (d : Sampling S BabyBear) (observed : S → List ℕ → S) where
+  climb-as : (place : ℕ) (node leaf_node bytes top root left : List ℕ) → node ≡ leaf_node → top ≡ root →
+      IsClimb digest place node bytes top left → IsClimb digest place leaf_node bytes root left
+  climb-as place node leaf_node bytes top root left is same climb =
+      subst (λ x. IsClimb digest place x bytes root left) is
+      (subst (λ x. IsClimb digest place node bytes x left) same climb)
+
+  drawn-as : (place : ℕ) (s t here : S) → s ≡ t → IsDrawnPlace d place s here → IsDrawnPlace d place t here
+  drawn-as place s t here same is = subst (λ u. IsDrawnPlace d place u here) same is
+
+  -- what the steps of a verifier read and do is an opening
+  pub opened-by : (bytes root after_root leaf after_leaf salt path top left node : List ℕ) (place : ℕ)
+      (s drawn_from here t : S) → (bytes ≡ root ++ after_root) × (length root ≡ 32) →
+      (after_root ≡ (length leaf ∷ leaf) ++ after_leaf) × (length leaf ≤ 64) →
+      (after_leaf ≡ salt ++ path) × (length salt ≡ 16) → node ≡ leaf_node_of digest salt leaf → top ≡ root →
+      IsClimb digest place node path top left → drawn_from ≡ observed s root → IsDrawnPlace d place drawn_from here →
+      t ≡ observed (observed here (length leaf ∷ leaf)) salt → IsOpened digest d observed bytes s place leaf left t
+  opened-by bytes root after_root leaf after_leaf salt path top left node place s drawn_from here t of_root of_leaf of_salt
+      is same climb start drawn finished =
+      record {
+        root = root;
+        salt = salt;
+        path = path;
+        spelled = of_root.0
+            ∙ ap (λ l. root ++ l) (of_leaf.0 ∙ ap (λ l. (length leaf ∷ leaf) ++ l) of_salt.0);
+        root_bytes = of_root.1;
+        leaf_bytes = of_leaf.1;
+        salt_bytes = of_salt.1;
+        climbs = climb-as place node (leaf_node_of digest salt leaf) path top root left is same climb;
+        here = here;
+        drawn = drawn-as place drawn_from (observed s root) here start drawn;
+        challenger = finished;
+      }
+
   -- what is so of bytes and states is so of equal ones
-  pub opened-as : {bytes other : List ℕ} {s t u v : S} {place : ℕ} {leaf left none : List ℕ} → bytes ≡ other → s ≡ t →
-      left ≡ none → u ≡ v → IsOpened digest d observed bytes s place leaf left u →
-      IsOpened digest d observed other t place leaf none v
-  opened-as {bytes} {other} {s} {t} {u} {v} {place} {leaf} {left} {none} same start end finished is =
+  pub opened-as : (bytes proof : List ℕ) (s t : S) (place : ℕ) (leaf left none : List ℕ) (u v : S) → bytes ≡ proof →
+      s ≡ t → left ≡ none → u ≡ v → IsOpened digest d observed bytes s place leaf left u →
+      IsOpened digest d observed proof t place leaf none v
+  opened-as bytes proof s t place leaf left none u v same start end finished is =
       subst (λ x. IsOpened digest d observed x t place leaf none v) same
       (subst (λ x. IsOpened digest d observed bytes x place leaf none v) start
       (subst (λ x. IsOpened digest d observed bytes s place leaf x v) end
       (subst (λ x. IsOpened digest d observed bytes s place leaf left x) finished is)))
+
+-- a state that observed a leaf's count and then the leaf
+pub counted-leaf : {S : Type 0} (observed : S → ℕ → S) (s t : S) (leaf : List ℕ) → length leaf ≤ 64 →
+    t ≡ observed_all observed (observed_all observed s (count_bytes 64 (length leaf))) leaf →
+    t ≡ observed_all observed s (length leaf ∷ leaf)
+counted-leaf observed s t leaf within is =
+    is ∙ ap (λ count. observed_all observed (observed_all observed s count) leaf) (count_byte (length leaf) within)

@@ -3,8 +3,8 @@
 //! What a challenger needs is a function of lists, and that each digest has all its places; what a separator needs is a
 //! function of bytes that the type alone gives, whose digests are 32 bytes. That digests are hard to find no contract
 //! says. [`Polynomial`] shows the form and is of no strength.
-ghost use Rattle.std.specs.Prelude.{◌≡◌};
-ghost use Rattle.uses.specs.OwnHasher.{evaluated};
+ghost use Rattle.std.specs.Prelude.{◌≡◌, ◌%◌};
+ghost use Rattle.uses.specs.OwnHasher.{polynomial};
 
 use p3_symmetric::{CryptographicHasher, DigestHasher};
 
@@ -41,7 +41,7 @@ impl DigestHasher for Polynomial {
 
 // The value of the polynomial, the first byte being the highest coefficient.
 fn evaluate(bytes: &[u8]) -> u8
-    ensures { result ≡ evaluated 0 bytes.now }
+    ensures { result ≡ polynomial bytes.now % 256 }
 {
     let mut value = 0u8;
     for byte in bytes {

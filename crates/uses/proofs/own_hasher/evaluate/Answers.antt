@@ -1,5 +1,8 @@
-use Rattle.uses.proofs.OwnHasher.{evaluated-more, evaluated-all}
+use Rattle.uses.proofs.OwnHasher.{evaluated-none, evaluated-more, evaluated-all}
 use Rattle.uses.proofs.own_hasher.evaluate.Goals as goal
+
+pub loop-byte-init : goal.loop-byte-init
+loop-byte-init c = evaluated-none c.args.bytes.now
 
 pub loop-byte-preserved : goal.loop-byte-preserved
 loop-byte-preserved c =
@@ -8,4 +11,5 @@ loop-byte-preserved c =
 
 pub returns : goal.returns
 returns c =
-    evaluated-all c.args.bytes.now c.loop-byte.byte-index c.loop-byte.value c.loop-byte-test.false c.loop-byte.invariant
+    evaluated-all c.args.bytes.now c.loop-byte.byte-index c.loop-byte.value c.loop-byte-test.false
+    c.loop-byte.auto.value-fits c.loop-byte.invariant
