@@ -1,4 +1,12 @@
-//! Typed transcripts: how values become symbols for the sponge and bytes in the proof.
+//! Typed transcripts: a prover and a verifier play the steps of one pattern, over a challenger, with values that have
+//! codecs.
+//!
+//! ```text
+//! Interaction ..  ->  InteractionPattern  ->  DomainSeparator  ->  ProverState    ->  the proof
+//!                                                              ->  VerifierState  <-  the proof
+//! ```
+//!
+//! `CALLING.md` of this crate lists the steps: what each is called on either side, and how it is recorded.
 
 pub use p3_codecs::{
     BytesToFieldCodec, Codec, EXTRA_BYTES, ExtensionFieldCodec, FieldToFieldCodec, FieldUnit,

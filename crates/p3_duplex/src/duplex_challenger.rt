@@ -41,7 +41,8 @@ use std::marker::Model;
 /// drawn from the last one backwards. An observation drops the outputs left, and a draw that finds
 /// none, and nothing pending, permutes the cells.
 ///
-/// No call but [`sample_vec`](CanSample::sample_vec) takes memory, and no other is refused.
+/// No call but [`sample_vec`](CanSample::sample_vec) takes memory. No observe and no draw of a value is refused besides;
+/// a draw of uniform bits may meet the draw limit, and a search may find no witness.
 #[derive(Debug, Drop)]
 pub struct DuplexChallenger<F, P, const WIDTH: usize, const RATE: usize> {
     sponge_state: [F; WIDTH],

@@ -12,7 +12,7 @@ pub loop-preserved : goal.loop-preserved
 loop-preserved c =
     let received = c.in_ok-sibling.ensures.exact in (
       climbed-more digests.ghosts.digest_of c.args.place c.args.leaf _ c.loop.counter c.loop.place c.loop.node _ _ _ _
-      c.loop.invariant.0 (bytes-read 32 _ _ _ received.read) c.in_ok-node.ensures,
+          c.loop.invariant.0 (bytes-read 32 _ _ _ received.read) c.in_ok-node.ensures,
       received.challenger ∙ c.loop.invariant.1,
     )
 

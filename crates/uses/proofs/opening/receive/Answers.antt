@@ -11,8 +11,8 @@ returns c in_tree =
     let of_leaf = leaf-read _ _ _ c.in_ok-bytes.ensures.read in
     let of_salt = bytes-read 16 _ _ _ c.in_ok-salt.ensures.read in
     opened-by digests.ghosts.digest_of _ (observed_all observed) _ _ _ _ _ _ _ _ _ _ _ _ _ _ _ of_root
-    (ap (λ l. l) c.in_ok-place.ensures.bytes ∙ of_leaf.0, of_leaf.1) of_salt c.in_ok-node.ensures
-    (c.same_bytes.ensures.0 in_tree) c.in_ok-top.ensures.climbed c.in_ok-root.ensures.challenger
+    (sym c.in_ok-place.ensures.bytes ∙ of_leaf.0, of_leaf.1) of_salt c.in_ok-node.ensures
+    (c.same_bytes-in_tree.ensures.0 in_tree) c.in_ok-top.ensures.climbed c.in_ok-root.ensures.challenger
     c.in_ok-place.ensures.drawn
     (c.in_ok-top.ensures.untouched ∙ c.in_ok-salt.ensures.challenger
     ∙ ap (λ s. observed_all observed s c.in_ok-salt.salt.now)

@@ -1,3 +1,4 @@
+use Rattle.std.proofs.Common.{◌<◌, arith}
 use Rattle.uses.proofs.OwnHasher.{evaluated-none, evaluated-more, evaluated-all}
 use Rattle.uses.proofs.own_hasher.evaluate.Goals as goal
 
@@ -11,5 +12,6 @@ loop-byte-preserved c =
 
 pub returns : goal.returns
 returns c =
-    evaluated-all c.args.bytes.now c.loop-byte.byte-index c.loop-byte.value c.loop-byte-test.false
-    c.loop-byte.auto.value-fits c.loop-byte.invariant
+    let small : c.loop-byte.value < 256 = omega (arith, c.loop-byte.auto.value-fits) in
+    evaluated-all c.args.bytes.now c.loop-byte.byte-index c.loop-byte.value c.loop-byte-test.false small
+    c.loop-byte.invariant
