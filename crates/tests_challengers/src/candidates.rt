@@ -2,6 +2,7 @@ use p3_challenger_core::{CanSample, ChallengerError};
 use p3_grinding::{ByteCandidates, ByteGrindingChallenger};
 use p3_hash_challenger::HashChallenger;
 use p3_test_support::{LengthHasher, SumHasher};
+use std::process::Abort;
 use std::test::Fail;
 
 // Candidate c is the byte c, and passes before this drawn byte.
@@ -62,14 +63,38 @@ fn find<const W: usize, C: ByteGrindingChallenger<W, 1>, K: ByteCandidates<W, 1>
     challenger.find_witness(count, &candidates)
 }
 
+fn assert_least_found<C: ByteGrindingChallenger<1, 1>>(
+    rt: &impl Abort,
+    challenger: &C,
+) -> Result<(), ChallengerError> {
+    for (count, before, least) in [
+        (11, 40, Some(3)),
+        (3, 40, None),
+        (11, 47, Some(10)),
+        (10, 47, None),
+    ] {
+        let found = find(challenger, count, OneByte(before))?;
+        assert_eq!(rt; found, least, "{count} {before}");
+    }
+    Ok(())
+}
+
 #[test]
 fn least_candidate_that_passes_is_found(rt: HostRuntime) -> Result<(), Fail> {
     let initial_state = vec![in rt.alloc(); 0u8, 1, 2, 3]?;
     let challenger = HashChallenger::new(initial_state, SumHasher);
-    assert_eq!(rt; find(&challenger, 11, OneByte(40))?, Some(3));
-    assert_eq!(rt; find(&challenger, 3, OneByte(40))?, None);
-    assert_eq!(rt; find(&challenger, 11, OneByte(47))?, Some(10));
-    assert_eq!(rt; find(&challenger, 10, OneByte(47))?, None);
+    assert_least_found(&rt, &challenger)?;
+    Ok(())
+}
+
+fn assert_output_kept<C: ByteGrindingChallenger<0, 1>>(
+    rt: &impl Abort,
+    challenger: &mut C,
+) -> Result<(), ChallengerError> {
+    assert_eq!(rt; challenger.sample()?, 35);
+    assert_eq!(rt; find(challenger, 5, NoByte(34))?, Some(0));
+    assert_eq!(rt; find(challenger, 5, NoByte(35))?, None);
+    assert_eq!(rt; challenger.sample()?, 34);
     Ok(())
 }
 
@@ -77,9 +102,6 @@ fn least_candidate_that_passes_is_found(rt: HostRuntime) -> Result<(), Fail> {
 fn candidates_of_no_byte_keep_the_output(rt: HostRuntime) -> Result<(), Fail> {
     let initial_state = vec![in rt.alloc(); 0u8, 1, 2, 3]?;
     let mut challenger = HashChallenger::new(initial_state, LengthHasher);
-    assert_eq!(rt; challenger.sample()?, 35);
-    assert_eq!(rt; find(&challenger, 5, NoByte(34))?, Some(0));
-    assert_eq!(rt; find(&challenger, 5, NoByte(35))?, None);
-    assert_eq!(rt; challenger.sample()?, 34);
+    assert_output_kept(&rt, &mut challenger)?;
     Ok(())
 }

@@ -2,8 +2,8 @@ use p3_challenger_core::{
     CanFinalizeDigest, CanObserve, CanSample, CanSampleBits, ChallengerError, FieldChallenger,
     sample_array,
 };
-use p3_field::{BabyBear, Coeffs, F257, Field, Goldilocks, PrimeCharacteristicRing};
-use p3_grinding::{CanSampleUniformBits, GrindingChallenger, UniformBitsError};
+use p3_field::{BabyBear, Coeffs, F257, Goldilocks, PrimeCharacteristicRing};
+use p3_grinding::{CanSampleUniformBits, GrindingChallenger, Replica, UniformBitsError};
 use p3_hash_challenger::HashChallenger;
 use p3_serializing::{SerializingChallenger32, SerializingChallenger64};
 use p3_symmetric::{Hash, MerkleCap};
@@ -36,12 +36,12 @@ fn observe_many<V, C: CanObserve<V>>(
     challenger.observe_slice(values)
 }
 
-// Whether this element of the field is drawn next.
-fn draws<F: Field, C: CanSample<F>>(
+// Whether this value is drawn next.
+fn draws<T: PartialEq + Drop, C: CanSample<T>>(
     challenger: &mut C,
-    element: F,
+    value: T,
 ) -> Result<bool, ChallengerError> {
-    Ok(challenger.sample()? == element)
+    Ok(challenger.sample()? == value)
 }
 
 // Bits, a check and a search, each of as many bits as may be asked for.
@@ -87,75 +87,130 @@ fn short(number: u64) -> BabyBear {
     BabyBear::from_u64(number)
 }
 
-#[test]
-fn short_elements_and_digests_are_bytes(rt: HostRuntime) -> Result<(), Fail> {
-    let alloc = rt.alloc();
-    let mut challenger = over_four_bytes(alloc)?;
-    observe_one(&mut challenger, short(7))?;
-    observe_many(&mut challenger, &[short(1), short(2), short(3)])?;
-    observe_one(&mut challenger, Hash::<BabyBear, u8, 3>::from([9, 8, 7]))?;
-    observe_one(&mut challenger, Hash::<BabyBear, u64, 1>::from([258]))?;
+fn long(number: u64) -> Goldilocks {
+    Goldilocks::from_u64(number)
+}
+
+type Words = MerkleCap<BabyBear, [u64; 1]>;
+
+fn feeds_short_digests<
+    'a,
+    C: CanObserve<Hash<BabyBear, u8, 3>>
+        + CanObserve<Hash<BabyBear, u64, 1>>
+        + CanObserve<MerkleCap<BabyBear, [u8; 2]>>
+        + CanObserve<&'a Words>,
+>(alloc: Global, challenger: &mut C, words: &'a Words) -> Result<(), ChallengerError> {
+    observe_one(challenger, Hash::<BabyBear, u8, 3>::from([9, 8, 7]))?;
+    observe_one(challenger, Hash::<BabyBear, u64, 1>::from([258]))?;
     let bytes: MerkleCap<BabyBear, [u8; 2]> = MerkleCap::new(vec![in alloc; [1u8, 2], [3, 4]]?);
-    observe_one(&mut challenger, bytes)?;
-    let words: MerkleCap<BabyBear, [u64; 1]> = MerkleCap::new(vec![in alloc; [5u64], [6]]?);
-    observe_one(&mut challenger, &words)?;
-    assert!(rt; draws(&mut challenger, short(1330663762))?);
-    let drawn: Coeffs<BabyBear, 4> = challenger.sample()?;
+    observe_one(challenger, bytes)?;
+    observe_one(challenger, words)
+}
+
+fn draws_short<
+    C: CanSample<BabyBear>
+        + CanSample<Coeffs<BabyBear, 4>>
+        + CanSampleBits<usize>
+        + CanFinalizeDigest<Digest = [u8; 32]>
+        + Drop,
+>(rt: &impl Abort, mut challenger: C) -> Result<bool, ChallengerError> {
+    let first = draws(&mut challenger, short(1330663762))?;
     let coefficients = [
         short(1263291726),
         short(1195919690),
         short(1128547654),
         short(1061175618),
     ];
-    assert_eq!(rt; drawn, Coeffs::new(coefficients));
-    assert_eq!(rt; bits(&rt, &mut challenger, 5)?, 30);
-    assert_eq!(rt; challenger.finalize()[0], 32);
+    let second = draws(&mut challenger, Coeffs::new(coefficients))?;
+    let third = bits(rt, &mut challenger, 5)? == 30;
+    Ok(first && second && third && challenger.finalize()[0] == 32)
+}
+
+#[test]
+fn short_elements_and_digests_are_bytes(rt: HostRuntime) -> Result<(), Fail> {
+    let alloc = rt.alloc();
+    let mut challenger = over_four_bytes(alloc)?;
+    observe_one(&mut challenger, short(7))?;
+    observe_many(&mut challenger, &[short(1), short(2), short(3)])?;
+    let words: Words = MerkleCap::new(vec![in alloc; [5u64], [6]]?);
+    feeds_short_digests(alloc, &mut challenger, &words)?;
+    assert!(rt; draws_short(&rt, challenger)?);
     Ok(())
+}
+
+type Bytes = MerkleCap<Goldilocks, [u8; 1]>;
+
+fn feeds_long<
+    'a,
+    C: CanObserve<Goldilocks>
+        + CanObserve<[Goldilocks; 2]>
+        + CanObserve<Hash<Goldilocks, u8, 1>>
+        + CanObserve<Hash<Goldilocks, u64, 2>>
+        + CanObserve<&'a Bytes>,
+>(challenger: &mut C, bytes: &'a Bytes) -> Result<(), ChallengerError> {
+    observe_one(challenger, long(258))?;
+    observe_one(challenger, [long(1), long(2)])?;
+    observe_many(challenger, &[Hash::<Goldilocks, u8, 1>::from([9])])?;
+    observe_many(challenger, &[Hash::<Goldilocks, u64, 2>::from([65535, 1])])?;
+    observe_many(challenger, &[bytes])
+}
+
+fn draws_long<
+    C: FieldChallenger<Goldilocks>
+        + CanSample<Goldilocks>
+        + CanSampleUniformBits<Goldilocks>
+        + CanFinalizeDigest<Digest = [u8; 32]>
+        + Drop,
+>(rt: &impl Abort, mut challenger: C) -> Result<bool, Fail> {
+    let first = draws(&mut challenger, long(3038570946151526449))?;
+    let second = bits(rt, &mut challenger, 12)? == 2089;
+    let third = uniform_bits(rt, &mut challenger, 3)? == 1;
+    let drawn: Coeffs<Goldilocks, 4> = challenger.sample_algebra_element()?;
+    let coefficients = [
+        long(1302406798037686297),
+        long(5208776131293826639),
+        long(4630054748589213255),
+        long(4051333365884599871),
+    ];
+    let fourth = drawn == Coeffs::new(coefficients);
+    Ok(first && second && third && fourth && challenger.finalize()[0] == 0xf0)
 }
 
 #[test]
 fn long_elements_and_digests_are_bytes(rt: HostRuntime) -> Result<(), Fail> {
     let alloc = rt.alloc();
+    let initial_state = vec![in alloc; 1u8]?;
     let mut challenger: Over64<Goldilocks, SumHasher> = Over64::from_hasher(
-        vec![in alloc; 1u8]?,
+        initial_state,
         SumHasher,
         10,
     );
-    observe_one(&mut challenger, Goldilocks::from_u64(258))?;
-    observe_one(
-        &mut challenger,
-        [Goldilocks::from_u64(1), Goldilocks::from_u64(2)],
-    )?;
-    observe_many(&mut challenger, &[Hash::<Goldilocks, u8, 1>::from([9])])?;
-    observe_many(
-        &mut challenger,
-        &[Hash::<Goldilocks, u64, 2>::from([65535, 1])],
-    )?;
-    let bytes: MerkleCap<Goldilocks, [u8; 1]> = MerkleCap::new(vec![in alloc; [1u8], [2]]?);
-    observe_many(&mut challenger, &[&bytes])?;
-    assert!(rt; draws(&mut challenger, Goldilocks::from_u64(3038570946151526449))?);
-    assert_eq!(rt; bits(&rt, &mut challenger, 12)?, 2089);
-    assert_eq!(rt; uniform_bits(&rt, &mut challenger, 3)?, 1);
-    let drawn: Coeffs<Goldilocks, 4> = challenger.sample_algebra_element()?;
-    let coefficients = [
-        Goldilocks::from_u64(1302406798037686297),
-        Goldilocks::from_u64(5208776131293826639),
-        Goldilocks::from_u64(4630054748589213255),
-        Goldilocks::from_u64(4051333365884599871),
-    ];
-    assert_eq!(rt; drawn, Coeffs::new(coefficients));
-    assert_eq!(rt; challenger.finalize()[0], 0xf0);
+    let bytes: Bytes = MerkleCap::new(vec![in alloc; [1u8], [2]]?);
+    feeds_long(&mut challenger, &bytes)?;
+    assert!(rt; draws_long(&rt, challenger)?);
     Ok(())
+}
+
+fn draws_group_by_group<C: Replica + CanSample<BabyBear> + CanSampleBits<usize>>(
+    rt: &impl Abort,
+    challenger: &mut C,
+) -> Result<bool, ChallengerError> {
+    let three = bits(rt, &mut challenger.copy()?, 5)? == 3;
+    let first = draws(challenger, short(539042339))?;
+    let drawn: [BabyBear; 2] = sample_array(challenger)?;
+    Ok(three && first && drawn == [short(471670303), short(404298267)])
 }
 
 #[test]
 fn draws_go_on_from_group_to_group(rt: HostRuntime) -> Result<(), Fail> {
     let mut challenger = over_four_bytes(rt.alloc())?;
-    assert_eq!(rt; bits(&rt, &mut challenger.clone()?, 5)?, 3);
-    assert!(rt; draws(&mut challenger, short(539042339))?);
-    let drawn: [BabyBear; 2] = sample_array(&mut challenger)?;
-    assert_eq!(rt; drawn, [short(471670303), short(404298267)]);
+    assert!(rt; draws_group_by_group(&rt, &mut challenger)?);
     Ok(())
+}
+
+fn meets_the_limit<C: CanSample<BabyBear>>(challenger: &mut C) -> Result<bool, ChallengerError> {
+    let met = challenger.sample() == Err(ChallengerError::DrawLimit);
+    Ok(met && draws(challenger, short(1953855095))?)
 }
 
 #[test]
@@ -163,37 +218,45 @@ fn limit_is_met_after_as_many_groups(rt: HostRuntime) -> Result<(), Fail> {
     let alloc = rt.alloc();
     let once = length_challenger(alloc, 92)?;
     let mut challenger: Over32<BabyBear, LengthHasher> = SerializingChallenger32::new(once, 1);
-    let drawn: Result<BabyBear, ChallengerError> = challenger.sample();
-    assert_eq!(rt; drawn, Err(ChallengerError::DrawLimit));
-    assert!(rt; draws(&mut challenger, short(1953855095))?);
+    assert!(rt; meets_the_limit(&mut challenger)?);
     let twice = length_challenger(alloc, 92)?;
     let mut challenger: Over32<BabyBear, LengthHasher> = SerializingChallenger32::new(twice, 2);
     assert!(rt; draws(&mut challenger, short(1953855095))?);
     Ok(())
 }
 
+fn drops_a_byte<C: GrindingChallenger<Witness = F257> + CanSample<F257>>(
+    rt: &impl Abort,
+    challenger: &mut C,
+) -> Result<bool, ChallengerError> {
+    let found = grind(rt, challenger, 3)? == F257::from_u64(1);
+    let first = draws(challenger, F257::from_u64(256))?;
+    let passed = passes(rt, &mut &mut *challenger, 3, 1)?;
+    Ok(found && first && passed && draws(challenger, F257::from_u64(47))?)
+}
+
 #[test]
 fn byte_is_dropped_before_a_witness(rt: HostRuntime) -> Result<(), Fail> {
-    let alloc = rt.alloc();
-    let mut challenger = over_no_bytes(alloc);
-    assert_eq!(rt; grind(&rt, &mut challenger, 3)?, F257::from_u64(1));
-    assert!(rt; draws(&mut challenger, F257::from_u64(256))?);
-    assert!(rt; passes(&rt, &mut &mut challenger, 3, 1)?);
-    assert!(rt; draws(&mut challenger, F257::from_u64(47))?);
+    let mut challenger = over_no_bytes(rt.alloc());
+    assert!(rt; drops_a_byte(&rt, &mut challenger)?);
     Ok(())
+}
+
+fn finds_no_witness<C: Replica + GrindingChallenger<Witness = F257> + CanSample<F257>>(
+    rt: &impl Abort,
+    challenger: &mut C,
+) -> Result<bool, ChallengerError> {
+    let refused = !passes(rt, &mut challenger.copy()?, 1, 0)?;
+    let none = grind(rt, challenger, 1) == Err(ChallengerError::NoWitness);
+    let passed = passes(rt, challenger, 0, 9)?;
+    let found = grind(rt, challenger, 0)? == F257::from_u64(0);
+    Ok(refused && none && passed && found && draws(challenger, F257::from_u64(63))?)
 }
 
 #[test]
 fn no_witness_leaves_the_challenger(rt: HostRuntime) -> Result<(), Fail> {
     let five = length_challenger(rt.alloc(), 5)?;
     let mut challenger: Over32<F257, LengthHasher> = SerializingChallenger32::new(five, 10);
-    assert!(rt; !passes(&rt, &mut challenger.clone()?, 1, 0)?);
-    assert_eq!(rt;
-        grind(&rt, &mut challenger, 1),
-        Err(ChallengerError::NoWitness)
-    );
-    assert!(rt; passes(&rt, &mut challenger, 0, 9)?);
-    assert_eq!(rt; grind(&rt, &mut challenger, 0)?, F257::from_u64(0));
-    assert!(rt; draws(&mut challenger, F257::from_u64(63))?);
+    assert!(rt; finds_no_witness(&rt, &mut challenger)?);
     Ok(())
 }

@@ -5,104 +5,111 @@ use p3_duplex::DuplexChallenger;
 use p3_field::{BabyBear, PrimeCharacteristicRing};
 use p3_grinding::{CanSampleUniformBits, ResamplingError, UniformBitsError};
 use p3_symmetric::Turn;
+use std::alloc::{AllocError, Global};
 use std::process::Abort;
 use std::test::Fail;
 
-// The largest element, 2013265920, which is no uniform value of few bits, is drawn next.
-fn before_largest(
-    draw_limit: u64,
-) -> Result<DuplexChallenger<BabyBear, Turn<2>, 3, 2>, ChallengerError>
+type Sponge<const K: usize> = DuplexChallenger<BabyBear, Turn<K>, 3, 2>;
+
+fn fresh<const K: usize>(draw_limit: u64) -> Sponge<K>
     requires { 1 ≤ draw_limit }
 {
-    let mut challenger = DuplexChallenger::new(Turn, draw_limit);
-    challenger.observe(BabyBear::from_u64(2013265918))?;
-    Ok(challenger)
+    DuplexChallenger::new(Turn, draw_limit)
 }
 
-// The largest element is the second one that is drawn.
-fn before_other_and_largest(
-    draw_limit: u64,
-) -> Result<DuplexChallenger<BabyBear, Turn<1>, 3, 2>, ChallengerError>
-    requires { 1 ≤ draw_limit }
-{
-    let mut challenger = DuplexChallenger::new(Turn, draw_limit);
-    challenger.observe(BabyBear::from_u64(7))?;
-    challenger.observe(BabyBear::from_u64(2013265919))?;
-    Ok(challenger)
+// After this number the largest element, 2013265920, which is no uniform value of few bits, is drawn next by a
+// challenger that turns its cells by two places.
+const BEFORE_LARGEST: &[u64] = &[2013265918];
+
+// After these the largest element is the second one that is drawn by a challenger that turns them by one.
+const BEFORE_OTHER_AND_LARGEST: &[u64] = &[7, 2013265919];
+
+// A draw of so many uniform bits, which is done again where that is allowed, and what it answers.
+type Draw = (usize, bool, Result<usize, UniformBitsError>);
+
+fn rejected() -> Result<usize, UniformBitsError> {
+    let error = ResamplingError::new(2013265920, 2013265920);
+    Err(UniformBitsError::Resampling(error))
 }
 
-// So many uniform bits, if they may be asked for.
-fn uniform_bits<C: CanSampleUniformBits<BabyBear>>(
+fn limit() -> Result<usize, UniformBitsError> {
+    Err(UniformBitsError::Challenger(ChallengerError::DrawLimit))
+}
+
+// Asserts what a draw answers once these numbers were observed.
+fn assert_answered<C: CanObserve<BabyBear> + CanSampleUniformBits<BabyBear>>(
     rt: &impl Abort,
     challenger: &mut C,
-    bits: usize,
-    resample: bool,
-) -> Result<usize, UniformBitsError> {
+    observed: &[u64],
+    draw: Draw,
+) -> Result<(), ChallengerError> {
+    let (bits, resample, answer) = draw;
+    for number in observed {
+        challenger.observe(BabyBear::from_u64(*number))?;
+    }
     assert!(rt; bits <= C::max_bits());
-    challenger.sample_uniform_bits(bits, resample)
+    assert_eq!(rt; challenger.sample_uniform_bits(bits, resample), answer);
+    Ok(())
 }
 
-fn next_is<C: CanSample<BabyBear>>(
+// Asserts the same, and which number is drawn next.
+fn assert_answered_before<
+    C: CanObserve<BabyBear> + CanSample<BabyBear> + CanSampleUniformBits<BabyBear>,
+>(
+    rt: &impl Abort,
     challenger: &mut C,
-    number: u64,
-) -> Result<bool, ChallengerError> {
-    Ok(challenger.sample()? == BabyBear::from_u64(number))
+    observed: &[u64],
+    draw: Draw,
+    next: u64,
+) -> Result<(), ChallengerError> {
+    assert_answered(rt, challenger, observed, draw)?;
+    assert!(rt; challenger.sample()? == BabyBear::from_u64(next));
+    Ok(())
 }
 
 #[test]
 fn value_at_the_bound_is_rejected_or_drawn_again(rt: HostRuntime) -> Result<(), Fail> {
-    let rejected = UniformBitsError::Resampling(ResamplingError::new(2013265920, 2013265920));
-    let mut challenger = before_largest(1)?;
-    assert_eq!(rt; uniform_bits(&rt, &mut challenger, 4, false), Err(rejected));
-    let limit = UniformBitsError::Challenger(ChallengerError::DrawLimit);
-    let mut challenger = before_largest(1)?;
-    assert_eq!(rt; uniform_bits(&rt, &mut challenger, 4, true), Err(limit));
-    assert!(rt; next_is(&mut challenger, 2)?);
-    let mut challenger = before_largest(2)?;
-    assert_eq!(rt; uniform_bits(&rt, &mut challenger, 4, true), Ok(2));
+    let rejects = (4, false, rejected());
+    assert_answered(&rt, &mut fresh::<2>(1), BEFORE_LARGEST, rejects)?;
+    let meets_limit = (4, true, limit());
+    assert_answered_before(&rt, &mut fresh::<2>(1), BEFORE_LARGEST, meets_limit, 2)?;
+    assert_answered(&rt, &mut fresh::<2>(2), BEFORE_LARGEST, (4, true, Ok(2)))?;
     Ok(())
 }
 
 #[test]
 fn limit_holds_for_each_half(rt: HostRuntime) -> Result<(), Fail> {
-    let rejected = UniformBitsError::Resampling(ResamplingError::new(2013265920, 2013265920));
-    let mut challenger = before_other_and_largest(1)?;
-    assert_eq!(rt;
-        uniform_bits(&rt, &mut challenger, 28, false),
-        Err(rejected)
-    );
-    assert!(rt; next_is(&mut challenger, 12)?);
-    let limit = UniformBitsError::Challenger(ChallengerError::DrawLimit);
-    let mut challenger = before_other_and_largest(1)?;
-    assert_eq!(rt; uniform_bits(&rt, &mut challenger, 28, true), Err(limit));
-    assert!(rt; next_is(&mut challenger, 12)?);
-    let mut challenger = before_other_and_largest(2)?;
-    assert_eq!(rt;
-        uniform_bits(&rt, &mut &mut challenger, 28, true),
-        Ok(196612)
-    );
-    assert!(rt; next_is(&mut challenger, 5)?);
+    let observed = BEFORE_OTHER_AND_LARGEST;
+    for answer in [(28, false, rejected()), (28, true, limit())] {
+        assert_answered_before(&rt, &mut fresh::<1>(1), observed, answer, 12)?;
+    }
+    let mut twice = fresh::<1>(2);
+    assert_answered_before(&rt, &mut &mut twice, observed, (28, true, Ok(196612)), 5)?;
     Ok(())
 }
 
 #[test]
 fn no_bits_draw_nothing(rt: HostRuntime) -> Result<(), Fail> {
-    let mut challenger = before_largest(1)?;
-    assert_eq!(rt; uniform_bits(&rt, &mut challenger, 0, false), Ok(0));
-    assert_eq!(rt; uniform_bits(&rt, &mut challenger, 0, true), Ok(0));
-    assert!(rt; next_is(&mut challenger, 2013265920)?);
+    for resample in [false, true] {
+        let draw = (0, resample, Ok(0));
+        assert_answered_before(&rt, &mut fresh::<2>(1), BEFORE_LARGEST, draw, 2013265920)?;
+    }
     Ok(())
+}
+
+// Whether an error prints this text.
+fn says(alloc: Global, error: &UniformBitsError, text: &str) -> Result<bool, AllocError> {
+    Ok(error.to_string(alloc)?.as_str() == text)
 }
 
 #[test]
 fn errors_of_uniform_bits_say_what_is_wrong(rt: HostRuntime) -> Result<(), Fail> {
     let error = ResamplingError::new(9, 8);
-    assert_eq!(rt; (error.value(), error.m()), (9, 8));
     let text = "sampled value 9 is not below rejection bound 8, but resampling is disabled";
-    assert_eq!(rt; error.to_string(rt.alloc())?.as_str(), text);
-    let wrapped = UniformBitsError::Resampling(error);
-    assert_eq!(rt; wrapped.to_string(rt.alloc())?.as_str(), text);
+    assert!(rt; error.value() == 9 && error.m() == 8);
+    assert!(rt; error.to_string(rt.alloc())?.as_str() == text);
+    assert!(rt; says(rt.alloc(), &UniformBitsError::Resampling(error), text)?);
     let limit = UniformBitsError::Challenger(ChallengerError::DrawLimit);
-    assert_eq!(rt; limit.to_string(rt.alloc())?.as_str(), "draw limit");
+    assert!(rt; says(rt.alloc(), &limit, "draw limit")?);
     Ok(())
 }

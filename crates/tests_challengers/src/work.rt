@@ -3,7 +3,7 @@ ghost use Rattle.std.specs.Prelude.{◌≤◌};
 use p3_challenger_core::{CanObserve, CanSample, ChallengerError};
 use p3_duplex::DuplexChallenger;
 use p3_field::{F257, PrimeCharacteristicRing};
-use p3_grinding::{GrindingChallenger, UniformGrindingChallenger};
+use p3_grinding::{GrindingChallenger, Replica, UniformGrindingChallenger};
 use p3_symmetric::Turn;
 use std::process::Abort;
 use std::test::Fail;
@@ -80,71 +80,92 @@ fn passes_uniform<C: UniformGrindingChallenger<Witness = F257>>(
     }
 }
 
+// What challengers do stands in generic functions, which are proved from their bounds alone.
+
+fn finds_least_witnesses<C: Replica + GrindingChallenger<Witness = F257> + CanSample<F257>>(
+    rt: &impl Abort,
+    mut challenger: C,
+) -> Result<bool, ChallengerError> {
+    let mut copy = challenger.copy()?;
+    let of_three_bits = grind(rt, &mut copy, 3)? == element(6) && draws(&mut copy, &[2, 4])?;
+    let of_eight_bits = grind(rt, &mut &mut challenger, 8)? == element(254);
+    Ok(of_three_bits && of_eight_bits && draws(&mut challenger, &[2, 4])?)
+}
+
+fn finds_no_witness<C: Replica + GrindingChallenger<Witness = F257> + CanSample<F257>>(
+    rt: &impl Abort,
+    mut challenger: C,
+) -> Result<bool, ChallengerError> {
+    let mut copy = challenger.copy()?;
+    let none = grind(rt, &mut copy, 1) == Err(ChallengerError::NoWitness);
+    let unchanged = draws(&mut copy, &[2, 1, 5, 3])?;
+    challenger.observe(element(5))?;
+    Ok(none && unchanged && grind(rt, &mut challenger, 1)? == element(0))
+}
+
+fn asks_for_no_work<C: UniformGrindingChallenger<Witness = F257> + CanSample<F257>>(
+    rt: &impl Abort,
+    challenger: &mut C,
+) -> Result<bool, ChallengerError> {
+    let first = grind(rt, challenger, 0)? == element(0) && passes(rt, challenger, 0, 7)?;
+    let uniform = grind_uniform(rt, challenger, 0, true)? == element(0)
+        && passes_uniform(rt, challenger, 0, 7, true)?
+        && passes_uniform(rt, challenger, 0, 7, false)?;
+    Ok(first && uniform && draws(challenger, &[2, 1])?)
+}
+
+fn finds_uniform_witnesses<
+    C: Replica + UniformGrindingChallenger<Witness = F257> + CanSample<F257>,
+>(rt: &impl Abort, challenger: &C) -> Result<bool, ChallengerError> {
+    for resample in [true, false] {
+        let mut copy = challenger.copy()?;
+        if grind_uniform(rt, &mut copy, 8, resample)? != element(255)
+            || !draws(&mut copy, &[2, 4])?
+        {
+            return Ok(false);
+        }
+    }
+    let mut copy = challenger.copy()?;
+    Ok(grind(rt, &mut copy, 8)? == element(254) && draws(&mut copy, &[2, 4])?)
+}
+
+fn meets_the_limit<C: Replica + UniformGrindingChallenger<Witness = F257>>(
+    rt: &impl Abort,
+    challenger: &C,
+) -> Result<bool, ChallengerError> {
+    let found = grind_uniform(rt, &mut challenger.copy()?, 8, true)? == element(255);
+    let limit = Err(ChallengerError::DrawLimit);
+    let met = passes_uniform(rt, &mut challenger.copy()?, 8, 254, true) == limit;
+    let rejected = !passes_uniform(rt, &mut challenger.copy()?, 8, 254, false)?;
+    Ok(found && met && rejected)
+}
+
 #[test]
 fn least_witness_is_found_and_observed(rt: HostRuntime) -> Result<(), Fail> {
-    let mut challenger = fresh::<2>(10);
-    assert_eq!(rt; grind(&rt, &mut challenger, 3)?, element(6));
-    assert!(rt; draws(&mut challenger, &[2, 4])?);
-    let mut challenger = fresh::<2>(10);
-    assert_eq!(rt; grind(&rt, &mut &mut challenger, 8)?, element(254));
-    assert!(rt; draws(&mut challenger, &[2, 4])?);
+    assert!(rt; finds_least_witnesses(&rt, fresh::<2>(10))?);
     Ok(())
 }
 
 #[test]
 fn no_witness_leaves_the_challenger(rt: HostRuntime) -> Result<(), Fail> {
-    let mut challenger = fresh::<1>(10);
-    assert_eq!(rt;
-        grind(&rt, &mut challenger, 1),
-        Err(ChallengerError::NoWitness)
-    );
-    assert!(rt; draws(&mut challenger, &[2, 1, 5, 3])?);
-    let mut challenger = fresh::<1>(10);
-    challenger.observe(element(5))?;
-    assert_eq!(rt; grind(&rt, &mut challenger, 1)?, element(0));
+    assert!(rt; finds_no_witness(&rt, fresh::<1>(10))?);
     Ok(())
 }
 
 #[test]
 fn no_bits_ask_for_no_work(rt: HostRuntime) -> Result<(), Fail> {
-    let mut challenger = fresh::<1>(10);
-    assert_eq!(rt; grind(&rt, &mut challenger, 0)?, element(0));
-    assert!(rt; passes(&rt, &mut challenger, 0, 7)?);
-    assert_eq!(rt; grind_uniform(&rt, &mut challenger, 0, true)?, element(0));
-    assert!(rt; passes_uniform(&rt, &mut challenger, 0, 7, true)?);
-    assert!(rt; passes_uniform(&rt, &mut challenger, 0, 7, false)?);
-    assert!(rt; draws(&mut challenger, &[2, 1])?);
+    assert!(rt; asks_for_no_work(&rt, &mut fresh::<1>(10))?);
     Ok(())
 }
 
 #[test]
 fn uniform_work_draws_again_or_fails(rt: HostRuntime) -> Result<(), Fail> {
-    let mut challenger = fresh::<2>(2);
-    assert_eq!(rt; grind_uniform(&rt, &mut challenger, 8, true)?, element(255));
-    assert!(rt; draws(&mut challenger, &[2, 4])?);
-    let mut challenger = fresh::<2>(2);
-    assert_eq!(rt;
-        grind_uniform(&rt, &mut challenger, 8, false)?,
-        element(255)
-    );
-    assert!(rt; draws(&mut challenger, &[2, 4])?);
-    let mut challenger = fresh::<2>(2);
-    assert_eq!(rt; grind(&rt, &mut challenger, 8)?, element(254));
-    assert!(rt; draws(&mut challenger, &[2, 4])?);
+    assert!(rt; finds_uniform_witnesses(&rt, &fresh::<2>(2))?);
     Ok(())
 }
 
 #[test]
 fn uniform_check_may_meet_the_limit(rt: HostRuntime) -> Result<(), Fail> {
-    assert_eq!(rt;
-        grind_uniform(&rt, &mut fresh::<2>(1), 8, true)?,
-        element(255)
-    );
-    let limit = Err(ChallengerError::DrawLimit);
-    assert_eq!(rt;
-        passes_uniform(&rt, &mut fresh::<2>(1), 8, 254, true),
-        limit
-    );
-    assert!(rt; !passes_uniform(&rt, &mut fresh::<2>(1), 8, 254, false)?);
+    assert!(rt; meets_the_limit(&rt, &fresh::<2>(1))?);
     Ok(())
 }

@@ -10,14 +10,17 @@ use std::process::Abort;
 /// Three cells of the larger field, of which two are the rate.
 pub type Small = MultiField32Challenger<F257, BabyBear, Turn<2>, 3, 2>;
 
+/// A small challenger that observed nothing yet.
 pub fn fresh() -> Result<Small, MultiField32ChallengerError> {
     MultiField32Challenger::new(Turn)
 }
 
+/// The scalar of a number.
 pub fn scalar(number: u64) -> F257 {
     F257::from_u64(number)
 }
 
+/// The element of the larger field of a number.
 pub fn word(number: u64) -> BabyBear {
     BabyBear::from_u64(number)
 }
