@@ -1,5 +1,7 @@
+use crate::candidates::Search;
 use crate::symbol::{Symbol, rows_of_symbols, symbols};
 use crate::words::{look_up, parse_row, parse_rows, split_name};
+use crate::work::WorkCall;
 use anyhow::{Result, bail};
 use std::alloc::Global;
 
@@ -20,6 +22,11 @@ pub enum ChallengerCall<T> {
     Permute,
     /// `digest HEX`: what the hasher of a hash challenger makes of the bytes.
     Digest(Vec<u8>),
+    /// Uniform bits, or a proof of work.
+    Work(WorkCall),
+    /// `fw W S n mask value`: the least of n candidates that passes on a hash challenger, or `none`. A candidate is
+    /// encoded as the low W bytes of its number, and passes where the first of S drawn bytes, masked, is the value.
+    FindWitness(Search),
 }
 
 /// How a value is observed.
@@ -133,6 +140,10 @@ impl<T: Symbol> ChallengerCall<T> {
             "slice" => {
                 let observation = Observation::parse(alloc, words)?;
                 Ok(ChallengerCall::Observe(Form::SliceOfOne, observation))
+            }
+            "fw" => Ok(ChallengerCall::FindWitness(Search::parse(alloc, words)?)),
+            "u" | "ue" | "g" | "gu" | "gue" | "c" | "cu" | "cue" => {
+                Ok(ChallengerCall::Work(WorkCall::parse(name, words)?))
             }
             _ if name.starts_with('o') => {
                 let observation = Observation::parse(alloc, text)?;

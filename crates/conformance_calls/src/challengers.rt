@@ -2,12 +2,13 @@
 use crate::line::Step;
 use crate::subject::Way;
 use crate::words::split_name;
-use crate::{duplex, hash};
+use crate::{duplex, hash, multi_field, serializing};
 use anyhow::{Result, bail};
 use std::alloc::Global;
 
-/// The first call with another answer, on a new challenger: `duplex F K W R`, or `hash H [HEX]`. After the word
-/// `by-reference` each call is made on a reference to it.
+/// The first call with another answer, on a new challenger: `duplex F K W R`, `hash H [HEX]`, `ser32 F H [HEX]`,
+/// `ser64 F H [HEX]`, or `multi F G K W R`. After the word `by-reference` each call is made on a reference to it, if
+/// there is one: a reference has no proof of work on uniform bits, and no search for a candidate.
 pub fn difference(
     alloc: Global,
     spec: &str,
@@ -29,6 +30,8 @@ fn difference_by_way(
     match kind {
         "duplex" => duplex::difference(alloc, way, spec, steps),
         "hash" => hash::difference(alloc, way, spec, steps),
+        "ser32" | "ser64" => serializing::difference(alloc, way, kind, spec, steps),
+        "multi" => multi_field::difference(alloc, way, spec, steps),
         _ => bail!("an unknown subject"),
     }
 }

@@ -1,22 +1,18 @@
 use crate::answer;
-use crate::challenger_call::{ArraysKind, ChallengerCall, Draw, Form, Observation, RowKind};
+use crate::challenger_call::{ArraysKind, ChallengerCall, Draw, Form, Observation};
+use crate::digests::{cap, observe_digests};
+use crate::elements::answer_elements;
 use crate::line::Step;
 use crate::replay::{Replayed, first_difference};
-use crate::subject::{
-    Subject, Way, cap, draw_bits, draw_element, draw_extension, draw_symbols, finalized, most_bits,
-    observe, observe_bytes, observe_element,
-};
-use crate::symbol::{Extended, coefficients_of, element_of, numbers_of, symbols};
+use crate::subject::{DRAW_LIMIT, Subject, Way, finalized, observe};
+use crate::symbol::{Extended, numbers_of};
 use crate::symmetric::permuted;
+use crate::work::{WorkCall, uniform_bits, uniform_work};
 use anyhow::{Context, Result, bail};
-use p3_challenger::fs::{ExtensionFieldCodec, FieldToFieldCodec, FieldUnit};
-use p3_challenger::{CanSample, DuplexChallenger, FieldChallenger};
-use p3_field::{BabyBear, BasedVectorSpace, F257, Goldilocks};
-use p3_symmetric::{CryptographicPermutation, Hash, Turn};
+use p3_challenger::DuplexChallenger;
+use p3_field::{BabyBear, F257, Goldilocks};
+use p3_symmetric::{CryptographicPermutation, Turn};
 use std::alloc::Global;
-
-// No challenger here draws more than one candidate for a value.
-const DRAW_LIMIT: u64 = 1000;
 
 type Duplex<F, P, const W: usize, const R: usize> = Subject<DuplexChallenger<F, P, W, R>>;
 
@@ -37,27 +33,8 @@ pub fn difference(
     }
 }
 
-// The first difference on a new challenger over one field. (Each array has to be seen to fit in
-// memory, so no function that makes a challenger is generic over the field.)
-macro_rules! difference_over {
-    ($field:ty, $alloc:expr, $way:expr, $shape:expr, $steps:expr) => {
-        match $shape {
-            "1 2 1" => first_difference($alloc, new_subject!($field, 1, 2, 1, $way), $steps),
-            "1 3 2" => first_difference($alloc, new_subject!($field, 1, 3, 2, $way), $steps),
-            "2 3 2" => first_difference($alloc, new_subject!($field, 2, 3, 2, $way), $steps),
-            "2 4 2" => first_difference($alloc, new_subject!($field, 2, 4, 2, $way), $steps),
-            "1 5 3" => first_difference($alloc, new_subject!($field, 1, 5, 3, $way), $steps),
-            "2 5 3" => first_difference($alloc, new_subject!($field, 2, 5, 3, $way), $steps),
-            "5 8 4" => first_difference($alloc, new_subject!($field, 5, 8, 4, $way), $steps),
-            "9 16 8" => first_difference($alloc, new_subject!($field, 9, 16, 8, $way), $steps),
-            "1 9 8" => first_difference($alloc, new_subject!($field, 1, 9, 8, $way), $steps),
-            _ => bail!("an unknown shape"),
-        }
-    };
-}
-
-macro_rules! new_subject {
-    ($field:ty, $turn:literal, $width:literal, $rate:literal, $way:expr) => {
+macro_rules! new_duplex {
+    (($field:ty, $way:expr), $turn:literal, $width:literal, $rate:literal) => {
         Subject {
             challenger: DuplexChallenger::<$field, Turn<$turn>, $width, $rate>::new(
                 Turn,
@@ -74,7 +51,10 @@ fn over_baby_bear(
     shape: &str,
     steps: &[Step<'_>],
 ) -> Result<Option<(usize, String)>> {
-    difference_over!(BabyBear, alloc, way, shape, steps)
+    if shape == "1 9 8" {
+        return first_difference(alloc, new_duplex!((BabyBear, way), 1, 9, 8), steps);
+    }
+    difference_over!(new_duplex, (BabyBear, way), alloc, shape, steps)
 }
 
 fn over_goldilocks(
@@ -83,7 +63,7 @@ fn over_goldilocks(
     shape: &str,
     steps: &[Step<'_>],
 ) -> Result<Option<(usize, String)>> {
-    difference_over!(Goldilocks, alloc, way, shape, steps)
+    difference_over!(new_duplex, (Goldilocks, way), alloc, shape, steps)
 }
 
 fn over_f257(
@@ -92,54 +72,46 @@ fn over_f257(
     shape: &str,
     steps: &[Step<'_>],
 ) -> Result<Option<(usize, String)>> {
-    difference_over!(F257, alloc, way, shape, steps)
+    difference_over!(new_duplex, (F257, way), alloc, shape, steps)
 }
 
 impl<F: Extended, P: CryptographicPermutation<[F; W]>, const W: usize, const R: usize> Replayed
     for Duplex<F, P, W, R> {
     fn answer(&mut self, alloc: Global, call: &str) -> Result<String> {
-        let numbers = match ChallengerCall::<F>::parse(alloc, call)? {
-            ChallengerCall::Observe(form, observation) => {
-                observe_any(alloc, self, form, observation)?;
-                return answer::nothing(alloc);
+        let call = ChallengerCall::<F>::parse(alloc, call)?;
+        match call {
+            ChallengerCall::Observe(form, Observation::Arrays(kind, rows)) => {
+                observe_rows(alloc, self, form, kind, rows.as_slice())?;
+                answer::nothing(alloc)
             }
-            ChallengerCall::Draw(draw) => {
-                draw_by_way(alloc, &mut self.challenger, self.way, draw, F::ZERO)?
+            ChallengerCall::Observe(form, Observation::Lists(lists)) => {
+                observe(alloc, self, form, lists)?;
+                answer::nothing(alloc)
             }
-            ChallengerCall::CloneDraw => {
-                draw_any(alloc, &mut self.challenger.clone(), Draw::Value, F::ZERO)?
+            ChallengerCall::CloneDraw => clone_draw(alloc, &self.challenger),
+            ChallengerCall::Finalize => digest(alloc, &self.challenger),
+            ChallengerCall::Permute => permute(alloc, &self.challenger),
+            ChallengerCall::State => state(alloc, &self.challenger),
+            ChallengerCall::Work(WorkCall::UniformBits { bits, resample }) => {
+                uniform_bits::<F, _>(alloc, self, bits, resample)
             }
-            ChallengerCall::Finalize => {
-                numbers_of(alloc, &finalized(self.challenger.clone())[..])?
+            ChallengerCall::Work(WorkCall::Uniform { work, resample }) => {
+                uniform_work(alloc, &mut self.challenger, work, resample)
             }
-            ChallengerCall::Permute => {
-                let cells = permuted(
-                    *self.challenger.permutation(),
-                    *self.challenger.sponge_state(),
-                );
-                numbers_of(alloc, &cells[..])?
-            }
-            ChallengerCall::State => return state(alloc, &self.challenger),
-            ChallengerCall::Digest(_) => bail!("no hasher"),
-        };
-        answer::numbers(alloc, numbers.as_slice())
+            _ => answer_elements(alloc, self, call),
+        }
     }
 }
 
-fn observe_any<F: Extended, P: CryptographicPermutation<[F; W]>, const W: usize, const R: usize>(
+fn observe_rows<F: Extended, P: CryptographicPermutation<[F; W]>, const W: usize, const R: usize>(
     alloc: Global,
     subject: &mut Duplex<F, P, W, R>,
     form: Form,
-    observation: Observation<F>,
+    kind: ArraysKind,
+    rows: &[Vec<F>],
 ) -> Result<()> {
-    match observation {
-        Observation::Arrays(kind, rows) => {
-            let (first, rest) = rows.as_slice().split_first().context("no array")?;
-            with_array!(first.as_slice(), first => observe_arrays(alloc, subject, form, kind, first, rest))
-        }
-        Observation::Lists(lists) => observe(alloc, subject, form, lists),
-        _ => observe_by_way(alloc, &mut subject.challenger, subject.way, observation),
-    }
+    let (first, rest) = rows.split_first().context("no array")?;
+    with_array!(first.as_slice(), first => observe_arrays(alloc, subject, form, kind, first, rest))
 }
 
 // Observes an array, or several of one length as a cap.
@@ -159,137 +131,43 @@ fn observe_arrays<
     rest: &[Vec<F>],
 ) -> Result<()> {
     match kind {
-        ArraysKind::Cap => observe(alloc, subject, form, cap(alloc, first, rest)?),
-        ArraysKind::CapByReference => observe(alloc, subject, form, &cap(alloc, first, rest)?),
         ArraysKind::Array if rest.is_empty() => observe(alloc, subject, form, first),
-        ArraysKind::Digest if rest.is_empty() => {
-            observe(alloc, subject, form, Hash::<F, F, N>::from(first))
+        ArraysKind::CapByReference => {
+            let lent = cap::<F, F, N>(alloc, first, rest)?;
+            observe(alloc, subject, form, &lent)
         }
-        _ => bail!("more than one array"),
+        _ => observe_digests::<F, F, _, N>(alloc, subject, form, kind, first, rest),
     }
 }
 
-// Observes what is no array, through the challenger or a reference to it.
-fn observe_by_way<F: Extended, C: FieldChallenger<F>>(
+// What a clone draws.
+fn clone_draw<F: Extended, P: CryptographicPermutation<[F; W]>, const W: usize, const R: usize>(
     alloc: Global,
-    challenger: &mut C,
-    way: Way,
-    observation: Observation<F>,
-) -> Result<()> {
-    match way {
-        Way::Direct => observe_elements(alloc, challenger, observation),
-        Way::ByReference => {
-            let mut reference = challenger;
-            observe_elements(alloc, &mut reference, observation)
-        }
-    }
+    challenger: &DuplexChallenger<F, P, W, R>,
+) -> Result<String> {
+    let mut clone = Subject {
+        challenger: challenger.clone(),
+        way: Way::Direct,
+    };
+    answer_elements(alloc, &mut clone, ChallengerCall::<F>::Draw(Draw::Value))
 }
 
-// Observes what is no array.
-fn observe_elements<F: Extended, C: FieldChallenger<F>>(
+// The digest of a clone.
+fn digest<F: Extended, P: CryptographicPermutation<[F; W]>, const W: usize, const R: usize>(
     alloc: Global,
-    challenger: &mut C,
-    observation: Observation<F>,
-) -> Result<()> {
-    match observation {
-        Observation::Value(value) => Ok(challenger.observe(value)?),
-        Observation::BaseAsAlgebraElement(value) => {
-            Ok(challenger.observe_base_as_algebra_element::<F::Extension>(value)?)
-        }
-        Observation::Row(kind, row) => observe_row(alloc, challenger, kind, row.as_slice()),
-        Observation::Bytes(bytes) => observe_bytes::<FieldUnit<F>, C>(challenger, bytes.as_slice()),
-        Observation::Element(coefficients) => {
-            let coefficients = symbols::<F>(alloc, coefficients.as_slice())?;
-            observe_through_codec(challenger, coefficients.as_slice())
-        }
-        Observation::Arrays(_, _) | Observation::Lists(_) => bail!("rows are arrays"),
-    }
+    challenger: &DuplexChallenger<F, P, W, R>,
+) -> Result<String> {
+    let digest = numbers_of(alloc, &finalized(challenger.clone())[..])?;
+    answer::numbers(alloc, digest.as_slice())
 }
 
-fn observe_row<F: Extended, C: FieldChallenger<F>>(
+// What the permutation makes of the cells.
+fn permute<F: Extended, P: CryptographicPermutation<[F; W]>, const W: usize, const R: usize>(
     alloc: Global,
-    challenger: &mut C,
-    kind: RowKind,
-    row: &[F],
-) -> Result<()> {
-    match kind {
-        RowKind::Slice => Ok(challenger.observe_slice(row)?),
-        RowKind::AlgebraElement => {
-            let element: F::Extension = element_of(row)?;
-            Ok(challenger.observe_algebra_element(element)?)
-        }
-        RowKind::AlgebraSlice => {
-            let slice = extension_elements::<F>(alloc, row)?;
-            Ok(challenger.observe_algebra_slice(slice.as_slice())?)
-        }
-    }
-}
-
-fn extension_elements<F: Extended>(alloc: Global, coefficients: &[F]) -> Result<Vec<F::Extension>> {
-    let mut found = Vec::new(alloc);
-    for coefficients in coefficients.chunks(4) {
-        let element: F::Extension = element_of(coefficients)?;
-        found.push(element)?;
-    }
-    Ok(found)
-}
-
-fn observe_through_codec<F: Extended, C: FieldChallenger<F>>(
-    challenger: &mut C,
-    coefficients: &[F],
-) -> Result<()> {
-    match coefficients.len() {
-        1 => observe_element::<F, F, FieldToFieldCodec<F>, C>(challenger, coefficients),
-        _ => observe_element::<
-            F,
-            F::Extension,
-            ExtensionFieldCodec<F, F::Extension, FieldToFieldCodec<F>>,
-            C,
-        >(challenger, coefficients),
-    }
-}
-
-// What is drawn, through the challenger or a reference to it.
-fn draw_by_way<F: Extended, C: FieldChallenger<F> + CanSample<F::Extension>>(
-    alloc: Global,
-    challenger: &mut C,
-    way: Way,
-    draw: Draw,
-    zero: F,
-) -> Result<Vec<u64>> {
-    match way {
-        Way::Direct => draw_any(alloc, challenger, draw, zero),
-        Way::ByReference => {
-            let mut reference = challenger;
-            draw_any(alloc, &mut reference, draw, zero)
-        }
-    }
-}
-
-// What is drawn, as numbers. `zero` stands in the places before.
-fn draw_any<F: Extended, C: FieldChallenger<F> + CanSample<F::Extension>>(
-    alloc: Global,
-    challenger: &mut C,
-    draw: Draw,
-    zero: F,
-) -> Result<Vec<u64>> {
-    match draw {
-        Draw::Value | Draw::Values(_, _) => draw_symbols(alloc, challenger, draw, zero),
-        Draw::Extension => draw_extension::<F, F::Extension, C>(alloc, challenger),
-        Draw::AlgebraElement => {
-            let element: F::Extension = challenger.sample_algebra_element()?;
-            coefficients_of(alloc, &element)
-        }
-        Draw::MostBits => Ok(vec![in alloc; most_bits(challenger) as u64]?),
-        Draw::Bits(bits) => Ok(vec![in alloc; draw_bits(challenger, bits)?]?),
-        Draw::Element(1) => draw_element::<F, F, FieldToFieldCodec<F>, C>(alloc, challenger),
-        Draw::Element(_) => draw_element::<
-            F,
-            F::Extension,
-            ExtensionFieldCodec<F, F::Extension, FieldToFieldCodec<F>>,
-            C,
-        >(alloc, challenger),
-    }
+    challenger: &DuplexChallenger<F, P, W, R>,
+) -> Result<String> {
+    let cells = permuted(*challenger.permutation(), *challenger.sponge_state());
+    answer::numbers(alloc, numbers_of(alloc, &cells[..])?.as_slice())
 }
 
 // The cells, what is pending and the outputs left, with bars between.

@@ -1,29 +1,24 @@
 use crate::answer;
+use crate::candidates::least_candidate;
 use crate::challenger_call::{ArraysKind, ChallengerCall, Draw, Form, Observation, RowKind};
+use crate::digests::{cap, observe_digests};
 use crate::line::Step;
 use crate::replay::{Replayed, first_difference};
 use crate::subject::{
-    Subject, Way, cap, draw_element, draw_symbols, finalized, observe, observe_bytes,
-    observe_element,
+    Subject, Way, draw_element, draw_symbols, finalized, observe, observe_bytes, observe_element,
 };
-use crate::symbol::{numbers_of, symbols};
+use crate::symbol::{Extended, numbers_of, symbols};
 use crate::symmetric::digest_of;
 use crate::words::split_name;
 use anyhow::{Context, Result, bail};
 use p3_challenger::fs::{BytesToFieldCodec, ExtensionFieldCodec};
 use p3_challenger::{CanObserve, CanSample, HashChallenger};
-use p3_field::{BabyBear, Coeffs};
-use p3_symmetric::{CryptographicHasher, Hash, Sha256Hasher};
+use p3_field::BabyBear;
+use p3_symmetric::{CryptographicHasher, Sha256Hasher};
 use p3_test_support::{LengthHasher, SumHasher};
 use std::alloc::Global;
 
 type Hashing<H> = Subject<HashChallenger<u8, H, 32>>;
-
-type Scalars = BytesToFieldCodec<BabyBear>;
-
-type Four = Coeffs<BabyBear, 4>;
-
-type Fours = ExtensionFieldCodec<BabyBear, Four, Scalars>;
 
 /// The first call with another answer, on a new challenger of a hash function. The spec is the hash
 /// function, and in hexadecimal the initial state where there is one.
@@ -56,48 +51,43 @@ fn new_subject<H: CryptographicHasher<u8, [u8; 32]>>(
 
 impl<H: CryptographicHasher<u8, [u8; 32]>> Replayed for Hashing<H> {
     fn answer(&mut self, alloc: Global, call: &str) -> Result<String> {
-        match ChallengerCall::<u8>::parse(alloc, call)? {
-            ChallengerCall::Observe(form, observation) => {
-                observe_any(alloc, self, form, observation)?;
+        let call = ChallengerCall::<u8>::parse(alloc, call)?;
+        match call {
+            ChallengerCall::Observe(form, Observation::Arrays(kind, rows)) => {
+                observe_rows(alloc, self, form, kind, rows.as_slice())?;
                 answer::nothing(alloc)
             }
-            ChallengerCall::Draw(draw) => {
-                let numbers =
-                    with_challenger!(self, challenger => draw_any(alloc, challenger, draw))?;
-                answer::numbers(alloc, numbers.as_slice())
+            ChallengerCall::Observe(form, Observation::Lists(lists)) => {
+                observe(alloc, self, form, lists)?;
+                answer::nothing(alloc)
             }
-            ChallengerCall::CloneDraw => {
-                let numbers = draw_any(alloc, &mut self.challenger.clone()?, Draw::Value)?;
-                answer::numbers(alloc, numbers.as_slice())
-            }
+            ChallengerCall::CloneDraw => clone_draw(alloc, &self.challenger),
             ChallengerCall::Finalize => {
-                Ok(hex::encode(alloc, &finalized(self.challenger.clone()?)[..])?)
+                let digest = finalized(self.challenger.clone()?);
+                Ok(hex::encode(alloc, &digest[..])?)
             }
             ChallengerCall::Digest(bytes) => {
                 let digest = digest_of(*self.challenger.hasher(), bytes.as_slice());
                 Ok(hex::encode(alloc, &digest[..])?)
             }
             ChallengerCall::State => state(alloc, &self.challenger),
-            ChallengerCall::Permute => bail!("bytes are no field"),
+            ChallengerCall::FindWitness(search) => {
+                least_candidate(alloc, &self.challenger, search)
+            }
+            _ => answer_bytes::<BabyBear, _>(alloc, self, call),
         }
     }
 }
 
-fn observe_any<H: CryptographicHasher<u8, [u8; 32]>>(
+fn observe_rows<H: CryptographicHasher<u8, [u8; 32]>>(
     alloc: Global,
     subject: &mut Hashing<H>,
     form: Form,
-    observation: Observation<u8>,
+    kind: ArraysKind,
+    rows: &[Vec<u8>],
 ) -> Result<()> {
-    match observation {
-        Observation::Arrays(kind, rows) => {
-            let (first, rest) = rows.as_slice().split_first().context("no array")?;
-            with_array!(first.as_slice(), first => observe_arrays(alloc, subject, form, kind, first, rest))
-        }
-        Observation::Lists(lists) => observe(alloc, subject, form, lists),
-        _ =>
-            with_challenger!(subject, challenger => observe_values(alloc, challenger, observation)),
-    }
+    let (first, rest) = rows.split_first().context("no array")?;
+    with_array!(first.as_slice(), first => observe_arrays(alloc, subject, form, kind, first, rest))
 }
 
 // Observes an array, or several of one length as a cap.
@@ -110,18 +100,49 @@ fn observe_arrays<H: CryptographicHasher<u8, [u8; 32]>, const N: usize>(
     rest: &[Vec<u8>],
 ) -> Result<()> {
     match kind {
-        ArraysKind::Cap => observe(alloc, subject, form, cap(alloc, first, rest)?),
-        ArraysKind::CapByReference => observe(alloc, subject, form, &cap(alloc, first, rest)?),
         ArraysKind::Array if rest.is_empty() => observe(alloc, subject, form, first),
-        ArraysKind::Digest if rest.is_empty() => {
-            observe(alloc, subject, form, Hash::<u8, u8, N>::from(first))
+        ArraysKind::CapByReference => {
+            let lent = cap::<u8, u8, N>(alloc, first, rest)?;
+            observe(alloc, subject, form, &lent)
         }
-        _ => bail!("more than one array"),
+        _ => observe_digests::<u8, u8, _, N>(alloc, subject, form, kind, first, rest),
+    }
+}
+
+// What a clone draws.
+fn clone_draw<H: CryptographicHasher<u8, [u8; 32]>>(
+    alloc: Global,
+    challenger: &HashChallenger<u8, H, 32>,
+) -> Result<String> {
+    let mut clone = Subject {
+        challenger: challenger.clone()?,
+        way: Way::Direct,
+    };
+    answer_bytes::<BabyBear, _>(alloc, &mut clone, ChallengerCall::Draw(Draw::Value))
+}
+
+// What a call is answered that all challengers of bytes have. Elements are those of the field.
+fn answer_bytes<F: Extended, C: CanObserve<u8> + CanSample<u8>>(
+    alloc: Global,
+    subject: &mut Subject<C>,
+    call: ChallengerCall<u8>,
+) -> Result<String> {
+    match call {
+        ChallengerCall::Observe(_, observation) => {
+            with_challenger!(subject, challenger => observe_on::<F, _>(alloc, challenger, observation))?;
+            answer::nothing(alloc)
+        }
+        ChallengerCall::Draw(draw) => {
+            let numbers =
+                with_challenger!(subject, challenger => draw_on::<F, _>(alloc, challenger, draw))?;
+            answer::numbers(alloc, numbers.as_slice())
+        }
+        _ => bail!("bytes are no field"),
     }
 }
 
 // Observes what is no array.
-fn observe_values<C: CanObserve<u8> + CanSample<u8>>(
+fn observe_on<F: Extended, C: CanObserve<u8> + CanSample<u8>>(
     alloc: Global,
     challenger: &mut C,
     observation: Observation<u8>,
@@ -131,26 +152,42 @@ fn observe_values<C: CanObserve<u8> + CanSample<u8>>(
         Observation::Row(RowKind::Slice, row) => Ok(challenger.observe_slice(row.as_slice())?),
         Observation::Bytes(bytes) => observe_bytes::<u8, C>(challenger, bytes.as_slice()),
         Observation::Element(coefficients) => {
-            let coefficients = symbols::<BabyBear>(alloc, coefficients.as_slice())?;
-            let coefficients = coefficients.as_slice();
-            match coefficients.len() {
-                1 => observe_element::<BabyBear, BabyBear, Scalars, C>(challenger, coefficients),
-                _ => observe_element::<BabyBear, Four, Fours, C>(challenger, coefficients),
-            }
+            let coefficients = symbols::<F>(alloc, coefficients.as_slice())?;
+            observe_through_codec(challenger, coefficients.as_slice())
         }
         _ => bail!("bytes are no field"),
     }
 }
 
+fn observe_through_codec<F: Extended, C: CanObserve<u8> + CanSample<u8>>(
+    challenger: &mut C,
+    coefficients: &[F],
+) -> Result<()> {
+    match coefficients.len() {
+        1 => observe_element::<F, F, BytesToFieldCodec<F>, C>(challenger, coefficients),
+        _ => observe_element::<
+            F,
+            F::Extension,
+            ExtensionFieldCodec<F, F::Extension, BytesToFieldCodec<F>>,
+            C,
+        >(challenger, coefficients),
+    }
+}
+
 // What is drawn, as numbers.
-fn draw_any<C: CanObserve<u8> + CanSample<u8>>(
+fn draw_on<F: Extended, C: CanObserve<u8> + CanSample<u8>>(
     alloc: Global,
     challenger: &mut C,
     draw: Draw,
 ) -> Result<Vec<u64>> {
     match draw {
-        Draw::Element(1) => draw_element::<BabyBear, BabyBear, Scalars, C>(alloc, challenger),
-        Draw::Element(_) => draw_element::<BabyBear, Four, Fours, C>(alloc, challenger),
+        Draw::Element(1) => draw_element::<F, F, BytesToFieldCodec<F>, C>(alloc, challenger),
+        Draw::Element(_) => draw_element::<
+            F,
+            F::Extension,
+            ExtensionFieldCodec<F, F::Extension, BytesToFieldCodec<F>>,
+            C,
+        >(alloc, challenger),
         _ => draw_symbols(alloc, challenger, draw, 0u8),
     }
 }

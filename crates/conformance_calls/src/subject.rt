@@ -10,8 +10,10 @@ use p3_challenger::{
     CanFinalizeDigest, CanObserve, CanSample, CanSampleBits, Sponge, sample_array,
 };
 use p3_field::{BasedVectorSpace, PrimeField64};
-use p3_symmetric::MerkleCap;
 use std::alloc::Global;
+
+/// The draw limit of the challengers that have one. No call of the files meets it.
+pub const DRAW_LIMIT: u64 = 1 << 20;
 
 /// How the calls of a line are made.
 #[derive(Clone, Copy)]
@@ -29,7 +31,7 @@ pub struct Subject<C> {
     pub way: Way,
 }
 
-/// Observes a value in this form.
+/// Observes a value in this form, through the challenger or a reference to it.
 pub fn observe<V: Drop, C: CanObserve<V>>(
     alloc: Global,
     subject: &mut Subject<C>,
@@ -53,23 +55,6 @@ fn observe_in_form<V: Drop, C: CanObserve<V>>(
             Ok(challenger.observe_slice(values.as_slice())?)
         }
     }
-}
-
-/// The cap of these roots, each of the length of the first one.
-pub fn cap<T: Copy, const N: usize>(
-    alloc: Global,
-    first: [T; N],
-    rest: &[Vec<T>],
-) -> Result<MerkleCap<T, [T; N]>> {
-    let mut roots = Vec::new(alloc);
-    roots.push(first)?;
-    for root in rest {
-        match <[T; N]>::try_from(root.as_slice()) {
-            Ok(root) => roots.push(root)?,
-            Err(_) => bail!("roots of two lengths"),
-        }
-    }
-    Ok(MerkleCap::new(roots))
 }
 
 /// Observes a byte string in an alphabet.

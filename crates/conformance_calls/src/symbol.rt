@@ -1,6 +1,9 @@
 // Bytes and elements of fields, by the numbers that a file writes for them.
 use anyhow::{Context, Result, bail};
-use p3_field::{Algebra, BabyBear, BasedVectorSpace, Coeffs, F257, Goldilocks, PrimeField64};
+use p3_field::{
+    Algebra, BabyBear, BasedVectorSpace, Coeffs, F257, Goldilocks, PrimeField64,
+    UniformSamplingField,
+};
 use std::alloc::Global;
 
 /// What a challenger observes and draws.
@@ -53,7 +56,7 @@ impl Symbol for F257 {
 }
 
 /// A field, and what the files observe and draw of it beside its own elements.
-pub trait Extended: PrimeField64 + Symbol {
+pub trait Extended: UniformSamplingField + Symbol {
     ghost use Rattle.std.specs.Prelude.{◌<◌};
 
     /// The elements of four coefficients.
@@ -87,8 +90,8 @@ impl Extended for F257 {
     ghost has_bytes = { lit< tt };
 }
 
-// The element of a canonical number.
-fn element<F: PrimeField64>(number: u64) -> Result<F> {
+/// The element of a canonical number.
+pub fn element<F: PrimeField64>(number: u64) -> Result<F> {
     F::from_canonical_checked(number).context("a value that is no canonical number")
 }
 
