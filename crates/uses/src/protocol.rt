@@ -4,11 +4,12 @@
 //! line's value at the place is, divided by the divisor. That number is a hint: the challenger takes no part in it, and
 //! the verifier checks it by itself. So a challenge that depended on it would be worth nothing, and one that did not
 //! depend on the line would be worth less: the contract of [`verify`] says what the place was drawn of.
-ghost use Rattle.std.specs.Prelude.{◌≡◌, true, [], IfOk, IfSome};
+ghost use Rattle.std.specs.Prelude.{◌≡◌, true, [], IfOk, IfSome, OnOk};
 ghost use Rattle.p3_challenger.specs.HashCalls.{absorbing};
+ghost use Rattle.p3_challenger.specs.Proving.{proving_of};
 ghost use Rattle.p3_challenger.specs.SeparatorSeed.{seed_of_separator};
 ghost use Rattle.p3_challenger.specs.Verifying.{verifying_of};
-ghost use Rattle.uses.specs.Protocol.{IsDrawnAfterLine, IsQuotient, may_divide};
+ghost use Rattle.uses.specs.Protocol.{IsDrawnAfterLine, IsQuotient, IsSent, may_divide};
 
 use p3_challenger::fs::{
     BytesToFieldCodec, Codec, DomainSeparator, Hierarchy, Interaction, InteractionPattern, Kind,
@@ -52,7 +53,12 @@ pub fn prove(
     separator: &Separator,
     slope: BabyBear,
     offset: BabyBear,
-) -> Result<Vec<u8>, TranscriptError> {
+) -> Result<Vec<u8>, TranscriptError>
+    ensures { let seed = seed_of_separator ⟦<Sha256Hasher as DigestHasher>⟧.digest_of separator.now in
+        IfOk result (λ proof. IsSent ⟦<Scalars as Codec<Challenger, BabyBear>>⟧.observation
+        ⟦<Scalars as Codec<Challenger, BabyBear>>⟧.sampling ⟦<Scalars as Codec<Challenger, BabyBear>>⟧.encoding
+        (record { sponge = absorbing seed; hasher = record {} }) slope offset [] proof.items) }
+{
     let mut prover = Prover::new(alloc, challenger(alloc), separator)?;
     let sent = send(&mut prover, alloc, slope, offset);
     // A prover has to be spent, also where a step was refused.
@@ -64,7 +70,13 @@ fn send(
     alloc: Global,
     slope: BabyBear,
     offset: BabyBear,
-) -> Result<(), TranscriptError> {
+) -> Result<(), TranscriptError>
+    ensures { let before = proving_of ⟦<Challenger as Sponge>⟧.state prover.old in
+        let after = proving_of ⟦<Challenger as Sponge>⟧.state prover.new in
+        OnOk result (IsSent ⟦<Scalars as Codec<Challenger, BabyBear>>⟧.observation
+        ⟦<Scalars as Codec<Challenger, BabyBear>>⟧.sampling ⟦<Scalars as Codec<Challenger, BabyBear>>⟧.encoding
+        before.turn.challenger slope offset before.narg after.narg) }
+{
     prover.add_scalar::<BabyBear, Scalars>("slope", &slope)?;
     prover.add_scalar::<BabyBear, Scalars>("offset", &offset)?;
     let place = prover.challenge_scalar::<BabyBear, Scalars>("place")?;
@@ -129,7 +141,8 @@ fn receive(verifier: &mut Verifier<'_>) -> Result<Claim, TranscriptError>
 fn draw_divisor<S: SymmetricSteps<Challenger = Challenger>>(
     side: &mut S,
 ) -> Result<BabyBear, TranscriptError>
-    ensures { IfOk result (λ divisor. may_divide divisor ≡ true) }
+    ensures divides { IfOk result (λ divisor. may_divide divisor ≡ true) }
+    ensures bytes { OnOk result (S.bytes side.new ≡ S.bytes side.old) }
 {
     let accept = |divisor: &BabyBear, _kept: &[BabyBear]| -> bool
         ensures { result ≡ may_divide divisor.now }
