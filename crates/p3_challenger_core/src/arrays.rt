@@ -6,7 +6,8 @@ use crate::{CanSample, ChallengerError};
 
 /// Draws `N` values in order, as [`sample`](CanSample::sample) for each would.
 ///
-/// The errors are those of `sample`. After one, the draws before the refused one are done.
+/// The errors are those of `sample`. After one, the draws before the refused one are done. A member of `CanSample` in
+/// the Rust crate; values are `Copy` here.
 pub fn sample_array<T: Copy, C: CanSample<T>, const N: usize>(
     challenger: &mut C,
 ) -> Result<[T; N], ChallengerError>
