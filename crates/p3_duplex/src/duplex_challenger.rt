@@ -42,7 +42,9 @@ use std::marker::Model;
 /// none, and nothing pending, permutes the cells.
 ///
 /// No call but [`sample_vec`](CanSample::sample_vec) takes memory. No observe and no draw of a value is refused besides;
-/// a draw of uniform bits may meet the draw limit, and a search may find no witness.
+/// a draw of uniform bits may meet the draw limit or reject a value, and a search may find no witness.
+///
+/// The Rust crate's `DuplexChallenger`, with readers in place of public fields and of vectors.
 #[derive(Debug, Drop)]
 pub struct DuplexChallenger<F, P, const WIDTH: usize, const RATE: usize> {
     sponge_state: [F; WIDTH],
@@ -84,8 +86,8 @@ impl<
 
     /// A challenger of zeros, with nothing pending and no output.
     ///
-    /// `draw_limit` is for draws that may refuse candidates: how many they take at most. A draw of one
-    /// element takes the first.
+    /// `RATE` is from 1 to 255 and below `WIDTH`. `draw_limit`, at least 1, is for draws that may refuse candidates:
+    /// how many they take at most. A draw of one element takes the first. The Rust crate has no limit.
     pub fn new(permutation: P, draw_limit: u64) -> Self
         requires rate { 0 < RATE }
         requires capacity { RATE < WIDTH }
@@ -191,6 +193,8 @@ impl<
     }
 
     /// The same challenger once more. It takes no memory, so it cannot fail.
+    ///
+    /// The Rust crate's `Clone`.
     pub fn clone(&self) -> Self
         ensures { result ≡ self.now }
     {
