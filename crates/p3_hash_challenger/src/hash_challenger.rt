@@ -36,6 +36,12 @@ use std::marker::Model;
 /// What is observed is pending until a draw finds no output left. Then all that is pending is
 /// hashed. The digest is pending in its place, so that each hash chains to the one before, and its
 /// places are the outputs, drawn from the last one backwards. An observation drops the outputs left.
+///
+/// No draw of a value is refused, and an observe for want of memory alone. A refused observe of a value, an array or a
+/// digest leaves the challenger as it was; one of a cap or of a list of lists leaves the roots or the lists before the
+/// refused one fed.
+///
+/// The Rust crate's `HashChallenger`, whose values are `Clone`.
 #[derive(Debug, Drop)]
 pub struct HashChallenger<T, H, const OUT_LEN: usize> {
     // What is pending, where `digest` is `None`; else of no meaning, and kept for its capacity.
@@ -67,7 +73,7 @@ impl<T: Copy, H: CryptographicHasher<T, [T; OUT_LEN]>, const OUT_LEN: usize> Has
 > {
     ghost use Rattle.p3_hash_challenger.specs.HashState as hash_state;
 
-    /// A challenger that has the initial state pending, and no output.
+    /// A challenger that has the initial state pending, and no output. `OUT_LEN` is at least 1.
     pub fn new(initial_state: Vec<T>, hasher: H) -> Self
         requires { 0 < OUT_LEN }
         ensures { result ≡ record { sponge = absorbing initial_state.items; hasher = hasher } }
@@ -82,7 +88,7 @@ impl<T: Copy, H: CryptographicHasher<T, [T; OUT_LEN]>, const OUT_LEN: usize> Has
 
     /// An equal challenger, which shares nothing with this one.
     ///
-    /// The one error is [`ChallengerError::OutOfMemory`].
+    /// The one error is [`ChallengerError::OutOfMemory`]. The Rust crate's `Clone`, which cannot fail.
     pub fn clone(&self) -> Result<Self, ChallengerError>
         ensures ok { IfOk result (λ c. c ≡ self.now) }
         ensures err { IfErr result (λ e. e ≡ ChallengerError.OutOfMemory) }
@@ -153,7 +159,7 @@ impl<T: Copy, H: CryptographicHasher<T, [T; OUT_LEN]>, const OUT_LEN: usize> Has
         let _ = &self.outputs_left;
     }
 
-    /// What the next hash takes: the digest of the last one, and what was observed since.
+    /// What the next hash takes: the digest of the last one, and what was observed since. Not in the Rust crate.
     pub fn input(&self) -> &[T]
         ensures { result.now ≡ self.now.sponge.pending }
     {
@@ -163,7 +169,7 @@ impl<T: Copy, H: CryptographicHasher<T, [T; OUT_LEN]>, const OUT_LEN: usize> Has
         }
     }
 
-    /// The outputs that are left. The last one is drawn next.
+    /// The outputs that are left. The last one is drawn next. Not in the Rust crate.
     pub fn output(&self) -> &[T]
         ensures { result.now ≡ outputs self.now.sponge }
     {
@@ -173,7 +179,7 @@ impl<T: Copy, H: CryptographicHasher<T, [T; OUT_LEN]>, const OUT_LEN: usize> Has
         }
     }
 
-    /// The hasher.
+    /// The hasher. Not in the Rust crate.
     pub fn hasher(&self) -> &H
         ensures { result.now ≡ self.now.hasher }
     {
