@@ -52,7 +52,11 @@ const MOST_SCALARS: usize = 255;
 /// digit of the last cell backwards. A scalar or a digest drops the outputs left, and a draw that finds none, and
 /// nothing pending, permutes the cells.
 ///
-/// No call but [`sample_vec`](CanSample::sample_vec) takes memory, and no other is refused.
+/// No call but [`sample_vec`](CanSample::sample_vec) takes memory. No observe and no draw is refused besides; a search
+/// may find no witness.
+///
+/// The Rust crate's `MultiField32Challenger`, which wraps a duplex challenger. Here it is a sponge of its own, and its
+/// counts are those of a [`FieldBridge`].
 #[derive(Debug, Drop)]
 pub struct MultiField32Challenger<
     F: PrimeField32,
@@ -103,11 +107,11 @@ impl<
     const WIDTH: usize,
     const RATE: usize,
 > MultiField32Challenger<F, PF, P, WIDTH, RATE> {
-    /// A challenger of zeros, with nothing pending and no output.
+    /// A challenger of zeros, with nothing pending and no output. `RATE` is at least 1 and below `WIDTH`.
     ///
     /// The errors are [`MultiField32ChallengerError::FieldOrderNotIncreasing`], exactly where the order of `F` is not
     /// below that of `PF`, and else [`MultiField32ChallengerError::AbsorbLengthTagOverflow`], exactly where the rate
-    /// packs more than 255 scalars.
+    /// packs more than 255 scalars. No challenger is made then.
     pub fn new(permutation: P) -> Result<Self, MultiField32ChallengerError>
         requires rate { 0 < RATE }
         requires capacity { RATE < WIDTH }
@@ -245,6 +249,8 @@ impl<
     }
 
     /// The same challenger once more. It takes no memory, so it cannot fail.
+    ///
+    /// The Rust crate's `Clone`.
     pub fn clone(&self) -> Self
         ensures { result ≡ self.now }
     {
