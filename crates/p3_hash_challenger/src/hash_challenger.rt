@@ -37,6 +37,9 @@ use std::marker::Model;
 /// hashed. The digest is pending in its place, so that each hash chains to the one before, and its
 /// places are the outputs, drawn from the last one backwards. An observation drops the outputs left.
 ///
+/// `OUT_LEN` is how many values a digest has, and a symbol is one value. The digest at the end is one more hash of all
+/// that is pending.
+///
 /// No draw of a value is refused, and an observe for want of memory alone. A refused observe of a value, an array or a
 /// digest leaves the challenger as it was; one of a cap or of a list of lists leaves the roots or the lists before the
 /// refused one fed.
@@ -88,7 +91,7 @@ impl<T: Copy, H: CryptographicHasher<T, [T; OUT_LEN]>, const OUT_LEN: usize> Has
 
     /// An equal challenger, which shares nothing with this one.
     ///
-    /// The one error is [`ChallengerError::OutOfMemory`]. The Rust crate's `Clone`, which cannot fail.
+    /// The one error is [`ChallengerError::OutOfMemory`]. The Rust crate's `Clone`, which answers no error.
     pub fn clone(&self) -> Result<Self, ChallengerError>
         ensures ok { IfOk result (λ c. c ≡ self.now) }
         ensures err { IfErr result (λ e. e ≡ ChallengerError.OutOfMemory) }
