@@ -55,6 +55,9 @@ const MOST_SCALARS: usize = 255;
 /// No call but [`sample_vec`](CanSample::sample_vec) takes memory. No observe and no draw is refused besides; a search
 /// may find no witness.
 ///
+/// A symbol is a scalar, or a digest with all its words. A number of some bits is the low bits of one drawn scalar. The
+/// digest at the end is the `RATE` cells of the rate after one more permutation.
+///
 /// The Rust crate's `MultiField32Challenger`, which wraps a duplex challenger. Here it is a sponge of its own, and its
 /// counts are those of a [`FieldBridge`].
 #[derive(Debug, Drop)]
