@@ -75,8 +75,8 @@ pub trait TranscriptField: PrimeField64 {
 
     /// Adds the spelling of an element at the end of `out`.
     ///
-    /// The one error is [`TranscriptError::OutOfMemory`], which leaves a beginning of it added. It cannot fail in the
-    /// Rust crate.
+    /// The one error is [`TranscriptError::OutOfMemory`], which leaves a beginning of it added. It answers no error
+    /// in the Rust crate.
     final fn encode(value: &Self, out: &mut Vec<u8>) -> Result<(), TranscriptError>
         ensures ok { OnOk result (out.new.items
             ≡ out.old.items ++ (encoding Self.residues Self.bit_length).wire value.now) }
