@@ -71,8 +71,8 @@ pub trait Codec<C: Sponge, T> {
 
     /// Adds the spelling of a value at the end of `out`.
     ///
-    /// The one error is [`TranscriptError::OutOfMemory`], which leaves a beginning of it added. It cannot fail in the
-    /// Rust crate.
+    /// The one error is [`TranscriptError::OutOfMemory`], which leaves a beginning of it added. It answers no error
+    /// in the Rust crate.
     fn encode(value: &T, out: &mut Vec<u8>) -> Result<(), TranscriptError>
         ensures ok { OnOk result (out.new.items ≡ out.old.items ++ encoding.wire value.now) }
         ensures err { IfErr result (λ e. e ≡ TranscriptError.OutOfMemory) }
