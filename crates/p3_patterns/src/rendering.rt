@@ -50,8 +50,8 @@ impl InteractionPattern {
     /// Two patterns with the same steps, but for the names of their types, have the same text, and any other two
     /// have different ones. So their digests differ too, unless `D` takes the two texts to one digest.
     ///
-    /// The one error is that memory for the text was refused. The pattern stays as it is. It is Keccak-256 in the
-    /// Rust crate, and cannot fail.
+    /// The one error is that memory for the text was refused. The pattern stays as it is. In the Rust crate it is
+    /// Keccak-256, and answers no error.
     pub fn pattern_hash<D: DigestHasher>(&self) -> Result<[u8; 32], AllocError>
         ensures digest { IfOk result (λ digest. digest ≡ D.digest_of (rendering alternate_text (steps_of self.now))) }
         ensures fits { AllFitTypes (steps_of self.now) × (length (steps_of self.now) < 2 ^ 64) }

@@ -157,7 +157,7 @@ impl InteractionPattern {
         Interaction::compared_by_parts();
     }
 
-    /// An equal pattern. The one error is that memory was refused. The Rust crate's `Clone`, which cannot fail.
+    /// An equal pattern. The one error is that memory was refused. The Rust crate's `Clone`, which answers no error.
     pub fn clone(&self) -> Result<Self, AllocError>
         ensures { IfOk result (λ pattern. pattern ≡ self.now) }
     {
