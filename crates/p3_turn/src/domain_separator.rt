@@ -73,7 +73,7 @@ impl<U, D> DomainSeparator<U, D> {
     /// The identifier is the version, the name, zeros, and in the last place the length of the name.
     ///
     /// Conditions: the name has 1 to 62 bytes. The one error is that memory was refused: the pattern is gone then.
-    /// The Rust crate panics on another name, and cannot fail.
+    /// The Rust crate panics on another name, and answers no error.
     pub fn new(
         alloc: Global,
         version: u8,
@@ -159,7 +159,7 @@ impl<U, D> DomainSeparator<U, D> {
     }
 
     /// An equal separator, which shares the pattern. The one error is that memory was refused. The Rust crate's
-    /// `Clone`, which cannot fail.
+    /// `Clone`, which answers no error.
     pub fn clone(&self) -> Result<Self, AllocError>
         ensures { IfOk result (λ copy. separator_of copy ≡ separator_of self.now) }
     {
@@ -181,7 +181,7 @@ impl<U: Unit, D: DigestHasher> DomainSeparator<U, D> {
     ///
     /// The errors are [`ChallengerError::TooLong`](p3_challenger_core::ChallengerError::TooLong) in
     /// [`TranscriptError::Challenger`], with nothing absorbed, and [`TranscriptError::OutOfMemory`], which leaves the
-    /// challenger as it is, or as [`Unit::observe_bytes`] leaves it. It cannot fail in the Rust crate.
+    /// challenger as it is, or as [`Unit::observe_bytes`] leaves it. It answers no error in the Rust crate.
     pub fn seed<C: CanObserve<U::Item>>(&self, challenger: &mut C) -> Result<(), TranscriptError>
         requires { U.is_alphabet }
         ensures ok { let seed = seed_of D.digest_of self.now.protocol_id self.now.pattern.value
