@@ -44,8 +44,9 @@ use std::marker::Model;
 /// No call but [`sample_vec`](CanSample::sample_vec) takes memory. No observe and no draw of a value is refused besides;
 /// a draw of uniform bits may meet the draw limit or reject a value, and a search may find no witness.
 ///
-/// A symbol is an element of `F`. A number of some bits is the low bits of one drawn element. The digest at the end is
-/// the `RATE` cells of the rate after one more permutation.
+/// A symbol is an element of `F`. A number of some bits is the low bits of one drawn element; one of uniform bits is
+/// that of an element below their bound, or is drawn in two such halves, the low one first, and of no bits is 0 with
+/// nothing drawn. The digest at the end is the `RATE` cells of the rate after one more permutation.
 ///
 /// The Rust crate's `DuplexChallenger`, with readers in place of public fields and of vectors.
 #[derive(Debug, Drop)]
