@@ -31,8 +31,8 @@ use std::marker::{Model, PhantomData};
 /// A digest of bytes reaches the inner challenger as one slice, and one of words of 64 bits as 8 bytes for each word,
 /// the lowest first.
 ///
-/// A number of some bits is the low bits of one group. Symbols, and the digest at the end, are those of the inner
-/// challenger.
+/// A number of some bits, uniform or not, is the low bits of one group, also for no bits. Symbols, and the digest at
+/// the end, are those of the inner challenger.
 ///
 /// The Rust crate's `SerializingChallenger32` and `SerializingChallenger64`, over the bytes of a word. There a draw
 /// has no limit.
