@@ -37,8 +37,8 @@ pub trait TranscriptField: PrimeField64 {
     /// field has more than 256 elements.
     ///
     /// The errors are [`ChallengerError::TooLong`] where the length is not below the order, with nothing absorbed,
-    /// and [`ChallengerError::OutOfMemory`], with a beginning of the elements observed. The Rust crate panics where
-    /// it is too long.
+    /// and [`ChallengerError::OutOfMemory`], with a beginning of the elements observed, and of the next one what its
+    /// observe leaves. The Rust crate panics where it is too long.
     final fn observe_seed<C: CanObserve<Self>>(
         challenger: &mut C,
         bytes: &[u8],
