@@ -33,7 +33,8 @@ pub trait Unit {
     // What is an item: a number is a byte only where it is below 256.
     ghost is_item: { Self.Item → Type 0 };
 
-    /// Observes a byte string. [`FieldUnit`] asks for a field of more than 256 elements, and `u8` for nothing.
+    /// Observes a byte string. Condition: this is an alphabet, which `u8` always is, and [`FieldUnit`] where its
+    /// field has more than 256 elements.
     ///
     /// The errors are [`ChallengerError::TooLong`], with nothing absorbed, and [`ChallengerError::OutOfMemory`],
     /// which leaves what the refused observe of the challenger leaves, and the items before it observed. The Rust
