@@ -17,7 +17,7 @@ use std::rc::Rc;
 /// A player must be spent, by [`finalize`](PatternPlayer::finalize) or [`abort`](Pattern::abort). Once it
 /// refused a step it refuses all.
 ///
-/// The Rust crate's `PatternPlayer`, which panics where it is dropped unfinished.
+/// The Rust crate's `PatternPlayer`, which holds an `Arc`, and panics where it is dropped unfinished.
 #[derive(Debug)]
 pub struct PatternPlayer {
     pattern: Rc<InteractionPattern>,
