@@ -48,8 +48,8 @@ const MAX_LABEL_LEN: usize = u32::MAX as usize;
 /// the instance's label; and the pattern. The label is that of the chunks, and stays shorter than 2^32 bytes, so that
 /// its length can be written in four.
 ///
-/// The Rust crate's `DomainSeparator`, with the hash function of the pattern's digest as a parameter. It is compared,
-/// and neither ordered nor hashed.
+/// The Rust crate's `DomainSeparator`, which holds an `Arc`. Here the hash function of the pattern's digest is a
+/// parameter, and a separator is compared, and neither ordered nor hashed.
 #[derive(Drop)]
 #[derive_where(Debug, PartialEq, Eq)]
 pub struct DomainSeparator<U, D> {
