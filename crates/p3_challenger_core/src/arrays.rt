@@ -32,7 +32,7 @@ pub fn sample_array<T: Copy, C: CanSample<T>, const N: usize>(
 
 /// An array of `N` has `N` places, whoever made it.
 ///
-/// A law: the body is empty, and a caller cites the clause.
+/// A law: the body does nothing, and a caller cites the clause.
 pub fn array_has_places<T, const N: usize>(values: &[T; N])
     ensures { length values.now ≡ N }
 {
