@@ -118,7 +118,7 @@ impl<
     /// do calls that end in a digest. No state is left out: a permutation that gives the same on those
     /// that are handed over makes the calls do the same.
     ///
-    /// A law: the body is empty, and a caller cites the clauses.
+    /// A law: the body does nothing, and a caller cites the clauses.
     pub fn follows_segments(&self)
         ensures calls { (calls : List (Call F)) →
             let permute = P.permutation self.now.permutation in
@@ -145,7 +145,7 @@ impl<
     /// Draws are never refused, whatever is drawn: no number of them leaves any challenger with an
     /// error.
     ///
-    /// A law: the body is empty, and a caller cites the clause.
+    /// A law: the body does nothing, and a caller cites the clause.
     pub fn draws_are_not_refused<A: BasedVectorSpace<F>>(&self)
         ensures { (n : ℕ) (e : ChallengerError) (s t : duplex_state.DuplexState F P) →
             ¬ (RefusesDraws (unrefused_draw
@@ -158,7 +158,7 @@ impl<
     /// Observations of single values are never refused: no list of them leaves any challenger with an
     /// error.
     ///
-    /// A law: the body is empty, and a caller cites the clause.
+    /// A law: the body does nothing, and a caller cites the clause.
     pub fn observes_are_not_refused(&self)
         ensures { (values : List F) (e : ChallengerError) (s t : duplex_state.DuplexState F P) →
             ¬ (RefusesObserve (LeavesInCalls
