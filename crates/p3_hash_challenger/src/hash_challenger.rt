@@ -114,7 +114,7 @@ impl<T: Copy, H: CryptographicHasher<T, [T; OUT_LEN]>, const OUT_LEN: usize> Has
     /// so do calls that end in a digest. No string is left out: a hash function that gives the same on
     /// those that are handed over makes the calls do the same.
     ///
-    /// A law: the body is empty, and a caller cites the clauses.
+    /// A law: the body does nothing, and a caller cites the clauses.
     pub fn follows_segments(&self)
         ensures calls { (calls : List (Call T)) →
             let h = function_of H.hash OUT_LEN H.filler self.now.hasher in
@@ -141,7 +141,7 @@ impl<T: Copy, H: CryptographicHasher<T, [T; OUT_LEN]>, const OUT_LEN: usize> Has
     /// Each draw gives an output that is there, a place of a digest: whatever stood for a place that a list does
     /// not have, every list of calls would give the same answers and leave the same challenger.
     ///
-    /// A law: the body is empty, and a caller cites the clause.
+    /// A law: the body does nothing, and a caller cites the clause.
     pub fn draws_are_outputs(&self)
         ensures { (calls : List (Call T)) (other : T) →
             let h = function_of H.hash OUT_LEN H.filler self.now.hasher in
@@ -153,7 +153,7 @@ impl<T: Copy, H: CryptographicHasher<T, [T; OUT_LEN]>, const OUT_LEN: usize> Has
 
     /// Draws are never refused: no number of them leaves any challenger with an error.
     ///
-    /// A law: the body is empty, and a caller cites the clause.
+    /// A law: the body does nothing, and a caller cites the clause.
     pub fn draws_are_not_refused(&self)
         ensures { (n : ℕ) (e : ChallengerError) (s t : hash_state.HashState T H) →
             ¬ (RefusesDraws (unrefused_draw (λ u. Some (hash_state.sampled (function_of H.hash OUT_LEN H.filler) u))
