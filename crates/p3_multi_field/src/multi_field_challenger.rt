@@ -164,7 +164,7 @@ impl<
     /// do calls that end in a digest. No state is left out: a permutation that gives the same on those
     /// that are handed over makes the calls do the same.
     ///
-    /// A law: the body is empty, and a caller cites the clauses.
+    /// A law: the body does nothing, and a caller cites the clauses.
     pub fn follows_segments(&self)
         ensures calls { (calls : List (Call (Symbol F PF))) →
             let pair = ⟦<PF as Paired<F>>⟧.pair in
@@ -195,7 +195,7 @@ impl<
     /// Draws are never refused, whatever is drawn: no number of them leaves any challenger with an
     /// error.
     ///
-    /// A law: the body is empty, and a caller cites the clause.
+    /// A law: the body does nothing, and a caller cites the clause.
     pub fn draws_are_not_refused<A: BasedVectorSpace<F>>(&self)
         ensures { (n : ℕ) (e : ChallengerError) (s t : multi_state.MultiFieldState F PF P) →
             ¬ (RefusesDraws (unrefused_draw
@@ -208,7 +208,7 @@ impl<
     /// Observations of single scalars are never refused: no list of them leaves any challenger with an
     /// error.
     ///
-    /// A law: the body is empty, and a caller cites the clause.
+    /// A law: the body does nothing, and a caller cites the clause.
     pub fn observes_are_not_refused(&self)
         ensures { (values : List F) (e : ChallengerError) (s t : multi_state.MultiFieldState F PF P) →
             ¬ (RefusesObserve (LeavesInCalls
