@@ -149,7 +149,7 @@ impl InteractionPattern {
     /// Two patterns compare equal exactly where they are one, that is, where they have the same steps. Order and
     /// hash agree with that, as they do of every type.
     ///
-    /// A law: the body is empty, and a caller cites the clause.
+    /// A law: the body does nothing, and a caller cites the clause.
     #[tactic(auto, using(crate::proofs::PatternEquality::equal_patterns))]
     pub fn compared_by_steps()
         ensures { IsExact ⟦<InteractionPattern as PartialEq>⟧.eq }
