@@ -146,7 +146,7 @@ impl<U, D> DomainSeparator<U, D> {
     /// Two separators compare equal exactly where they are made of the same: one version, one name, the same chunks
     /// and one pattern; that is, where they have one identifier, one label and the same steps.
     ///
-    /// A law: the body is empty, and a caller cites the clause.
+    /// A law: the body does nothing, and a caller cites the clause.
     pub fn compared_by_parts(&self, other: &Self)
         ensures exact { ⟦<DomainSeparator<U, D> as PartialEq>⟧.eq self.now other.now ≡ true
             ↔ separator_of self.now ≡ separator_of other.now }
