@@ -35,7 +35,8 @@ use std::marker::Model;
 ///
 /// What is observed is pending until a draw finds no output left. Then all that is pending is
 /// hashed. The digest is pending in its place, so that each hash chains to the one before, and its
-/// places are the outputs, drawn from the last one backwards. An observation drops the outputs left.
+/// places are the outputs, drawn from the last one backwards. An observation drops the outputs left, also
+/// one of an array of no places; whatever else feeds nothing changes nothing.
 ///
 /// `OUT_LEN` is how many values a digest has, and a symbol is one value. The digest at the end is one more hash of all
 /// that is pending.
