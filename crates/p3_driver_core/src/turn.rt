@@ -25,7 +25,7 @@ use std::alloc::Global;
 /// part in the bytes of the proof. A step is refused with [`TranscriptError::Pattern`] where it is not the next one,
 /// or one was refused before, with nothing done; with [`TranscriptError::Challenger`], as the challenger refuses it;
 /// and with [`TranscriptError::OutOfMemory`], which leaves a beginning of the step's values absorbed or drawn. A step
-/// that is refused leaves it finished.
+/// that is refused leaves it finished. So it is of every step; what a step says of errors comes besides.
 ///
 /// Not in the Rust crate.
 #[derive_where(Debug)]
