@@ -46,8 +46,8 @@ use std::marker::PhantomData;
 /// challenger or the alphabet refuses it, with nothing written; and with [`TranscriptError::OutOfMemory`], which leaves
 /// a beginning of the step's values absorbed or drawn, and a beginning of its bytes written.
 ///
-/// So it is of every step; what a step says of errors comes besides. What is sent is observed by the challenger, and then
-/// written into the proof. A hint is written alone.
+/// So it is of every step; what a step says of errors comes besides. What is sent is observed by the challenger, and
+/// then written into the proof. A hint is written alone.
 ///
 /// A step that is refused leaves the prover finished. It must be spent all the same, by
 /// [`finalize`](ProverState::finalize), [`finish`](ProverState::finish) or [`abort`](ProverState::abort).
