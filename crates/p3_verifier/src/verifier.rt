@@ -54,8 +54,8 @@ use std::rc::Rc;
 /// declared maximum` or `hint length exceeds declared maximum` where a count is above its maximum, `step declares more
 /// values than the wire holds` where the bytes left cannot hold a list, and else that of the codec or of the step.
 ///
-/// So it is of every step; what a step says of errors comes besides. What is read is observed by the challenger, but for
-/// hints: of a list each value before the next one is read.
+/// So it is of every step; what a step says of errors comes besides. What is read is observed by the challenger, but
+/// for hints: of a list each value before the next one is read.
 ///
 /// A step that is refused leaves the verifier finished. It must be spent all the same, by
 /// [`finalize`](VerifierState::finalize), [`finish`](VerifierState::finish) or [`abort`](VerifierState::abort).
