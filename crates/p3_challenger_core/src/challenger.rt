@@ -100,7 +100,8 @@ pub trait CanSample<T: Drop>: Sponge {
 
     /// Draws a value for each place, in order, as [`sample`](CanSample::sample) for each would.
     ///
-    /// The errors are those of `sample`. After one, the draws before the refused one are done.
+    /// The errors are those of `sample`. After one, the draws before the refused one are done, and what the places hold
+    /// is not promised.
     fn sample_into_slice(&mut self, values: &mut [T]) -> Result<(), ChallengerError>
         ensures drawn { OnOk result (
             draws sampling (length values.old) (Self.state self.old) ≡ Some values.new) }

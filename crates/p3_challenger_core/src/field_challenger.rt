@@ -31,8 +31,8 @@ pub trait FieldChallenger<F: Field>: CanObserve<F> + CanSample<F> + CanSampleBit
     /// Observes elements in order, as
     /// [`observe_algebra_element`](FieldChallenger::observe_algebra_element) of each would.
     ///
-    /// The one error is [`ChallengerError::OutOfMemory`]. The elements before the refused one are
-    /// observed then.
+    /// The one error is [`ChallengerError::OutOfMemory`]. The elements before the refused one are observed then, and of
+    /// that one what its observe leaves.
     fn observe_algebra_slice<A: BasedVectorSpace<F>>(
         &mut self,
         elements: &[A],
