@@ -6,7 +6,8 @@ ghost use Rattle.p3_grinding.specs.UniformDraws.{UniformDraw, IsUniformDraw, Ref
 use crate::UniformBitsError;
 use p3_challenger_core::CanSampleBits;
 
-/// A challenger that bits are drawn from without bias, where the values that it draws have none.
+/// A challenger that bits are drawn from without bias, where the values that it draws have none. `F` is the field of
+/// the challenger.
 ///
 /// The Rust crate's `CanSampleUniformBits`.
 pub trait CanSampleUniformBits<F>: CanSampleBits<usize> {
