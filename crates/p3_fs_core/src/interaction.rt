@@ -94,8 +94,8 @@ impl Interaction {
         Self::with_parts(hierarchy, kind, label, TypeTag::Opaque, "opaque", length)
     }
 
-    /// A step that draws numbers of `width` bits, as the low bits of a drawn element. The name of its type is
-    /// `usize`.
+    /// A step that draws numbers of `width` bits, as the challenger draws them, which may be with a bias. The name of
+    /// its type is `usize`.
     pub fn bits(
         hierarchy: Hierarchy,
         kind: Kind,
