@@ -41,8 +41,8 @@ use std::marker::Model;
 /// drawn from the last one backwards. An observation drops the outputs left, and a draw that finds
 /// none, and nothing pending, permutes the cells.
 ///
-/// No call but [`sample_vec`](CanSample::sample_vec) takes memory. No observe and no draw of a value is refused besides;
-/// a draw of uniform bits may meet the draw limit or reject a value, and a search may find no witness.
+/// No call but [`sample_vec`](CanSample::sample_vec) takes memory. No observe and no draw of a value is refused
+/// besides; a draw of uniform bits may meet the draw limit or reject a value, and a search may find no witness.
 ///
 /// A symbol is an element of `F`. A number of some bits is the low bits of one drawn element; one of uniform bits is
 /// that of an element below their bound, or is drawn in two such halves, the low one first, and of no bits is 0 with
