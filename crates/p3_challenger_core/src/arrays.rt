@@ -6,7 +6,8 @@ use crate::{CanSample, ChallengerError};
 
 /// Draws `N` values in order, as [`sample`](CanSample::sample) for each would.
 ///
-/// The errors are those of `sample`. After one, the draws before the refused one are done.
+/// The errors are those of `sample`. After one, the draws before the refused one are done. A member of `CanSample` in
+/// the Rust crate; values are `Copy` here.
 pub fn sample_array<T: Copy, C: CanSample<T>, const N: usize>(
     challenger: &mut C,
 ) -> Result<[T; N], ChallengerError>
@@ -31,7 +32,7 @@ pub fn sample_array<T: Copy, C: CanSample<T>, const N: usize>(
 
 /// An array of `N` has `N` places, whoever made it.
 ///
-/// A law: the body is empty, and a caller cites the clause.
+/// A law: the body does nothing, and a caller cites the clause.
 pub fn array_has_places<T, const N: usize>(values: &[T; N])
     ensures { length values.now ≡ N }
 {

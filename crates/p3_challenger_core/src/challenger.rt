@@ -18,6 +18,8 @@ use crate::ChallengerError;
 use std::alloc::Global;
 
 /// What contracts see of a challenger: its state, and what the state is fed.
+///
+/// Not in the Rust crate.
 pub trait Sponge {
     /// The challenger itself as contracts see it.
     type State;
@@ -41,6 +43,8 @@ pub trait Sponge {
 }
 
 /// A challenger that observes values of a type.
+///
+/// The Rust crate's `CanObserve`.
 pub trait CanObserve<T>: Sponge {
     // What a value feeds, the state after it, and what is left of a state where it is refused.
     ghost observation: { Observation Self.State Self.Symbol T };
@@ -50,15 +54,18 @@ pub trait CanObserve<T>: Sponge {
 
     /// Observes a value: every draw from here on depends on it.
     ///
-    /// The one error is [`ChallengerError::OutOfMemory`].
+    /// The one error is [`ChallengerError::OutOfMemory`]. After it some front of the value's symbols is fed, maybe
+    /// none; each challenger says which.
     fn observe(&mut self, value: T) -> Result<(), ChallengerError>
         ensures ok { OnOk result (Self.state self.new ≡ observation.observed (Self.state self.old) value) }
         ensures err { IfErr result (λ e.
             RefusesObserve (observation.may_leave (Self.state self.old) value) e (Self.state self.new)) };
 
-    /// Observes values in order, as [`observe`](CanObserve::observe) of each would.
+    /// Observes values in order, as [`observe`](CanObserve::observe) of each would. Here each challenger writes it,
+    /// for values of any type.
     ///
-    /// The one error is [`ChallengerError::OutOfMemory`].
+    /// The one error is [`ChallengerError::OutOfMemory`]. After it some front of the values is observed, and some
+    /// front of the next one's symbols is fed.
     fn observe_slice(&mut self, values: &[T]) -> Result<(), ChallengerError>
         ensures ok { OnOk result
             (Self.state self.new ≡ observed_all observation.observed (Self.state self.old) values.now) }
@@ -75,14 +82,17 @@ pub trait CanObserve<T>: Sponge {
 }
 
 /// A challenger that values of a type are drawn from.
+///
+/// The Rust crate's `CanSample`. Its `sample_array` is a function here, [`sample_array`](crate::sample_array).
 pub trait CanSample<T: Drop>: Sponge {
     // What a draw gives, the state after it, and when it is refused and what it leaves then.
     ghost sampling: { Sampling Self.State T };
 
     /// Draws a value, which depends on everything observed so far.
     ///
-    /// The errors are [`ChallengerError::OutOfMemory`], and [`ChallengerError::DrawLimit`] where as
-    /// many candidates as the challenger's limit allows were drawn and each was refused.
+    /// The errors are [`ChallengerError::OutOfMemory`], after which some of the smallest draws are done, maybe none,
+    /// and [`ChallengerError::DrawLimit`] where as many candidates as the challenger's limit allows were drawn and
+    /// each was refused; they are consumed then.
     fn sample(&mut self) -> Result<T, ChallengerError>
         ensures drawn { IfOk result (λ x. sampling.sampled (Self.state self.old) ≡ Some x) }
         ensures after { OnOk result (Self.state self.new ≡ sampling.after (Self.state self.old)) }
@@ -90,7 +100,8 @@ pub trait CanSample<T: Drop>: Sponge {
 
     /// Draws a value for each place, in order, as [`sample`](CanSample::sample) for each would.
     ///
-    /// The errors are those of `sample`. After one, the draws before the refused one are done.
+    /// The errors are those of `sample`. After one, the draws before the refused one are done, and what the places hold
+    /// is not promised.
     fn sample_into_slice(&mut self, values: &mut [T]) -> Result<(), ChallengerError>
         ensures drawn { OnOk result (
             draws sampling (length values.old) (Self.state self.old) ≡ Some values.new) }
@@ -131,6 +142,8 @@ pub trait CanSample<T: Drop>: Sponge {
 }
 
 /// A challenger that ends in a digest of all that was observed.
+///
+/// The Rust crate's `CanFinalizeDigest`.
 pub trait CanFinalizeDigest: Sponge {
     /// What it ends in.
     type Digest;
@@ -144,6 +157,8 @@ pub trait CanFinalizeDigest: Sponge {
 }
 
 /// A challenger that numbers of some bits are drawn from.
+///
+/// The Rust crate's `CanSampleBits`.
 pub trait CanSampleBits<T>: Sponge {
     // The most bits that one draw may ask for.
     ghost most_bits: { ℕ };
@@ -154,13 +169,13 @@ pub trait CanSampleBits<T>: Sponge {
     // The number that a drawn value is.
     ghost number: { T → ℕ };
 
-    /// The most bits that one draw may ask for: below 64.
+    /// The most bits that one draw may ask for: below 64. Not in the Rust crate, where too many bits panic.
     fn max_bits() -> usize
         ensures { result ≡ most_bits };
 
-    /// Draws a number of `bits` bits, at most [`max_bits`](CanSampleBits::max_bits).
+    /// Draws a number of `bits` bits, so one below `2^bits`. They are at most [`max_bits`](CanSampleBits::max_bits).
     ///
-    /// The errors are those of [`CanSample::sample`].
+    /// The errors are those of [`CanSample::sample`], and leave what they leave there.
     fn sample_bits(&mut self, bits: usize) -> Result<T, ChallengerError>
         requires { bits ≤ most_bits }
         ensures drawn { IfOk result (λ x. (bits_sampling bits).sampled (Self.state self.old) ≡ Some x) }

@@ -6,7 +6,10 @@ ghost use Rattle.p3_challenger_core.specs.declared.error.ChallengerError.TheVari
 use std::alloc::{AllocError, AllocFailed};
 use thiserror::Error;
 
-/// Why a call on a challenger was refused.
+/// Why a call on a challenger was refused. What stands then the call says.
+///
+/// Not in the Rust crate, where want of memory or of a witness ends the process, and a draw that rejects values has
+/// no limit.
 #[derive(Clone, Copy, Debug, PartialEq, Eq, Error)]
 pub enum ChallengerError {
     /// An allocation was refused.

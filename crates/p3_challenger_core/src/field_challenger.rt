@@ -8,10 +8,13 @@ use crate::{CanObserve, CanSample, CanSampleBits, ChallengerError};
 use p3_field_core::{Algebra, BasedVectorSpace, Field};
 
 /// A challenger of the elements of a field, and of the vector spaces over it.
+///
+/// The Rust crate's `FieldChallenger`, which is `Sync` besides.
 pub trait FieldChallenger<F: Field>: CanObserve<F> + CanSample<F> + CanSampleBits<usize> {
     /// Observes the coefficients of an element, in the order of the basis.
     ///
-    /// The one error is [`ChallengerError::OutOfMemory`].
+    /// The one error is [`ChallengerError::OutOfMemory`]. It leaves what [`observe_slice`](CanObserve::observe_slice)
+    /// of the coefficients leaves.
     fn observe_algebra_element<A: BasedVectorSpace<F>>(
         &mut self,
         element: A,
@@ -28,8 +31,8 @@ pub trait FieldChallenger<F: Field>: CanObserve<F> + CanSample<F> + CanSampleBit
     /// Observes elements in order, as
     /// [`observe_algebra_element`](FieldChallenger::observe_algebra_element) of each would.
     ///
-    /// The one error is [`ChallengerError::OutOfMemory`]. The elements before the refused one are
-    /// observed then.
+    /// The one error is [`ChallengerError::OutOfMemory`]. The elements before the refused one are observed then, and of
+    /// that one what its observe leaves.
     fn observe_algebra_slice<A: BasedVectorSpace<F>>(
         &mut self,
         elements: &[A],
@@ -68,10 +71,11 @@ pub trait FieldChallenger<F: Field>: CanObserve<F> + CanSample<F> + CanSampleBit
         Ok(element)
     }
 
-    /// Observes a value of the field as the element of an algebra that it is: the value is
-    /// coefficient 0, and the others are zeros.
+    /// Observes a value of the field as the element of an algebra that it is: the value is coefficient 0, and the
+    /// others are zeros.
     ///
-    /// The one error is [`ChallengerError::OutOfMemory`].
+    /// The one error is [`ChallengerError::OutOfMemory`]. It leaves what [`observe_slice`](CanObserve::observe_slice)
+    /// of the coefficients leaves.
     fn observe_base_as_algebra_element<A: Algebra<F>>(
         &mut self,
         value: F,

@@ -3,6 +3,8 @@
 //!
 //! The traits say what each challenger promises; the challengers themselves stand in crates of their
 //! own, each on this one.
+//!
+//! What is called a law is a function without effect whose contract a caller cites. The Rust crate has none.
 #![tactic(auto)]
 
 mod arrays;

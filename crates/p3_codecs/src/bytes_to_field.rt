@@ -18,10 +18,12 @@ use std::marker::PhantomData;
 ///
 /// Its spelling is that of [`TranscriptField`], and those bytes are observed as one slice. A draw takes
 /// [`EXTRA_BYTES`] bytes more than a spelling has, and is their big-endian number modulo the order.
+///
+/// The Rust crate's `BytesToFieldCodec`, by the rule of the IETF draft on Fiat-Shamir: 16 bytes more.
 pub struct BytesToFieldCodec<F>(PhantomData<F>);
 
-/// How many bytes a draw takes beyond the width of a value: 128 bits, so that the value is nearly
-/// uniform.
+/// How many bytes a draw takes beyond the width of a value: 128 bits, so that the value is nearly uniform. It is the
+/// number of the IETF draft on Fiat-Shamir, and private in the Rust crate.
 pub const EXTRA_BYTES: usize = 16;
 
 // The most bytes that a draw takes: a spelling has at most 8.

@@ -12,7 +12,8 @@ ghost use Rattle.p3_fs_core.specs.Errors.{Decodes};
 use p3_challenger_core::{ChallengerError, Sponge};
 use p3_fs_core::TranscriptError;
 
-/// How many bits of security a codec must have before a challenge is drawn through it.
+/// How many bits of security a codec must have before a challenge is drawn through it: 128, as section 6 of the IETF
+/// draft on Fiat-Shamir has it. The Rust crate's constant of this name.
 pub const MIN_CHALLENGE_SECURITY_BITS: u32 = 128;
 
 // The condition of a draw names this number, so that it is the same whatever the constant says.
@@ -20,6 +21,8 @@ const _: () = prove!(MIN_CHALLENGE_SECURITY_BITS == 128);
 
 /// How the values of a type become symbols of a challenger, are drawn from it, and are spelled in the
 /// proof: each value has one spelling, and all spellings have one width.
+///
+/// The Rust crate's `Codec`. Here the challenger is a [`Sponge`], and a codec owes its laws.
 pub trait Codec<C: Sponge, T> {
     /// How near to uniform a draw is, in bits: its distance is at most 2 to the minus this, beside the
     /// challenger's own. It is the word of who writes the codec.
@@ -40,7 +43,7 @@ pub trait Codec<C: Sponge, T> {
     // What a draw gives, the state after it, and when it is refused and what it leaves then.
     ghost sampling: { Sampling C.State T };
 
-    /// How many bytes a value takes in the proof.
+    /// How many bytes a value takes in the proof, the same for each.
     fn wire_len() -> usize
         ensures { result ≡ encoding.width };
 
@@ -54,10 +57,11 @@ pub trait Codec<C: Sponge, T> {
         ensures err { IfErr result (λ e.
             RefusesObserve (observation.may_leave (C.state challenger.old) value.now) e (C.state challenger.new)) };
 
-    /// Draws a value. The codec has at least [`MIN_CHALLENGE_SECURITY_BITS`] of security.
+    /// Draws a value. The codec has at least [`MIN_CHALLENGE_SECURITY_BITS`] of security, which is the caller's word
+    /// in the Rust crate.
     ///
-    /// The errors are those of the challenger's draws: [`ChallengerError::DrawLimit`], after which the draws
-    /// are consumed, and [`ChallengerError::OutOfMemory`]. The draws before the refused one are done.
+    /// The errors are those of the challenger's draws: [`ChallengerError::DrawLimit`], after which the draws are
+    /// consumed, and [`ChallengerError::OutOfMemory`]. The draws before the refused one are done.
     fn sample(challenger: &mut C) -> Result<T, ChallengerError>
         requires { 128 ≤ SECURITY_BITS }
         ensures drawn { IfOk result (λ x. sampling.sampled (C.state challenger.old) ≡ Some x) }
@@ -67,7 +71,8 @@ pub trait Codec<C: Sponge, T> {
 
     /// Adds the spelling of a value at the end of `out`.
     ///
-    /// The one error is [`TranscriptError::OutOfMemory`], which leaves a beginning of it added.
+    /// The one error is [`TranscriptError::OutOfMemory`], which leaves a beginning of it added. It answers no error
+    /// in the Rust crate.
     fn encode(value: &T, out: &mut Vec<u8>) -> Result<(), TranscriptError>
         ensures ok { OnOk result (out.new.items ≡ out.old.items ++ encoding.wire value.now) }
         ensures err { IfErr result (λ e. e ≡ TranscriptError.OutOfMemory) }
@@ -91,6 +96,8 @@ pub trait Codec<C: Sponge, T> {
 /// A codec of the elements of a field. A spelling has at least one byte, and at most 65535, so that an element of
 /// a vector space, of at most 65535 coefficients, has a width that is a `usize`. Where there are so many bytes,
 /// the one reason for none of them is `field encoding outside canonical range`.
+///
+/// Not in the Rust crate.
 pub trait ScalarCodec<C: Sponge, F>: Codec<C, F> {
     ghost some: { 0 < Self.encoding.width };
 

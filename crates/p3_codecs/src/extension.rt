@@ -15,6 +15,8 @@ use std::marker::PhantomData;
 /// Its spelling is that of the coefficients one after another. A draw draws coefficient 0 first. `decode`
 /// answers `not enough bytes for an extension-field encoding` where there are not enough for all of them,
 /// before any is read, and else the base codec's reason for the first coefficient that is none.
+///
+/// The Rust crate's `ExtensionFieldCodec`, here over a [`ScalarCodec`] and for every vector space.
 pub struct ExtensionFieldCodec<F, EF, BaseCodec>(PhantomData<(F, EF, BaseCodec)>);
 
 impl<C: Sponge, F: Field, EF: BasedVectorSpace<F>, BaseCodec: ScalarCodec<C, F>> Codec<C, EF>

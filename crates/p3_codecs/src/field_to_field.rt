@@ -8,6 +8,8 @@ use std::marker::PhantomData;
 /// A scalar through a challenger of the field's own elements: it is observed and drawn as it is.
 ///
 /// Its spelling in the proof is that of [`TranscriptField`].
+///
+/// The Rust crate's `FieldToFieldCodec`.
 pub struct FieldToFieldCodec<F>(PhantomData<F>);
 
 impl<F: PrimeField64, C: CanObserve<F> + CanSample<F>> Codec<C, F> for FieldToFieldCodec<F> {

@@ -1,4 +1,9 @@
 //! How values become symbols for the sponge and bytes in the proof: the alphabets and the codecs.
+//!
+//! The rule of a draw from bytes, and how many bits of security a draw must have, are those of the IETF draft on
+//! Fiat-Shamir (draft-irtf-cfrg-fiat-shamir), which the Rust crate follows.
+//!
+//! What is called a law is a function without effect whose contract a caller cites. The Rust crate has none.
 #![tactic(auto)]
 
 mod bytes_to_field;

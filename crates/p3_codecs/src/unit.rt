@@ -16,6 +16,8 @@ use std::marker::PhantomData;
 ///
 /// It owes that byte strings which begin one list of items begin one another: so those of one length, and
 /// those of which none begins another, are told apart.
+///
+/// The Rust crate's `Unit`, which is one call.
 pub trait Unit {
     /// What the sponge observes.
     type Item;
@@ -31,11 +33,12 @@ pub trait Unit {
     // What is an item: a number is a byte only where it is below 256.
     ghost is_item: { Self.Item → Type 0 };
 
-    /// Observes a byte string. [`FieldUnit`] asks for a field of more than 256 elements.
+    /// Observes a byte string. Condition: this is an alphabet, which `u8` always is, and [`FieldUnit`] where its
+    /// field has more than 256 elements.
     ///
-    /// The errors are [`ChallengerError::TooLong`], with nothing absorbed, and
-    /// [`ChallengerError::OutOfMemory`], which leaves what the refused observe of the challenger leaves, and
-    /// the items before it observed.
+    /// The errors are [`ChallengerError::TooLong`], with nothing absorbed, and [`ChallengerError::OutOfMemory`],
+    /// which leaves what the refused observe of the challenger leaves, and the items before it observed. The Rust
+    /// crate panics where it is too long.
     fn observe_bytes<C: CanObserve<Self::Item>>(
         challenger: &mut C,
         bytes: &[u8],
@@ -105,9 +108,11 @@ impl Unit for u8 {
 
 /// The alphabet of a sponge of field elements, of a field of more than 256 elements.
 ///
-/// A byte string is its length, and then its bytes in chunks of `(bits - 1) / 8` bytes, `bits` being the bit
-/// length of the order: so many bytes are surely a number below it. A chunk is that number, the lowest byte
-/// first; the last one may be shorter.
+/// A byte string is its length, and then its bytes in chunks of `(bits - 1) / 8` bytes, `bits` being the bit length
+/// of the order: so many bytes are surely a number below it. A chunk is that number, the lowest byte first; the last
+/// one may be shorter. A length that is not below the order is too long.
+///
+/// The Rust crate's `FieldUnit`.
 #[derive(Clone, Copy, Debug, Default, PartialEq, Eq, PartialOrd, Ord, Hash)]
 pub struct FieldUnit<F>(PhantomData<F>);
 

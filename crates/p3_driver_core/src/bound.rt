@@ -5,6 +5,8 @@ ghost use Rattle.p3_driver_core.specs.Bound.{value_of};
 /// A value that went through the transcript: it was absorbed, or drawn.
 ///
 /// Drivers alone make one.
+///
+/// The Rust crate's `TranscriptBound`.
 #[derive(Clone, Copy, Debug, PartialEq, Eq, PartialOrd, Ord, Hash)]
 pub struct TranscriptBound<T>(T);
 
@@ -24,7 +26,7 @@ impl<T> TranscriptBound<T> {
     }
 }
 
-/// The value as one that went through the transcript. For drivers.
+/// The value as one that went through the transcript. For drivers. In the Rust crate it is private.
 pub fn bind<T>(value: T) -> TranscriptBound<T>
     ensures { value_of result ≡ value }
 {

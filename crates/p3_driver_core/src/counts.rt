@@ -7,7 +7,7 @@ use p3_challenger_core::{CanObserve, ChallengerError};
 use p3_codecs::Unit;
 use p3_fs_core::{bound_byte_width, encode_len_be};
 
-/// How many bytes the count of a step takes that carries at most so many values.
+/// How many bytes the count of a step takes that carries at most so many values. Not in the Rust crate.
 pub fn count_width(max: usize) -> usize
     ensures width { result ≡ count_width max }
     ensures enough { max < 256 ^ result }
@@ -17,6 +17,8 @@ pub fn count_width(max: usize) -> usize
 }
 
 /// The count of a step that carries so many values of at most so many, and how many of the bytes it takes.
+///
+/// Condition: the count is at most `max`. Not in the Rust crate.
 pub fn counted(count: usize, max: usize) -> ([u8; 8], usize)
     requires { count ≤ max }
     ensures bytes { take result.1 result.0 ≡ count_bytes max count }
@@ -29,6 +31,8 @@ pub fn counted(count: usize, max: usize) -> ([u8; 8], usize)
 /// Observes the count of a step that carries so many values of at most so many.
 ///
 /// The one error is [`ChallengerError::OutOfMemory`]: a count has at most 8 bytes, and no alphabet refuses so few.
+///
+/// Conditions: `U` is an alphabet, and the count is at most `max`. Not in the Rust crate.
 pub fn observe_count<U: Unit, C: CanObserve<U::Item>>(
     challenger: &mut C,
     count: usize,

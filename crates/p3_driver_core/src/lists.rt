@@ -11,6 +11,9 @@ use p3_codecs::Codec;
 use std::alloc::{AllocError, Global};
 
 /// Observes values one after another.
+///
+/// The errors are those of [`Codec::observe`]. The values before the refused one are observed then, and of that one
+/// what its observe leaves. Not in the Rust crate.
 pub fn observe_values<T, C: Sponge, Cdc: Codec<C, T>>(
     challenger: &mut C,
     values: &[T],
@@ -27,6 +30,8 @@ pub fn observe_values<T, C: Sponge, Cdc: Codec<C, T>>(
 }
 
 /// The values as ones that went through the transcript.
+///
+/// The one error is that memory was refused. Not in the Rust crate.
 pub fn bind_all<T: Copy>(alloc: Global, values: &[T]) -> Result<Vec<TranscriptBound<T>>, AllocError>
     ensures { IfOk result (λ bounds. values_of bounds ≡ values.now) }
 {
@@ -38,6 +43,10 @@ pub fn bind_all<T: Copy>(alloc: Global, values: &[T]) -> Result<Vec<TranscriptBo
 }
 
 /// Draws so many values one after another. Their memory is asked for first.
+///
+/// The errors are those of [`Codec::sample`], after which the draws before the refused one are done, and
+/// [`ChallengerError::OutOfMemory`] with nothing drawn. Condition: the codec has at least
+/// [`MIN_CHALLENGE_SECURITY_BITS`](p3_codecs::MIN_CHALLENGE_SECURITY_BITS) of security. Not in the Rust crate.
 pub fn draw_values<T: Copy, C: Sponge, Cdc: Codec<C, T>>(
     challenger: &mut C,
     alloc: Global,
@@ -59,6 +68,10 @@ pub fn draw_values<T: Copy, C: Sponge, Cdc: Codec<C, T>>(
 }
 
 /// Draws so many numbers of so many bits one after another. Their memory is asked for first.
+///
+/// The errors are those of [`CanSampleBits::sample_bits`], after which the draws before the refused one are done, and
+/// [`ChallengerError::OutOfMemory`] with nothing drawn. Condition: `width` is at most
+/// [`max_bits`](CanSampleBits::max_bits). Not in the Rust crate.
 pub fn draw_numbers<C: CanSampleBits<usize>>(
     challenger: &mut C,
     alloc: Global,

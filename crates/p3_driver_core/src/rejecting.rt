@@ -39,6 +39,9 @@ fn draw_taken<T: Copy, C: Sponge, Cdc: Codec<C, T>, R: Fn(&T, &[T]) -> bool>(
 /// The rule is asked of each candidate beside those kept before it. The errors are [`ChallengerError::OutOfMemory`],
 /// and [`ChallengerError::DrawLimit`] where the challenger meets its own draw limit, or right after the rule has
 /// refused `limit` candidates in a row, counted from the last kept one or the start. What was drawn is consumed.
+///
+/// Conditions: the rule may be asked at any time, and the codec has at least
+/// [`MIN_CHALLENGE_SECURITY_BITS`](p3_codecs::MIN_CHALLENGE_SECURITY_BITS) of security. Not in the Rust crate.
 pub fn draw_accepted<T: Copy, C: Sponge, Cdc: Codec<C, T>, R: Fn(&T, &[T]) -> bool>(
     challenger: &mut C,
     alloc: Global,
@@ -63,6 +66,8 @@ pub fn draw_accepted<T: Copy, C: Sponge, Cdc: Codec<C, T>, R: Fn(&T, &[T]) -> bo
 
 impl<D: DigestHasher> DriverTurn<D> {
     /// Draws elements of an algebra until the rule `accept` has taken `n`, which refuses fewer than `limit` in a row.
+    ///
+    /// The rule, the errors and the conditions are as in [`draw_accepted`].
     pub fn draw_rejecting<
         F: TranscriptField,
         A: AlgebraIdentity<F> + Named,

@@ -25,6 +25,8 @@ use std::rc::Rc;
 /// A step is opened by [`take`](Steps::take) once it is the next one of the pattern, and closed by
 /// [`done`](Steps::done). Between the two no other step is taken, so that a step which is given up in the middle
 /// leaves the driver finished.
+///
+/// Not in the Rust crate.
 #[derive_where(Debug)]
 pub struct Steps<D: DigestHasher> {
     player: PatternPlayer,
@@ -47,7 +49,8 @@ impl<D: DigestHasher> Steps<D> {
 
     /// Opens a step, which must be the next one of the pattern.
     ///
-    /// The errors are those of [`PatternPlayer`]: none is taken from then on.
+    /// The errors are those of [`PatternPlayer`], and [`PatternError::Finished`] where a step is open or was given
+    /// up. None is taken from then on.
     pub fn take(&mut self, interaction: Interaction) -> Result<(), TranscriptError>
         ensures ok { OnOk result (Opens self.old (step_of interaction) self.new) }
         ensures err { IfErr result (λ e. RefusesToPlay (playing_of self.old) (step_of interaction) e
@@ -213,7 +216,7 @@ impl<D: DigestHasher> Steps<D> {
         player.finalize()
     }
 
-    /// Gives up. What was played so far is not checked.
+    /// Gives up, and spends it. What was played so far is not checked.
     pub fn abort(self) {
         let Steps {
             player,

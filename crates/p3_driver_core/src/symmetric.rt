@@ -15,13 +15,16 @@ use p3_fs_core::{Hierarchy, Kind, Label, Length, TranscriptError, TranscriptFiel
 use p3_grinding::CanSampleUniformBits;
 use p3_symmetric::DigestHasher;
 
-/// The mark of the two drivers. Users are not shown it, so that no other type of theirs plays steps.
+/// The mark of the two drivers. Users are not shown it, so that no other type of theirs plays steps. In the Rust
+/// crate it is private.
 pub trait Driver {}
 
 /// Steps that a prover and a verifier play alike: those that take no part in the bytes of the proof.
 ///
 /// Code that is written over this trait plays either side. Each method is the driver's own of the same name: the same
 /// answer, the same errors, and the same left after them.
+///
+/// The Rust crate's `SymmetricSteps`.
 pub trait SymmetricSteps: Driver {
     /// The challenger that the driver observes into and draws from.
     type Challenger: Sponge;
@@ -55,7 +58,7 @@ pub trait SymmetricSteps: Driver {
 
     /// Observes a value as the challenger itself knows how.
     ///
-    /// Condition: clones of the value equal it.
+    /// Condition: clones of the value equal it, which the Rust crate does not ask.
     fn observe_opaque<T: Clone>(
         &mut self,
         label: Label,
@@ -102,7 +105,7 @@ pub trait SymmetricSteps: Driver {
     /// Draws elements of an extension until the rule `accept` has taken `n`, and answers these in order.
     ///
     /// Right after the rule has refused `limit` candidates in a row the step is refused with
-    /// [`ChallengerError::DrawLimit`](p3_challenger_core::ChallengerError::DrawLimit).
+    /// [`ChallengerError::DrawLimit`](p3_challenger_core::ChallengerError::DrawLimit). The Rust crate has no limit.
     ///
     /// Conditions: the rule may be asked at any time, and the codec has at least
     /// [`MIN_CHALLENGE_SECURITY_BITS`](p3_codecs::MIN_CHALLENGE_SECURITY_BITS) of security.

@@ -21,8 +21,13 @@ use std::alloc::Global;
 
 /// What both drivers have beside a challenger: the pattern as it is played, and where lists are kept.
 ///
-/// Its methods are the steps that both drivers play alike, with the challenger that each lends: those that take no part
-/// in the bytes of the proof. A step that is refused leaves it finished.
+/// Its methods are the steps that both drivers play alike, with the challenger that each lends: those that take no
+/// part in the bytes of the proof. A step is refused with [`TranscriptError::Pattern`] where it is not the next one,
+/// or one was refused before, with nothing done; with [`TranscriptError::Challenger`], as the challenger refuses it;
+/// and with [`TranscriptError::OutOfMemory`], which leaves a beginning of the step's values absorbed or drawn. A step
+/// that is refused leaves it finished. So it is of every step; what a step says of errors comes besides.
+///
+/// Not in the Rust crate.
 #[derive_where(Debug)]
 pub struct DriverTurn<D: DigestHasher> {
     /// The pattern as it is played.
@@ -100,6 +105,8 @@ impl<D: DigestHasher> DriverTurn<D> {
     }
 
     /// Observes a list of at most `max` elements of an algebra, after its count.
+    ///
+    /// Conditions: `U` is an alphabet, and there are at most `max` values.
     pub fn observe_bounded<
         F: TranscriptField,
         A: AlgebraIdentity<F> + Named,
@@ -132,6 +139,8 @@ impl<D: DigestHasher> DriverTurn<D> {
     }
 
     /// Observes a value as the challenger itself knows how.
+    ///
+    /// Condition: clones of the value equal it.
     pub fn observe_opaque<T: Clone, C: CanObserve<T>>(
         &mut self,
         challenger: &mut C,
@@ -156,6 +165,9 @@ impl<D: DigestHasher> DriverTurn<D> {
     }
 
     /// Draws one element of an algebra.
+    ///
+    /// Condition: the codec has at least [`MIN_CHALLENGE_SECURITY_BITS`](p3_codecs::MIN_CHALLENGE_SECURITY_BITS) of
+    /// security.
     pub fn draw<F: TranscriptField, A: AlgebraIdentity<F> + Named, C: Sponge, Cdc: Codec<C, A>>(
         &mut self,
         challenger: &mut C,
@@ -175,6 +187,9 @@ impl<D: DigestHasher> DriverTurn<D> {
     }
 
     /// Draws so many elements of an algebra.
+    ///
+    /// Condition: the codec has at least [`MIN_CHALLENGE_SECURITY_BITS`](p3_codecs::MIN_CHALLENGE_SECURITY_BITS) of
+    /// security.
     pub fn draw_list<
         F: TranscriptField,
         A: AlgebraIdentity<F> + Named,
@@ -200,6 +215,8 @@ impl<D: DigestHasher> DriverTurn<D> {
     }
 
     /// Draws so many numbers of `width` bits.
+    ///
+    /// Condition: `width` is at most [`max_bits`](CanSampleBits::max_bits).
     pub fn draw_bits<C: CanSampleBits<usize>>(
         &mut self,
         challenger: &mut C,

@@ -34,6 +34,10 @@ fn draw_uniform<F, C: CanSampleUniformBits<F>>(
 }
 
 /// Draws so many numbers of `width` uniform bits, one after another. Their memory is asked for first.
+///
+/// The errors are those of a draw, after which the draws before the refused one are done, and
+/// [`ChallengerError::OutOfMemory`] with nothing drawn. Condition: `width` is at most
+/// [`max_bits`](p3_challenger_core::CanSampleBits::max_bits). Not in the Rust crate.
 pub fn draw_uniform_numbers<F, C: CanSampleUniformBits<F>>(
     challenger: &mut C,
     alloc: Global,
@@ -80,7 +84,8 @@ fn draw_taken_number<F, C: CanSampleUniformBits<F>, R: Fn(usize, &[usize]) -> bo
 /// Draws numbers of `width` uniform bits until the rule `accept` has taken `n`, and answers these in order.
 /// Their memory is asked for first.
 ///
-/// The rule and the errors are as in [`draw_accepted`](crate::draw_accepted).
+/// The rule and the errors are as in [`draw_accepted`](crate::draw_accepted). Conditions: the rule may be asked at
+/// any time, and `width` is at most [`max_bits`](p3_challenger_core::CanSampleBits::max_bits). Not in the Rust crate.
 pub fn draw_accepted_numbers<F, C: CanSampleUniformBits<F>, R: Fn(usize, &[usize]) -> bool>(
     challenger: &mut C,
     alloc: Global,
@@ -106,6 +111,8 @@ pub fn draw_accepted_numbers<F, C: CanSampleUniformBits<F>, R: Fn(usize, &[usize
 
 impl<D: DigestHasher> DriverTurn<D> {
     /// Draws so many numbers of `width` uniform bits.
+    ///
+    /// Condition: `width` is at most [`max_bits`](p3_challenger_core::CanSampleBits::max_bits).
     pub fn draw_uniform_bits<F, C: CanSampleUniformBits<F>>(
         &mut self,
         challenger: &mut C,
@@ -128,6 +135,8 @@ impl<D: DigestHasher> DriverTurn<D> {
 
     /// Draws numbers of `width` uniform bits until the rule `accept` has taken `n`, which refuses fewer than
     /// `limit` in a row.
+    ///
+    /// The rule, the errors and the conditions are as in [`draw_accepted_numbers`].
     pub fn draw_uniform_bits_rejecting<
         F,
         C: CanSampleUniformBits<F>,

@@ -14,7 +14,8 @@ use p3_symmetric::DigestHasher;
 /// Checks a witness: so many bits are 0 that are drawn after it.
 ///
 /// The errors are those of [`GrindingChallenger::check_witness`], and [`TranscriptError::BadProofShape`] with `pow
-/// witness does not produce enough zero bits` where the check is false: it is done then.
+/// witness does not produce enough zero bits` where the check is false: it is done then. Condition: `bits` is at most
+/// [`max_bits`](p3_challenger_core::CanSampleBits::max_bits). Not in the Rust crate.
 pub fn check_work<C: GrindingChallenger>(
     challenger: &mut C,
     bits: usize,
@@ -38,6 +39,10 @@ pub fn check_work<C: GrindingChallenger>(
 
 impl<D: DigestHasher> DriverTurn<D> {
     /// Searches for the least witness of `bits` bits.
+    ///
+    /// Where no witness passes, the step is refused with
+    /// [`ChallengerError::NoWitness`](p3_challenger_core::ChallengerError::NoWitness), and the challenger is as it
+    /// was. Condition: `bits` is at most [`max_bits`](p3_challenger_core::CanSampleBits::max_bits).
     pub fn grind<C: GrindingChallenger>(
         &mut self,
         challenger: &mut C,
@@ -61,6 +66,9 @@ impl<D: DigestHasher> DriverTurn<D> {
     }
 
     /// Checks a witness of `bits` bits that the proof does not carry.
+    ///
+    /// Where it does not pass, the step is refused as by [`check_work`]. Condition: `bits` is at most
+    /// [`max_bits`](p3_challenger_core::CanSampleBits::max_bits).
     pub fn check<C: GrindingChallenger>(
         &mut self,
         challenger: &mut C,

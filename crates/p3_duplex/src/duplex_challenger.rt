@@ -41,8 +41,14 @@ use std::marker::Model;
 /// drawn from the last one backwards. An observation drops the outputs left, and a draw that finds
 /// none, and nothing pending, permutes the cells.
 ///
-/// No call but [`sample_vec`](CanSample::sample_vec) takes memory. No observe and no draw of a value is refused besides;
-/// a draw of uniform bits may meet the draw limit, and a search may find no witness.
+/// No call but [`sample_vec`](CanSample::sample_vec) takes memory. No observe and no draw of a value is refused
+/// besides; a draw of uniform bits may meet the draw limit or reject a value, and a search may find no witness.
+///
+/// A symbol is an element of `F`. A number of some bits is the low bits of one drawn element; one of uniform bits is
+/// that of an element below their bound, or is drawn in two such halves, the low one first, and of no bits is 0 with
+/// nothing drawn. The digest at the end is the `RATE` cells of the rate after one more permutation.
+///
+/// The Rust crate's `DuplexChallenger`, with readers in place of public fields and of vectors.
 #[derive(Debug, Drop)]
 pub struct DuplexChallenger<F, P, const WIDTH: usize, const RATE: usize> {
     sponge_state: [F; WIDTH],
@@ -84,8 +90,8 @@ impl<
 
     /// A challenger of zeros, with nothing pending and no output.
     ///
-    /// `draw_limit` is for draws that may refuse candidates: how many they take at most. A draw of one
-    /// element takes the first.
+    /// `RATE` is from 1 to 255 and below `WIDTH`. `draw_limit`, at least 1, is for draws that may refuse candidates:
+    /// how many they take at most. A draw of one element takes the first. The Rust crate has no limit.
     pub fn new(permutation: P, draw_limit: u64) -> Self
         requires rate { 0 < RATE }
         requires capacity { RATE < WIDTH }
@@ -112,7 +118,7 @@ impl<
     /// do calls that end in a digest. No state is left out: a permutation that gives the same on those
     /// that are handed over makes the calls do the same.
     ///
-    /// A law: the body is empty, and a caller cites the clauses.
+    /// A law: the body does nothing, and a caller cites the clauses.
     pub fn follows_segments(&self)
         ensures calls { (calls : List (Call F)) →
             let permute = P.permutation self.now.permutation in
@@ -139,7 +145,7 @@ impl<
     /// Draws are never refused, whatever is drawn: no number of them leaves any challenger with an
     /// error.
     ///
-    /// A law: the body is empty, and a caller cites the clause.
+    /// A law: the body does nothing, and a caller cites the clause.
     pub fn draws_are_not_refused<A: BasedVectorSpace<F>>(&self)
         ensures { (n : ℕ) (e : ChallengerError) (s t : duplex_state.DuplexState F P) →
             ¬ (RefusesDraws (unrefused_draw
@@ -152,7 +158,7 @@ impl<
     /// Observations of single values are never refused: no list of them leaves any challenger with an
     /// error.
     ///
-    /// A law: the body is empty, and a caller cites the clause.
+    /// A law: the body does nothing, and a caller cites the clause.
     pub fn observes_are_not_refused(&self)
         ensures { (values : List F) (e : ChallengerError) (s t : duplex_state.DuplexState F P) →
             ¬ (RefusesObserve (LeavesInCalls
@@ -191,6 +197,8 @@ impl<
     }
 
     /// The same challenger once more. It takes no memory, so it cannot fail.
+    ///
+    /// The Rust crate's `Clone`.
     pub fn clone(&self) -> Self
         ensures { result ≡ self.now }
     {

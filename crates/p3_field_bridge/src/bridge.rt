@@ -11,23 +11,32 @@ use p3_field_core::PrimeField64;
 /// Where the order of `F` is below that of `PF`, both counts are at least 1, and numbers of
 /// [`RADIX_BITS`](FieldBridge::RADIX_BITS) bits each, as many as are packed, are together below the order of `PF`,
 /// and so is each number of as many digits as are drawn. Of other fields nothing is known of the counts.
+///
+/// Not in the Rust crate, where the counts of a pair of fields are functions of both fields' limbs.
 pub trait FieldBridge<F: PrimeField64, PF: PrimeField64> {
     /// The least count of bits that hold the canonical number of each element of `F`.
+    ///
+    /// `p3-field`'s `absorb_radix_bits`.
     const RADIX_BITS: u32;
 
     ghost RADIX_BITS: { ℕ };
 
     /// How many elements of `F` are packed into one of `PF`.
+    ///
+    /// In `p3-field` a function of both fields, `max_absorb_injective_limbs`; here what the impl says.
     const ABSORB_COUNT: usize;
 
     ghost ABSORB_COUNT: { ℕ };
 
     /// How many digits of an element of `PF` are drawn as elements of `F`.
+    ///
+    /// In `p3-field` a function of both fields, `squeeze_field_order_num_limbs`; here what the impl says.
     const SQUEEZE_COUNT: usize;
 
     ghost SQUEEZE_COUNT: { ℕ };
 
     /// How many elements of `F` are packed into one of `PF`.
+    /// It is [`ABSORB_COUNT`](FieldBridge::ABSORB_COUNT).
     fn absorb_num() -> usize
         ensures { result ≡ ABSORB_COUNT }
     {
@@ -35,6 +44,7 @@ pub trait FieldBridge<F: PrimeField64, PF: PrimeField64> {
     }
 
     /// How many digits of an element of `PF` are drawn as elements of `F`.
+    /// It is [`SQUEEZE_COUNT`](FieldBridge::SQUEEZE_COUNT).
     fn squeeze_num() -> usize
         ensures { result ≡ SQUEEZE_COUNT }
     {
@@ -44,6 +54,8 @@ pub trait FieldBridge<F: PrimeField64, PF: PrimeField64> {
     /// The element of the sum of the canonical numbers of the values, that of the value at place `j` times
     /// `2^(b * j)`, where `b` is [`RADIX_BITS`](FieldBridge::RADIX_BITS). Of more values than are packed the sum
     /// may pass the order of `PF`, and counts modulo that order.
+    ///
+    /// `p3-field`'s `reduce_packed`.
     fn pack(values: &[F]) -> PF
         ensures { result ≡ packed F.residues PF.residues RADIX_BITS values.now }
     {
@@ -60,6 +72,8 @@ pub trait FieldBridge<F: PrimeField64, PF: PrimeField64> {
 
     /// The digit at a place of the canonical number of an element, in the base of the order of `F`: place 0 is the
     /// lowest. Past the highest digit all are 0.
+    ///
+    /// `p3-field`'s `split_pf_to_field_order_limbs` gives the first digits as a list.
     fn digit(value: PF, place: usize) -> F
         ensures { result ≡ digit_of F.residues PF.residues value place }
     {

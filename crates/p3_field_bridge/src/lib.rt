@@ -1,4 +1,6 @@
 //! Bridges between prime fields: elements of one packed into an element of another, and an element's digits.
+//!
+//! What is called a law is a function without effect whose contract a caller cites. The Rust crate has none.
 #![tactic(auto)]
 
 mod baby_bear_in_baby_bear;

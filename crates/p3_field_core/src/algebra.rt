@@ -6,6 +6,10 @@ use crate::{Field, PrimeCharacteristicRing};
 
 /// A vector space over a field, on a basis: an element is its list of coefficients. Elements compare equal
 /// exactly where they are one element.
+///
+/// `p3-field`'s `BasedVectorSpace`. There an element is made of a function or an iterator; here of
+/// [`zero`](BasedVectorSpace::zero) and [`with_coefficient`](BasedVectorSpace::with_coefficient), and a space is
+/// `Copy`.
 pub trait BasedVectorSpace<F: PrimeCharacteristicRing>: Copy + PartialEq {
     /// How many coefficients an element has: from 1 to 65535.
     const DIMENSION: usize;
@@ -18,15 +22,15 @@ pub trait BasedVectorSpace<F: PrimeCharacteristicRing>: Copy + PartialEq {
     // The element of as many coefficients as the dimension.
     ghost element: { List F → Self };
 
-    /// The coefficients, in the order of the basis.
+    /// The coefficients, in the order of the basis: as many as the dimension.
     fn as_basis_coefficients_slice(&self) -> &[F]
         ensures { result.now ≡ coefficients self.now };
 
-    /// The element whose coefficients are all 0.
+    /// The element whose coefficients are all 0. Not in `p3-field`'s trait.
     fn zero() -> Self
         ensures { coefficients result ≡ replicate DIMENSION (F.residues.of 0) };
 
-    /// The element with one coefficient replaced.
+    /// The element with one coefficient replaced, at a place below the dimension. Not in `p3-field`'s trait.
     fn with_coefficient(self, index: usize, value: F) -> Self
         requires { index < DIMENSION }
         ensures { coefficients result ≡ slice_set (coefficients self) index value };
@@ -49,12 +53,17 @@ pub trait BasedVectorSpace<F: PrimeCharacteristicRing>: Copy + PartialEq {
 
 /// A vector space that the field lies in: a value of the field is the element with this value as its
 /// coefficient 0, and no other.
+///
+/// `p3-field`'s `Algebra`.
 pub trait Algebra<F: PrimeCharacteristicRing>: BasedVectorSpace<F> + From<F> {
     ghost from_law: { (value : F) (x : Self) → Self.from_gives value x
         → Self.coefficients x ≡ value ∷ replicate (Self.DIMENSION - 1) (F.residues.of 0) };
 }
 
 /// An algebra that says which one it is.
+///
+/// `p3-field`'s `AlgebraIdentity`. The texts are this repository's own, so that digests of typed transcripts differ
+/// from the Rust crate's.
 pub trait AlgebraIdentity<F: PrimeCharacteristicRing>: Algebra<F> {
     // The bytes of the identity.
     ghost identity: { List ℕ };
@@ -66,6 +75,8 @@ pub trait AlgebraIdentity<F: PrimeCharacteristicRing>: Algebra<F> {
 
 /// A field with a named extension of dimension `D`: the polynomials modulo `X^D - w`, for a `w` of the field. An
 /// element of the extension is an array of `D` coefficients.
+///
+/// Named after `p3-field`'s `BinomiallyExtendable`. It says which extension is meant, and no more.
 pub trait BinomiallyExtendable<const D: usize>: Field {
     // The bytes of the identity of the extension.
     ghost extension_identity: { List ℕ };

@@ -5,6 +5,8 @@ use crate::{Algebra, AlgebraIdentity, BasedVectorSpace, BinomiallyExtendable, Fi
 use std::alloc::AllocError;
 
 /// An array of coefficients: an element of a vector space of dimension `D` over a field.
+///
+/// Not in the Rust crate: an element of an extension by its coefficients alone, without sums and products.
 #[derive(Debug, PartialEq, Eq)]
 pub struct Coeffs<F, const D: usize> {
     coefficients: [F; D],

@@ -5,6 +5,8 @@ ghost use Rattle.std.specs.Mem.{FitsInMemory};
 use crate::PrimeCharacteristicRing;
 
 /// A field: a ring of residues modulo a prime. The default element is 0.
+///
+/// `p3-field`'s `Field`.
 pub trait Field: PrimeCharacteristicRing + Default {
     // How many bits the order takes.
     ghost bit_length: { ℕ };
@@ -26,6 +28,8 @@ pub trait Field: PrimeCharacteristicRing + Default {
 }
 
 /// A field of prime order.
+///
+/// `p3-field`'s `PrimeField`.
 pub trait PrimeField: Field {
     /// The order of the field.
     fn order() -> u128
@@ -33,13 +37,17 @@ pub trait PrimeField: Field {
 }
 
 /// A prime field whose order is below `2^64`.
+///
+/// `p3-field`'s `PrimeField64`.
 pub trait PrimeField64: PrimeField {
     /// The order of the field.
     const ORDER_U64: u64;
 
     ghost ORDER_U64: { ℕ };
 
-    /// The element with this canonical number.
+    /// The element with this canonical number, which is below the order.
+    ///
+    /// It takes 64 bits, also for a field of 32.
     fn from_canonical(value: u64) -> Self
         requires { value < Self.residues.order }
         ensures { result ≡ Self.residues.of value };
@@ -73,6 +81,8 @@ pub trait PrimeField64: PrimeField {
 }
 
 /// A prime field whose order is below `2^32`.
+///
+/// `p3-field`'s `PrimeField32`.
 pub trait PrimeField32: PrimeField64 {
     /// The order of the field.
     const ORDER_U32: u32;

@@ -1,5 +1,10 @@
 //! Rings, fields and vector spaces over them, as residues: the traits that generic code is written
 //! against, and arrays of coefficients.
+//!
+//! Most traits have the names of those of the crate `p3-field`, which the Rust crate stands on. They have the members
+//! that challengers and transcripts need, and no others.
+//!
+//! What is called a law is a function without effect whose contract a caller cites. The Rust crate has none.
 #![tactic(auto)]
 
 mod algebra;

@@ -2,6 +2,8 @@
 ghost use Rattle.std.specs.Prelude.{ℕ, ◌^◌, ◌≤◌};
 
 /// The least `k` for which `2^k` is at least `n`.
+///
+/// `n` is at least 1. `p3-util`'s `log2_ceil_u64`.
 pub fn log2_ceil_u64(n: u64) -> u64
     requires { 1 ≤ n }
     ensures enough { n ≤ 2 ^ result }

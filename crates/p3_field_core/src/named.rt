@@ -2,6 +2,8 @@
 ghost use Rattle.std.specs.Prelude.{◌≡◌, ℕ, List};
 
 /// A type with a name, which tells apart what is made for different types.
+///
+/// Not in the Rust crate, which takes the compiler's names of types.
 pub trait Named {
     /// The name.
     const NAME: &'static str;

@@ -10,6 +10,8 @@ use std::ops::{Add, Mul, Sub};
 ///
 /// Contracts see an element by its canonical number, which is below the order. Elements compare equal exactly
 /// where they are one element.
+///
+/// `p3-field`'s `PrimeCharacteristicRing`.
 pub trait PrimeCharacteristicRing: Copy
     + PartialEq
     + Add<Self, Output = Self>

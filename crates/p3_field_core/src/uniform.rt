@@ -6,6 +6,8 @@ use crate::PrimeField64;
 
 /// A prime field from whose elements uniform bits are drawn: the low bits of the canonical numbers below a bound, of
 /// which equally many give each value of the bits.
+///
+/// `p3-field`'s `UniformSamplingField`, which the Rust crate shows too.
 pub trait UniformSamplingField: PrimeField64 {
     /// The most bits that are drawn from one element. Its power of two is within the order.
     const MAX_SINGLE_SAMPLE_BITS: usize;
@@ -14,6 +16,8 @@ pub trait UniformSamplingField: PrimeField64 {
 
     /// The bound for so many bits: the greatest multiple of `2^bits` that is at most the order. It is 0 where
     /// `2^bits` is above the order.
+    ///
+    /// A table there, `SAMPLING_BITS_M`.
     fn sampling_bits_m(bits: usize) -> u64
         ensures { result ≡ uniform_bound Self.residues.order bits }
     {

@@ -8,6 +8,10 @@ use std::fmt::Display;
 use thiserror::Error;
 
 /// Why a step of a transcript was refused, or why steps are no pattern.
+///
+/// What stands then the call says.
+///
+/// The Rust crate's `TranscriptError`, with four kinds more. What its kinds carry lies inline.
 #[derive(Clone, Debug, PartialEq, Eq, Drop, Error)]
 pub enum TranscriptError {
     /// A closer stands where nothing is open.
@@ -28,21 +32,23 @@ pub enum TranscriptError {
         /// What is wrong with it.
         reason: &'static str,
     },
-    /// The step does not fit the pattern that is recorded or played.
+    /// The step does not fit the pattern that is recorded or played. Not in the Rust crate, which panics there.
     #[error(transparent)]
     Pattern(PatternError),
-    /// The challenger refused a call, for another reason than memory.
+    /// The challenger refused a call, for another reason than memory. Not in the Rust crate.
     #[error(transparent)]
     Challenger(ChallengerError),
-    /// The label of an instance would be too long for its length to be written.
+    /// The label of an instance would be too long for its length to be written in four bytes. Not in the Rust crate.
     #[error("label too long")]
     LabelTooLong,
-    /// An allocation was refused.
+    /// An allocation was refused. Not in the Rust crate.
     #[error("out of memory")]
     OutOfMemory,
 }
 
 /// A closer where nothing is open.
+///
+/// The Rust crate's `MissingBeginInfo`.
 #[derive(Clone, Copy, Debug, PartialEq, Eq, Error)]
 #[error("missing begin for {end} at position {position}")]
 pub struct MissingBeginInfo {
@@ -53,6 +59,8 @@ pub struct MissingBeginInfo {
 }
 
 /// A step, leaf or opener, of a kind that the container around it does not allow.
+///
+/// The Rust crate's `InvalidKindInfo`.
 #[derive(Clone, Copy, Debug, PartialEq, Eq, Error)]
 #[error("invalid kind {interaction} at {interaction_position} for sub-protocol {begin} opened at {begin_position}")]
 pub struct InvalidKindInfo {
@@ -67,6 +75,8 @@ pub struct InvalidKindInfo {
 }
 
 /// A closer that does not match the innermost opener that is still open.
+///
+/// The Rust crate's `MismatchedBeginEndInfo`.
 #[derive(Clone, Copy, Debug, PartialEq, Eq, Error)]
 #[error("mismatched begin {begin} at {begin_position} versus end {end} at {end_position}")]
 pub struct MismatchedBeginEndInfo {
@@ -81,6 +91,8 @@ pub struct MismatchedBeginEndInfo {
 }
 
 /// An opener that is still open at the end, the innermost one.
+///
+/// The Rust crate's `MissingEndInfo`.
 #[derive(Clone, Copy, Debug, PartialEq, Eq, Error)]
 #[error("missing end for {begin} opened at position {position}")]
 pub struct MissingEndInfo {
@@ -93,6 +105,8 @@ pub struct MissingEndInfo {
 /// Why a step does not fit a pattern that is recorded or played.
 ///
 /// `I` is what the steps are: an [`Interaction`] in a program, and in a contract also what it says.
+///
+/// Not in the Rust crate, which panics there.
 #[derive(Clone, Copy, Debug, PartialEq, Eq, Error)]
 #[error_bound(I: Display)]
 pub enum PatternError<I = Interaction> {

@@ -10,11 +10,15 @@ use p3_symmetric::DigestHasher;
 use std::fmt;
 
 /// What a step is called: a text of the program itself.
+///
+/// The Rust crate's `Label`.
 pub type Label = &'static str;
 
 /// One step of an interactive protocol: where it stands, what it is for, its label, and what it carries.
 ///
 /// Two steps are equal where all six of their parts are, the name of their type too.
+///
+/// The Rust crate's `Interaction`. Names of types come of [`Named`], and digests of a [`DigestHasher`].
 #[derive(Clone, Copy, Debug, PartialEq, Eq, PartialOrd, Ord, Hash)]
 pub struct Interaction {
     hierarchy: Hierarchy,
@@ -54,8 +58,8 @@ impl Interaction {
         }
     }
 
-    /// A step that carries elements of an algebra `A` over the field `F`. `D` digests the identity of the
-    /// algebra. A step of scalars is the one with `A = F`.
+    /// A step that carries elements of an algebra `A` over the field `F`. `D` digests the identity of the algebra. A
+    /// step of scalars is the one with `A = F`. The hash function is Keccak-256 in the Rust crate.
     pub fn algebra<F: TranscriptField, A: AlgebraIdentity<F> + Named, D: DigestHasher>(
         hierarchy: Hierarchy,
         kind: Kind,
@@ -69,7 +73,7 @@ impl Interaction {
         Self::with_parts(hierarchy, kind, label, type_tag, A::type_name(), length)
     }
 
-    /// A step that carries bytes as they are.
+    /// A step that carries bytes as they are. The name of its type is `u8`.
     pub fn bytes(hierarchy: Hierarchy, kind: Kind, label: Label, length: Length) -> Self
         ensures { step_of result ≡ step_with hierarchy kind label.now TypeTag.Bytes (codes "u8") length }
     {
@@ -90,7 +94,8 @@ impl Interaction {
         Self::with_parts(hierarchy, kind, label, TypeTag::Opaque, "opaque", length)
     }
 
-    /// A step that draws numbers of `width` bits, as the low bits of a drawn element.
+    /// A step that draws numbers of `width` bits, as the challenger draws them, which may be with a bias. The name of
+    /// its type is `usize`.
     pub fn bits(
         hierarchy: Hierarchy,
         kind: Kind,
@@ -110,7 +115,7 @@ impl Interaction {
         )
     }
 
-    /// A step that draws numbers of `width` bits, each as often as any other.
+    /// A step that draws numbers of `width` bits, each as often as any other. The name of its type is `usize`.
     pub fn uniform_bits(
         hierarchy: Hierarchy,
         kind: Kind,
@@ -146,8 +151,9 @@ impl Interaction {
         )
     }
 
-    /// A step that carries values of the same type as this one. Nothing is hashed for it, so that many steps of
-    /// one algebra take one digest of its identity. Of a marker it makes a marker, whatever the length.
+    /// A step that carries values of the same type as this one. Nothing is hashed for it, so that many steps of one
+    /// algebra take one digest of its identity. Of a marker it makes a marker, whatever the length. Not in the Rust
+    /// crate.
     pub fn of_same_type(
         &self,
         hierarchy: Hierarchy,
@@ -268,6 +274,8 @@ impl fmt::Display for Interaction {
 
 /// A step that prints as it is hashed: with the length of its label before the label, and with the tag of its
 /// type in place of the type's name. It is what `{:#}` prints of the step.
+///
+/// Not in the Rust crate, where `{:#}` alone prints it.
 #[derive(Clone, Copy)]
 pub struct Alternate<'a>(pub &'a Interaction);
 

@@ -5,7 +5,7 @@ ghost use Rattle.p3_challenger_core.specs.Reading.{IsPrefixCodeOn};
 
 use crate::big_endian::{leading_bytes, number_of_bytes};
 
-/// The least number of bytes that hold every number up to `max`: 0 bytes for 0.
+/// The least number of bytes that hold every number up to `max`: 0 bytes for 0. Private in the Rust crate.
 pub fn bound_byte_width(max: usize) -> usize
     ensures enough { max < 256 ^ result }
     ensures least { (width : ℕ) → max < 256 ^ width → result ≤ width }
@@ -17,7 +17,8 @@ pub fn bound_byte_width(max: usize) -> usize
 
 /// A count in the first `width` bytes, the highest first, with zeros after.
 ///
-/// Conditions: `width` is at most 8, and the count fits in so many bytes.
+/// Conditions: `width` is at most 8, and the count fits in so many bytes. In the Rust crate it is private, and panics
+/// in their place.
 #[tactic(auto, using(crate::proofs::Counting::counted_read_back))]
 pub fn encode_len_be(len: usize, width: usize) -> [u8; 8]
     requires width { width ≤ 8 }
@@ -30,7 +31,8 @@ pub fn encode_len_be(len: usize, width: usize) -> [u8; 8]
 
 /// The count whose spelling in `width` bytes `buf` begins with.
 ///
-/// Conditions: `width` is at most 8, and `buf` has so many bytes.
+/// Conditions: `width` is at most 8, and `buf` has so many bytes. In the Rust crate it is private, and panics in
+/// their place.
 #[tactic(auto, using(crate::proofs::Counting::counted_fits, crate::proofs::Counting::counted_spelled_back))]
 pub fn decode_len_be(buf: &[u8], width: usize) -> usize
     requires width { width ≤ 8 }

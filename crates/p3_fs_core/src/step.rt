@@ -9,6 +9,8 @@ ghost use Rattle.p3_fs_core.specs.StepTexts.{hex_number};
 use std::fmt;
 
 /// Where a step stands in the nesting of protocols.
+///
+/// The Rust crate's `Hierarchy`.
 #[derive(Clone, Copy, Debug, PartialEq, Eq, PartialOrd, Ord, Hash)]
 pub enum Hierarchy {
     /// A step of its own.
@@ -20,6 +22,8 @@ pub enum Hierarchy {
 }
 
 /// What a step is for.
+///
+/// The Rust crate's `Kind`.
 #[derive(Clone, Copy, Debug, PartialEq, Eq, PartialOrd, Ord, Hash)]
 pub enum Kind {
     /// A container of steps of every kind.
@@ -39,6 +43,8 @@ pub enum Kind {
 }
 
 /// How many values a step carries.
+///
+/// The Rust crate's `Length`.
 #[derive(Clone, Copy, Debug, PartialEq, Eq, PartialOrd, Ord, Hash)]
 pub enum Length {
     /// None.
@@ -47,11 +53,13 @@ pub enum Length {
     Scalar,
     /// A list of just so many; of a proof of work, its bits.
     Fixed(usize),
-    /// A list of at most so many, which is sent with its length.
+    /// A list of at most so many, which is sent with its length, in as few bytes as the greatest takes.
     Bounded(usize),
 }
 
 /// What the values of a step are, said in the same way on every machine and by every compiler.
+///
+/// The Rust crate's `TypeTag`, which is `#[non_exhaustive]`.
 #[derive(Clone, Copy, Debug, PartialEq, Eq, PartialOrd, Ord, Hash)]
 pub enum TypeTag {
     /// None: the step opens or closes a container.

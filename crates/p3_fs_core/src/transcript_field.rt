@@ -19,7 +19,8 @@ use p3_field_core::PrimeField64;
 /// A field whose elements stand in a transcript: each has one spelling in the proof, its canonical
 /// number with the highest byte first, in as few bytes as the order needs.
 ///
-/// Every [`PrimeField64`] is one, and no other implementation can be.
+/// Every [`PrimeField64`] is one, and no other implementation can be. The Rust crate's `TranscriptField`, which other
+/// fields may implement too.
 pub trait TranscriptField: PrimeField64 {
     /// The tag of an algebra over this field, of so many coefficients, whose identity has this digest.
     final fn algebra_tag(degree: usize, basis: [u8; 32]) -> TypeTag
@@ -35,8 +36,9 @@ pub trait TranscriptField: PrimeField64 {
     /// Observes a byte string as the alphabet `FieldUnit` does: its length, and then its chunks. The
     /// field has more than 256 elements.
     ///
-    /// The errors are [`ChallengerError::TooLong`] where the length is not below the order, with nothing
-    /// absorbed, and [`ChallengerError::OutOfMemory`], with a beginning of the elements observed.
+    /// The errors are [`ChallengerError::TooLong`] where the length is not below the order, with nothing absorbed,
+    /// and [`ChallengerError::OutOfMemory`], with a beginning of the elements observed, and of the next one what its
+    /// observe leaves. The Rust crate panics where it is too long.
     final fn observe_seed<C: CanObserve<Self>>(
         challenger: &mut C,
         bytes: &[u8],
@@ -63,7 +65,7 @@ pub trait TranscriptField: PrimeField64 {
         observe_packed(challenger, bytes)
     }
 
-    /// How many bytes an element takes in the proof: at most 8.
+    /// How many bytes an element takes in the proof: at most 8, and as few as the order needs.
     final fn wire_len() -> usize
         ensures width { result ≡ (encoding Self.residues Self.bit_length).width }
         ensures most { result ≤ 8 }
@@ -73,7 +75,8 @@ pub trait TranscriptField: PrimeField64 {
 
     /// Adds the spelling of an element at the end of `out`.
     ///
-    /// The one error is [`TranscriptError::OutOfMemory`], which leaves a beginning of it added.
+    /// The one error is [`TranscriptError::OutOfMemory`], which leaves a beginning of it added. It answers no error
+    /// in the Rust crate.
     final fn encode(value: &Self, out: &mut Vec<u8>) -> Result<(), TranscriptError>
         ensures ok { OnOk result (out.new.items
             ≡ out.old.items ++ (encoding Self.residues Self.bit_length).wire value.now) }

@@ -13,6 +13,8 @@ use std::ops::{Add, Mul, Sub};
 /// An element of the prime field of order 2^64 - 2^32 + 1, kept as its canonical number.
 ///
 /// The number is below the order, and the type says so: two equal elements have equal numbers.
+///
+/// The field of the crate `p3-goldilocks`.
 #[derive(Clone, Copy, Debug, PartialEq, Eq, PartialOrd, Ord, Hash)]
 pub struct Goldilocks {
     value: u64,

@@ -11,6 +11,8 @@ use p3_challenger_core::{CanObserve, CanSample, ChallengerError, sample_array};
 
 /// Candidates of a search, each of which is a string of `W` bytes, and which of the strings of `S` bytes that may be
 /// drawn after one it is to pass with.
+///
+/// `W` and `S` are below 2^63. Not in the Rust crate, where the two members are closures.
 pub trait ByteCandidates<const W: usize, const S: usize> {
     // The bytes of each candidate.
     ghost encoded: { Self → ℕ → List ℕ };
@@ -34,13 +36,16 @@ pub trait ByteCandidates<const W: usize, const S: usize> {
 
 /// A challenger of bytes that candidates are tried on, each of which feeds `W` bytes, and is tested by the next `S`
 /// bytes that are drawn.
+///
+/// The Rust crate's `ByteGrindingChallenger`, where `W` and `S` are parameters of `find_witness`.
 pub trait ByteGrindingChallenger<const W: usize, const S: usize>: Replica
     + CanObserve<u8>
     + CanSample<u8> {
     /// The least candidate below `num_candidates` that passes, or `None` where none does. Nothing changes.
     ///
     /// A candidate passes where the `S` bytes are accepted that are drawn once its `W` bytes were observed as one
-    /// slice. One whose draws meet a limit does not. The one error is [`ChallengerError::OutOfMemory`].
+    /// slice. One whose draws meet a limit does not. The one error is [`ChallengerError::OutOfMemory`]. The Rust
+    /// crate answers any candidate that passes.
     fn find_witness<K: ByteCandidates<W, S>>(
         &self,
         num_candidates: u64,

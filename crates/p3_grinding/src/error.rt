@@ -6,6 +6,8 @@ use p3_challenger_core::ChallengerError;
 use thiserror::Error;
 
 /// A drawn value was rejected, and drawing another one in its place was not allowed.
+///
+/// The Rust crate's `ResamplingError`, whose fields nobody can read there.
 #[derive(Clone, Copy, Debug, PartialEq, Eq, Error)]
 #[error("sampled value {value} is not below rejection bound {m}, but resampling is disabled")]
 pub struct ResamplingError {
@@ -14,7 +16,7 @@ pub struct ResamplingError {
 }
 
 impl ResamplingError {
-    /// That a value was drawn which is not below the bound.
+    /// That a value was drawn, a canonical number, which is not below the bound `m`. Not in the Rust crate.
     pub fn new(value: u64, m: u64) -> Self
         ensures { result ≡ record { value = value; m = m } }
     {
@@ -37,12 +39,15 @@ impl ResamplingError {
 }
 
 /// Why a draw of uniform bits was refused.
+///
+/// Not in the Rust crate, where the one error is a [`ResamplingError`].
 #[derive(Clone, Copy, Debug, PartialEq, Eq, Error)]
 pub enum UniformBitsError {
-    /// A drawn value was rejected, and another one was not to be drawn in its place.
+    /// A drawn value was rejected, and another one was not to be drawn in its place. It and those before it are
+    /// consumed.
     #[error(transparent)]
     Resampling(ResamplingError),
-    /// The challenger refused a draw.
+    /// The challenger refused a draw. It stands as that draw leaves it.
     #[error(transparent)]
     Challenger(ChallengerError),
 }

@@ -15,6 +15,8 @@ use p3_challenger_core::{CanObserve, CanSampleBits, ChallengerError};
 use p3_field_core::PrimeField64;
 
 /// A challenger that proofs of work are made on: a witness is searched for, such that bits drawn after it are 0.
+///
+/// The Rust crate's `GrindingChallenger`.
 pub trait GrindingChallenger: PrepareCheck + CanObserve<Self::Witness> + CanSampleBits<usize> {
     /// What is searched for.
     type Witness: PrimeField64;
@@ -26,7 +28,8 @@ pub trait GrindingChallenger: PrepareCheck + CanObserve<Self::Witness> + CanSamp
     /// challenger is left as that check leaves it.
     ///
     /// The errors are [`ChallengerError::NoWitness`] where none passes, and [`ChallengerError::OutOfMemory`]. After
-    /// either the challenger is as it was.
+    /// either the challenger is as it was. The Rust crate answers any witness that passes, and ends the process where
+    /// none does.
     fn grind(&mut self, bits: usize) -> Result<Self::Witness, ChallengerError>
         requires { bits ≤ Self.most_bits }
         ensures least { IfOk result (λ witness. IsLeast Self.Witness.residues (check_of Self.before_witness
@@ -39,10 +42,12 @@ pub trait GrindingChallenger: PrepareCheck + CanObserve<Self::Witness> + CanSamp
             Self.observation (all_zero (Self.bits_sampling bits)) bits) e
             (Self.state self.old) (Self.state self.new)) };
 
-    /// Whether a witness passes: it is observed, and the next `bits` bits, at most
-    /// [`max_bits`](CanSampleBits::max_bits), are all 0. With 0 bits each witness passes, and nothing is touched.
+    /// Whether a witness passes: what [`prepare_check`](PrepareCheck::prepare_check) draws is drawn, the witness is
+    /// observed, and the next `bits` bits, at most [`max_bits`](CanSampleBits::max_bits), are all 0. With 0 bits each
+    /// witness passes, and nothing is touched.
     ///
-    /// The errors are those of [`CanObserve::observe`] and [`CanSampleBits::sample_bits`].
+    /// The errors are those of `prepare_check`, [`CanObserve::observe`] and [`CanSampleBits::sample_bits`]. What was
+    /// drawn and observed before the refused call stays so.
     fn check_witness(
         &mut self,
         bits: usize,

@@ -5,6 +5,8 @@ ghost use Rattle.p3_challenger_core.specs.Sampling.{Sampling, IsSampling, Refuse
 use p3_challenger_core::{ChallengerError, Sponge};
 
 /// A challenger that knows what a check of a witness draws before it observes the witness.
+///
+/// Not in the Rust crate, where each check of a serializing challenger has a body of its own.
 pub trait PrepareCheck: Sponge {
     // What is drawn before a witness is observed.
     ghost before_witness: { Sampling Self.State (Unit {0}) };
@@ -12,7 +14,8 @@ pub trait PrepareCheck: Sponge {
     /// Draws what a check of at least one bit draws before it observes the witness: one byte for a challenger that is
     /// made of a challenger of bytes, and nothing for the others.
     ///
-    /// The errors are those of [`CanSample::sample`](p3_challenger_core::CanSample::sample).
+    /// The errors are those of [`CanSample::sample`](p3_challenger_core::CanSample::sample). They leave what they
+    /// leave there.
     fn prepare_check(&mut self) -> Result<(), ChallengerError>
         ensures drawn { OnOk result (before_witness.sampled (Self.state self.old) ≡ Some tt) }
         ensures after { OnOk result (Self.state self.new ≡ before_witness.after (Self.state self.old)) }

@@ -5,6 +5,8 @@ ghost use Rattle.p3_challenger_core.specs.declared.error.ChallengerError.TheVari
 use p3_challenger_core::{ChallengerError, Sponge};
 
 /// A challenger that can be copied, and set to what another one is: a search tries its candidates on one copy.
+///
+/// Not in the Rust crate, where such a challenger is `Clone`.
 pub trait Replica: Sponge + Drop {
     // That memory may be refused for a copy.
     ghost copies_may_fail: { Type 0 };

@@ -16,6 +16,8 @@ use std::mem;
 ///
 /// A witness whose check meets a draw limit does not pass. The errors are [`ChallengerError::NoWitness`] where none
 /// passes, and [`ChallengerError::OutOfMemory`]. After either the challenger is as it was.
+///
+/// `bits` is at most `max_bits`. Not in the Rust crate.
 pub fn least_witness<
     W: PrimeField64,
     C: PrepareCheck + CanObserve<W> + CanSampleBits<usize> + Replica,

@@ -6,13 +6,16 @@ ghost use Rattle.p3_grinding.specs.UniformDraws.{UniformDraw, IsUniformDraw, Ref
 use crate::UniformBitsError;
 use p3_challenger_core::CanSampleBits;
 
-/// A challenger that bits are drawn from without bias, where the values that it draws have none.
+/// A challenger that bits are drawn from without bias, where the values that it draws have none. `F` is the field of
+/// the challenger.
+///
+/// The Rust crate's `CanSampleUniformBits`.
 pub trait CanSampleUniformBits<F>: CanSampleBits<usize> {
     // A draw of so many bits; whether another value may be drawn in the place of a rejected one.
     ghost uniform: { Bool → ℕ → UniformDraw Self.State };
 
-    /// Draws a number of `bits` bits, at most [`max_bits`](CanSampleBits::max_bits). `resample` says whether another
-    /// value is drawn in the place of one that is rejected.
+    /// Draws a number of `bits` bits, at most [`max_bits`](CanSampleBits::max_bits). `resample`, a const parameter in
+    /// the Rust crate, says whether another value is drawn in the place of one that is rejected.
     ///
     /// The errors are those of [`CanSample::sample`](p3_challenger_core::CanSample::sample), and, where `resample` is
     /// false alone, [`UniformBitsError::Resampling`]: the rejected value and those before it are consumed.

@@ -10,6 +10,8 @@ use p3_challenger_core::ChallengerError;
 /// A challenger that proofs of work are made on with bits that have no bias.
 ///
 /// With 0 bits each witness passes, and nothing is touched.
+///
+/// The Rust crate's `UniformGrindingChallenger`.
 pub trait UniformGrindingChallenger: GrindingChallenger + CanSampleUniformBits<Self::Witness> {
     /// The least witness that passes [`check_witness_uniform`](UniformGrindingChallenger::check_witness_uniform), with
     /// `bits` at most `max_bits`. The challenger is left as that check leaves it. A witness whose check meets a draw
@@ -42,10 +44,12 @@ pub trait UniformGrindingChallenger: GrindingChallenger + CanSampleUniformBits<S
             Self.before_witness Self.observation (zero_and_uniform (Self.uniform false bits)) bits) e
             (Self.state self.old) (Self.state self.new)) };
 
-    /// Whether a witness passes: it is observed, and the next `bits` uniform bits, at most `max_bits`, are all 0.
-    /// Another value is drawn in the place of one that is rejected.
+    /// Whether a witness passes: what [`prepare_check`](crate::PrepareCheck::prepare_check) draws is drawn, the
+    /// witness is observed, and the next `bits` uniform bits, at most `max_bits`, are all 0. Another value is drawn
+    /// in the place of one that is rejected.
     ///
-    /// The errors are those of [`CanObserve::observe`](p3_challenger_core::CanObserve::observe) and of a draw.
+    /// The errors are those of `prepare_check`, of [`CanObserve::observe`](p3_challenger_core::CanObserve::observe)
+    /// and of a draw. What was drawn and observed before the refused call stays so.
     fn check_witness_uniform(
         &mut self,
         bits: usize,

@@ -14,6 +14,8 @@ use std::mem;
 /// in the place of one that is rejected. The challenger is left as that check leaves it.
 ///
 /// A witness whose check meets a draw limit does not pass. The errors are those of [`least_witness`].
+///
+/// `bits` is at most `max_bits`. Not in the Rust crate.
 pub fn least_uniform_witness<
     W: PrimeField64,
     C: PrepareCheck + CanObserve<W> + CanSampleUniformBits<W> + Replica,

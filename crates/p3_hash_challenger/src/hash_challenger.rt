@@ -35,7 +35,17 @@ use std::marker::Model;
 ///
 /// What is observed is pending until a draw finds no output left. Then all that is pending is
 /// hashed. The digest is pending in its place, so that each hash chains to the one before, and its
-/// places are the outputs, drawn from the last one backwards. An observation drops the outputs left.
+/// places are the outputs, drawn from the last one backwards. An observation drops the outputs left, also
+/// one of an array of no places; whatever else feeds nothing changes nothing.
+///
+/// `OUT_LEN` is how many values a digest has, and a symbol is one value. The digest at the end is one more hash of all
+/// that is pending.
+///
+/// No draw of a value is refused, and an observe for want of memory alone. A refused observe of a value, an array or a
+/// digest leaves the challenger as it was; one of a cap or of a list of lists leaves the roots or the lists before the
+/// refused one fed.
+///
+/// The Rust crate's `HashChallenger`, whose values are `Clone`.
 #[derive(Debug, Drop)]
 pub struct HashChallenger<T, H, const OUT_LEN: usize> {
     // What is pending, where `digest` is `None`; else of no meaning, and kept for its capacity.
@@ -67,7 +77,7 @@ impl<T: Copy, H: CryptographicHasher<T, [T; OUT_LEN]>, const OUT_LEN: usize> Has
 > {
     ghost use Rattle.p3_hash_challenger.specs.HashState as hash_state;
 
-    /// A challenger that has the initial state pending, and no output.
+    /// A challenger that has the initial state pending, and no output. `OUT_LEN` is at least 1.
     pub fn new(initial_state: Vec<T>, hasher: H) -> Self
         requires { 0 < OUT_LEN }
         ensures { result ≡ record { sponge = absorbing initial_state.items; hasher = hasher } }
@@ -82,7 +92,7 @@ impl<T: Copy, H: CryptographicHasher<T, [T; OUT_LEN]>, const OUT_LEN: usize> Has
 
     /// An equal challenger, which shares nothing with this one.
     ///
-    /// The one error is [`ChallengerError::OutOfMemory`].
+    /// The one error is [`ChallengerError::OutOfMemory`]. The Rust crate's `Clone`, which answers no error.
     pub fn clone(&self) -> Result<Self, ChallengerError>
         ensures ok { IfOk result (λ c. c ≡ self.now) }
         ensures err { IfErr result (λ e. e ≡ ChallengerError.OutOfMemory) }
@@ -105,7 +115,7 @@ impl<T: Copy, H: CryptographicHasher<T, [T; OUT_LEN]>, const OUT_LEN: usize> Has
     /// so do calls that end in a digest. No string is left out: a hash function that gives the same on
     /// those that are handed over makes the calls do the same.
     ///
-    /// A law: the body is empty, and a caller cites the clauses.
+    /// A law: the body does nothing, and a caller cites the clauses.
     pub fn follows_segments(&self)
         ensures calls { (calls : List (Call T)) →
             let h = function_of H.hash OUT_LEN H.filler self.now.hasher in
@@ -132,7 +142,7 @@ impl<T: Copy, H: CryptographicHasher<T, [T; OUT_LEN]>, const OUT_LEN: usize> Has
     /// Each draw gives an output that is there, a place of a digest: whatever stood for a place that a list does
     /// not have, every list of calls would give the same answers and leave the same challenger.
     ///
-    /// A law: the body is empty, and a caller cites the clause.
+    /// A law: the body does nothing, and a caller cites the clause.
     pub fn draws_are_outputs(&self)
         ensures { (calls : List (Call T)) (other : T) →
             let h = function_of H.hash OUT_LEN H.filler self.now.hasher in
@@ -144,7 +154,7 @@ impl<T: Copy, H: CryptographicHasher<T, [T; OUT_LEN]>, const OUT_LEN: usize> Has
 
     /// Draws are never refused: no number of them leaves any challenger with an error.
     ///
-    /// A law: the body is empty, and a caller cites the clause.
+    /// A law: the body does nothing, and a caller cites the clause.
     pub fn draws_are_not_refused(&self)
         ensures { (n : ℕ) (e : ChallengerError) (s t : hash_state.HashState T H) →
             ¬ (RefusesDraws (unrefused_draw (λ u. Some (hash_state.sampled (function_of H.hash OUT_LEN H.filler) u))
@@ -153,7 +163,7 @@ impl<T: Copy, H: CryptographicHasher<T, [T; OUT_LEN]>, const OUT_LEN: usize> Has
         let _ = &self.outputs_left;
     }
 
-    /// What the next hash takes: the digest of the last one, and what was observed since.
+    /// What the next hash takes: the digest of the last one, and what was observed since. Not in the Rust crate.
     pub fn input(&self) -> &[T]
         ensures { result.now ≡ self.now.sponge.pending }
     {
@@ -163,7 +173,7 @@ impl<T: Copy, H: CryptographicHasher<T, [T; OUT_LEN]>, const OUT_LEN: usize> Has
         }
     }
 
-    /// The outputs that are left. The last one is drawn next.
+    /// The outputs that are left. The last one is drawn next. Not in the Rust crate.
     pub fn output(&self) -> &[T]
         ensures { result.now ≡ outputs self.now.sponge }
     {
@@ -173,7 +183,7 @@ impl<T: Copy, H: CryptographicHasher<T, [T; OUT_LEN]>, const OUT_LEN: usize> Has
         }
     }
 
-    /// The hasher.
+    /// The hasher. Not in the Rust crate.
     pub fn hasher(&self) -> &H
         ensures { result.now ≡ self.now.hasher }
     {

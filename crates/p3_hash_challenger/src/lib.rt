@@ -1,4 +1,6 @@
 //! The challenger made of a hash function. It draws values of that function.
+//!
+//! What is called a law is a function without effect whose contract a caller cites. The Rust crate has none.
 #![tactic(auto)]
 
 mod hash_challenger;

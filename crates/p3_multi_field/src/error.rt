@@ -2,6 +2,8 @@
 use thiserror::Error;
 
 /// Why two fields do not make a multi-field challenger. No challenger stands after either.
+///
+/// The Rust crate's `MultiField32ChallengerError`, which names fields by the compiler's names of their types.
 #[derive(Clone, Copy, Debug, PartialEq, Eq, Error)]
 pub enum MultiField32ChallengerError {
     /// The order of the field of the scalars is not below that of the field of the cells.
@@ -12,7 +14,8 @@ pub enum MultiField32ChallengerError {
         /// The name of the field of the cells.
         sponge_field: &'static str,
     },
-    /// So many scalars are absorbed at once that the tag that counts them passes a byte.
+    /// The orders are as they must be, but so many scalars are absorbed at once that the tag that counts them passes
+    /// a byte.
     #[error("a full absorb batch contains {batch_len} sampled-field elements, \
          exceeding the u8 length-tag limit of {max}")]
     AbsorbLengthTagOverflow {

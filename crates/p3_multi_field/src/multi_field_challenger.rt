@@ -52,7 +52,14 @@ const MOST_SCALARS: usize = 255;
 /// digit of the last cell backwards. A scalar or a digest drops the outputs left, and a draw that finds none, and
 /// nothing pending, permutes the cells.
 ///
-/// No call but [`sample_vec`](CanSample::sample_vec) takes memory, and no other is refused.
+/// No call but [`sample_vec`](CanSample::sample_vec) takes memory. No observe and no draw is refused besides; a search
+/// may find no witness.
+///
+/// A symbol is a scalar, or a digest with all its words. A number of some bits is the low bits of one drawn scalar. The
+/// digest at the end is the `RATE` cells of the rate after one more permutation.
+///
+/// The Rust crate's `MultiField32Challenger`, which wraps a duplex challenger. Here it is a sponge of its own, and its
+/// counts are those of a [`FieldBridge`].
 #[derive(Debug, Drop)]
 pub struct MultiField32Challenger<
     F: PrimeField32,
@@ -103,11 +110,11 @@ impl<
     const WIDTH: usize,
     const RATE: usize,
 > MultiField32Challenger<F, PF, P, WIDTH, RATE> {
-    /// A challenger of zeros, with nothing pending and no output.
+    /// A challenger of zeros, with nothing pending and no output. `RATE` is at least 1 and below `WIDTH`.
     ///
     /// The errors are [`MultiField32ChallengerError::FieldOrderNotIncreasing`], exactly where the order of `F` is not
     /// below that of `PF`, and else [`MultiField32ChallengerError::AbsorbLengthTagOverflow`], exactly where the rate
-    /// packs more than 255 scalars.
+    /// packs more than 255 scalars. No challenger is made then.
     pub fn new(permutation: P) -> Result<Self, MultiField32ChallengerError>
         requires rate { 0 < RATE }
         requires capacity { RATE < WIDTH }
@@ -157,7 +164,7 @@ impl<
     /// do calls that end in a digest. No state is left out: a permutation that gives the same on those
     /// that are handed over makes the calls do the same.
     ///
-    /// A law: the body is empty, and a caller cites the clauses.
+    /// A law: the body does nothing, and a caller cites the clauses.
     pub fn follows_segments(&self)
         ensures calls { (calls : List (Call (Symbol F PF))) →
             let pair = ⟦<PF as Paired<F>>⟧.pair in
@@ -188,7 +195,7 @@ impl<
     /// Draws are never refused, whatever is drawn: no number of them leaves any challenger with an
     /// error.
     ///
-    /// A law: the body is empty, and a caller cites the clause.
+    /// A law: the body does nothing, and a caller cites the clause.
     pub fn draws_are_not_refused<A: BasedVectorSpace<F>>(&self)
         ensures { (n : ℕ) (e : ChallengerError) (s t : multi_state.MultiFieldState F PF P) →
             ¬ (RefusesDraws (unrefused_draw
@@ -201,7 +208,7 @@ impl<
     /// Observations of single scalars are never refused: no list of them leaves any challenger with an
     /// error.
     ///
-    /// A law: the body is empty, and a caller cites the clause.
+    /// A law: the body does nothing, and a caller cites the clause.
     pub fn observes_are_not_refused(&self)
         ensures { (values : List F) (e : ChallengerError) (s t : multi_state.MultiFieldState F PF P) →
             ¬ (RefusesObserve (LeavesInCalls
@@ -245,6 +252,8 @@ impl<
     }
 
     /// The same challenger once more. It takes no memory, so it cannot fail.
+    ///
+    /// The Rust crate's `Clone`.
     pub fn clone(&self) -> Self
         ensures { result ≡ self.now }
     {

@@ -4,6 +4,8 @@ use p3_field_core::PrimeField64;
 
 /// What contracts see of a field `F` of scalars and the field of the cells, which it is written for: both fields, and
 /// how elements are packed and drawn.
+///
+/// Not in the Rust crate.
 pub trait Paired<F> {
     ghost use Rattle.p3_multi_field.specs.MultiFieldCalls.{FieldPair};
 

@@ -5,6 +5,8 @@ use std::marker::Model;
 ///
 /// A digest is one symbol, and not one for each word: its words are absorbed in blocks, each with its own count, so
 /// that two digests of a word are not one digest of two.
+///
+/// Not in the Rust crate.
 #[derive(Drop)]
 pub struct MultiFieldSymbol<F, PF> {
     // The scalar; `None` for a digest.

@@ -16,6 +16,8 @@ use std::rc::Rc;
 ///
 /// A player must be spent, by [`finalize`](PatternPlayer::finalize) or [`abort`](Pattern::abort). Once it
 /// refused a step it refuses all.
+///
+/// The Rust crate's `PatternPlayer`, which holds an `Arc`, and panics where it is dropped unfinished.
 #[derive(Debug)]
 pub struct PatternPlayer {
     pattern: Rc<InteractionPattern>,
@@ -85,7 +87,8 @@ impl PatternPlayer {
         self.len() - self.position
     }
 
-    /// A step was refused, so none is taken any more.
+    /// A step was refused, so none is taken any more. In the Rust crate that is so too once the player was finalized
+    /// or aborted.
     pub fn is_finalized(&self) -> bool
         ensures { result ≡ self.now.finished }
     {
@@ -101,8 +104,8 @@ impl PatternPlayer {
 
     /// Spends the player. It answers `Ok` exactly where no step was refused and none is left.
     ///
-    /// Else the error is [`PatternError::Finished`] where a step was refused, and [`PatternError::Unplayed`]
-    /// with the next step where there is one.
+    /// Else the error is [`PatternError::Finished`] where a step was refused, and [`PatternError::Unplayed`] with the
+    /// next step where there is one. The player is spent then too. The Rust crate panics in place of both.
     pub fn finalize(self) -> Result<(), TranscriptError>
         ensures ok { OnOk result (IsPlayed self) }
         ensures err { IfErr result (λ e. IsPatternError (λ m. FaultOfPlayEnd self (misfit_of m)) e) }

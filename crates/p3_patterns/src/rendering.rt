@@ -33,7 +33,8 @@ impl InteractionPattern {
     /// it has a line for each: its position, in as many digits as the last one, two spaces for each container
     /// around it, and the alternate text of the step, which says its type by its tag and not by its name.
     ///
-    /// The one error is that memory was refused. The pattern stays as it is.
+    /// The one error is that memory was refused. The pattern stays as it is. Not in the Rust crate, where `{:#}`
+    /// alone prints it.
     pub fn alternate(&self) -> Result<String, AllocError>
         ensures { IfOk result (λ text. string_bytes text ≡ rendering alternate_text (steps_of self.now)) }
     {
@@ -49,7 +50,8 @@ impl InteractionPattern {
     /// Two patterns with the same steps, but for the names of their types, have the same text, and any other two
     /// have different ones. So their digests differ too, unless `D` takes the two texts to one digest.
     ///
-    /// The one error is that memory for the text was refused. The pattern stays as it is.
+    /// The one error is that memory for the text was refused. The pattern stays as it is. In the Rust crate it is
+    /// Keccak-256, and answers no error.
     pub fn pattern_hash<D: DigestHasher>(&self) -> Result<[u8; 32], AllocError>
         ensures digest { IfOk result (λ digest. digest ≡ D.digest_of (rendering alternate_text (steps_of self.now))) }
         ensures fits { AllFitTypes (steps_of self.now) × (length (steps_of self.now) < 2 ^ 64) }

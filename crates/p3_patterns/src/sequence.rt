@@ -33,6 +33,8 @@ use std::marker::Model;
 /// Contracts see its steps, wherever their texts lie, with the facts that they are a pattern, fewer than 2^64, and
 /// steps that a program can hold. So two patterns are one value exactly where they have the same steps. Comparisons,
 /// order and hash go by the list of the steps.
+///
+/// The Rust crate's `InteractionPattern`.
 #[derive(Debug, Drop)]
 pub struct InteractionPattern {
     interactions: Vec<Interaction>,
@@ -109,7 +111,7 @@ impl InteractionPattern {
         refuse_end(interactions, containers)
     }
 
-    /// The pattern of no steps.
+    /// The pattern of no steps. The Rust crate's `Default`.
     pub fn empty(alloc: Global) -> Self
         ensures { steps_of result ≡ [] }
     {
@@ -147,7 +149,7 @@ impl InteractionPattern {
     /// Two patterns compare equal exactly where they are one, that is, where they have the same steps. Order and
     /// hash agree with that, as they do of every type.
     ///
-    /// A law: the body is empty, and a caller cites the clause.
+    /// A law: the body does nothing, and a caller cites the clause.
     #[tactic(auto, using(crate::proofs::PatternEquality::equal_patterns))]
     pub fn compared_by_steps()
         ensures { IsExact ⟦<InteractionPattern as PartialEq>⟧.eq }
@@ -155,7 +157,7 @@ impl InteractionPattern {
         Interaction::compared_by_parts();
     }
 
-    /// An equal pattern. The one error is that memory was refused.
+    /// An equal pattern. The one error is that memory was refused. The Rust crate's `Clone`, which answers no error.
     pub fn clone(&self) -> Result<Self, AllocError>
         ensures { IfOk result (λ pattern. pattern ≡ self.now) }
     {

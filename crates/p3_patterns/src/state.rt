@@ -20,6 +20,8 @@ use std::marker::{Model, PhantomData};
 ///
 /// A recorder must be spent, by [`finalize`](PatternState::finalize) or [`abort`](Pattern::abort). Once it
 /// refused a step it refuses all.
+///
+/// The Rust crate's `PatternState`, which panics where it is dropped unfinished.
 #[derive_where(Debug)]
 pub struct PatternState<U> {
     interactions: Vec<Interaction>,
@@ -59,8 +61,9 @@ impl<U> PatternState<U> {
     /// Spends the recorder, for the pattern of its steps. They are one exactly where no step was refused and
     /// no container is open.
     ///
-    /// Else the error is [`PatternError::Finished`] where a step was refused, and
-    /// [`TranscriptError::MissingEnd`] with the innermost opener that is still open. It takes no memory.
+    /// Else the error is [`PatternError::Finished`] where a step was refused, and [`TranscriptError::MissingEnd`]
+    /// with the innermost opener that is still open. It takes no memory. The recorder and its steps are gone then.
+    /// The Rust crate panics in place of both.
     pub fn finalize(self) -> Result<InteractionPattern, TranscriptError>
         ensures ok { IfOk result (λ pattern. (self.finished ≡ false) × (steps_of pattern ≡ self.steps)
             × IsPattern Kind.Protocol (steps_of pattern)) }

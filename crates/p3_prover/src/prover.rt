@@ -4,7 +4,7 @@
 //! add_scalar, add_bytes ..    value -> its spelling -> the proof
 //!                             value -> its symbols  -> the challenger
 //! challenge_scalar ..         the challenger -> value
-//! observe_scalar ..           value -> its symbols  -> the challenger; nothing is written
+//! observe_extension ..        value -> its symbols  -> the challenger; nothing is written
 //! add_hint                    bytes -> the proof; the challenger takes no part
 //! finalize                    the pattern is played whole -> the bytes of the proof
 //! ```
@@ -46,8 +46,13 @@ use std::marker::PhantomData;
 /// challenger or the alphabet refuses it, with nothing written; and with [`TranscriptError::OutOfMemory`], which leaves
 /// a beginning of the step's values absorbed or drawn, and a beginning of its bytes written.
 ///
+/// So it is of every step; what a step says of errors comes besides. What is sent is observed by the challenger, and
+/// then written into the proof. A hint is written alone.
+///
 /// A step that is refused leaves the prover finished. It must be spent all the same, by
 /// [`finalize`](ProverState::finalize), [`finish`](ProverState::finish) or [`abort`](ProverState::abort).
+///
+/// The Rust crate's `ProverState`, which panics where a step is refused here, and where it is dropped unfinished.
 #[derive_where(Debug; C)]
 pub struct ProverState<C, U, D: DigestHasher> {
     challenger: C,
@@ -61,7 +66,8 @@ impl<U: Unit, C: CanObserve<U::Item> + Drop, D: DigestHasher> ProverState<C, U, 
     ///
     /// Condition: `U` is an alphabet. The errors are
     /// [`ChallengerError::TooLong`](p3_challenger_core::ChallengerError::TooLong) in [`TranscriptError::Challenger`],
-    /// where the seed is too long for the alphabet, and [`TranscriptError::OutOfMemory`]. The challenger is gone then.
+    /// where the seed is too long for the alphabet, and [`TranscriptError::OutOfMemory`]. The challenger is gone
+    /// then. It answers no error in the Rust crate.
     pub fn new(
         alloc: Global,
         mut challenger: C,
@@ -124,7 +130,7 @@ impl<C: Sponge + Drop, U, D: DigestHasher> ProverState<C, U, D> {
     ///
     /// Else the error is [`PatternError::Finished`](p3_fs_core::PatternError::Finished) where a step was refused, and
     /// [`PatternError::Unplayed`](p3_fs_core::PatternError::Unplayed) with the next step where there is one. It takes
-    /// no memory.
+    /// no memory. The Rust crate panics in their place.
     pub fn finalize(self) -> Result<Vec<u8>, TranscriptError>
         ensures ok { IfOk result (λ narg. IsPlayed (proving_of C.state self).turn.playing
             × (narg.items ≡ (proving_of C.state self).narg)) }
@@ -144,6 +150,8 @@ impl<C: Sponge + Drop, U, D: DigestHasher> ProverState<C, U, D> {
     }
 
     /// Spends the prover as [`finalize`](ProverState::finalize) does, for the bytes of the proof and the challenger.
+    ///
+    /// The errors are those of [`finalize`](ProverState::finalize). Not in the Rust crate.
     pub fn finish(self) -> Result<(Vec<u8>, C), TranscriptError>
         ensures ok { IfOk result (λ end. IsPlayed (proving_of C.state self).turn.playing
             × (end.0.items ≡ (proving_of C.state self).narg)
@@ -163,7 +171,7 @@ impl<C: Sponge + Drop, U, D: DigestHasher> ProverState<C, U, D> {
         Ok((narg, challenger))
     }
 
-    /// Gives up. What was played so far is not checked.
+    /// Gives up, and spends the prover. What was played so far is not checked. The Rust crate takes it by reference.
     pub fn abort(self) {
         let ProverState {
             challenger: _,

@@ -27,6 +27,15 @@ use std::marker::{Model, PhantomData};
 /// challenger as one slice. It is drawn from groups of as many bytes: a group is a number, the lowest byte first, cut
 /// to as many bits as the order of the field takes, and the first one below the order is the element. As many groups
 /// as the draw limit allows are tried.
+///
+/// A digest of bytes reaches the inner challenger as one slice, and one of words of 64 bits as 8 bytes for each word,
+/// the lowest first.
+///
+/// A number of some bits, uniform or not, is the low bits of one group, also for no bits. Symbols, and the digest at
+/// the end, are those of the inner challenger.
+///
+/// The Rust crate's `SerializingChallenger32` and `SerializingChallenger64`, over the bytes of a word. There a draw
+/// has no limit.
 #[derive_where(Debug; Inner)]
 pub struct SerializingChallenger<F, Inner, const BYTES: usize> {
     inner: Inner,
@@ -36,9 +45,13 @@ pub struct SerializingChallenger<F, Inner, const BYTES: usize> {
 }
 
 /// A challenger of the elements of a field of 32 bits, each 4 bytes of the inner challenger.
+///
+/// The Rust crate's `SerializingChallenger32`.
 pub type SerializingChallenger32<F, Inner> = SerializingChallenger<F, Inner, 4>;
 
 /// A challenger of the elements of a field of 64 bits, each 8 bytes of the inner challenger.
+///
+/// The Rust crate's `SerializingChallenger64`.
 pub type SerializingChallenger64<F, Inner> = SerializingChallenger<F, Inner, 8>;
 
 impl<F, Inner, const BYTES: usize> Model for SerializingChallenger<F, Inner, BYTES> {
@@ -65,7 +78,8 @@ impl<F, Inner: Drop, const BYTES: usize> Drop for SerializingChallenger<F, Inner
 impl<F, Inner, const BYTES: usize> SerializingChallenger<F, Inner, BYTES> {
     /// A challenger over this one of bytes.
     ///
-    /// `draw_limit` is how many groups of bytes a draw of an element takes at most.
+    /// `draw_limit`, at least 1, is how many groups of bytes a draw of an element takes at most. The Rust crate has
+    /// no limit.
     pub fn new(inner: Inner, draw_limit: u64) -> Self
         requires { 1 ≤ draw_limit }
         ensures { result ≡ record { inner = inner; draw_limit = draw_limit } }
@@ -77,7 +91,7 @@ impl<F, Inner, const BYTES: usize> SerializingChallenger<F, Inner, BYTES> {
         }
     }
 
-    /// The challenger of bytes.
+    /// The challenger of bytes. Not in the Rust crate.
     pub fn inner(&self) -> &Inner
         ensures { result.now ≡ self.now.inner }
     {
@@ -92,7 +106,8 @@ impl<F, H: CryptographicHasher<u8, [u8; 32]>, const BYTES: usize> SerializingCha
 > {
     /// A challenger over a [`HashChallenger`] that has the initial state pending.
     ///
-    /// `draw_limit` is how many groups of bytes a draw of an element takes at most.
+    /// `draw_limit`, at least 1, is how many groups of bytes a draw of an element takes at most. The Rust crate has
+    /// no limit.
     pub fn from_hasher(initial_state: Vec<u8>, hasher: H, draw_limit: u64) -> Self
         requires { 1 ≤ draw_limit }
         ensures { result ≡ record {

@@ -7,6 +7,8 @@ use p3_field_core::{PrimeField32, PrimeField64};
 /// A prime field whose elements are numbers of `BYTES` bytes.
 ///
 /// Every [`PrimeField32`] is one of 4 bytes, and every [`PrimeField64`] one of 8.
+///
+/// Not in the Rust crate, where each of two structs asks for a field of its width.
 pub trait SerializedIn<const BYTES: usize>: PrimeField64 {
     /// The bytes of the element's unique number, the lowest first.
     fn to_unique_bytes(&self) -> [u8; BYTES]

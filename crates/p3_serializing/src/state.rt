@@ -5,6 +5,8 @@ use std::marker::Model;
 /// bytes, and the draw limit.
 ///
 /// No value of this type is made. The state is behind a box so that its size is known whatever `S` is.
+///
+/// Not in the Rust crate.
 pub struct SerializingState<S> {
     inner: Box<S>,
     draw_limit: u64,

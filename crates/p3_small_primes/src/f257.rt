@@ -3,6 +3,8 @@ use crate::{SmallOrder, SmallPrime};
 use p3_field_core::{AlgebraIdentity, Named, UniformSamplingField};
 
 /// An element of the prime field of order 257.
+///
+/// Not in the Rust crate: for worked rows and tests.
 pub type F257 = SmallPrime<257>;
 
 impl SmallOrder<257> for F257 {

@@ -10,6 +10,9 @@ use std::ops::{Add, Mul, Sub};
 /// An element of the prime field of order `ORDER`, kept as its canonical number.
 ///
 /// The number is below the order, and the type says so: two equal elements have equal numbers.
+///
+/// `ORDER` is that of a field which has an `impl` of [`SmallOrder`]; no order is proved prime. Not in the Rust crate,
+/// whose fields are a crate each.
 #[derive(Clone, Copy, PartialEq, Eq, PartialOrd, Ord, Hash)]
 pub struct SmallPrime<const ORDER: u32> {
     value: u32,
@@ -21,6 +24,8 @@ const LARGEST_OF_SHORT_SUMS: u32 = 1 << 31;
 
 /// An order of a prime field: what [`SmallPrime`] of this order has to know of it. A field is its order, an
 /// `impl` of this, and the texts that name it.
+///
+/// Not in the Rust crate.
 pub trait SmallOrder<const ORDER: u32> {
     ghost use Rattle.std.specs.Prelude.{ℕ, ◌≡◌, ◌*◌, ◌^◌, ◌≤◌};
 

@@ -4,6 +4,8 @@ ghost use Rattle.p3_symmetric.specs.Digests.{IsDigest};
 
 /// A hash function of bytes that is given by its type alone: it takes a byte string to 32 bytes, and equal
 /// byte strings to equal digests. Nothing more is known of it.
+///
+/// Not in the Rust crate, which takes Keccak-256 in its place.
 pub trait DigestHasher {
     // The digest of a byte string.
     ghost digest_of: { List ℕ → List ℕ };

@@ -6,6 +6,8 @@ use std::convert::AsSlice;
 use std::marker::PhantomData;
 
 /// A digest: `N` values of `T`, of a hash function over the field `F`.
+///
+/// `p3-symmetric`'s `Hash`. It is made of an array, lends it, is copied and compared, and no more.
 #[derive_where(Debug, PartialEq, Eq; T)]
 pub struct Hash<F, T, const N: usize> {
     value: [T; N],

@@ -2,6 +2,8 @@
 ghost use Rattle.std.specs.Prelude.{◌≡◌, List};
 
 /// What a hash function gives: an array of values.
+///
+/// Not in the Rust crate, where a digest is any type.
 pub trait HashOutput {
     // The value has each of its places.
     ghost is_whole: { Self → Type 0 };
@@ -17,6 +19,8 @@ impl<T, const N: usize> HashOutput for [T; N] {
 ///
 /// `Out` is the digest, an array of values, and each digest has all its places. Nothing more is known of a
 /// hasher: neither that digests are hard to find nor that they differ.
+///
+/// `p3-symmetric`'s `CryptographicHasher`, with `hash_slice` alone. A hasher is `Copy` here.
 pub trait CryptographicHasher<T, Out: HashOutput>: Copy {
     // The digest of a list.
     ghost hash: { Self → List T → Out };

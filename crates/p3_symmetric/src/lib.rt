@@ -1,4 +1,6 @@
 //! Hash functions and permutations over field elements and bytes, and the digests that they give.
+//!
+//! What is called a law is a function without effect whose contract a caller cites. The Rust crate has none.
 #![tactic(auto)]
 
 mod digest_hasher;

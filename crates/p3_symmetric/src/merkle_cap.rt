@@ -7,6 +7,8 @@ use std::marker::{Model, PhantomData};
 /// The top layer of a Merkle tree over the field `F`: a list of roots that are digests `D`.
 ///
 /// Contracts see the list of the roots.
+///
+/// `p3-symmetric`'s `MerkleCap`. It is made of a `Vec`, lends its roots, and is neither copied nor compared.
 #[derive_where(Debug; D)]
 pub struct MerkleCap<F, D> {
     roots: Vec<D>,
@@ -21,7 +23,7 @@ impl<F, D> Model for MerkleCap<F, D> {
 }
 
 impl<F, D> MerkleCap<F, D> {
-    /// A cap of these roots.
+    /// A cap of these roots, in this order. It takes no memory.
     pub fn new(roots: Vec<D>) -> Self
         ensures { result ≡ roots.items }
     {
@@ -31,7 +33,7 @@ impl<F, D> MerkleCap<F, D> {
         }
     }
 
-    /// The list of the roots.
+    /// The list of the roots, in order.
     pub fn roots(&self) -> &[D]
         ensures { result.now ≡ self.now }
     {

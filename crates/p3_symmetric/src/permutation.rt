@@ -2,6 +2,9 @@
 ghost use Rattle.std.specs.Prelude.{◌≡◌};
 
 /// A permutation of states, as a sponge uses it.
+///
+/// `p3-symmetric`'s `CryptographicPermutation`, in place alone. A permutation is `Copy` here. That it is one to one
+/// is not asked.
 pub trait CryptographicPermutation<T>: Copy {
     // What each permutation makes of a state.
     ghost permutation: { Self → T → T };

@@ -5,7 +5,8 @@ ghost use Rattle.sha2.specs.Sha256.{sha256};
 use crate::{CryptographicHasher, DigestHasher};
 use sha2::{Digest, Sha256};
 
-/// SHA-256 (FIPS 180-4), of bytes to 32 bytes, by the crate `sha2`.
+/// SHA-256 (FIPS 180-4), of bytes to 32 bytes, by the kit's crate `sha2`. It is a hash function of lists of bytes,
+/// and one that its type alone gives.
 #[derive(Clone, Copy, Debug, PartialEq, Eq)]
 pub struct Sha256Hasher;
 

@@ -8,6 +8,8 @@ use p3_field_core::{PrimeCharacteristicRing, PrimeField64};
 
 /// A permutation for tests, of no strength at all: the cells turn round by `K` places, and cell `i`
 /// gets `i + 1` added.
+///
+/// Not in the Rust crate.
 #[derive(Clone, Copy, Debug, PartialEq, Eq)]
 pub struct Turn<const K: usize>;
 

@@ -27,7 +27,8 @@ use std::alloc::{AllocError, Global};
 use std::marker::PhantomData;
 use std::rc::Rc;
 
-/// How many bytes the identifier of a protocol has.
+/// How many bytes the identifier of a protocol has: 64, as section 3 of the IETF draft on Fiat-Shamir has it. The
+/// Rust crate's constant of this name.
 pub const PROTOCOL_ID_LEN: usize = 64;
 
 // The last byte of a seed.
@@ -46,6 +47,9 @@ const MAX_LABEL_LEN: usize = u32::MAX as usize;
 /// Contracts see what it is made of: the version and the name of the protocol, a name of 1 to 62 bytes; the chunks of
 /// the instance's label; and the pattern. The label is that of the chunks, and stays shorter than 2^32 bytes, so that
 /// its length can be written in four.
+///
+/// The Rust crate's `DomainSeparator`, which holds an `Arc`. Here the hash function of the pattern's digest is a
+/// parameter, and a separator is compared, and neither ordered nor hashed.
 #[derive(Drop)]
 #[derive_where(Debug, PartialEq, Eq)]
 pub struct DomainSeparator<U, D> {
@@ -68,8 +72,8 @@ impl<U, D> DomainSeparator<U, D> {
     ///
     /// The identifier is the version, the name, zeros, and in the last place the length of the name.
     ///
-    /// Conditions: the name has 1 to 62 bytes. The one error is that memory was refused: the pattern is gone
-    /// then.
+    /// Conditions: the name has 1 to 62 bytes. The one error is that memory was refused: the pattern is gone then.
+    /// The Rust crate panics on another name, and answers no error.
     pub fn new(
         alloc: Global,
         version: u8,
@@ -90,8 +94,8 @@ impl<U, D> DomainSeparator<U, D> {
         })
     }
 
-    /// The identifier of the protocol: its version, its name, zeros, and in the last place the length of the
-    /// name.
+    /// The identifier of the protocol, 64 bytes: its version, its name, zeros, and in the last place the length of
+    /// the name.
     pub fn protocol_id(&self) -> &[u8; PROTOCOL_ID_LEN]
         ensures { result.now ≡ self.now.protocol_id }
     {
@@ -116,7 +120,8 @@ impl<U, D> DomainSeparator<U, D> {
     /// So no two lists of chunks make one label.
     ///
     /// The errors are [`TranscriptError::LabelTooLong`], where the label would have 2^32 bytes or more, and
-    /// [`TranscriptError::OutOfMemory`]. Both leave the separator as it is.
+    /// [`TranscriptError::OutOfMemory`]. Both leave the separator as it is. The Rust crate chains calls, panics on a
+    /// chunk of 2^32 bytes, and lets a label grow beyond that.
     pub fn instance(&mut self, chunk: &[u8]) -> Result<(), TranscriptError>
         ensures ok { OnOk result (self.new.instance_label.items ≡ self.old.instance_label.items ++ counted chunk.now) }
         ensures err { IfErr result (λ e. RefusesChunk (length self.old.instance_label.items + 4 + length chunk.now) e
@@ -141,7 +146,7 @@ impl<U, D> DomainSeparator<U, D> {
     /// Two separators compare equal exactly where they are made of the same: one version, one name, the same chunks
     /// and one pattern; that is, where they have one identifier, one label and the same steps.
     ///
-    /// A law: the body is empty, and a caller cites the clause.
+    /// A law: the body does nothing, and a caller cites the clause.
     pub fn compared_by_parts(&self, other: &Self)
         ensures exact { ⟦<DomainSeparator<U, D> as PartialEq>⟧.eq self.now other.now ≡ true
             ↔ separator_of self.now ≡ separator_of other.now }
@@ -153,7 +158,8 @@ impl<U, D> DomainSeparator<U, D> {
         InteractionPattern::compared_by_steps();
     }
 
-    /// An equal separator, which shares the pattern. The one error is that memory was refused.
+    /// An equal separator, which shares the pattern. The one error is that memory was refused. The Rust crate's
+    /// `Clone`, which answers no error.
     pub fn clone(&self) -> Result<Self, AllocError>
         ensures { IfOk result (λ copy. separator_of copy ≡ separator_of self.now) }
     {
@@ -169,13 +175,13 @@ impl<U, D> DomainSeparator<U, D> {
 
 impl<U: Unit, D: DigestHasher> DomainSeparator<U, D> {
     /// Observes the seed in one byte string: the identifier, the digest of the pattern, the label after its
-    /// length in four bytes, and a byte 0x80.
+    /// length in four bytes, the highest first, and a byte 0x80.
     ///
     /// Conditions: `U` is an alphabet, as [`Unit::observe_bytes`] has it.
     ///
     /// The errors are [`ChallengerError::TooLong`](p3_challenger_core::ChallengerError::TooLong) in
-    /// [`TranscriptError::Challenger`], with nothing absorbed, and [`TranscriptError::OutOfMemory`], which
-    /// leaves the challenger as it is, or as [`Unit::observe_bytes`] leaves it.
+    /// [`TranscriptError::Challenger`], with nothing absorbed, and [`TranscriptError::OutOfMemory`], which leaves the
+    /// challenger as it is, or as [`Unit::observe_bytes`] leaves it. It answers no error in the Rust crate.
     pub fn seed<C: CanObserve<U::Item>>(&self, challenger: &mut C) -> Result<(), TranscriptError>
         requires { U.is_alphabet }
         ensures ok { let seed = seed_of D.digest_of self.now.protocol_id self.now.pattern.value

@@ -1,4 +1,6 @@
 //! The verifier's side of a transcript.
+//!
+//! What is called a law is a function without effect whose contract a caller cites. The Rust crate has none.
 #![tactic(auto)]
 
 mod agreements;

@@ -4,7 +4,7 @@
 //! next_scalar, next_bytes ..  the proof -> its spelling is read -> value
 //!                             value -> its symbols -> the challenger
 //! challenge_scalar ..         the challenger -> value
-//! observe_scalar ..           value -> its symbols -> the challenger; nothing is read
+//! observe_extension ..        value -> its symbols -> the challenger; nothing is read
 //! next_hint                   the proof -> bytes; the challenger takes no part
 //! finalize                    the pattern is played whole, and the proof read whole
 //! ```
@@ -45,13 +45,23 @@ use std::rc::Rc;
 /// [`PatternError::NoMoreSteps`](p3_fs_core::PatternError::NoMoreSteps) where the pattern has none left, and with
 /// [`PatternError::WrongStep`](p3_fs_core::PatternError::WrongStep) where it has another one next. Nothing is read and
 /// nothing absorbed then. A step that the pattern has next is refused with [`TranscriptError::BadProofShape`], where
-/// the proof has not what it reads: bytes that are not there are not passed, and nothing is absorbed; with
-/// [`TranscriptError::Challenger`], as the challenger or the alphabet refuses it; and with
-/// [`TranscriptError::OutOfMemory`], which leaves a beginning of the step's values absorbed or drawn, and an end of the
-/// bytes unread.
+/// the proof has not what it reads: bytes that are not there are not passed, and of a single value or of bytes nothing
+/// is absorbed, of a list its count and the values before the one that is none; with [`TranscriptError::Challenger`],
+/// as the challenger or the alphabet refuses it; and with [`TranscriptError::OutOfMemory`], which leaves a beginning
+/// of the step's values absorbed or drawn, and an end of the bytes unread.
+///
+/// The reason is `NARG ended before all expected bytes were read` where bytes are missing, `message length exceeds
+/// declared maximum` or `hint length exceeds declared maximum` where a count is above its maximum, `step declares more
+/// values than the wire holds` where the bytes left cannot hold a list, and else that of the codec or of the step.
+///
+/// So it is of every step; what a step says of errors comes besides. What is read is observed by the challenger, but
+/// for hints: of a list each value before the next one is read.
 ///
 /// A step that is refused leaves the verifier finished. It must be spent all the same, by
 /// [`finalize`](VerifierState::finalize), [`finish`](VerifierState::finish) or [`abort`](VerifierState::abort).
+///
+/// The Rust crate's `VerifierState`, which panics on a step that is not the next one, and where it is dropped
+/// unfinished.
 #[derive_where(Debug; C)]
 pub struct VerifierState<'a, C, U, D: DigestHasher> {
     challenger: C,
@@ -69,7 +79,8 @@ impl<'a, U: Unit, C: CanObserve<U::Item> + Drop, D: DigestHasher> VerifierState<
     ///
     /// Condition: `U` is an alphabet. The errors are
     /// [`ChallengerError::TooLong`](p3_challenger_core::ChallengerError::TooLong) in [`TranscriptError::Challenger`],
-    /// where the seed is too long for the alphabet, and [`TranscriptError::OutOfMemory`]. The challenger is gone then.
+    /// where the seed is too long for the alphabet, and [`TranscriptError::OutOfMemory`]. The challenger is gone
+    /// then. It answers no error in the Rust crate.
     pub fn new(
         alloc: Global,
         mut challenger: C,
@@ -131,7 +142,7 @@ impl<'a, C: Sponge + Drop, U, D: DigestHasher> VerifierState<'a, C, U, D> {
         unread.len()
     }
 
-    /// The bytes of the proof that are left to read.
+    /// The bytes of the proof that are left to read. Not in the Rust crate.
     pub fn unread(&self) -> &'a [u8]
         ensures { result.now ≡ (verifying_of C.state self.now).unread }
     {
@@ -143,8 +154,8 @@ impl<'a, C: Sponge + Drop, U, D: DigestHasher> VerifierState<'a, C, U, D> {
     ///
     /// Else the error is [`PatternError::Finished`](p3_fs_core::PatternError::Finished) where a step was refused,
     /// [`PatternError::Unplayed`](p3_fs_core::PatternError::Unplayed) with the next step where there is one, and then
-    /// [`TranscriptError::BadProofShape`] with `trailing NARG bytes after final verifier step` where bytes are left. It
-    /// takes no memory.
+    /// [`TranscriptError::BadProofShape`] with `trailing NARG bytes after final verifier step` where bytes are left.
+    /// It takes no memory. The Rust crate panics in place of the first two.
     pub fn finalize(self) -> Result<(), TranscriptError>
         ensures ok { OnOk result (EndsReading (verifying_of C.state self.entry)) }
         ensures err { IfErr result (RefusesEnd (verifying_of C.state self.entry)) }
@@ -155,6 +166,8 @@ impl<'a, C: Sponge + Drop, U, D: DigestHasher> VerifierState<'a, C, U, D> {
     }
 
     /// Spends the verifier as [`finalize`](VerifierState::finalize) does, for the challenger.
+    ///
+    /// The errors are those of [`finalize`](VerifierState::finalize). Not in the Rust crate.
     pub fn finish(self) -> Result<C, TranscriptError>
         ensures ok { IfOk result (λ challenger. EndsReading (verifying_of C.state self.entry)
             × (C.state challenger ≡ (verifying_of C.state self.entry).turn.challenger)) }
@@ -174,7 +187,8 @@ impl<'a, C: Sponge + Drop, U, D: DigestHasher> VerifierState<'a, C, U, D> {
         Ok(challenger)
     }
 
-    /// Gives up. What was played so far is not checked.
+    /// Gives up, and spends the verifier. What was played so far is not checked. The Rust crate takes it by
+    /// reference.
     pub fn abort(self) {
         let VerifierState {
             challenger: _,

@@ -25,7 +25,7 @@ impl<
     /// for so many, and each value of the bits is that of as many of these elements as the bound has multiples of
     /// `2^bits`.
     ///
-    /// A law: the body is empty, and a caller cites the clauses.
+    /// A law: the body does nothing, and a caller cites the clauses.
     pub fn uniform_bits_have_no_bias(&self)
         ensures single { (resample : Bool) (bits : ℕ) (c : DuplexState F P) → 0 < bits →
             bits ≤ F.MAX_SINGLE_SAMPLE_BITS →

@@ -171,7 +171,7 @@ impl<C: Sponge + Drop, U, D: DigestHasher> ProverState<C, U, D> {
 
     /// Observes a value as the challenger itself knows how, which the proof does not carry.
     ///
-    /// Condition: clones of the value equal it.
+    /// Condition: clones of the value equal it, which the Rust crate does not ask.
     pub fn observe_opaque<T: Clone>(
         &mut self,
         label: Label,
@@ -289,7 +289,8 @@ impl<C: Sponge, U, D: DigestHasher> ProverState<C, U, D> {
     /// The rule is asked of each candidate beside those kept before it. Right after it has refused `limit` candidates
     /// in a row, counted from the last kept one or the start, the step is refused with
     /// [`ChallengerError::DrawLimit`](p3_challenger_core::ChallengerError::DrawLimit), as it is where the challenger
-    /// meets its own draw limit: what was drawn is consumed. To keep none, nothing is drawn.
+    /// meets its own draw limit: what was drawn is consumed. To keep none, nothing is drawn. The Rust crate
+    /// has no limit.
     ///
     /// Conditions: the rule may be asked at any time, and the codec has at least
     /// [`MIN_CHALLENGE_SECURITY_BITS`](p3_codecs::MIN_CHALLENGE_SECURITY_BITS) of security.

@@ -40,7 +40,8 @@ impl<C: Sponge, U, D: DigestHasher> ProverState<C, U, D> {
     /// The rule is asked of each number beside those kept before it. Right after it has refused `limit` numbers in a
     /// row, counted from the last kept one or the start, the step is refused with
     /// [`ChallengerError::DrawLimit`](p3_challenger_core::ChallengerError::DrawLimit), as it is where the challenger
-    /// meets its own draw limit: what was drawn is consumed. To keep none, nothing is drawn.
+    /// meets its own draw limit: what was drawn is consumed. To keep none, nothing is drawn. The Rust crate
+    /// has no limit.
     ///
     /// Conditions: the rule may be asked at any time, and `width` is at most
     /// [`max_bits`](p3_challenger_core::CanSampleBits::max_bits).

@@ -19,7 +19,7 @@ impl<
 
     /// An equal challenger, which shares nothing with this one.
     ///
-    /// The one error is [`ChallengerError::OutOfMemory`].
+    /// The one error is [`ChallengerError::OutOfMemory`]. The Rust crate's `Clone`, which answers no error.
     pub fn clone(&self) -> Result<Self, ChallengerError>
         ensures ok { IfOk result (λ c. state_of Inner.state c ≡ state_of Inner.state self.now) }
         ensures err { IfErr result (λ e. Inner.copies_may_fail × (e ≡ OutOfMemory)) }

@@ -20,7 +20,8 @@ impl<'a, U: Unit, C: CanObserve<U::Item> + Drop, D: DigestHasher> VerifierState<
     /// Observes at most `max` elements of an extension, after their count, which the proof does not carry.
     ///
     /// More are refused with [`TranscriptError::BadProofShape`] and `list length exceeds the recorded maximum`,
-    /// whatever the next step is. Condition: `U` is an alphabet.
+    /// whatever the next step is, unless a step was refused before. Nothing is absorbed then. Condition: `U` is an
+    /// alphabet.
     pub fn observe_extensions_bounded<
         F: TranscriptField,
         EF: AlgebraIdentity<F> + Named,
@@ -150,7 +151,8 @@ impl<'a, C: Sponge + Drop, U, D: DigestHasher> VerifierState<'a, C, U, D> {
     /// Observes so many elements of an extension as the step says, which the proof does not carry.
     ///
     /// Where the next step has a list of another length, the list is refused with [`TranscriptError::BadProofShape`]
-    /// and `list length differs from the recorded shape`, whatever that step is.
+    /// and `list length differs from the recorded shape`, whatever that step is, unless a step was refused before.
+    /// Nothing is absorbed then.
     pub fn observe_extensions<
         F: TranscriptField,
         EF: AlgebraIdentity<F> + Named,
@@ -174,7 +176,7 @@ impl<'a, C: Sponge + Drop, U, D: DigestHasher> VerifierState<'a, C, U, D> {
 
     /// Observes a value as the challenger itself knows how, which the proof does not carry.
     ///
-    /// Condition: clones of the value equal it.
+    /// Condition: clones of the value equal it, which the Rust crate does not ask.
     pub fn observe_opaque<T: Clone>(
         &mut self,
         label: Label,
@@ -292,7 +294,8 @@ impl<C: Sponge, U, D: DigestHasher> VerifierState<'_, C, U, D> {
     /// The rule is asked of each candidate beside those kept before it. Right after it has refused `limit` candidates
     /// in a row, counted from the last kept one or the start, the step is refused with
     /// [`ChallengerError::DrawLimit`](p3_challenger_core::ChallengerError::DrawLimit), as it is where the challenger
-    /// meets its own draw limit: what was drawn is consumed. To keep none, nothing is drawn.
+    /// meets its own draw limit: what was drawn is consumed. To keep none, nothing is drawn. The Rust crate
+    /// has no limit.
     ///
     /// Conditions: the rule may be asked at any time, and the codec has at least
     /// [`MIN_CHALLENGE_SECURITY_BITS`](p3_codecs::MIN_CHALLENGE_SECURITY_BITS) of security.
