@@ -8,7 +8,7 @@ use std::marker::{Model, PhantomData};
 ///
 /// Contracts see the list of the roots.
 ///
-/// `p3-symmetric`'s `MerkleCap`. It is made of a `Vec`, lends its roots, and is neither copied nor compared.
+/// `p3-symmetric`'s `MerkleCap`. It is made of a `Vec` and lends its roots; it is neither copied nor compared.
 #[derive_where(Debug; D)]
 pub struct MerkleCap<F, D> {
     roots: Vec<D>,
@@ -23,7 +23,7 @@ impl<F, D> Model for MerkleCap<F, D> {
 }
 
 impl<F, D> MerkleCap<F, D> {
-    /// A cap of these roots, in this order. It takes no memory.
+    /// A cap of these roots in this order. It takes no memory.
     pub fn new(roots: Vec<D>) -> Self
         ensures { result ≡ roots.items }
     {
@@ -33,7 +33,7 @@ impl<F, D> MerkleCap<F, D> {
         }
     }
 
-    /// The list of the roots, in order.
+    /// The list of the roots in order.
     pub fn roots(&self) -> &[D]
         ensures { result.now ≡ self.now }
     {
