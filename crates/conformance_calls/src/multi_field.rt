@@ -20,8 +20,8 @@ type MultiField<F, PF, P, const W: usize, const R: usize> = Subject<
     MultiField32Challenger<F, PF, P, W, R>,
 >;
 
-// A multi-field challenger and how calls are made on it, and a row of as many places as its digest has: generic code sees
-// by such a row that a digest fits in memory.
+// A multi-field challenger and how calls are made on it, and a row of as many places as its digest has: generic code
+// sees by such a row that a digest fits in memory.
 #[derive(Drop)]
 struct Paired<
     F: PrimeField32,

@@ -3,6 +3,13 @@ use Rattle.std.proofs.Common.{◌≡◌, ℕ, ◌<◌, ◌≤◌, ◌+◌, ◌-�
 use Rattle.std.proofs.Math.Nat.{mod-eq_of_lt, one-le-pow, mul_comm}
 use Rattle.std.proofs.lemmas.Nat.{pow-add, pow_below}
 use Rattle.std.proofs.lemmas.Bool.Decides.{nat_tests}
+use Rattle.std.specs.Prelude.{Bool, Some, Result, Ok, Err, IfOk, IfErr, OnOk}
+use Rattle.p3_challenger_core.specs.declared.error.ChallengerError.{ChallengerError}
+use Rattle.p3_challenger_core.specs.declared.error.ChallengerError.TheVariants.{OutOfMemory, DrawLimit, NoWitness}
+use Rattle.p3_challenger_core.specs.declared.error.ChallengerError.TheVariants.{TooLong}
+use Rattle.p3_challenger_core.specs.Sampling.{Sampling, RefusesDraw}
+use Rattle.p3_grinding.specs.Candidates.{first_accepted, after_first_accepted, accepted_of, accepted_within}
+use Rattle.p3_grinding.specs.CandidateLaws.{Seeks}
 
 pub below-true : (n m bound : ℕ) → n ≡ m → n < bound → nat_lt m bound ≡ true
 below-true n m bound same below = grind (arith, nat_tests)
@@ -28,3 +35,31 @@ moved_up bits y short below =
     let under : y * 2 ^ (bits / 2) < 18446744073709551616 =
     omega (arith, pow_below bits 64 short, whole, small, turned) in
     mod-eq_of_lt under ∙ turned
+
+-- What the candidates after some refused ones give is what all of them give.
+module _ {S T : Type 0} (d : Sampling S T) (accepts : T → Bool) (allowed : S → ℕ) (start : S) (left : ℕ)
+    (here : S) (so_far : Seeks d accepts (allowed start) start left here) where
+  pub rest-gives : {E : Type 0} (result : Result T E)
+      → IfOk result (λ x. first_accepted d accepts left here ≡ Some x)
+      → IfOk result (λ x. first_accepted d accepts (allowed start) start ≡ Some x)
+  rest-gives (Ok x) given = so_far.gives ∙ given
+  rest-gives (Err e) _ = tt
+
+  pub rest-reached : {E : Type 0} (result : Result T E) (t : S)
+      → OnOk result (t ≡ after_first_accepted d accepts left here)
+      → OnOk result (t ≡ after_first_accepted d accepts (allowed start) start)
+  rest-reached (Ok x) t reached = reached ∙ sym so_far.reached
+  rest-reached (Err e) t _ = tt
+
+  rest-refuses : (e : ChallengerError) (t : S) → RefusesDraw (accepted_of d accepts left) e here t
+      → RefusesDraw (accepted_within d accepts allowed) e start t
+  rest-refuses OutOfMemory t h = so_far.refused t h
+  rest-refuses DrawLimit t h = (so_far.limited h.0, h.1 ∙ sym so_far.reached)
+  rest-refuses NoWitness t h = absurd h
+  rest-refuses TooLong t h = absurd h
+
+  pub rest-refused : (result : Result T ChallengerError) (t : S)
+      → IfErr result (λ e. RefusesDraw (accepted_of d accepts left) e here t)
+      → IfErr result (λ e. RefusesDraw (accepted_within d accepts allowed) e start t)
+  rest-refused (Ok x) t _ = tt
+  rest-refused (Err e) t h = rest-refuses e t h

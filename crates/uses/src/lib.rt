@@ -4,14 +4,14 @@
 //! - [`commit_phase`]: caps, challenges, a proof of work and indices, on the challenger itself, as FRI has them.
 //! - [`opening`]: a Merkle opening read from a hostile proof.
 //! - `round`: generic code over any challenger, codec and alphabet: [`send_and_draw`], [`receive_and_draw`] and
-//!   [`first_challenge`]. Further ones are `bound_values`, `three_calls` and `extra_value`: which symbols calls fed, also
-//!   where one of them is refused, and that those symbols bind the values; and what a step is played from, after a call on
-//!   the challenger that a driver lends.
+//!   [`first_challenge`]. Further ones are `bound_values`, `three_calls` and `extra_value`: which symbols calls fed,
+//!   also where one of them is refused, and that those symbols bind the values; and what a step is played from, after
+//!   a call on the challenger that a driver lends.
 //! - [`own_permutation`] and [`own_hasher`]: what to hand in for a permutation and a hasher of one's own.
 //! - `line`: the shortest protocol, with [`prove`] and [`verify`].
 //!
-//! Each has a wrong version in `wrong-bodies/` that its contract refuses: a challenge drawn too early, a message read as a
-//! hint. The program `examples` plays them.
+//! Each has a wrong version in `wrong-bodies/` that its contract refuses: a challenge drawn too early, a message read
+//! as a hint. The program `examples` plays them.
 #![tactic(auto)]
 
 mod bound_values;

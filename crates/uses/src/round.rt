@@ -1,8 +1,8 @@
 //! A round of a protocol over any challenger, codec and alphabet: a scalar is sent, and then one is drawn.
 //!
-//! [`send_and_draw`] is the prover's side, and [`receive_and_draw`] the verifier's. Both have contracts of their own, on
-//! what the drawn scalar depends on: just the symbols of the sent one. Nothing is known here of the challenger and the
-//! codec; the contracts of the drivers' steps and three laws say it, each called in a body for its clause.
+//! [`send_and_draw`] is the prover's side, and [`receive_and_draw`] the verifier's. Both have contracts of their own,
+//! on what the drawn scalar depends on: just the symbols of the sent one. Nothing is known here of the challenger and
+//! the codec; the contracts of the drivers' steps and three laws say it, each called in a body for its clause.
 ghost use Rattle.std.specs.Prelude.{◌≡◌, ◌≤◌, ◌++◌, Some, flat_map, IfOk, OnErr};
 ghost use Rattle.p3_challenger.specs.Bound.{value_of};
 ghost use Rattle.p3_challenger.specs.Proving.{proving_of};

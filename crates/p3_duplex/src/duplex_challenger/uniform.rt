@@ -3,7 +3,7 @@
 ghost use Rattle.std.specs.Prelude.{◌≡◌, ◌<◌, ◌≤◌, ◌^◌, ◌/◌, ℕ, Bool, Some, OnOk, IfOk, IfErr};
 ghost use Rattle.p3_field_core.specs.UniformBounds.{uniform_bound};
 ghost use Rattle.p3_challenger_core.specs.Sampling.{RefusesDraw};
-ghost use Rattle.p3_grinding.specs.Candidates.{accepted_within};
+ghost use Rattle.p3_grinding.specs.Candidates.{accepted_of, accepted_within};
 ghost use Rattle.p3_grinding.specs.UniformDraws.{is_below, low_bits, RefusesUniform};
 
 use crate::DuplexChallenger;
@@ -41,7 +41,8 @@ impl<
         let _ = &self.outputs_left;
     }
 
-    // The first element below a bound, of as many as the draw limit allows.
+    // The first element below a bound, of as many as the draw limit allows. Mostly it is the next one: fewer than half
+    // of all elements are not below their bound.
     fn first_below(&mut self, bound: u64) -> Result<F, ChallengerError>
         ensures drawn { IfOk result (λ x. (accepted_within (base_draw F.residues P.permutation RATE)
             (is_below F.residues bound) draws_allowed).sampled self.old ≡ Some x) }
@@ -50,7 +51,26 @@ impl<
         ensures err { IfErr result (λ e. RefusesDraw (accepted_within (base_draw F.residues P.permutation RATE)
             (is_below F.residues bound) draws_allowed) e self.old self.new) }
     {
-        for _ in 0..self.draw_limit {
+        let others = self.draw_limit - 1;
+        let first = self.draw();
+        if first.as_canonical_u64() < bound {
+            Ok(first)
+        } else {
+            self.first_below_of(bound, others)
+        }
+    }
+
+    // The first element below a bound, of so many.
+    #[cold]
+    fn first_below_of(&mut self, bound: u64, count: u64) -> Result<F, ChallengerError>
+        ensures drawn { IfOk result (λ x. (accepted_of (base_draw F.residues P.permutation RATE)
+            (is_below F.residues bound) count).sampled self.old ≡ Some x) }
+        ensures after { OnOk result (self.new ≡ (accepted_of (base_draw F.residues P.permutation RATE)
+            (is_below F.residues bound) count).after self.old) }
+        ensures err { IfErr result (λ e. RefusesDraw (accepted_of (base_draw F.residues P.permutation RATE)
+            (is_below F.residues bound) count) e self.old self.new) }
+    {
+        for _ in 0..count {
             let element = self.draw();
             if element.as_canonical_u64() < bound {
                 return Ok(element);
