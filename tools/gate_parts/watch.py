@@ -25,6 +25,27 @@ def times_of(process):
     return Times(int(words[1]), words[19], sum(used), sum(used[2:]))
 
 
+def children_of(process):
+    """Returns the numbers of a process's children, with those of others where the system does not tell which are whose."""
+    found = []
+    for thread in numbers_in(f"/proc/{process}/task"):
+        try:
+            with open(f"/proc/{process}/task/{thread}/children", encoding="utf-8") as it:
+                found += it.read().split()
+        except OSError:
+            if thread == str(process) and os.path.isdir(f"/proc/{process}/task/{thread}"):
+                return numbers_in("/proc")
+    return found
+
+
+def numbers_in(folder):
+    """Returns the names in a folder that are numbers, none where it has gone."""
+    try:
+        return [it for it in os.listdir(folder) if it.isdigit()]
+    except OSError:
+        return []
+
+
 def words_of(process):
     """Returns the command line of a process, and the folder that it runs in."""
     try:
@@ -82,8 +103,8 @@ class Watch(threading.Thread):
             self.unclaimed += times.ended - self.counted
             self.counted = times.ended
         seen = {}
-        for name in os.listdir("/proc"):
-            child = times_of(name) if name.isdigit() else None
+        for name in children_of(self.process):
+            child = times_of(name)
             if child and child.parent == self.process:
                 key = (name, child.started)
                 work = self.running.get(key, (None,))[0] or work_of(*words_of(name))

@@ -5,6 +5,7 @@ import shutil
 import signal
 import subprocess
 import tempfile
+import time
 
 from .findings import Findings
 from .functions import Functions
@@ -18,12 +19,18 @@ Ran = collections.namedtuple("Ran", "status said seconds memory")
 def ran(words, folder):
     """Runs a command in a folder, and returns its status, what it wrote and what it took."""
     how = {"cwd": folder, "stdin": subprocess.DEVNULL, "stdout": subprocess.PIPE, "stderr": subprocess.STDOUT, "errors": "replace"}
+    begun = time.monotonic()
     with subprocess.Popen([*rtlib.guarded(), *words], **how) as started:
-        said = started.stdout.read()
+        said = "".join(timed(line, time.monotonic() - begun) for line in started.stdout)
         # (of this command alone, while others run beside it)
         _, status, used = os.wait4(started.pid, 0)
         started.returncode = -os.WTERMSIG(status) if os.WIFSIGNALED(status) else os.WEXITSTATUS(status)
     return Ran(started.returncode, said, used.ru_utime + used.ru_stime, 1024 * used.ru_maxrss)
+
+
+def timed(line, seconds):
+    """Returns a line, and behind one that tells that a function's proof has ended when that was."""
+    return f"{line.rstrip()}, {seconds:.1f} s\n" if line.startswith("checked ") else line
 
 
 def ran_again_if_killed(words, folder):
@@ -69,7 +76,7 @@ class Workshop:
                 # (each over the same work: a check with edits puts its own in the place of some of it)
                 kept = shutil.copytree(kept, f"{copy}/kept")
             flags = [word for it in only for word in ("--only", it)]
-            words = self.crate.words(["--jobs", str(jobs), *flags], keeps=False)
+            words = self.crate.words(["--jobs", str(jobs), "--progress", *flags], keeps=False)
             done = ran_again_if_killed([rtlib.RATTLE, "check", *words, "--incremental", kept], f"{copy}/text")
         self.seconds += done.seconds
         self.memory = done.memory
