@@ -1,8 +1,10 @@
 -- Laws of draws of uniform bits.
-use Rattle.std.proofs.Common.{◌≡◌, ℕ, ◌+◌, ◌*◌, ◌<◌, ◌%◌, ◌^◌, ◌⊎◌, Bool, true, false, Option, Some, None, IsSome}
+use Rattle.std.proofs.Common.{◌≡◌, ℕ, ◌+◌, ◌*◌, ◌<◌, ◌≤◌, ◌%◌, ◌^◌, ◌⊎◌, Bool, true, false, Option, Some, None, IsSome}
 use Rattle.std.proofs.Common.{is_some, option_and_then, if◌then◌else◌, refl, sym, ap, inl, inr, subst, arith, rules}
 use Rattle.std.proofs.Common.{◌∙◌}
+use Rattle.std.proofs.Common.{nat_lt}
 use Rattle.std.proofs.lemmas.Nat.{pow-add}
+use Rattle.std.proofs.lemmas.Bool.Decides.{nat_tests}
 use Rattle.std.specs.Option.{option_map}
 use Rattle.p3_field_core.specs.Residues.{Residues}
 use Rattle.p3_challenger_core.specs.BitLaws.{low_bits-below}
@@ -26,6 +28,12 @@ none_is_not is = search (rules, is)
 some_is_not : (x : ℕ) → Some x ≡ None → ⊥
 some_is_not x e = search (rules, e)
 
+nothing_rejected : (e : ResamplingError) → None ≡ Some e → ⊥
+nothing_rejected e is = search (rules, is)
+
+not_below : (n bound : ℕ) → nat_lt n bound ≡ false → bound ≤ n
+not_below n bound is = grind (arith, nat_tests)
+
 -- a draw that rejects nothing is a draw of uniform bits
 pub never_rejects-is_uniform : {S : Type 0} (next : S → S) (resample : Bool) (d : Sampling S ℕ) → IsSampling next d
     → IsUniformDraw next resample (never_rejects d)
@@ -35,6 +43,7 @@ never_rejects-is_uniform next resample d laws =
       rejected_gives_none = λ s is. absurd (none_is_not is);
       rejected_or_limit = λ s is. absurd (none_is_not is);
       resampled = λ _ s. refl;
+      above = λ s e is. absurd (nothing_rejected e is);
     }
 
 pub no_bits-is_uniform : {S : Type 0} (next : S → S) (resample : Bool) → IsUniformDraw next resample no_bits
@@ -71,6 +80,18 @@ module _ {S F : Type 0} (next : S → S) (r : Residues F) (d : Sampling S F) (la
   rejected-some bound None is e = none_is_not is
   rejected-some bound (Some x) is e = search (rules, e)
 
+  chosen-above : (b : Bool) (bound : ℕ) (x : F) (e : ResamplingError) → is_below r bound x ≡ b
+      → (if b then None else Some (record { value = r.number x; m = bound })) ≡ Some e → e.m ≤ e.value
+  chosen-above true bound x e test is = absurd (nothing_rejected e is)
+  chosen-above false bound x e test is =
+      let found : ResamplingError = record { value = r.number x; m = bound } in
+      let same : found ≡ e = search (rules, is) in
+      subst (λ (f : ResamplingError). f.m ≤ f.value) same (not_below (r.number x) bound test)
+
+  rejected-above : (bound : ℕ) (o : Option F) (e : ResamplingError) → rejected r bound o ≡ Some e → e.m ≤ e.value
+  rejected-above bound None e is = absurd (nothing_rejected e is)
+  rejected-above bound (Some x) e is = chosen-above (is_below r bound x) bound x e refl is
+
   bits_of_next-is_uniform : (bound bits : ℕ) → IsUniformDraw next false (bits_of_next r d bound bits)
   unfolding kept
   bits_of_next-is_uniform bound bits =
@@ -83,6 +104,7 @@ module _ {S F : Type 0} (next : S → S) (r : Residues F) (d : Sampling S F) (la
         rejected_gives_none = λ s is. rejected-kept bound bits (d.sampled s) is;
         rejected_or_limit = λ s is h. rejected-some bound (d.sampled s) is (laws.limit_gives_none s h);
         resampled = λ e s. search (rules, e);
+        above = λ s e is. rejected-above bound (d.sampled s) e is;
       }
 
   pub bits_of_one-is_uniform : (limit : S → ℕ) (resample : Bool) (bound bits : ℕ)
@@ -158,6 +180,11 @@ module _ {S : Type 0} (next : S → S) (resample : Bool) (count : ℕ) (low high
   none_of None q r p e = p
   none_of (Some x) q r p e = e
 
+  above_of : (o : Option ℕ) (q r : Option ResamplingError) (e : ResamplingError) → (q ≡ Some e → e.m ≤ e.value)
+      → (r ≡ Some e → e.m ≤ e.value) → (if is_some o then r else q) ≡ Some e → e.m ≤ e.value
+  above_of None q r e of_low of_high is = of_low is
+  above_of (Some x) q r e of_low of_high is = of_high is
+
   pub in_halves-is_uniform : IsUniformDraw next resample (in_halves count low high)
   unfolding both
   in_halves-is_uniform =
@@ -178,6 +205,8 @@ module _ {S : Type 0} (next : S → S) (resample : Bool) (count : ℕ) (low high
             (second.rejected_or_limit (low.draw.after s)) (first.draws.limit_gives_none s) is h;
         resampled = λ e s. none_of (low.draw.sampled s) (low.rejects s) (high.rejects (low.draw.after s))
             (first.resampled e s) (second.resampled e (low.draw.after s));
+        above = λ s e is. above_of (low.draw.sampled s) (low.rejects s) (high.rejects (low.draw.after s)) e
+            (first.above s e) (second.above (low.draw.after s) e) is;
       }
 
   -- where each half gives its bits, both give them together

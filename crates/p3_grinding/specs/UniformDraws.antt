@@ -1,5 +1,5 @@
 -- Draws of uniform bits.
-use Rattle.std.specs.Prelude.{◌≡◌, ℕ, ◌+◌, ◌*◌, ◌^◌, ◌%◌, ◌⊎◌, Bool, true, false, Option, Some, None, IsSome, is_some}
+use Rattle.std.specs.Prelude.{◌≡◌, ℕ, ◌+◌, ◌*◌, ◌^◌, ◌%◌, ◌≤◌, ◌⊎◌, Bool, true, false, Option, Some, None, IsSome, is_some}
 use Rattle.std.specs.Prelude.{option_and_then, if◌then◌else◌, nat_lt}
 use Rattle.std.specs.Option.{option_map}
 use Rattle.p3_field_core.specs.Residues.{Residues}
@@ -20,13 +20,14 @@ abbrev pub RefusesUniform : {S : Type 0} → UniformDraw S → UniformBitsError 
 RefusesUniform u (Resampling error) s t = (u.rejects s ≡ Some error) × (t ≡ u.draw.after s)
 RefusesUniform u (Challenger e) s t = RefusesDraw u.draw e s t
 
--- A draw that rejects a value gives nothing, and meets no limit. One that may draw another value in its place rejects
--- none.
+-- A draw that rejects a value gives nothing, and meets no limit; the value is not below its bound. One that may draw
+-- another value in its place rejects none.
 pub record IsUniformDraw {S : Type 0} (next : S → S) (resample : Bool) (u : UniformDraw S) : Type 0 where
   pub draws : IsSampling next u.draw
   pub rejected_gives_none : (s : S) → IsSome (u.rejects s) → u.draw.sampled s ≡ None
   pub rejected_or_limit : (s : S) → IsSome (u.rejects s) → ¬ (u.draw.meets_limit s)
   pub resampled : resample ≡ true → (s : S) → u.rejects s ≡ None
+  pub above : (s : S) (e : ResamplingError) → u.rejects s ≡ Some e → e.m ≤ e.value
 
 -- a draw that rejects nothing
 abbrev pub never_rejects : {S : Type 0} → Sampling S ℕ → UniformDraw S

@@ -1,5 +1,6 @@
 //! Why a draw of uniform bits is refused.
 ghost use Rattle.std.specs.Prelude.{◌≡◌};
+ghost use Rattle.p3_field_core.specs.Equality.{IsExact};
 ghost use Rattle.p3_grinding.specs.declared.error.UniformBitsError.TheVariants.{Challenger};
 
 use p3_challenger_core::ChallengerError;
@@ -17,6 +18,9 @@ pub struct ResamplingError {
 
 impl ResamplingError {
     /// That a value was drawn, a canonical number, which is not below the bound `m`. Not in the Rust crate.
+    ///
+    /// No condition is asked of the two numbers: that a draw answers this error only with a value that is not below its
+    /// bound is a law of [`CanSampleUniformBits`](crate::CanSampleUniformBits).
     pub fn new(value: u64, m: u64) -> Self
         ensures { result ≡ record { value = value; m = m } }
     {
@@ -36,6 +40,13 @@ impl ResamplingError {
     {
         self.m
     }
+
+    /// Two errors compare equal exactly where they are one.
+    ///
+    /// A law: the body is empty, and a caller cites the clause.
+    pub fn compared_exactly()
+        ensures { IsExact ⟦<ResamplingError as PartialEq>⟧.eq }
+    {}
 }
 
 /// Why a draw of uniform bits was refused.
@@ -50,6 +61,15 @@ pub enum UniformBitsError {
     /// The challenger refused a draw. It stands as that draw leaves it.
     #[error(transparent)]
     Challenger(ChallengerError),
+}
+
+impl UniformBitsError {
+    /// Two errors compare equal exactly where they are one.
+    ///
+    /// A law: the body is empty, and a caller cites the clause.
+    pub fn compared_exactly()
+        ensures { IsExact ⟦<UniformBitsError as PartialEq>⟧.eq }
+    {}
 }
 
 impl From<ChallengerError> for UniformBitsError {

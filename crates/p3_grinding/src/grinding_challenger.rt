@@ -4,7 +4,7 @@
 //! prover    grind(bits)             ->  the least witness that passes; the challenger is as its check leaves it
 //! verifier  check_witness(bits, w)  ->  whether w passes; the challenger is the same
 //! ```
-ghost use Rattle.std.specs.Prelude.{◌≡◌, ◌≤◌, Some, OnOk, IfOk, IfErr};
+ghost use Rattle.std.specs.Prelude.{◌≡◌, ◌≤◌, ℕ, Some, OnOk, IfOk, IfErr, IsOk};
 ghost use Rattle.p3_challenger_core.specs.Reading.{TellsApart};
 ghost use Rattle.p3_challenger_core.specs.Sampling.{RefusesDraw};
 ghost use Rattle.p3_grinding.specs.Checks.{all_zero, check_of, IsLeast, RefusesSearch};
@@ -28,8 +28,8 @@ pub trait GrindingChallenger: PrepareCheck + CanObserve<Self::Witness> + CanSamp
     /// challenger is left as that check leaves it.
     ///
     /// The errors are [`ChallengerError::NoWitness`] where none passes, and [`ChallengerError::OutOfMemory`]. After
-    /// either the challenger is as it was. The Rust crate answers any witness that passes, and ends the process where
-    /// none does.
+    /// either the challenger is as it was. With 0 bits there is neither. The Rust crate answers any witness that passes,
+    /// and ends the process where none does.
     fn grind(&mut self, bits: usize) -> Result<Self::Witness, ChallengerError>
         requires { bits ≤ Self.most_bits }
         ensures least { IfOk result (λ witness. IsLeast Self.Witness.residues (check_of Self.before_witness
@@ -40,7 +40,8 @@ pub trait GrindingChallenger: PrepareCheck + CanObserve<Self::Witness> + CanSamp
             (Self.state self.old)) }
         ensures err { IfErr result (λ e. RefusesSearch Self.Witness.residues may_run_out (check_of Self.before_witness
             Self.observation (all_zero (Self.bits_sampling bits)) bits) e
-            (Self.state self.old) (Self.state self.new)) };
+            (Self.state self.old) (Self.state self.new)) }
+        ensures free { bits ≡ 0 → IsOk result };
 
     /// Whether a witness passes: what [`prepare_check`](PrepareCheck::prepare_check) draws is drawn, the witness is
     /// observed, and the next `bits` bits, at most [`max_bits`](CanSampleBits::max_bits), are all 0. With 0 bits each
@@ -68,6 +69,9 @@ pub trait GrindingChallenger: PrepareCheck + CanObserve<Self::Witness> + CanSamp
 
     // What witnesses feed tells them apart.
     ghost tells_witnesses: { TellsApart Self.observation.symbols };
+
+    // The number of drawn bits is what is drawn, so that bits which are all 0 are the number 0.
+    ghost number_is: { (n : ℕ) → Self.CanSampleBits.number n ≡ n };
 }
 
 impl<C: GrindingChallenger> GrindingChallenger for &mut C {
@@ -76,6 +80,8 @@ impl<C: GrindingChallenger> GrindingChallenger for &mut C {
     ghost may_run_out = { C.may_run_out };
 
     ghost tells_witnesses = { C.tells_witnesses };
+
+    ghost number_is = { C.number_is };
 
     fn grind(&mut self, bits: usize) -> Result<C::Witness, ChallengerError> {
         (**self).grind(bits)

@@ -1,8 +1,7 @@
 //! Searches for the least witness that passes. What a check draws before its witness is drawn once, on a copy; each
 //! candidate in order is tested on a copy of that one, which is set back for the next. The copy that passed takes the
 //! challenger's place.
-//!
-ghost use Rattle.std.specs.Prelude.{◌≡◌, ◌≤◌, Some, OnOk, IfOk, IfErr};
+ghost use Rattle.std.specs.Prelude.{◌≡◌, ◌≤◌, Some, OnOk, IfOk, IfErr, IsOk};
 ghost use Rattle.p3_grinding.specs.Checks.{all_zero, draws_nothing, checked, check_of, IsLeast};
 ghost use Rattle.p3_grinding.specs.Checks.{RefusesReady, RefusesSearch, MayRunOut};
 ghost use Rattle.p3_challenger_core.specs.Sampling.{RefusesDraw};
@@ -15,7 +14,8 @@ use std::mem;
 /// The least witness that passes a check of `bits` bits. The challenger is left as that check leaves it.
 ///
 /// A witness whose check meets a draw limit does not pass. The errors are [`ChallengerError::NoWitness`] where none
-/// passes, and [`ChallengerError::OutOfMemory`]. After either the challenger is as it was.
+/// passes, and [`ChallengerError::OutOfMemory`]. After either the challenger is as it was. With 0 bits there is none: the
+/// witness 0 passes.
 ///
 /// `bits` is at most `max_bits`. Not in the Rust crate.
 pub fn least_witness<
@@ -33,6 +33,7 @@ pub fn least_witness<
         let check = check_of C.before_witness C.observation (all_zero (C.bits_sampling bits)) bits in
         RefusesSearch W.residues (MayRunOut C.copies_may_fail check) check e
         (C.state challenger.old) (C.state challenger.new)) }
+    ensures free { bits ≡ 0 → IsOk result }
 {
     if bits == 0 {
         return Ok(W::from_canonical(0));

@@ -1,5 +1,5 @@
 //! Proof of work by uniform bits.
-ghost use Rattle.std.specs.Prelude.{◌≡◌, ◌≤◌, Bool, true, false, Some, OnOk, IfOk, IfErr};
+ghost use Rattle.std.specs.Prelude.{◌≡◌, ◌≤◌, Bool, true, false, Some, OnOk, IfOk, IfErr, IsOk};
 ghost use Rattle.p3_challenger_core.specs.Sampling.{RefusesDraw};
 ghost use Rattle.p3_grinding.specs.Checks.{zero_and_uniform, check_of, IsLeast, RefusesSearch};
 
@@ -18,7 +18,7 @@ pub trait UniformGrindingChallenger: GrindingChallenger + CanSampleUniformBits<S
     /// limit does not pass.
     ///
     /// The errors are [`ChallengerError::NoWitness`] where none passes, and [`ChallengerError::OutOfMemory`]. After
-    /// either the challenger is as it was.
+    /// either the challenger is as it was. With 0 bits there is neither.
     fn grind_uniform(&mut self, bits: usize) -> Result<Self::Witness, ChallengerError>
         requires { bits ≤ Self.most_bits }
         ensures least { IfOk result (λ witness. IsLeast Self.Witness.residues (check_of Self.before_witness
@@ -27,7 +27,8 @@ pub trait UniformGrindingChallenger: GrindingChallenger + CanSampleUniformBits<S
             (zero_and_uniform (Self.uniform true bits)) bits witness).after (Self.state self.old)) }
         ensures err { IfErr result (λ e. RefusesSearch Self.Witness.residues Self.may_run_out (check_of
             Self.before_witness Self.observation (zero_and_uniform (Self.uniform true bits)) bits) e
-            (Self.state self.old) (Self.state self.new)) };
+            (Self.state self.old) (Self.state self.new)) }
+        ensures free { bits ≡ 0 → IsOk result };
 
     /// The least witness that passes
     /// [`check_witness_uniform_may_error`](UniformGrindingChallenger::check_witness_uniform_may_error), with `bits` at
@@ -42,7 +43,8 @@ pub trait UniformGrindingChallenger: GrindingChallenger + CanSampleUniformBits<S
             (zero_and_uniform (Self.uniform false bits)) bits witness).after (Self.state self.old)) }
         ensures err { IfErr result (λ e. RefusesSearch Self.Witness.residues Self.may_run_out (check_of
             Self.before_witness Self.observation (zero_and_uniform (Self.uniform false bits)) bits) e
-            (Self.state self.old) (Self.state self.new)) };
+            (Self.state self.old) (Self.state self.new)) }
+        ensures free { bits ≡ 0 → IsOk result };
 
     /// Whether a witness passes: what [`prepare_check`](crate::PrepareCheck::prepare_check) draws is drawn, the
     /// witness is observed, and the next `bits` uniform bits, at most `max_bits`, are all 0. Another value is drawn

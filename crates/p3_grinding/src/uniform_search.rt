@@ -1,5 +1,5 @@
 //! The search for the least witness by uniform bits: as `search` has it for plain ones.
-ghost use Rattle.std.specs.Prelude.{◌≡◌, ◌≤◌, Some, OnOk, IfOk, IfErr};
+ghost use Rattle.std.specs.Prelude.{◌≡◌, ◌≤◌, Some, OnOk, IfOk, IfErr, IsOk};
 ghost use Rattle.p3_grinding.specs.Checks.{zero_and_uniform, draws_nothing, checked, check_of, IsLeast};
 ghost use Rattle.p3_grinding.specs.Checks.{RefusesSearch, MayRunOut};
 ghost use Rattle.p3_challenger_core.specs.Sampling.{RefusesDraw};
@@ -31,6 +31,7 @@ pub fn least_uniform_witness<
         let check = check_of C.before_witness C.observation (zero_and_uniform (C.uniform resample bits)) bits in
         RefusesSearch W.residues (MayRunOut C.copies_may_fail check) check e
         (C.state challenger.old) (C.state challenger.new)) }
+    ensures free { bits ≡ 0 → IsOk result }
 {
     if bits == 0 {
         return Ok(W::from_canonical(0));

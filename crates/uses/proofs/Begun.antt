@@ -1,13 +1,9 @@
 -- A hash challenger that begins a transcript.
-use Rattle.std.proofs.Common.{◌≡◌, List, [], ◌∷◌, ◌++◌, ap, subst, sym, ◌∙◌}
+use Rattle.std.proofs.Common.{◌≡◌, List, [], ◌∷◌, ◌++◌, ap, sym, ◌∙◌}
 use Rattle.p3_challenger.specs.HashCalls.{absorbing}
 use Rattle.p3_challenger.specs.HashState.{HashState, fed, observed}
 use Rattle.p3_challenger.specs.HashStateLaws.{fed-append, observed_all-fed}
-use Rattle.p3_challenger.specs.BabyBearResidues.{BabyBear}
-use Rattle.p3_challenger.specs.Observation.{Observation, observed_all}
-use Rattle.p3_challenger.specs.Sampling.{Sampling}
-use Rattle.uses.specs.Protocol.{IsDrawnAfterLine}
-use Rattle.uses.specs.declared.protocol.Claim.{Claim}
+use Rattle.p3_challenger.specs.Observation.{observed_all}
 
 -- a challenger with nothing pending has just these values pending, once it observed them
 pub begun : {T H : Type 0} (s : HashState T H) (values : List T) → s.sponge ≡ absorbing [] →
@@ -20,11 +16,6 @@ begun s (x ∷ xs) is =
 pub begun-as : {T H : Type 0} (s u : HashState T H) (values : List T) → u ≡ observed_all observed s values →
     s.sponge ≡ absorbing [] → u ≡ record { sponge = absorbing values; hasher = s.hasher }
 begun-as s u values is empty = is ∙ begun s values empty
-
--- what is so of a challenger is so of an equal one
-pub drawn-as : {S Symbol : Type 0} {o : Observation S Symbol BabyBear} {d : Sampling S BabyBear} {s t : S}
-    {claim : Claim} → s ≡ t → IsDrawnAfterLine o d s claim → IsDrawnAfterLine o d t claim
-drawn-as {S} {Symbol} {o} {d} {s} {t} {claim} same is = subst (λ u. IsDrawnAfterLine o d u claim) same is
 
 -- the same, once more values are observed
 pub begun-then : {T H : Type 0} (s u : HashState T H) (values : List T) → u ≡ observed_all observed s values →

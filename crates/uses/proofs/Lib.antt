@@ -2,7 +2,7 @@ pub mod Begun
 pub mod BoundValues
 pub mod CommitPhase
 pub mod Either
-pub mod LineSent
+pub mod Protocol
 pub mod MerkleOpening
 pub mod OwnHasher
 pub mod Rejecting

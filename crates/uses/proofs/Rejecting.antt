@@ -40,11 +40,11 @@ module _ {S T : Type 0} (d : Sampling S T) (rule : Rule T) where
 
   -- one value is drawn, and the rule takes it
   pub one-passes : (limit : ℕ) (s : S) (xs : List T) → (keeps d rule limit 1 [] s).gives ≡ Some xs →
-      (x : T) × (rule x [] ≡ true) × (xs ≡ x ∷ [])
+      (x : T) × ((taken d rule limit [] s).gives ≡ Some x) × (rule x [] ≡ true) × (xs ≡ x ∷ [])
   unfolding keeps
   one-passes limit s xs is =
       let one = one-kept limit xs (taken d rule limit [] s).gives (taken d rule limit [] s).after is in
-      (one.0, taken-passes limit [] s one.0 one.1, one.2)
+      (one.0, one.1, taken-passes limit [] s one.0 one.1, one.2)
 
 -- a list whose values are just this one
 one-value : {A B : Type 0} (value : A → B) (bounds : List A) (x : B) → map value bounds ≡ x ∷ [] →
@@ -56,8 +56,9 @@ one-value value (b ∷ c ∷ bounds) x is = cc
 -- what is so of the value of a list that was drawn so
 module _ {S T A : Type 0} (d : Sampling S T) (rule : Rule T) (value : A → T) where
   pub one-of : (limit : ℕ) (s : S) (bounds : List A) → (keeps d rule limit 1 [] s).gives ≡ Some (map value bounds) →
-      (length bounds ≡ 1) × ((other : A) → rule (value (get_or bounds 0 other)) [] ≡ true)
+      (length bounds ≡ 1) × ((other : A) → ((taken d rule limit [] s).gives ≡ Some (value (get_or bounds 0 other)))
+      × (rule (value (get_or bounds 0 other)) [] ≡ true))
   one-of limit s bounds is =
       let one = one-passes d rule limit s (map value bounds) is in
-      let same = one-value value bounds one.0 one.2 in
-      (same.0, λ other. ap (λ x. rule x []) (same.1 other) ∙ one.1)
+      let same = one-value value bounds one.0 one.3 in
+      (same.0, λ other. (one.1 ∙ ap Some (sym (same.1 other)), ap (λ x. rule x []) (same.1 other) ∙ one.2))

@@ -1,20 +1,20 @@
 //! A small protocol, whole: the pattern of its steps, a prover and a verifier.
 //!
-//! The prover sends a line over a field. A place is drawn, and a divisor other than 0. The prover hands over what the
-//! line's value at the place is, divided by the divisor. That number is a hint: the challenger takes no part in it, and
-//! the verifier checks it by itself. So a challenge that depended on it would be worth nothing, and one that did not
-//! depend on the line would be worth less: the contract of [`verify`] says what the place was drawn of.
-ghost use Rattle.std.specs.Prelude.{◌≡◌, true, [], IfOk, IfSome, OnOk};
+//! The prover sends a line over a field. A place is drawn, and a divisor other than 0. The prover hands over the line's
+//! value at the place, divided by the divisor. That number is a hint: it is not absorbed, so no challenge depends on it,
+//! and the verifier checks it by itself. The place and the divisor have to depend on the line. The contract of [`verify`]
+//! says that they do, and which bytes the proof is.
+ghost use Rattle.std.specs.Prelude.{◌≡◌, ◌++◌, ℕ, List, IfOk, IfSome, OnOk};
 ghost use Rattle.p3_challenger.specs.HashCalls.{absorbing};
 ghost use Rattle.p3_challenger.specs.Proving.{proving_of};
 ghost use Rattle.p3_challenger.specs.SeparatorSeed.{seed_of_separator};
 ghost use Rattle.p3_challenger.specs.Verifying.{verifying_of};
-ghost use Rattle.uses.specs.Protocol.{IsDrawnAfterLine, IsQuotient, IsSent, may_divide};
+ghost use Rattle.uses.specs.Protocol.{IsDivisor, IsQuotient, IsRun, IsSent, may_divide};
 
 use p3_challenger::fs::{
-    BytesToFieldCodec, Codec, DomainSeparator, Hierarchy, Interaction, InteractionPattern, Kind,
-    Length, Pattern, PatternState, ProverState, SymmetricSteps, TranscriptError, TranscriptField,
-    VerifierState,
+    BytesToFieldCodec, Codec, DomainSeparator, ExtensionFieldCodec, Hierarchy, Interaction,
+    InteractionPattern, Kind, Length, Pattern, PatternState, ProverState, SymmetricSteps,
+    TranscriptError, TranscriptField, VerifierState,
 };
 use p3_challenger::{HashChallenger, Sponge};
 use p3_field::{BabyBear, PrimeCharacteristicRing, PrimeField32, PrimeField64};
@@ -24,6 +24,9 @@ use std::alloc::Global;
 type Challenger = HashChallenger<u8, Sha256Hasher, 32>;
 
 type Scalars = BytesToFieldCodec<BabyBear>;
+
+// An element of the field, by its one coefficient.
+type Coefficient = ExtensionFieldCodec<BabyBear, BabyBear, Scalars>;
 
 /// What binds a transcript to the protocol: its version, its name and its pattern.
 pub type Separator = DomainSeparator<u8, Sha256Hasher>;
@@ -56,8 +59,9 @@ pub fn prove(
 ) -> Result<Vec<u8>, TranscriptError>
     ensures { let seed = seed_of_separator ⟦<Sha256Hasher as DigestHasher>⟧.digest_of separator.now in
         IfOk result (λ proof. IsSent ⟦<Scalars as Codec<Challenger, BabyBear>>⟧.observation
-        ⟦<Scalars as Codec<Challenger, BabyBear>>⟧.sampling ⟦<Scalars as Codec<Challenger, BabyBear>>⟧.encoding
-        (record { sponge = absorbing seed; hasher = record {} }) slope offset [] proof.items) }
+        ⟦<Scalars as Codec<Challenger, BabyBear>>⟧.sampling ⟦<Coefficient as Codec<Challenger, BabyBear>>⟧.sampling
+        ⟦<Scalars as Codec<Challenger, BabyBear>>⟧.encoding
+        (record { sponge = absorbing seed; hasher = record {} }) slope offset proof.items) }
 {
     let mut prover = Prover::new(alloc, challenger(alloc), separator)?;
     let sent = send(&mut prover, alloc, slope, offset);
@@ -73,9 +77,10 @@ fn send(
 ) -> Result<(), TranscriptError>
     ensures { let before = proving_of ⟦<Challenger as Sponge>⟧.state prover.old in
         let after = proving_of ⟦<Challenger as Sponge>⟧.state prover.new in
-        OnOk result (IsSent ⟦<Scalars as Codec<Challenger, BabyBear>>⟧.observation
-        ⟦<Scalars as Codec<Challenger, BabyBear>>⟧.sampling ⟦<Scalars as Codec<Challenger, BabyBear>>⟧.encoding
-        before.turn.challenger slope offset before.narg after.narg) }
+        OnOk result ((bytes : List ℕ) × (after.narg ≡ before.narg ++ bytes)
+        × IsSent ⟦<Scalars as Codec<Challenger, BabyBear>>⟧.observation
+        ⟦<Scalars as Codec<Challenger, BabyBear>>⟧.sampling ⟦<Coefficient as Codec<Challenger, BabyBear>>⟧.sampling
+        ⟦<Scalars as Codec<Challenger, BabyBear>>⟧.encoding before.turn.challenger slope offset bytes) }
 {
     prover.add_scalar::<BabyBear, Scalars>("slope", &slope)?;
     prover.add_scalar::<BabyBear, Scalars>("offset", &offset)?;
@@ -98,11 +103,10 @@ pub fn verify(
     proof: &[u8],
 ) -> Result<Option<Claim>, TranscriptError>
     ensures { let seed = seed_of_separator ⟦<Sha256Hasher as DigestHasher>⟧.digest_of separator.now in
-        IfOk result (λ found. IfSome found (λ claim.
-        IsDrawnAfterLine ⟦<Scalars as Codec<Challenger, BabyBear>>⟧.observation
-        ⟦<Scalars as Codec<Challenger, BabyBear>>⟧.sampling
-        (record { sponge = absorbing seed; hasher = record {} }) claim
-        × (may_divide claim.divisor ≡ true) × IsQuotient claim)) }
+        IfOk result (λ found. IfSome found (λ claim. IsRun ⟦<Scalars as Codec<Challenger, BabyBear>>⟧.observation
+        ⟦<Scalars as Codec<Challenger, BabyBear>>⟧.sampling ⟦<Coefficient as Codec<Challenger, BabyBear>>⟧.sampling
+        ⟦<Scalars as Codec<Challenger, BabyBear>>⟧.encoding
+        (record { sponge = absorbing seed; hasher = record {} }) claim proof.now × IsQuotient claim)) }
 {
     let mut verifier = Verifier::new(alloc, challenger(alloc), separator, proof)?;
     let received = receive(&mut verifier);
@@ -118,10 +122,12 @@ pub fn verify(
 }
 
 fn receive(verifier: &mut Verifier<'_>) -> Result<Claim, TranscriptError>
-    ensures place { IfOk result (IsDrawnAfterLine ⟦<Scalars as Codec<Challenger, BabyBear>>⟧.observation
-        ⟦<Scalars as Codec<Challenger, BabyBear>>⟧.sampling
-        (verifying_of ⟦<Challenger as Sponge>⟧.state verifier.old).turn.challenger) }
-    ensures divisor { IfOk result (λ claim. may_divide claim.divisor ≡ true) }
+    ensures { let before = verifying_of ⟦<Challenger as Sponge>⟧.state verifier.old in
+        let after = verifying_of ⟦<Challenger as Sponge>⟧.state verifier.new in
+        IfOk result (λ claim. (bytes : List ℕ) × (before.unread ≡ bytes ++ after.unread)
+        × IsRun ⟦<Scalars as Codec<Challenger, BabyBear>>⟧.observation
+        ⟦<Scalars as Codec<Challenger, BabyBear>>⟧.sampling ⟦<Coefficient as Codec<Challenger, BabyBear>>⟧.sampling
+        ⟦<Scalars as Codec<Challenger, BabyBear>>⟧.encoding before.turn.challenger claim bytes) }
 {
     let slope = verifier.next_scalar::<BabyBear, Scalars>("slope")?;
     let offset = verifier.next_scalar::<BabyBear, Scalars>("offset")?;
@@ -141,7 +147,8 @@ fn receive(verifier: &mut Verifier<'_>) -> Result<Claim, TranscriptError>
 fn draw_divisor<S: SymmetricSteps<Challenger = Challenger>>(
     side: &mut S,
 ) -> Result<BabyBear, TranscriptError>
-    ensures divides { IfOk result (λ divisor. may_divide divisor ≡ true) }
+    ensures drawn { IfOk result (IsDivisor ⟦<Coefficient as Codec<Challenger, BabyBear>>⟧.sampling
+        (S.turn side.old).challenger) }
     ensures bytes { OnOk result (S.bytes side.new ≡ S.bytes side.old) }
 {
     let accept = |divisor: &BabyBear, _kept: &[BabyBear]| -> bool

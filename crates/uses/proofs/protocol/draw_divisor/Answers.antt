@@ -10,8 +10,11 @@ index-requires g c =
     let one = one-of _ (λ x _. may_divide x) value_of 100 _ c.in_ok-drawn.drawn.items played.gives in
     omega (arith, one.0)
 
-pub returns-clause-divides : goal.returns-clause-divides
-returns-clause-divides g c =
+pub returns-clause-drawn : goal.returns-clause-drawn
+returns-clause-drawn g c =
     let played = c.in_ok-drawn.ensures.played (λ x _. may_divide x) (λ x kept r post. post) in
     let one = one-of _ (λ x _. may_divide x) value_of 100 _ c.in_ok-drawn.drawn.items played.gives in
-    rw (c.into_inner.ensures, c.index.ensures) (one.1 _)
+    record {
+      drawn = rw (c.into_inner.ensures, c.index.ensures) (one.1 _).0;
+      divides = rw (c.into_inner.ensures, c.index.ensures) (one.1 _).1;
+    }

@@ -1,9 +1,9 @@
-use Rattle.std.proofs.Common.{ap}
+use Rattle.std.proofs.Common.{ap, ◌∙◌}
 use Rattle.p3_challenger.specs.Proving.{proving_of}
 use Rattle.p3_challenger.specs.SeparatorSeed.{seed_of_separator}
 use Rattle.p3_symmetric.specs.contracts.sha256.Sha256HasherDigestHasher.TheImpl as digests
 use Rattle.uses.proofs.Begun.{begun-as}
-use Rattle.uses.proofs.LineSent.{once-both, sent-as}
+use Rattle.uses.proofs.Protocol.{once-both, sent-as, sent-alone}
 use Rattle.uses.proofs.protocol.prove.Goals as goal
 
 pub returns : goal.returns
@@ -11,8 +11,8 @@ returns c =
     let prover = proving_of (λ s. s) c.in_ok-prover.prover in
     once-both _ _ _ c.send-sent.result c.finalize.result c.and.result c.and.ensures c.send-sent.ensures
     c.finalize.ensures.ok
-    (λ sent proof ends. sent-as _ _ _ _ _ _ _ _ _ _ _
+    (λ sent proof ends. sent-as _ _ _ _ _ _ _ _ _ _
     (begun-as c.challenger.result prover.turn.challenger
     (seed_of_separator digests.ghosts.digest_of c.args.separator.now)
     (ap (λ p. p.turn.challenger) c.in_ok-prover.ensures.ok) c.challenger.ensures)
-    (ap (λ p. p.narg) c.in_ok-prover.ensures.ok) ends.1 sent)
+    (sent-alone _ _ _ _ (ap (λ p. p.narg) c.in_ok-prover.ensures.ok) ends.1 sent.1) sent.2)

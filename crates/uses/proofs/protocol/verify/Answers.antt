@@ -5,17 +5,20 @@ use Rattle.p3_challenger.specs.SmallPrimeLaws.{compared-by-numbers}
 use Rattle.p3_challenger.specs.SeparatorSeed.{seed_of_separator}
 use Rattle.p3_symmetric.specs.contracts.sha256.Sha256HasherDigestHasher.TheImpl as digests
 use Rattle.p3_challenger.specs.Verifying.{verifying_of}
-use Rattle.uses.proofs.Begun.{begun-as, drawn-as}
+use Rattle.uses.proofs.Begun.{begun-as}
+use Rattle.uses.proofs.Protocol.{received-alone, run-as}
 use Rattle.uses.proofs.protocol.verify.Goals as goal
 
 pub returns-then-eq : goal.returns-then-eq
 returns-then-eq c =
-    let start = begun-as c.challenger.result (verifying_of (λ s. s) c.in_ok-verifier.verifier).turn.challenger
+    let verifier = verifying_of (λ s. s) c.in_ok-verifier.verifier in
+    let start = begun-as c.challenger.result verifier.turn.challenger
     (seed_of_separator digests.ghosts.digest_of c.args.separator.now) (ap (λ v. v.turn.challenger) c.in_ok-verifier.ensures.ok)
     c.challenger.ensures in
+    let run = c.in_ok-claim.ensures in
     let equal = (compared-by-numbers c.mul-2.result c.add-value.result).0 (sym c.eq.ensures ∙ c.if-eq.true) in (
-      drawn-as start c.in_ok-claim.ensures.place,
-      c.in_ok-claim.ensures.divisor,
+      run-as _ _ _ _ _ _ _ _ _ start
+          (received-alone _ _ _ _ (ap (λ v. v.unread) c.in_ok-verifier.ensures.ok) ? run.1) run.2,
       sym c.mul-2.ensures ∙ equal ∙ c.add-value.ensures
           ∙ ap (λ x. sum_of residues x c.in_ok-claim.claim.offset) c.mul.ensures,
     )
