@@ -1,10 +1,12 @@
 -- Uniform bits that are drawn from a duplex challenger.
-use Rattle.std.specs.Prelude.{ℕ, zero, suc, ◌-◌, ◌/◌, List, Some, Bool, true, false, nat_eq, nat_lt}
+use Rattle.std.specs.Prelude.{ℕ, zero, suc, ◌-◌, ◌/◌, List, Option, Some, None, Bool, true, false, nat_eq, nat_lt}
+use Rattle.std.specs.Prelude.{if◌then◌else◌}
 use Rattle.std.specs.List.{count_by, range_with_len}
 use Rattle.p3_field_core.specs.Residues.{Residues}
 use Rattle.p3_field_core.specs.UniformBounds.{uniform_bound}
 use Rattle.p3_challenger_core.specs.Sampling.{Sampling, unrefused_draw}
-use Rattle.p3_grinding.specs.UniformDraws.{UniformDraw, no_bits, low_bits, bits_of_one, in_halves}
+use Rattle.p3_grinding.specs.Candidates.{first_accepted}
+use Rattle.p3_grinding.specs.UniformDraws.{UniformDraw, no_bits, is_below, low_bits, bits_of_one, in_halves}
 use Rattle.p3_duplex.specs.DuplexState.{DuplexState, sampled, after_sampled}
 
 -- a draw of one element
@@ -20,6 +22,16 @@ abbrev pub how_many_give : {F : Type 0} → Residues F → ℕ → ℕ → ℕ
 how_many_give r bits value =
     count_by (λ n. nat_eq (low_bits r bits (r.of n)) value) (range_with_len 0 (uniform_bound r.order bits))
 
+-- The element that a draw of so many bits takes, where one element serves for them: the first one below the bound, of as
+-- many as the draw limit allows; or, where no other may be drawn in its place, the next one, if it is below the bound.
+abbrev pub taken_element : {F P : Type 0} → Residues F → (P → List F → List F) → ℕ → Bool → ℕ → DuplexState F P →
+    Option F
+taken_element r permute rate true bits c =
+    first_accepted (base_draw r permute rate) (is_below r (uniform_bound r.order bits)) c.draw_limit c
+taken_element r permute rate false bits c =
+    let x = sampled r permute rate c in
+    if is_below r (uniform_bound r.order bits) x then Some x else None
+
 module _ {F P : Type 0} (r : Residues F) (permute : P → List F → List F) (rate : ℕ) (resample : Bool) where
   -- so many bits of one element
   abbrev pub single : ℕ → UniformDraw (DuplexState F P)
@@ -30,11 +42,12 @@ module _ {F P : Type 0} (r : Residues F) (permute : P → List F → List F) (ra
   abbrev pub halved : ℕ → UniformDraw (DuplexState F P)
   halved bits = in_halves (bits / 2) (single (bits / 2)) (single (bits - bits / 2))
 
-  abbrev pub of_size : Bool → ℕ → UniformDraw (DuplexState F P)
-  of_size true bits = halved bits
-  of_size false bits = single bits
+  -- in halves, or of one element
+  abbrev pub in_parts : Bool → ℕ → UniformDraw (DuplexState F P)
+  in_parts true bits = halved bits
+  in_parts false bits = single bits
 
   -- so many bits: none of nothing, and in halves where one element does not serve for them
   abbrev pub uniform_bits : ℕ → ℕ → UniformDraw (DuplexState F P)
   uniform_bits most_of_one zero = no_bits
-  uniform_bits most_of_one (suc more) = of_size (nat_lt most_of_one (suc more)) (suc more)
+  uniform_bits most_of_one (suc more) = in_parts (nat_lt most_of_one (suc more)) (suc more)

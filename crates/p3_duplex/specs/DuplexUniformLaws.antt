@@ -12,7 +12,6 @@ use Rattle.p3_challenger_core.specs.BitLaws.{low_bits-below}
 use Rattle.p3_challenger_core.specs.Sampling.{IsSampling}
 use Rattle.p3_challenger_core.specs.SamplingLaws.{one_step, unrefused_draw-is_sampling}
 use Rattle.p3_challenger_core.specs.Observation.{unrefused_observe}
-use Rattle.p3_grinding.specs.Candidates.{first_accepted}
 use Rattle.p3_grinding.specs.CandidateLaws.{none_left_behind, accepted-is}
 use Rattle.std.proofs.lemmas.Bool.Decides.{nat_tests}
 use Rattle.std.specs.Option.{option_map}
@@ -21,7 +20,8 @@ use Rattle.p3_grinding.specs.UniformDraws.{IsUniformDraw, bits_of_one, is_below,
 use Rattle.p3_grinding.specs.UniformDrawLaws.{no_bits-is_uniform, bits_of_one-is_uniform, bits_of_one-below}
 use Rattle.p3_grinding.specs.UniformDrawLaws.{in_halves-is_uniform, both-below}
 use Rattle.p3_duplex.specs.DuplexState.{DuplexState, observed, sampled, after_sampled}
-use Rattle.p3_duplex.specs.DuplexUniform.{how_many_give, base_draw, draws_allowed, single, of_size, uniform_bits}
+use Rattle.p3_duplex.specs.DuplexUniform.{how_many_give, base_draw, draws_allowed, taken_element, single, in_parts}
+use Rattle.p3_duplex.specs.DuplexUniform.{uniform_bits}
 
 under : (n bound : ℕ) → nat_lt n bound ≡ true → n < bound
 under n bound h = grind (arith, nat_tests)
@@ -61,28 +61,37 @@ module _ {F P : Type 0} (r : Residues F) (permute : P → List F → List F) (ra
       unrefused_draw-is_sampling (after_sampled r permute rate) (λ c. Some (sampled r permute rate c))
       (after_sampled r permute rate) (one_step (after_sampled r permute rate))
 
-  given-below : (b : Bool) (bits bound : ℕ) (x : F) (value : ℕ) → b ≡ is_below r bound x
-      → (if b then Some (low_bits r bits x) else None) ≡ Some value
-      → (y : F) × (r.number y < bound) × (low_bits r bits y ≡ value)
-  given-below true bits bound x value is e = (x, under (r.number x) bound (sym is), given e)
-  given-below false bits bound x value is e = search (rules, e)
+  kept-below : (b : Bool) (bound : ℕ) (x y : F) → is_below r bound x ≡ b → (if b then Some x else None) ≡ Some y
+      → r.number y < bound
+  kept-below true bound x y is e =
+      let same : x ≡ y = search (rules, e) in
+      subst (λ z. r.number z < bound) same (under (r.number x) bound is)
+  kept-below false bound x y is e = search (rules, e)
 
-  mapped-of_element : (bits bound : ℕ) (o : Option F) (value : ℕ) → ((x : F) → o ≡ Some x → is_below r bound x ≡ true)
-      → option_map (low_bits r bits) o ≡ Some value
-      → (y : F) × (r.number y < bound) × (low_bits r bits y ≡ value)
-  mapped-of_element bits bound None value accepted e = search (rules, e)
-  mapped-of_element bits bound (Some x) value accepted e =
-      (x, under (r.number x) bound (accepted x refl), given e)
+  -- the element that is taken is below the bound
+  pub taken-below : (resample : Bool) (bits : ℕ) (c : DuplexState F P) (x : F)
+      → taken_element r permute rate resample bits c ≡ Some x → r.number x < uniform_bound r.order bits
+  taken-below true bits c x e =
+      let bound = uniform_bound r.order bits in
+      under (r.number x) bound (accepted-is (base_draw r permute rate) (is_below r bound) c.draw_limit c x e)
+  taken-below false bits c x e =
+      let next = sampled r permute rate c in
+      let bound = uniform_bound r.order bits in
+      kept-below (is_below r bound next) bound next x refl e
 
-  one-of_element : (resample : Bool) (bound bits : ℕ) (c : DuplexState F P) (value : ℕ)
-      → (bits_of_one r (base_draw r permute rate) draws_allowed resample bound bits).draw.sampled c ≡ Some value
-      → (y : F) × (r.number y < bound) × (low_bits r bits y ≡ value)
-  one-of_element true bound bits c value e =
-      mapped-of_element bits bound (first_accepted (base_draw r permute rate) (is_below r bound) c.draw_limit c) value
-      (accepted-is (base_draw r permute rate) (is_below r bound) c.draw_limit c) e
-  one-of_element false bound bits c value e =
+  kept-low_bits : (b : Bool) (bits : ℕ) (x : F)
+      → (if b then Some (low_bits r bits x) else None) ≡ option_map (low_bits r bits) (if b then Some x else None)
+  kept-low_bits true bits x = refl
+  kept-low_bits false bits x = refl
+
+  -- a draw of bits of one element gives the low ones of the element that is taken
+  single-taken : (resample : Bool) (bits : ℕ) (c : DuplexState F P)
+      → (single r permute rate resample bits).draw.sampled c
+      ≡ option_map (low_bits r bits) (taken_element r permute rate resample bits c)
+  single-taken true bits c = refl
+  single-taken false bits c =
       let x = sampled r permute rate c in
-      given-below (is_below r bound x) bits bound x value refl e
+      kept-low_bits (is_below r (uniform_bound r.order bits) x) bits x
 
   one-takes_no_memory : (resample : Bool) (bound bits : ℕ) (c d : DuplexState F P)
       → ¬ ((bits_of_one r (base_draw r permute rate) draws_allowed resample bound bits).draw.may_leave c d)
@@ -97,18 +106,18 @@ module _ {F P : Type 0} (r : Residues F) (permute : P → List F → List F) (ra
         bits_of_one-is_uniform (after_sampled r permute rate) r (base_draw r permute rate) base_draw-is_sampling
         draws_allowed resample (uniform_bound r.order bits) bits
 
-    of_size-is_uniform : (size : Bool) (bits : ℕ)
-        → IsUniformDraw (after_sampled r permute rate) resample (of_size r permute rate resample size bits)
-    of_size-is_uniform true bits =
+    in_parts-is_uniform : (size : Bool) (bits : ℕ)
+        → IsUniformDraw (after_sampled r permute rate) resample (in_parts r permute rate resample size bits)
+    in_parts-is_uniform true bits =
         in_halves-is_uniform (after_sampled r permute rate) resample (bits / 2)
         (single r permute rate resample (bits / 2)) (single r permute rate resample (bits - bits / 2))
         (single-is_uniform (bits / 2)) (single-is_uniform (bits - bits / 2))
-    of_size-is_uniform false bits = single-is_uniform bits
+    in_parts-is_uniform false bits = single-is_uniform bits
 
     pub uniform_bits-is_uniform : (most_of_one bits : ℕ)
         → IsUniformDraw (after_sampled r permute rate) resample (uniform_bits r permute rate resample most_of_one bits)
     uniform_bits-is_uniform most_of_one zero = no_bits-is_uniform (after_sampled r permute rate) resample
-    uniform_bits-is_uniform most_of_one (suc more) = of_size-is_uniform (nat_lt most_of_one (suc more)) (suc more)
+    uniform_bits-is_uniform most_of_one (suc more) = in_parts-is_uniform (nat_lt most_of_one (suc more)) (suc more)
 
     single-below : (bits : ℕ) (c : DuplexState F P) (x : ℕ)
         → (single r permute rate resample bits).draw.sampled c ≡ Some x → x < 2 ^ bits
@@ -119,39 +128,39 @@ module _ {F P : Type 0} (r : Residues F) (permute : P → List F → List F) (ra
     both_halves : (bits : ℕ) → bits / 2 + (bits - bits / 2) ≡ bits
     both_halves bits = omega arith
 
-    of_size-below : (size : Bool) (bits : ℕ) (c : DuplexState F P) (x : ℕ)
-        → (of_size r permute rate resample size bits).draw.sampled c ≡ Some x → x < 2 ^ bits
-    of_size-below true bits c x drawn =
+    in_parts-below : (size : Bool) (bits : ℕ) (c : DuplexState F P) (x : ℕ)
+        → (in_parts r permute rate resample size bits).draw.sampled c ≡ Some x → x < 2 ^ bits
+    in_parts-below true bits c x drawn =
         let low = single r permute rate resample (bits / 2) in
         let high = single r permute rate resample (bits - bits / 2) in
         subst (λ n. x < 2 ^ n) (both_halves bits)
         (both-below (bits / 2) (bits - bits / 2) (low.draw.sampled c) (high.draw.sampled (low.draw.after c)) x
         (λ y is. single-below (bits / 2) c y is) (λ y is. single-below (bits - bits / 2) (low.draw.after c) y is) drawn)
-    of_size-below false bits c x drawn = single-below bits c x drawn
+    in_parts-below false bits c x drawn = single-below bits c x drawn
 
     pub uniform_bits-below : (most_of_one bits : ℕ) (c : DuplexState F P) (x : ℕ)
         → (uniform_bits r permute rate resample most_of_one bits).draw.sampled c ≡ Some x → x < 2 ^ bits
     uniform_bits-below most_of_one zero c x drawn = low_bits-below 0 0 x drawn
     uniform_bits-below most_of_one (suc more) c x drawn =
-        of_size-below (nat_lt most_of_one (suc more)) (suc more) c x drawn
+        in_parts-below (nat_lt most_of_one (suc more)) (suc more) c x drawn
 
     -- such draws take no memory
     single-takes_no_memory : (bits : ℕ) (c d : DuplexState F P)
         → ¬ ((single r permute rate resample bits).draw.may_leave c d)
     single-takes_no_memory bits c d = one-takes_no_memory resample (uniform_bound r.order bits) bits c d
 
-    of_size-takes_no_memory : (size : Bool) (bits : ℕ) (c d : DuplexState F P)
-        → ¬ ((of_size r permute rate resample size bits).draw.may_leave c d)
-    of_size-takes_no_memory true bits c d (inl low) = single-takes_no_memory (bits / 2) c d low
-    of_size-takes_no_memory true bits c d (inr high) =
+    in_parts-takes_no_memory : (size : Bool) (bits : ℕ) (c d : DuplexState F P)
+        → ¬ ((in_parts r permute rate resample size bits).draw.may_leave c d)
+    in_parts-takes_no_memory true bits c d (inl low) = single-takes_no_memory (bits / 2) c d low
+    in_parts-takes_no_memory true bits c d (inr high) =
         single-takes_no_memory (bits - bits / 2) ((single r permute rate resample (bits / 2)).draw.after c) d high.1
-    of_size-takes_no_memory false bits c d h = single-takes_no_memory bits c d h
+    in_parts-takes_no_memory false bits c d h = single-takes_no_memory bits c d h
 
     pub uniform_bits-take_no_memory : (most_of_one bits : ℕ) (c d : DuplexState F P)
         → ¬ ((uniform_bits r permute rate resample most_of_one bits).draw.may_leave c d)
     uniform_bits-take_no_memory most_of_one zero c d h = h
     uniform_bits-take_no_memory most_of_one (suc more) c d h =
-        of_size-takes_no_memory (nat_lt most_of_one (suc more)) (suc more) c d h
+        in_parts-takes_no_memory (nat_lt most_of_one (suc more)) (suc more) c d h
 
     -- nor does a check of a witness by them
     pub check-takes_no_memory : (most_of_one bits : ℕ) (witness : F) (c d : DuplexState F P)
@@ -163,16 +172,25 @@ module _ {F P : Type 0} (r : Residues F) (permute : P → List F → List F) (ra
     check-takes_no_memory most_of_one (suc more) witness c d (inr (is, inr tested)) =
         uniform_bits-take_no_memory most_of_one (suc more) (observed r permute rate c witness) d tested
 
-    -- the answer of a draw of one element is the bits of an element below the bound
-    pub single-of_element : (bits : ℕ) (c : DuplexState F P) (value : ℕ)
-        → (single r permute rate resample bits).draw.sampled c ≡ Some value
-        → (x : F) × (r.number x < uniform_bound r.order bits) × (low_bits r bits x ≡ value)
-    single-of_element bits c value drawn = one-of_element resample (uniform_bound r.order bits) bits c value drawn
-
-    -- no more bits than one element serves for are drawn from one
-    pub uniform_bits-single : (most_of_one bits : ℕ) (c : DuplexState F P) → 0 < bits → bits ≤ most_of_one
+    -- as few bits as one element serves for are the low ones of the element that is taken
+    pub uniform_bits-taken : (most_of_one bits : ℕ) (c : DuplexState F P) → 0 < bits → bits ≤ most_of_one
         → (uniform_bits r permute rate resample most_of_one bits).draw.sampled c
-        ≡ (single r permute rate resample bits).draw.sampled c
-    uniform_bits-single most_of_one zero c some few = absurd (omega (arith, some))
-    uniform_bits-single most_of_one (suc more) c some few =
-        ap (λ b. (of_size r permute rate resample b (suc more)).draw.sampled c) (not_more most_of_one (suc more) few)
+        ≡ option_map (low_bits r bits) (taken_element r permute rate resample bits c)
+    uniform_bits-taken most_of_one zero c some few = absurd (omega (arith, some))
+    uniform_bits-taken most_of_one (suc more) c some few =
+        ap (λ b. (in_parts r permute rate resample b (suc more)).draw.sampled c) (not_more most_of_one (suc more) few)
+        ∙ single-taken resample (suc more) c
+
+  -- a draw that may not draw another value in the place of a rejected one meets no limit
+
+  in_parts-meets_no_limit : (size : Bool) (bits : ℕ) (c : DuplexState F P)
+      → ¬ ((in_parts r permute rate false size bits).draw.meets_limit c)
+  in_parts-meets_no_limit true bits c (inl low) = low
+  in_parts-meets_no_limit true bits c (inr high) = high.1
+  in_parts-meets_no_limit false bits c h = h
+
+  pub uniform_bits-meet_no_limit : (most_of_one bits : ℕ) (c : DuplexState F P)
+      → ¬ ((uniform_bits r permute rate false most_of_one bits).draw.meets_limit c)
+  uniform_bits-meet_no_limit most_of_one zero c h = h
+  uniform_bits-meet_no_limit most_of_one (suc more) c h =
+      in_parts-meets_no_limit (nat_lt most_of_one (suc more)) (suc more) c h

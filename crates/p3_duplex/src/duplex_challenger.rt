@@ -28,7 +28,9 @@ mod digests;
 mod grinding;
 mod uniform;
 
-use p3_challenger_core::{CanFinalizeDigest, CanObserve, CanSample, ChallengerError, Sponge};
+use p3_challenger_core::{
+    CanFinalizeDigest, CanObserve, CanSample, CanSampleBits, ChallengerError, Sponge,
+};
 use p3_field_core::{BasedVectorSpace, PrimeCharacteristicRing, PrimeField64};
 use p3_symmetric::CryptographicPermutation;
 use std::marker::Model;
@@ -148,9 +150,18 @@ impl<
     /// A law: the body does nothing, and a caller cites the clause.
     pub fn draws_are_not_refused<A: BasedVectorSpace<F>>(&self)
         ensures { (n : ℕ) (e : ChallengerError) (s t : duplex_state.DuplexState F P) →
-            ¬ (RefusesDraws (unrefused_draw
-            (λ u. Some (A.element (duplex_state.drawn F.residues P.permutation RATE A.DIMENSION u)))
-            (λ u. duplex_state.after_drawn F.residues P.permutation RATE A.DIMENSION u)) n e s t) }
+            ¬ (RefusesDraws ⟦<DuplexChallenger<F, P, WIDTH, RATE> as CanSample<A>>⟧.sampling n e s t) }
+    {
+        let _ = &self.outputs_left;
+    }
+
+    /// Nor are draws of bits.
+    ///
+    /// A law: the body does nothing, and a caller cites the clause.
+    pub fn bit_draws_are_not_refused(&self)
+        ensures { (bits n : ℕ) (e : ChallengerError) (s t : duplex_state.DuplexState F P) →
+            ¬ (RefusesDraws (⟦<DuplexChallenger<F, P, WIDTH, RATE> as CanSampleBits<usize>>⟧.bits_sampling bits)
+            n e s t) }
     {
         let _ = &self.outputs_left;
     }

@@ -50,6 +50,7 @@ impl<
     const WIDTH: usize,
     const RATE: usize,
 > GrindingChallenger for DuplexChallenger<F, P, WIDTH, RATE> {
+    ghost use Rattle.std.proofs.Common.{refl};
     ghost use Rattle.p3_challenger_core.specs.SymbolLaws.{one_symbol_each};
 
     type Witness = F;
@@ -58,6 +59,8 @@ impl<
     ghost may_run_out = { λ _. ⊥ };
 
     ghost tells_witnesses = { record { prefix_code = one_symbol_each; some = λ _. tt } };
+
+    ghost number_is = { λ n. refl };
 
     fn grind(&mut self, bits: usize) -> Result<F, ChallengerError> {
         least_witness(self, bits)

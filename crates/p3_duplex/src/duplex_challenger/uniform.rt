@@ -1,6 +1,6 @@
 //! Uniform bits, drawn from a duplex challenger: the low bits of elements that are below the bound of the field for so
 //! many bits. As few bits as one element serves for are drawn from one, and more of them in two halves.
-ghost use Rattle.std.specs.Prelude.{◌≡◌, ◌<◌, ◌≤◌, ◌^◌, ◌/◌, ℕ, Bool, Some, OnOk, IfOk, IfErr};
+ghost use Rattle.std.specs.Prelude.{◌≡◌, ◌<◌, ◌≤◌, ◌^◌, ◌/◌, ℕ, Bool, false, Some, OnOk, IfOk, IfErr};
 ghost use Rattle.p3_field_core.specs.UniformBounds.{uniform_bound};
 ghost use Rattle.p3_challenger_core.specs.Sampling.{RefusesDraw};
 ghost use Rattle.p3_grinding.specs.Candidates.{accepted_of, accepted_within};
@@ -18,25 +18,42 @@ impl<
     const WIDTH: usize,
     const RATE: usize,
 > DuplexChallenger<F, P, WIDTH, RATE> {
-    ghost use Rattle.p3_duplex.specs.DuplexUniform.{base_draw, draws_allowed, single, halved, how_many_give};
+    ghost use Rattle.std.specs.Option.{option_map};
+    ghost use Rattle.p3_duplex.specs.DuplexUniform.{base_draw, draws_allowed, taken_element, single, halved};
+    ghost use Rattle.p3_duplex.specs.DuplexUniform.{how_many_give};
     ghost use Rattle.p3_duplex.specs.DuplexState.{DuplexState};
 
-    /// Bits that are drawn from one element have no bias: a value is that of the low bits of an element below the bound
-    /// for so many, and each value of the bits is that of as many of these elements as the bound has multiples of
-    /// `2^bits`.
+    /// Bits that are drawn from one element have no bias: they are the low bits of the element that is taken, which is
+    /// below the bound for so many, and each value of the bits is that of as many of the elements below the bound as the
+    /// bound has multiples of `2^bits`. At least one bit is asked for, and as many as one element serves for.
     ///
     /// A law: the body does nothing, and a caller cites the clauses.
     pub fn uniform_bits_have_no_bias(&self)
-        ensures single { (resample : Bool) (bits : ℕ) (c : DuplexState F P) → 0 < bits →
+        ensures drawn { (resample : Bool) (bits : ℕ) (c : DuplexState F P) → 0 < bits →
             bits ≤ F.MAX_SINGLE_SAMPLE_BITS →
             (⟦<DuplexChallenger<F, P, WIDTH, RATE> as CanSampleUniformBits<F>>⟧.uniform resample bits).draw.sampled c
-            ≡ (single F.residues P.permutation RATE resample bits).draw.sampled c }
-        ensures of_element { (resample : Bool) (bits : ℕ) (c : DuplexState F P) (value : ℕ) →
-            (single F.residues P.permutation RATE resample bits).draw.sampled c ≡ Some value →
-            (x : F) × (F.residues.number x < uniform_bound F.residues.order bits)
-            × (low_bits F.residues bits x ≡ value) }
+            ≡ option_map (low_bits F.residues bits)
+            (taken_element F.residues P.permutation RATE resample bits c) }
+        ensures below { (resample : Bool) (bits : ℕ) (c : DuplexState F P) (x : F) →
+            taken_element F.residues P.permutation RATE resample bits c ≡ Some x →
+            F.residues.number x < uniform_bound F.residues.order bits }
         ensures shared { (bits value : ℕ) → value < 2 ^ bits → how_many_give F.residues bits value
             ≡ uniform_bound F.residues.order bits / 2 ^ bits }
+    {
+        let _ = &self.outputs_left;
+    }
+
+    /// Draws of uniform bits take no memory, and those that draw no other value in the place of a rejected one meet no
+    /// limit.
+    ///
+    /// A law: the body does nothing, and a caller cites the clauses.
+    pub fn uniform_draws_take_no_memory(&self)
+        ensures memory { (resample : Bool) (bits : ℕ) (c d : DuplexState F P) →
+            let u = ⟦<DuplexChallenger<F, P, WIDTH, RATE> as CanSampleUniformBits<F>>⟧.uniform resample bits in
+            ¬ (u.draw.may_leave c d) }
+        ensures limit { (bits : ℕ) (c : DuplexState F P) →
+            let u = ⟦<DuplexChallenger<F, P, WIDTH, RATE> as CanSampleUniformBits<F>>⟧.uniform false bits in
+            ¬ (u.draw.meets_limit c) }
     {
         let _ = &self.outputs_left;
     }
