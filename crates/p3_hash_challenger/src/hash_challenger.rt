@@ -20,7 +20,7 @@ ghost use Rattle.p3_hash_challenger.specs.HashState.{function_of, pending_of};
 ghost use Rattle.p3_hash_challenger.specs.HashCalls.{absorbing, outputs, hash_by_calls};
 ghost use Rattle.p3_challenger_core.specs.Observation.{RefusesObserve};
 ghost use Rattle.p3_challenger_core.specs.Sponge.{IsNonEmpty};
-ghost use Rattle.p3_challenger_core.specs.Sampling.{RefusesDraws, unrefused_draw};
+ghost use Rattle.p3_challenger_core.specs.Sampling.{RefusesDraws};
 ghost use Rattle.p3_challenger_core.specs.declared.error.ChallengerError.{ChallengerError};
 
 mod digests;
@@ -157,8 +157,7 @@ impl<T: Copy, H: CryptographicHasher<T, [T; OUT_LEN]>, const OUT_LEN: usize> Has
     /// A law: the body does nothing, and a caller cites the clause.
     pub fn draws_are_not_refused(&self)
         ensures { (n : ℕ) (e : ChallengerError) (s t : hash_state.HashState T H) →
-            ¬ (RefusesDraws (unrefused_draw (λ u. Some (hash_state.sampled (function_of H.hash OUT_LEN H.filler) u))
-            (hash_state.after_sampled (function_of H.hash OUT_LEN H.filler))) n e s t) }
+            ¬ (RefusesDraws ⟦<HashChallenger<T, H, OUT_LEN> as CanSample<T>>⟧.sampling n e s t) }
     {
         let _ = &self.outputs_left;
     }

@@ -19,7 +19,7 @@ pub enum MultiField32ChallengerError {
     #[error("a full absorb batch contains {batch_len} sampled-field elements, \
          exceeding the u8 length-tag limit of {max}")]
     AbsorbLengthTagOverflow {
-        /// How many scalars the rate packs.
+        /// How many scalars the rate packs, at most 2^64 - 1.
         batch_len: usize,
         /// The greatest tag: 255.
         max: usize,

@@ -19,7 +19,7 @@ ghost use Rattle.p3_multi_field.specs.MultiFieldCalls.{digit_in_row};
 ghost use Rattle.p3_challenger_core.specs.Segments.{Call, segments, run_calls, run_calls_to_digest};
 ghost use Rattle.p3_challenger_core.specs.Segments.{run_segments, run_segments_to_digest};
 ghost use Rattle.p3_challenger_core.specs.Observation.{LeavesInCalls, RefusesObserve};
-ghost use Rattle.p3_challenger_core.specs.Sampling.{RefusesDraws, unrefused_draw};
+ghost use Rattle.p3_challenger_core.specs.Sampling.{RefusesDraws};
 ghost use Rattle.p3_challenger_core.specs.declared.error.ChallengerError.{ChallengerError};
 ghost use Rattle.p3_multi_field.specs.MultiFieldCalls.{Symbol, multi_field_by_calls};
 ghost use Rattle.p3_multi_field.specs.MultiFieldSegments.{multi_field_by_segments};
@@ -30,7 +30,9 @@ mod digests;
 mod grinding;
 
 use crate::{MultiField32ChallengerError, MultiFieldSymbol, Paired};
-use p3_challenger_core::{CanFinalizeDigest, CanObserve, CanSample, ChallengerError, Sponge};
+use p3_challenger_core::{
+    CanFinalizeDigest, CanObserve, CanSample, CanSampleBits, ChallengerError, Sponge,
+};
 use p3_field_bridge::FieldBridge;
 use p3_field_core::{BasedVectorSpace, Named, PrimeField32, PrimeField64};
 use p3_symmetric::CryptographicPermutation;
@@ -198,9 +200,17 @@ impl<
     /// A law: the body does nothing, and a caller cites the clause.
     pub fn draws_are_not_refused<A: BasedVectorSpace<F>>(&self)
         ensures { (n : ℕ) (e : ChallengerError) (s t : multi_state.MultiFieldState F PF P) →
-            ¬ (RefusesDraws (unrefused_draw
-            (λ u. Some (A.element (multi_state.drawn ⟦<PF as Paired<F>>⟧.pair P.permutation RATE A.DIMENSION u)))
-            (λ u. multi_state.after_drawn ⟦<PF as Paired<F>>⟧.pair P.permutation RATE A.DIMENSION u)) n e s t) }
+            ¬ (RefusesDraws ⟦<Self as CanSample<A>>⟧.sampling n e s t) }
+    {
+        let _ = &self.outputs_left;
+    }
+
+    /// Nor are draws of bits.
+    ///
+    /// A law: the body does nothing, and a caller cites the clause.
+    pub fn bit_draws_are_not_refused(&self)
+        ensures { (bits n : ℕ) (e : ChallengerError) (s t : multi_state.MultiFieldState F PF P) →
+            ¬ (RefusesDraws (⟦<Self as CanSampleBits<usize>>⟧.bits_sampling bits) n e s t) }
     {
         let _ = &self.outputs_left;
     }

@@ -57,6 +57,7 @@ impl<
     const WIDTH: usize,
     const RATE: usize,
 > GrindingChallenger for MultiField32Challenger<F, PF, P, WIDTH, RATE> {
+    ghost use Rattle.std.proofs.Common.{refl};
     ghost use Rattle.p3_multi_field.specs.MultiFieldSymbolLaws.{scalar-prefix_code};
 
     type Witness = F;
@@ -65,6 +66,8 @@ impl<
     ghost may_run_out = { λ _. ⊥ };
 
     ghost tells_witnesses = { record { prefix_code = scalar-prefix_code; some = λ _. tt } };
+
+    ghost number_is = { λ n. refl };
 
     fn grind(&mut self, bits: usize) -> Result<F, ChallengerError> {
         least_witness(self, bits)
