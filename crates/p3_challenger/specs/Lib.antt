@@ -1,8 +1,5 @@
+pub mod Dependence
 pub use Rattle.p3_symmetric.specs.Turn
-pub use Rattle.p3_symmetric.specs.Digests
-pub use Rattle.p3_symmetric.specs.DigestLaws
-pub use Rattle.p3_symmetric.specs.Digests
-pub use Rattle.p3_symmetric.specs.DigestLaws
 pub use Rattle.p3_symmetric.specs.Digests
 pub use Rattle.p3_symmetric.specs.DigestLaws
 pub use Rattle.p3_symmetric.specs.HashValues
@@ -48,6 +45,7 @@ pub use Rattle.p3_multi_field.specs.MultiFieldCalls
 pub use Rattle.p3_multi_field.specs.MultiFieldSegments
 pub use Rattle.p3_multi_field.specs.MultiFieldState
 pub use Rattle.p3_multi_field.specs.MultiFieldStateLaws
+pub use Rattle.p3_multi_field.specs.MultiFieldSymbolLaws
 pub use Rattle.p3_multi_field.specs.Refusals
 pub use Rattle.p3_fs_core.specs.Alphabet
 pub use Rattle.p3_fs_core.specs.AlphabetLaws
@@ -114,12 +112,18 @@ pub use Rattle.p3_field.specs.Coefficients
 pub use Rattle.p3_field.specs.CoeffsCoefficients
 pub use Rattle.p3_field.specs.CoefficientLaws
 pub use Rattle.p3_field.specs.Equality
+pub use Rattle.p3_field.specs.UniformBounds
+pub use Rattle.p3_field.specs.UniformBoundLaws
 pub use Rattle.p3_field.specs.SmallPrimes
 pub use Rattle.p3_field.specs.SmallPrimeLaws
 pub use Rattle.p3_field.specs.BabyBearResidues
 pub use Rattle.p3_field.specs.F257Residues
 pub use Rattle.p3_field.specs.GoldilocksResidues
 pub use Rattle.p3_field.specs.GoldilocksLaws
+pub use Rattle.p3_field.specs.BridgeLaws
+pub use Rattle.p3_field.specs.Bridges
+pub use Rattle.p3_field.specs.DigitLaws
+pub use Rattle.p3_field.specs.Digits
 pub use Rattle.p3_small_primes.specs.declared.small_prime.SmallPrime
 pub use Rattle.p3_goldilocks.specs.declared.goldilocks.Goldilocks
 pub use Rattle.p3_field_core.specs.declared.coeffs.Coeffs

@@ -211,6 +211,23 @@ giving-refused laws = let none = laws.rejected_gives_none 0 refl in cc
 limiting-refused : IsUniformDraw suc false (rejecting (λ _. None) (λ _. Unit {0})) → ⊥
 limiting-refused laws = laws.rejected_or_limit 0 refl tt
 
+-- a value below the bound is rejected
+abbrev rejecting_small : UniformDraw ℕ
+rejecting_small =
+    record {
+      draw = record { sampled = λ _. None; after = suc; meets_limit = λ _. ⊥; may_leave = λ _ _. ⊥ };
+      rejects = λ _. Some (record { value = 0; m = 9 });
+    }
+
+small_rejected-refused : IsUniformDraw suc false rejecting_small → ⊥
+small_rejected-refused laws =
+    let above : 9 ≤ 0 = laws.above 0 (record { value = 0; m = 9 }) refl in
+    absurd (omega (arith, above))
+
+-- the number of drawn bits is another one than what is drawn
+other_number-refused : ((n : ℕ) → suc n ≡ n) → ⊥
+other_number-refused is = let one = is 0 in absurd (omega (arith, one))
+
 -- a witness feeds nothing
 unfed_witness-refused : TellsApart {T = ℕ} {S = ℕ} (λ _. []) → ⊥
 unfed_witness-refused laws = absurd (omega (arith, (laws.prefix_code 0 1 [] [] refl).0))

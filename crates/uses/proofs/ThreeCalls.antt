@@ -9,7 +9,8 @@ use Rattle.p3_challenger.specs.ObservationLaws.{all-fed, calls-leave}
 use Rattle.p3_challenger.specs.Sampling.{Sampling, IsSampling, RefusesDraw}
 use Rattle.p3_challenger.specs.ChallengerError.{ChallengerError}
 use Rattle.p3_challenger.specs.ChallengerError.TheVariants.{OutOfMemory, DrawLimit, NoWitness, TooLong}
-use Rattle.uses.specs.ThreeCalls.{DrawsAfter, RefusesThreeCalls}
+use Rattle.p3_challenger.specs.Dependence.{DrawsAfter}
+use Rattle.uses.specs.ThreeCalls.{RefusesThreeCalls}
 use Rattle.uses.proofs.Either.{either, either-is_observation}
 
 module _ {S Symbol A B X : Type 0} (fed : S → List Symbol → S) (fed_nothing : (s : S) → fed s [] ≡ s)

@@ -1,16 +1,10 @@
 -- Values are observed in two calls, and one is drawn in a third.
-use Rattle.std.specs.Prelude.{◌≡◌, List, ◌⊎◌, Some}
+use Rattle.std.specs.Prelude.{◌≡◌, List, ◌⊎◌}
 use Rattle.p3_challenger.specs.Sponge.{IsFed, IsStepsOn}
 use Rattle.p3_challenger.specs.Observation.{LeavesFed}
 use Rattle.p3_challenger.specs.Sampling.{Sampling}
 use Rattle.p3_challenger.specs.ChallengerError.{ChallengerError}
 use Rattle.p3_challenger.specs.ChallengerError.TheVariants.{OutOfMemory, DrawLimit}
-
--- after these symbols, the value is drawn
-abbrev pub DrawsAfter : {S Symbol X : Type 0} →
-    (S → List Symbol → S) → Sampling S X → List Symbol → X → S → S → Type 0
-DrawsAfter {S} fed d symbols x s t =
-    (here : S) × IsFed fed s symbols here × (d.sampled here ≡ Some x) × (t ≡ d.after here)
 
 -- What the calls leave where one answers this error. Where memory is refused, a front of the symbols was fed, or all
 -- of them were and then some of the smallest draws were made; where the draw meets its limit, it was made.

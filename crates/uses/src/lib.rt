@@ -8,16 +8,14 @@
 //!   also where one of them is refused, and that those symbols bind the values; and what a step is played from, after
 //!   a call on the challenger that a driver lends.
 //! - [`own_permutation`] and [`own_hasher`]: what to hand in for a permutation and a hasher of one's own.
-//! - `line`: the shortest protocol, with [`prove`] and [`verify`].
 //!
-//! Each has a wrong version in `wrong-bodies/` that its contract refuses: a challenge drawn too early, a message read
-//! as a hint. The program `examples` plays them.
+//! Most have wrong versions in `wrong-bodies/` that their contracts refuse: a challenge drawn too early, a message read
+//! as a hint, bytes left over. The program `examples` plays the protocols.
 #![tactic(auto)]
 
 mod bound_values;
 pub mod commit_phase;
 mod extra_value;
-mod line;
 pub mod opening;
 pub mod own_hasher;
 pub mod own_permutation;
@@ -27,6 +25,5 @@ mod three_calls;
 
 pub use bound_values::{absorb_values, symbols_bind_values};
 pub use extra_value::{receive_after, send_after};
-pub use line::{Line, Opening, prove, verify};
 pub use round::{Round, first_challenge, receive_and_draw, send_and_draw};
 pub use three_calls::observe_and_draw;

@@ -1,8 +1,8 @@
 //! A hasher of one's own, for a [`HashChallenger`](p3_challenger::HashChallenger) and for the digests of patterns.
 //!
 //! What a challenger needs is a function of lists, and that each digest has all its places; what a separator needs is a
-//! function of bytes that the type alone gives, whose digests are 32 bytes. That digests are hard to find no contract
-//! says. [`Polynomial`] shows the form and is of no strength.
+//! function of bytes that the type alone gives, whose digests are 32 bytes. No contract says that two lists with one
+//! digest are hard to find. [`Polynomial`] shows the form and is of no strength.
 ghost use Rattle.std.specs.Prelude.{◌≡◌, ◌%◌};
 ghost use Rattle.uses.specs.OwnHasher.{polynomial};
 

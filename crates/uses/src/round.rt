@@ -9,7 +9,7 @@ ghost use Rattle.p3_challenger.specs.Proving.{proving_of};
 ghost use Rattle.p3_challenger.specs.SeparatorSeed.{seed_of_separator};
 ghost use Rattle.p3_challenger.specs.Verifying.{verifying_of};
 ghost use Rattle.uses.specs.SentAndDrawn.{DrawnAfter, LeavesRound};
-ghost use Rattle.uses.specs.ThreeCalls.{DrawsAfter};
+ghost use Rattle.p3_challenger.specs.Dependence.{DrawsAfter};
 
 use p3_challenger::CanObserve;
 use p3_challenger::fs::{

@@ -2,7 +2,8 @@
 //! Where one of the calls is refused, the traits alone say which front of the symbols was fed.
 ghost use Rattle.std.specs.Prelude.{◌≡◌, ◌++◌, Some, flat_map, IfOk, IfErr};
 ghost use Rattle.p3_challenger.specs.Sponge.{IsFed};
-ghost use Rattle.uses.specs.ThreeCalls.{DrawsAfter, RefusesThreeCalls};
+ghost use Rattle.p3_challenger.specs.Dependence.{DrawsAfter};
+ghost use Rattle.uses.specs.ThreeCalls.{RefusesThreeCalls};
 
 use p3_challenger::{CanObserve, CanSample, ChallengerError};
 

@@ -91,6 +91,7 @@ impl<
     Inner: ByteGrindingChallenger<BYTES, BYTES>,
     const BYTES: usize,
 > GrindingChallenger for SerializingChallenger<F, Inner, BYTES> {
+    ghost use Rattle.std.proofs.Common.{refl};
     ghost use Rattle.p3_serializing.specs.SerializingGrinding.{may_run_out_of};
     ghost use Rattle.p3_serializing.specs.SerializingSymbolLaws.{elements-tell_apart};
 
@@ -102,6 +103,8 @@ impl<
 
     ghost tells_witnesses = { elements-tell_apart Inner.CanObserve.observation.symbols Inner.tells_bytes F.residues
         F.are_residues BYTES F.order_fits };
+
+    ghost number_is = { λ n. refl };
 
     fn grind(&mut self, bits: usize) -> Result<F, ChallengerError> {
         least_witness(self, bits)
