@@ -2,9 +2,10 @@ pub mod Begun
 pub mod BoundValues
 pub mod CommitPhase
 pub mod Either
-pub mod Protocol
 pub mod MerkleOpening
 pub mod OwnHasher
+pub mod ReadBytes
 pub mod Rejecting
+pub mod Runs
 pub mod SentAndDrawn
 pub mod ThreeCalls

@@ -11,14 +11,10 @@ use Rattle.p3_challenger.specs.Observation.{observed_all}
 use Rattle.p3_challenger.specs.Reads.{Read, ended_early, message_too_long, read_bytes, read_count, read_counted_bytes}
 use Rattle.p3_challenger.specs.Reads.{then_read, unreadable}
 use Rattle.p3_challenger.specs.Sampling.{Sampling}
+use Rattle.uses.proofs.ReadBytes.{one_of, not_read, bytes-read}
 use Rattle.uses.specs.MerkleOpening.{AreNodes, IsClimb, IsDrawnPlace, IsOpened, above, climbed, leaf_node_of}
 
 -- ---- what was read
-
-one_of : {R : Type 0} (b : Bool) (x y z : R) → (if b then x else y) ≡ z →
-    ((b ≡ true) × (x ≡ z)) ⊎ ((b ≡ false) × (y ≡ z))
-one_of true x y z e = inl (refl, e)
-one_of false x y z e = inr (refl, e)
 
 -- the leaf's count takes one byte
 one_wide : count_width 64 ≡ 1
@@ -37,23 +33,6 @@ first_byte (b ∷ bytes) some =
     ap (λ n. n ∷ bytes) same
 
 module _ {S : Type 0} where
-  not_read : {A : Type 0} (reason left : List ℕ) (x : A) (rest : List ℕ) →
-      unreadable {S = S} reason left ≡ Ok (x, rest) → ⊥
-  not_read reason left x rest e = absurd (cc)
-
-  pub bytes-read : (n : ℕ) (bytes x rest : List ℕ) → read_bytes {S = S} n bytes ≡ Ok (x, rest) →
-      (bytes ≡ x ++ rest) × (length x ≡ n)
-  bytes-read n bytes x rest e = elim (one_of (nat_lt (length bytes) n) _ _ _ e) [
-    | inl short ↦ absurd (not_read ended_early bytes x rest short.1)
-    | inr whole ↦
-        let enough : n ≤ length bytes = grind (arith, nat_tests, whole.0) in
-        let is : ◌≡◌ {A = Read S (List ℕ)} (Ok (take n bytes, drop n bytes)) (Ok (x, rest)) = whole.1 in
-        let both : ◌≡◌ {A = List ℕ × List ℕ} (take n bytes, drop n bytes) (x, rest) = cc in
-        let front : take n bytes ≡ x = ap (λ p. p.0) both in
-        let back : drop n bytes ≡ rest = ap (λ p. p.1) both in
-        (sym (take-append-drop n bytes) ∙ (λ i. front i ++ back i), ap length (sym front) ∙ length-take-le n bytes enough)
-  ]
-
   -- a count of at most 64 in so many bytes
   abbrev counted : ℕ → List ℕ → Read S ℕ
   counted width bytes =

@@ -29,7 +29,7 @@ pub record IsRun {S Symbol : Type 0} (o : Observation S Symbol BabyBear) (places
     (e : Encoding BabyBear) (s : S) (claim : Claim) (bytes : List ℕ) : Type 0 where
   pub place : places.sampled (o.observed (o.observed s claim.slope) claim.offset) ≡ Some claim.place
   pub divisor :
-    IsDivisor divisors (places.after (o.observed (o.observed s claim.slope) claim.offset)) claim.divisor
+      IsDivisor divisors (places.after (o.observed (o.observed s claim.slope) claim.offset)) claim.divisor
   pub spelled : bytes ≡ e.wire claim.slope ++ (e.wire claim.offset ++ e.wire claim.quotient)
 
 -- what a prover hands over: the line's value at the place, times a power of the divisor that divides by it

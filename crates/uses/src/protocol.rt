@@ -4,9 +4,10 @@
 //! value at the place, divided by the divisor. That number is a hint: it is not absorbed, so no challenge depends on it,
 //! and the verifier checks it by itself. The place and the divisor have to depend on the line. The contract of [`verify`]
 //! says that they do, and which bytes the proof is.
-ghost use Rattle.std.specs.Prelude.{◌≡◌, ◌++◌, ℕ, List, IfOk, IfSome, OnOk};
+ghost use Rattle.std.specs.Prelude.{◌≡◌, ◌++◌, ℕ, List, [], IfOk, IfSome, OnOk};
 ghost use Rattle.p3_challenger.specs.HashCalls.{absorbing};
 ghost use Rattle.p3_challenger.specs.Proving.{proving_of};
+ghost use Rattle.p3_challenger.specs.Reading.{AreBytes};
 ghost use Rattle.p3_challenger.specs.SeparatorSeed.{seed_of_separator};
 ghost use Rattle.p3_challenger.specs.Verifying.{verifying_of};
 ghost use Rattle.uses.specs.Protocol.{IsDivisor, IsQuotient, IsRun, IsSent, may_divide};
@@ -124,8 +125,8 @@ pub fn verify(
 fn receive(verifier: &mut Verifier<'_>) -> Result<Claim, TranscriptError>
     ensures { let before = verifying_of ⟦<Challenger as Sponge>⟧.state verifier.old in
         let after = verifying_of ⟦<Challenger as Sponge>⟧.state verifier.new in
-        IfOk result (λ claim. (bytes : List ℕ) × (before.unread ≡ bytes ++ after.unread)
-        × IsRun ⟦<Scalars as Codec<Challenger, BabyBear>>⟧.observation
+        IfOk result (λ claim. AreBytes before.unread →
+        (bytes : List ℕ) × (before.unread ≡ bytes ++ after.unread) × IsRun ⟦<Scalars as Codec<Challenger, BabyBear>>⟧.observation
         ⟦<Scalars as Codec<Challenger, BabyBear>>⟧.sampling ⟦<Coefficient as Codec<Challenger, BabyBear>>⟧.sampling
         ⟦<Scalars as Codec<Challenger, BabyBear>>⟧.encoding before.turn.challenger claim bytes) }
 {

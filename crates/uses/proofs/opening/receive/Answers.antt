@@ -2,7 +2,8 @@ use Rattle.std.proofs.Common.{sym, ap, ◌∙◌}
 use Rattle.p3_challenger.specs.HashState.{observed}
 use Rattle.p3_challenger.specs.Observation.{observed_all}
 use Rattle.p3_symmetric.specs.contracts.sha256.Sha256HasherDigestHasher.TheImpl as digests
-use Rattle.uses.proofs.MerkleOpening.{bytes-read, leaf-read, counted-leaf, opened-by}
+use Rattle.uses.proofs.ReadBytes.{bytes-read}
+use Rattle.uses.proofs.MerkleOpening.{leaf-read, counted-leaf, opened-by}
 use Rattle.uses.proofs.opening.receive.Goals as goal
 
 pub returns : goal.returns

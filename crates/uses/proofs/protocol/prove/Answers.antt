@@ -3,7 +3,7 @@ use Rattle.p3_challenger.specs.Proving.{proving_of}
 use Rattle.p3_challenger.specs.SeparatorSeed.{seed_of_separator}
 use Rattle.p3_symmetric.specs.contracts.sha256.Sha256HasherDigestHasher.TheImpl as digests
 use Rattle.uses.proofs.Begun.{begun-as}
-use Rattle.uses.proofs.Protocol.{once-both, sent-as, sent-alone}
+use Rattle.uses.proofs.Runs.{once-both, sent-as, sent-alone}
 use Rattle.uses.proofs.protocol.prove.Goals as goal
 
 pub returns : goal.returns

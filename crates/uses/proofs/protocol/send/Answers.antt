@@ -1,6 +1,6 @@
 use Rattle.std.proofs.Common.{rules}
 use Rattle.p3_challenger.specs.Bound.{value_of}
-use Rattle.uses.proofs.Protocol.{once-written, sent-by}
+use Rattle.uses.proofs.Runs.{once-written, sent-by}
 use Rattle.uses.proofs.protocol.send.Goals as goal
 
 pub returns : goal.returns

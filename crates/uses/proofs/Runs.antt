@@ -58,7 +58,7 @@ module _ {S Symbol : Type 0} (o : Observation S Symbol BabyBear) (places divisor
       bytes ≡ e.wire claim.slope ++ (e.wire claim.offset ++ e.wire claim.quotient) → IsRun o places divisors e s claim bytes
   run-by s after_slope after_offset after_place claim bytes slope offset place then divisor spelled =
       let observed : after_offset ≡ o.observed (o.observed s claim.slope) claim.offset =
-          offset ∙ ap (λ u. o.observed u claim.offset) slope in
+      offset ∙ ap (λ u. o.observed u claim.offset) slope in
       record {
         place = ap places.sampled (sym observed) ∙ place;
         divisor = subst (λ u. IsDivisor divisors u claim.divisor) (then ∙ ap places.after observed) divisor;
