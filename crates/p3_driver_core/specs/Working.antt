@@ -1,5 +1,5 @@
 -- Proof of work in a step.
-use Rattle.std.specs.Prelude.{◌≡◌, ℕ, zero, suc, ◌⊎◌, Bool, false, List, [], Option, Some, None, codes}
+use Rattle.std.specs.Prelude.{◌≡◌, ℕ, zero, suc, Bool, false, List, [], Option, Some, None, codes}
 use Rattle.std.specs.Prelude.{if◌then◌else◌, Result, MatchResult}
 use Rattle.p3_field_core.specs.Residues.{Residues}
 use Rattle.p3_challenger_core.specs.Observation.{Observation}
@@ -12,7 +12,7 @@ use Rattle.p3_fs_core.specs.Steps.{Step}
 use Rattle.p3_fs_core.specs.declared.error.TranscriptError.{TranscriptError}
 use Rattle.p3_fs_core.specs.declared.error.TranscriptError.TheVariants.{Pattern, BadProofShape, Challenger, OutOfMemory}
 use Rattle.p3_driver_core.specs.Effects.{Effect}
-use Rattle.p3_driver_core.specs.Turns.{Meaning, Turn, Plays, Refuses, RefusesTurn, GivesUp, without_wire}
+use Rattle.p3_driver_core.specs.Turns.{Meaning, Turn, Plays, RefusesTurn, GivesUp, without_wire}
 
 abbrev pub too_few_zero_bits : List ℕ
 too_few_zero_bits = codes "pow witness does not produce enough zero bits"
@@ -82,11 +82,16 @@ module _ {S Symbol W : Type 0} (work : Work S Symbol W) where
     pub gives_up : GivesUp work.interaction before
         (λ s t. ((work.check x).sampled s ≡ Some false) × (t ≡ (work.check x).after s)) after
 
+  -- why a witness is not taken, and what is left: the step may not be played; or too few bits are 0, or the challenger
+  -- refused the check, which alone asks for memory
+  abbrev pub RefusesToCheck : W → Turn S → TranscriptError → Turn S → Type 0
+  RefusesToCheck x before (Pattern e) after = RefusesTurn work.interaction before (Pattern e) after
+  RefusesToCheck x before e after = GivesUp work.interaction before (RefusesWitness (work.check x) e) after
+
   -- the step is played, with this witness; or it is refused
   abbrev pub ChecksOrRefuses : {R : Type 0} → W → Turn S → Result R TranscriptError → Turn S → Type 0
   ChecksOrRefuses x before result after =
-      MatchResult result (λ _. Plays (observed_work x) before x after)
-      (λ e. Refuses (observed_work x) before e after ⊎ FailsCheck x before e after)
+      MatchResult result (λ _. Plays (observed_work x) before x after) (λ e. RefusesToCheck x before e after)
 
   -- ---- a witness is searched for
 

@@ -41,7 +41,9 @@ fn draw_taken<T: Copy, C: Sponge, Cdc: Codec<C, T>, R: Fn(&T, &[T]) -> bool>(
 /// refused `limit` candidates in a row, counted from the last kept one or the start. What was drawn is consumed.
 ///
 /// Conditions: the rule may be asked at any time, and the codec has at least
-/// [`MIN_CHALLENGE_SECURITY_BITS`](p3_codecs::MIN_CHALLENGE_SECURITY_BITS) of security. Not in the Rust crate.
+/// [`MIN_CHALLENGE_SECURITY_BITS`](p3_codecs::MIN_CHALLENGE_SECURITY_BITS) of security. What is said here holds for a
+/// rule that is a function of its arguments: one that answers otherwise when it is asked the same again is promised
+/// nothing. Not in the Rust crate.
 pub fn draw_accepted<T: Copy, C: Sponge, Cdc: Codec<C, T>, R: Fn(&T, &[T]) -> bool>(
     challenger: &mut C,
     alloc: Global,
@@ -67,7 +69,8 @@ pub fn draw_accepted<T: Copy, C: Sponge, Cdc: Codec<C, T>, R: Fn(&T, &[T]) -> bo
 impl<D: DigestHasher> DriverTurn<D> {
     /// Draws elements of an algebra until the rule `accept` has taken `n`, which refuses fewer than `limit` in a row.
     ///
-    /// The rule, the errors and the conditions are as in [`draw_accepted`].
+    /// The rule, the errors and the conditions are as in [`draw_accepted`]; a refused step leaves it finished, whatever
+    /// the rule.
     pub fn draw_rejecting<
         F: TranscriptField,
         A: AlgebraIdentity<F> + Named,

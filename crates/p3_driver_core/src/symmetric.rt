@@ -109,6 +109,9 @@ pub trait SymmetricSteps: Driver {
     ///
     /// Conditions: the rule may be asked at any time, and the codec has at least
     /// [`MIN_CHALLENGE_SECURITY_BITS`](p3_codecs::MIN_CHALLENGE_SECURITY_BITS) of security.
+    ///
+    /// What is drawn, kept and answered is said of a rule that is a function of its arguments: of one that answers
+    /// otherwise when it is asked the same again, only that the bytes of the proof are as they were.
     fn challenge_extensions_rejecting<
         F: TranscriptField,
         EF: AlgebraIdentity<F> + Named,

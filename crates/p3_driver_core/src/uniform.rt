@@ -85,7 +85,9 @@ fn draw_taken_number<F, C: CanSampleUniformBits<F>, R: Fn(usize, &[usize]) -> bo
 /// Their memory is asked for first.
 ///
 /// The rule and the errors are as in [`draw_accepted`](crate::draw_accepted). Conditions: the rule may be asked at
-/// any time, and `width` is at most [`max_bits`](p3_challenger_core::CanSampleBits::max_bits). Not in the Rust crate.
+/// any time, and `width` is at most [`max_bits`](p3_challenger_core::CanSampleBits::max_bits). What is said here holds
+/// for a rule that is a function of its arguments: one that answers otherwise when it is asked the same again is
+/// promised nothing. Not in the Rust crate.
 pub fn draw_accepted_numbers<F, C: CanSampleUniformBits<F>, R: Fn(usize, &[usize]) -> bool>(
     challenger: &mut C,
     alloc: Global,
@@ -136,7 +138,8 @@ impl<D: DigestHasher> DriverTurn<D> {
     /// Draws numbers of `width` uniform bits until the rule `accept` has taken `n`, which refuses fewer than
     /// `limit` in a row.
     ///
-    /// The rule, the errors and the conditions are as in [`draw_accepted_numbers`].
+    /// The rule, the errors and the conditions are as in [`draw_accepted_numbers`]; a refused step leaves it finished,
+    /// whatever the rule.
     pub fn draw_uniform_bits_rejecting<
         F,
         C: CanSampleUniformBits<F>,

@@ -41,8 +41,9 @@ impl<D: DigestHasher> DriverTurn<D> {
     /// Searches for the least witness of `bits` bits.
     ///
     /// Where no witness passes, the step is refused with
-    /// [`ChallengerError::NoWitness`](p3_challenger_core::ChallengerError::NoWitness), and the challenger is as it
-    /// was. Condition: `bits` is at most [`max_bits`](p3_challenger_core::CanSampleBits::max_bits).
+    /// [`ChallengerError::NoWitness`](p3_challenger_core::ChallengerError::NoWitness). With that, and with
+    /// [`TranscriptError::OutOfMemory`], which comes only where the search may run out of memory, the challenger is
+    /// as it was. Condition: `bits` is at most [`max_bits`](p3_challenger_core::CanSampleBits::max_bits).
     pub fn grind<C: GrindingChallenger>(
         &mut self,
         challenger: &mut C,
@@ -67,8 +68,9 @@ impl<D: DigestHasher> DriverTurn<D> {
 
     /// Checks a witness of `bits` bits that the proof does not carry.
     ///
-    /// Where it does not pass, the step is refused as by [`check_work`]. Condition: `bits` is at most
-    /// [`max_bits`](p3_challenger_core::CanSampleBits::max_bits).
+    /// Where it does not pass, the step is refused as by [`check_work`]. [`TranscriptError::OutOfMemory`] comes only
+    /// where the check itself is refused memory, and leaves what that leaves: the step takes no memory of its own.
+    /// Condition: `bits` is at most [`max_bits`](p3_challenger_core::CanSampleBits::max_bits).
     pub fn check<C: GrindingChallenger>(
         &mut self,
         challenger: &mut C,

@@ -8,8 +8,8 @@ use Rattle.p3_fs_core.specs.declared.error.TranscriptError.TheVariants.{MissingB
 use Rattle.p3_fs_core.specs.declared.error.TranscriptError.TheVariants.{MissingEnd, BadProofShape, Pattern}
 use Rattle.p3_fs_core.specs.declared.error.TranscriptError.TheVariants.{Challenger, LabelTooLong, OutOfMemory}
 use Rattle.p3_grinding.specs.CheckLaws.{LimitGivesNone}
-use Rattle.p3_driver_core.specs.Turns.{Turn, Plays, Refuses}
-use Rattle.p3_driver_core.specs.Working.{Work, sent_work, observed_work, FailsCheck}
+use Rattle.p3_driver_core.specs.Turns.{Turn, Plays}
+use Rattle.p3_driver_core.specs.Working.{Work, sent_work, observed_work, RefusesToCheck}
 use Rattle.p3_driver_core.specs.WorkingLaws.{where_passed-true}
 use Rattle.p3_verifier.proofs.ReadBack.{value-back}
 use Rattle.p3_verifier.specs.Following.{IsOwnRefusal, FollowsWork, AgreesOnWork}
@@ -107,31 +107,27 @@ module _ {S Symbol W : Type 0} (work : Work S Symbol W) (limits : (x : W) → Li
           ap (λ (t : Turn S). (work.check x).sampled t.challenger) at
           ∙ where_passed-true x x ((work.check x).sampled before.challenger) plays.gives
 
-      carried-not_failed : (e : TranscriptError) → FailsCheck work x start e end → ⊥
-      carried-not_failed e fails = true_not_false (sym carried-passes ∙ fails.gives_up.leaves.0) refl
-
-      carried-only_memory : (e : TranscriptError) → Refuses (observed_work work x) start e end → e ≡ OutOfMemory
-      carried-only_memory (MissingBegin info) refuses = absurd refuses
-      carried-only_memory (InvalidKind info) refuses = absurd refuses
-      carried-only_memory (MismatchedBeginEnd info) refuses = absurd refuses
-      carried-only_memory (MissingEnd info) refuses = absurd refuses
-      carried-only_memory (BadProofShape reason) refuses = absurd refuses
+      carried-only_memory : (e : TranscriptError) → RefusesToCheck work x start e end → e ≡ OutOfMemory
+      carried-only_memory (MissingBegin info) refuses = absurd refuses.leaves
+      carried-only_memory (InvalidKind info) refuses = absurd refuses.leaves
+      carried-only_memory (MismatchedBeginEnd info) refuses = absurd refuses.leaves
+      carried-only_memory (MissingEnd info) refuses = absurd refuses.leaves
+      carried-only_memory (BadProofShape reason) refuses =
+          absurd (true_not_false (sym carried-passes ∙ refuses.leaves.1) refl)
       carried-only_memory (Pattern e) refuses =
           absurd ((meaning-agrees (observed_work work x)).refuses before after start end x (Pattern e) plays at refuses)
-      carried-only_memory (Challenger challenger.OutOfMemory) refuses = absurd refuses
+      carried-only_memory (Challenger challenger.OutOfMemory) refuses = absurd refuses.leaves
       carried-only_memory (Challenger challenger.DrawLimit) refuses =
           absurd (true_not_none (sym carried-passes ∙ limits x start.challenger refuses.leaves.0))
       carried-only_memory (Challenger challenger.NoWitness) refuses = absurd refuses.leaves
       carried-only_memory (Challenger challenger.TooLong) refuses = absurd refuses.leaves
-      carried-only_memory LabelTooLong refuses = absurd refuses
+      carried-only_memory LabelTooLong refuses = absurd refuses.leaves
       carried-only_memory OutOfMemory refuses = refl
 
   pub work-agrees : AgreesOnWork work x
   work-agrees =
       record {
         agrees = meaning-agrees (observed_work work x);
-        refuses = λ before after start end e plays at. elim [
-          | inl refuses ↦ carried-only_memory before after start end plays at e refuses
-          | inr fails ↦ absurd (carried-not_failed before after start end plays at e fails)
-        ];
+        refuses = λ before after start end e plays at refuses.
+            carried-only_memory before after start end plays at e refuses;
       }

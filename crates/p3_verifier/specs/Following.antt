@@ -4,7 +4,7 @@ use Rattle.p3_fs_core.specs.Encoding.{Encoding}
 use Rattle.p3_fs_core.specs.declared.error.TranscriptError.{TranscriptError}
 use Rattle.p3_fs_core.specs.declared.error.TranscriptError.TheVariants.{Challenger, OutOfMemory}
 use Rattle.p3_driver_core.specs.Turns.{Meaning, Turn, Plays, Refuses}
-use Rattle.p3_driver_core.specs.Working.{Work, sent_work, observed_work, FailsCheck}
+use Rattle.p3_driver_core.specs.Working.{Work, sent_work, observed_work, RefusesToCheck}
 use Rattle.p3_verifier.specs.Reads.{Reading, received_work}
 use Rattle.p3_verifier.specs.Verifying.{Verifying, Receives, RefusesToRead, FailsWork}
 
@@ -47,4 +47,4 @@ pub record FollowsWork {S Symbol W : Type 0} (work : Work S Symbol W) (enc : Enc
 pub record AgreesOnWork {S Symbol W : Type 0} (work : Work S Symbol W) (x : W) : Type 0 where
   pub agrees : Agrees (observed_work work x)
   pub refuses : (before after start end : Turn S) (e : TranscriptError) → Plays (observed_work work x) before x after →
-      start ≡ before → Refuses (observed_work work x) start e end ⊎ FailsCheck work x start e end → e ≡ OutOfMemory
+      start ≡ before → RefusesToCheck work x start e end → e ≡ OutOfMemory

@@ -294,6 +294,10 @@ impl<C: Sponge, U, D: DigestHasher> ProverState<C, U, D> {
     ///
     /// Conditions: the rule may be asked at any time, and the codec has at least
     /// [`MIN_CHALLENGE_SECURITY_BITS`](p3_codecs::MIN_CHALLENGE_SECURITY_BITS) of security.
+    ///
+    /// What is drawn, kept and answered is said of a rule that is a function of its arguments. Of one that answers
+    /// otherwise when it is asked the same again, only this is said: the bytes of the proof stay as they are, and a
+    /// refused step is the last one.
     pub fn challenge_extensions_rejecting<
         F: TranscriptField,
         EF: AlgebraIdentity<F> + Named,

@@ -45,6 +45,10 @@ impl<C: Sponge, U, D: DigestHasher> ProverState<C, U, D> {
     ///
     /// Conditions: the rule may be asked at any time, and `width` is at most
     /// [`max_bits`](p3_challenger_core::CanSampleBits::max_bits).
+    ///
+    /// What is drawn, kept and answered is said of a rule that is a function of its arguments. Of one that answers
+    /// otherwise when it is asked the same again, only this is said: the bytes of the proof stay as they are, and a
+    /// refused step is the last one.
     pub fn challenge_uniform_bits_rejecting<F, R: Fn(usize, &[usize]) -> bool>(
         &mut self,
         label: Label,

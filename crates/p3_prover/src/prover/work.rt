@@ -17,7 +17,9 @@ impl<C: GrindingChallenger + Drop, U, D: DigestHasher> ProverState<C, U, D> {
     ///
     /// Where no witness passes, the step is refused with
     /// [`ChallengerError::NoWitness`](p3_challenger_core::ChallengerError::NoWitness): the challenger is as it was, and
-    /// nothing is written. Condition: `bits` is at most
+    /// nothing is written. So it is too where the search is refused memory, with [`TranscriptError::OutOfMemory`].
+    /// Where the proof is refused memory for the witness, with the same error, the challenger is as the witness's check
+    /// leaves it, and a beginning of the witness's bytes is written. Condition: `bits` is at most
     /// [`max_bits`](p3_challenger_core::CanSampleBits::max_bits).
     pub fn pow(&mut self, label: Label, bits: usize) -> Result<(), TranscriptError>
     where
@@ -41,7 +43,8 @@ impl<C: GrindingChallenger + Drop, U, D: DigestHasher> ProverState<C, U, D> {
     /// Searches for the least witness that passes a check of `bits` bits, and answers it: the proof does not carry it.
     /// The challenger is left as that check leaves it. With 0 bits each witness passes, and the answer is 0.
     ///
-    /// The errors and the condition are those of [`pow`](ProverState::pow).
+    /// The errors and the condition are those of [`pow`](ProverState::pow), but that nothing is written: with each error
+    /// the challenger is as it was.
     pub fn observe_pow(&mut self, label: Label, bits: usize) -> Result<C::Witness, TranscriptError>
     where
         C::Witness: AlgebraIdentity<C::Witness> + Named,

@@ -19,8 +19,10 @@ impl<C: GrindingChallenger + Drop, U, D: DigestHasher> VerifierState<'_, C, U, D
     /// and is read all the same.
     ///
     /// Where too few bits are 0, the step is refused with [`TranscriptError::BadProofShape`] and `pow witness does not
-    /// produce enough zero bits`: the check is done then. Bytes that spell no witness are passed. Condition: `bits` is
-    /// at most [`max_bits`](p3_challenger_core::CanSampleBits::max_bits).
+    /// produce enough zero bits`: the check is done then. Bytes that spell no witness are passed.
+    /// [`TranscriptError::OutOfMemory`] comes only where the check is refused memory: the witness is read then, and the
+    /// challenger is as that check leaves it. Condition: `bits` is at most
+    /// [`max_bits`](p3_challenger_core::CanSampleBits::max_bits).
     pub fn check_pow(&mut self, label: Label, bits: usize) -> Result<(), TranscriptError>
     where
         C::Witness: AlgebraIdentity<C::Witness> + Named,
@@ -43,8 +45,9 @@ impl<C: GrindingChallenger + Drop, U, D: DigestHasher> VerifierState<'_, C, U, D
     /// Checks a witness that the caller carries: `bits` bits are 0 that are drawn after it. With 0 bits each witness
     /// passes.
     ///
-    /// Where too few bits are 0, the step is refused as by [`check_pow`](VerifierState::check_pow). Condition: `bits`
-    /// is at most [`max_bits`](p3_challenger_core::CanSampleBits::max_bits).
+    /// Where too few bits are 0, or the check is refused memory, the step is refused as by
+    /// [`check_pow`](VerifierState::check_pow). Condition: `bits` is at most
+    /// [`max_bits`](p3_challenger_core::CanSampleBits::max_bits).
     pub fn observe_pow(
         &mut self,
         label: Label,
