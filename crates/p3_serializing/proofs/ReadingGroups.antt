@@ -9,8 +9,9 @@ use Rattle.p3_challenger_core.specs.Observation.{Observation, in_slice}
 use Rattle.p3_challenger_core.specs.Sampling.{Sampling, draws, after_draws}
 use Rattle.p3_grinding.specs.Candidates.{after_refused, first_accepted, after_first_accepted}
 use Rattle.p3_serializing.specs.SerializingState.{SerializingState, bits_of_order, group, low_bits_of_group}
-use Rattle.p3_serializing.specs.SerializingState.{element_observed, element_drawn, bits_drawn, space_element_drawn}
-use Rattle.p3_serializing.specs.SerializingGroups.{SerializingCall, observe, draw, draw_bits, element, bits}
+use Rattle.p3_serializing.specs.SerializingState.{byte_dropped, element_observed, element_drawn, bits_drawn, space_element_drawn}
+use Rattle.p3_serializing.specs.SerializingGroups.{SerializingCall, observe, draw, draw_bits, draw_uniform, drop_byte}
+use Rattle.p3_serializing.specs.SerializingGroups.{element, bits}
 use Rattle.p3_serializing.specs.SerializingGroups.{CallByCall, by_calls, AreRead, ByteCall, read, Reads}
 use Rattle.p3_serializing.specs.SerializingGroups.{answers_by_calls, after_calls}
 use Rattle.p3_serializing.specs.SerializingGroups.{taken, first_element, answers_off}
@@ -64,24 +65,24 @@ drop-all : (xs ys : List ℕ) → drop (length xs) (xs ++ ys) ≡ ys
 drop-all [] ys = refl
 drop-all (x ∷ xs) ys = drop-all xs ys
 
-module _ {I : Type 0} (fed : I → List ℕ → I) (g : Sampling I ℕ) where
+module _ {I : Type 0} (fed : I → List ℕ → I) (g : Sampling I ℕ) (past_byte : I → I) where
   reads-then : (i j k : I) (words more : List ℕ) (calls : List ByteCall)
-      → Reads fed g i (replicate (length words) read) words j → Reads fed g j calls more k
-      → Reads fed g i (replicate (length words) read ++ calls) (words ++ more) k
-  reads-then i j k [] more calls here there = subst (λ u. Reads fed g u calls more k) (sym here) there
+      → Reads fed g past_byte i (replicate (length words) read) words j → Reads fed g past_byte j calls more k
+      → Reads fed g past_byte i (replicate (length words) read ++ calls) (words ++ more) k
+  reads-then i j k [] more calls here there = subst (λ u. Reads fed g past_byte u calls more k) (sym here) there
   reads-then i j k (word ∷ words) more calls here there =
       (here.0, reads-then (g.after i) j k words more calls here.1 there)
 
 -- ---- one draw of an element
 
-module _ {I F : Type 0} (fed : I → List ℕ → I) (r : Residues F) (n : ℕ) (d : Sampling I ℕ)
+module _ {I F : Type 0} (fed : I → List ℕ → I) (past_byte : I → I) (r : Residues F) (n : ℕ) (d : Sampling I ℕ)
     (gives : (i : I) → IsSome (d.sampled i)) where
   accepts : ℕ → Bool
   accepts x = nat_lt x r.order
 
   -- the groups that a draw takes, whatever is read after them
   pub record Takes (limit : ℕ) (i : I) (words : List ℕ) : Type 0 where
-    pub reads : Reads fed (group d n) i (replicate (length words) read) words
+    pub reads : Reads fed (group d n) past_byte i (replicate (length words) read) words
         (after_first_accepted (low_bits_of_group d n (bits_of_order r.order)) (λ x. nat_lt x r.order) limit i)
     pub all : (rest : List ℕ) → taken r limit (words ++ rest) ≡ length words
     pub answer : (rest : List ℕ) → first_element r (take limit (words ++ rest)) ≡ option_map r.of
@@ -142,7 +143,7 @@ module _ {I F : Type 0} (fed : I → List ℕ → I) (r : Residues F) (n : ℕ) 
         record {
           reads = (
             given,
-            subst (λ j. Reads fed (group d n) ((group d n).after i) (replicate (length words) read) words j)
+            subst (λ j. Reads fed (group d n) past_byte ((group d n).after i) (replicate (length words) read) words j)
                 (sym (after-by false above)) others.reads,
           );
           all = λ rest.
@@ -176,13 +177,14 @@ module _ {I Symbol F : Type 0} (o : Observation I Symbol ℕ) (slice_may_leave :
     (d : Sampling I ℕ) (gives : (i : I) → IsSome (d.sampled i)) (r : Residues F) (n : ℕ) (zero_element : F) where
   abbrev by : CallByCall (SerializingState I) F
   by = by_calls (element_observed o slice_may_leave r n).observed
-      (space_element_drawn d n r 1 (element_of_one zero_element)) (bits_drawn d n)
+      (space_element_drawn d n r 1 (element_of_one zero_element)) (bits_drawn d n) (λ resample. bits_drawn d n)
+      (byte_dropped d).after
 
   abbrev slice_fed : I → List ℕ → I
   slice_fed = (in_slice o slice_may_leave).observed
 
   pub calls-read : (calls : List (SerializingCall F)) (s : SerializingState I)
-      → (words : List ℕ) × AreRead slice_fed (group d n) r n by calls s words
+      → (words : List ℕ) × AreRead slice_fed (group d n) d.after r n by calls s words
   calls-read [] s = ([], record { reads = refl; answers = refl; limit = refl })
   calls-read (observe x ∷ calls) s =
       let later = calls-read calls ((element_observed o slice_may_leave r n).observed s x) in
@@ -197,10 +199,23 @@ module _ {I Symbol F : Type 0} (o : Observation I Symbol ℕ) (slice_may_leave :
           limit = later.1.limit;
         },
       )
+  calls-read (draw_uniform resample k ∷ calls) s =
+      let first = group-given d gives n s.inner in
+      let later = calls-read calls ((bits_drawn d n k).after s) in (
+        first.0 ∷ later.0,
+        record {
+          reads = (first.1, later.1.reads);
+          answers = λ j. bits (option_map (λ w. w % 2 ^ k) (first.1 j)) ∷ later.1.answers j;
+          limit = later.1.limit;
+        },
+      )
+  calls-read (drop_byte ∷ calls) s =
+      let later = calls-read calls ((byte_dropped d).after s) in
+      (later.0, record { reads = later.1.reads; answers = later.1.answers; limit = later.1.limit })
   calls-read (draw ∷ calls) s =
       let e : Sampling (SerializingState I) F = element_drawn d n r in
       let limit = s.draw_limit in
-      let first = takes slice_fed r n d gives limit s.inner in
+      let first = takes slice_fed d.after r n d gives limit s.inner in
       let later = calls-read calls (e.after s) in
       let one = first.0 in
       let more = later.0 in
@@ -209,13 +224,13 @@ module _ {I Symbol F : Type 0} (o : Observation I Symbol ℕ) (slice_may_leave :
       let done : drop (taken r limit words) words ≡ more =
       ap (λ k. drop k words) (first.1.all more) ∙ drop-all one more in
       let end = (after_calls by calls (e.after s)).inner in
-      let read_all = reads-then slice_fed (group d n) s.inner (e.after s).inner end one more
+      let read_all = reads-then slice_fed (group d n) d.after s.inner (e.after s).inner end one more
       (byte_calls r n limit calls more) first.1.reads later.1.reads in
-      let read_off : Reads slice_fed (group d n) s.inner (byte_calls r n limit (draw ∷ calls) words) words end =
-      subst (λ (ws : List ℕ). Reads slice_fed (group d n) s.inner
+      let read_off : Reads slice_fed (group d n) d.after s.inner (byte_calls r n limit (draw ∷ calls) words) words end =
+      subst (λ (ws : List ℕ). Reads slice_fed (group d n) d.after s.inner
       (replicate (taken r limit words) read ++ byte_calls r n limit calls ws) words end) (sym done)
-      (subst (λ (k : ℕ). Reads slice_fed (group d n) s.inner (replicate k read ++ byte_calls r n limit calls more)
-      words end) (sym (first.1.all more)) read_all) in
+      (subst (λ (k : ℕ). Reads slice_fed (group d n) d.after s.inner
+      (replicate k read ++ byte_calls r n limit calls more) words end) (sym (first.1.all more)) read_all) in
       let answer : by.drawn.sampled s ≡ first_element r (take limit words) =
       single-sampled e zero_element s ∙ sym (first.1.answer more) in
       let answers : answers_by_calls by calls (after_draws e 1 s)
@@ -223,8 +238,8 @@ module _ {I Symbol F : Type 0} (o : Observation I Symbol ℕ) (slice_may_leave :
       ap (answers_by_calls by calls) there ∙ later.1.answers ∙ ap (answers_off r limit calls) (sym done) in (
         words,
         record {
-          reads = subst (λ (i : I). Reads slice_fed (group d n) s.inner (byte_calls r n limit (draw ∷ calls) words)
-              words i) (sym (ap (λ t. (after_calls by calls t).inner) there)) read_off;
+          reads = subst (λ (i : I). Reads slice_fed (group d n) d.after s.inner
+              (byte_calls r n limit (draw ∷ calls) words) words i) (sym (ap (λ t. (after_calls by calls t).inner) there)) read_off;
           answers = λ j. element (answer j) ∷ answers j;
           limit = ap (λ t. (after_calls by calls t).draw_limit) there ∙ later.1.limit;
         },

@@ -11,6 +11,8 @@ use Rattle.p3_hash_challenger.specs.HashState as hash_state
 use Rattle.p3_hash_challenger.specs.HashState.{HashState}
 use Rattle.p3_grinding.specs.Candidates.{first_accepted, after_first_accepted}
 use Rattle.p3_serializing.specs.Bytes.{bytes_of, number_of}
+use Rattle.p3_serializing.specs.SerializingGroups.{observe, draw, draw_bits, drop_byte, feed, read, skip, bits}
+use Rattle.p3_serializing.specs.SerializingGroups.{answers_off, byte_calls, taken}
 use Rattle.p3_serializing.specs.SerializingState.{SerializingState, element_observed, words_observed, element_drawn}
 use Rattle.p3_serializing.specs.SerializingState.{bits_drawn}
 
@@ -93,3 +95,20 @@ word_bytes : ((words_observed observed (λ _ _ _. ⊥)).observed start (258 ∷ 
     ≡ 0 ∷ 1 ∷ 2 ∷ 3 ∷ 2 ∷ 1 ∷ 0 ∷ 0 ∷ 0 ∷ 0 ∷ 0 ∷ 0 ∷ []
 unfolding bytes_of
 word_bytes = refl
+
+-- ---- lists of calls, on the inner challenger
+
+-- a check of one bit: a byte is dropped, the witness 5 is observed as its 4 bytes, and one group is read
+check_on_bytes : byte_calls (numbers 257) 4 10 (drop_byte ∷ observe 5 ∷ draw_bits 1 ∷ []) (67 ∷ [])
+    ≡ skip ∷ feed (5 ∷ 0 ∷ 0 ∷ 0 ∷ []) ∷ read ∷ []
+unfolding bytes_of
+check_on_bytes = refl
+
+-- its answer is the low bit of the group
+answer_of_check : answers_off (numbers 257) 10 (drop_byte ∷ observe 5 ∷ draw_bits 1 ∷ []) (67 ∷ []) ≡ bits (Some 1) ∷ []
+answer_of_check = refl
+
+-- a draw of F257 under a limit of 2 takes two groups where the first one, cut to 9 bits, is 300
+two_groups : byte_calls (numbers 257) 4 2 (draw ∷ []) (300 ∷ 5 ∷ []) ≡ read ∷ read ∷ []
+unfolding taken greatest_below
+two_groups = refl

@@ -7,11 +7,14 @@ use Rattle.p3_challenger_core.specs.Sampling.{Sampling}
 use Rattle.p3_serializing.specs.Bytes.{bytes_of}
 use Rattle.p3_serializing.specs.SerializingState.{SerializingState, bits_of_order}
 
--- a call: an element is observed, an element is drawn, a number of so many bits is drawn
+-- a call: an element is observed; an element, or a number of so many bits, plain or uniform, is drawn; and, before a
+-- witness is observed, a byte is drawn and dropped. Where a value is rejected another one may be drawn, or not.
 pub data SerializingCall (F : Type 0) : Type 0 where
   observe : F → SerializingCall F
   draw : SerializingCall F
   draw_bits : ℕ → SerializingCall F
+  draw_uniform : Bool → ℕ → SerializingCall F
+  drop_byte : SerializingCall F
 
 -- what a draw answers, which is none where it meets the draw limit
 pub data Answer (F : Type 0) : Type 0 where
@@ -25,9 +28,19 @@ pub record CallByCall (S F : Type 0) : Type 1 where
   pub observed : S → F → S
   pub drawn : Sampling S F
   pub bits_drawn : ℕ → Sampling S ℕ
+  pub uniform_drawn : Bool → ℕ → Sampling S ℕ
+  pub byte_dropped : S → S
 
-abbrev pub by_calls : {S F : Type 0} → (S → F → S) → Sampling S F → (ℕ → Sampling S ℕ) → CallByCall S F
-by_calls observed drawn bits_drawn = record { observed = observed; drawn = drawn; bits_drawn = bits_drawn }
+abbrev pub by_calls : {S F : Type 0} → (S → F → S) → Sampling S F → (ℕ → Sampling S ℕ) → (Bool → ℕ → Sampling S ℕ) →
+    (S → S) → CallByCall S F
+by_calls observed drawn bits_drawn uniform_drawn byte_dropped =
+    record {
+      observed = observed;
+      drawn = drawn;
+      bits_drawn = bits_drawn;
+      uniform_drawn = uniform_drawn;
+      byte_dropped = byte_dropped;
+    }
 
 module _ {S F : Type 0} (by : CallByCall S F) where
   -- what calls answer, each draw in order
@@ -37,6 +50,9 @@ module _ {S F : Type 0} (by : CallByCall S F) where
   answers_by_calls (draw ∷ calls) s = element (by.drawn.sampled s) ∷ answers_by_calls calls (by.drawn.after s)
   answers_by_calls (draw_bits n ∷ calls) s =
       bits ((by.bits_drawn n).sampled s) ∷ answers_by_calls calls ((by.bits_drawn n).after s)
+  answers_by_calls (draw_uniform resample n ∷ calls) s =
+      bits ((by.uniform_drawn resample n).sampled s) ∷ answers_by_calls calls ((by.uniform_drawn resample n).after s)
+  answers_by_calls (drop_byte ∷ calls) s = answers_by_calls calls (by.byte_dropped s)
 
   -- the state after them
   abbrev pub after_calls : List (SerializingCall F) → S → S
@@ -44,23 +60,27 @@ module _ {S F : Type 0} (by : CallByCall S F) where
   after_calls (observe x ∷ calls) s = after_calls calls (by.observed s x)
   after_calls (draw ∷ calls) s = after_calls calls (by.drawn.after s)
   after_calls (draw_bits n ∷ calls) s = after_calls calls ((by.bits_drawn n).after s)
+  after_calls (draw_uniform resample n ∷ calls) s = after_calls calls ((by.uniform_drawn resample n).after s)
+  after_calls (drop_byte ∷ calls) s = after_calls calls (by.byte_dropped s)
 
 -- ---- over the groups
 
--- a call on the inner challenger: bytes are observed as one slice, or a group of bytes is drawn
+-- a call on the inner challenger: bytes are observed as one slice, a group of bytes is drawn, or one byte is
 pub data ByteCall : Type 0 where
   feed : List ℕ → ByteCall
   read : ByteCall
+  skip : ByteCall
 
 -- From a state of the inner challenger calls on it read the groups, which are numbers, in order, and lead to another
 -- state.
-abbrev pub Reads : {I : Type 0} → (I → List ℕ → I) → Sampling I ℕ → I → List ByteCall → List ℕ → I → Type 0
-Reads fed group i [] [] j = i ≡ j
-Reads fed group i [] (word ∷ words) j = ⊥
-Reads fed group i (feed bytes ∷ calls) words j = Reads fed group (fed i bytes) calls words j
-Reads fed group i (read ∷ calls) [] j = ⊥
-Reads fed group i (read ∷ calls) (word ∷ words) j =
-    (group.sampled i ≡ Some word) × Reads fed group (group.after i) calls words j
+abbrev pub Reads : {I : Type 0} → (I → List ℕ → I) → Sampling I ℕ → (I → I) → I → List ByteCall → List ℕ → I → Type 0
+Reads fed group past_byte i [] [] j = i ≡ j
+Reads fed group past_byte i [] (word ∷ words) j = ⊥
+Reads fed group past_byte i (feed bytes ∷ calls) words j = Reads fed group past_byte (fed i bytes) calls words j
+Reads fed group past_byte i (read ∷ calls) [] j = ⊥
+Reads fed group past_byte i (read ∷ calls) (word ∷ words) j =
+    (group.sampled i ≡ Some word) × Reads fed group past_byte (group.after i) calls words j
+Reads fed group past_byte i (skip ∷ calls) words j = Reads fed group past_byte (past_byte i) calls words j
 
 -- the low bits of the first group
 abbrev pub first_bits : ℕ → List ℕ → Option ℕ
@@ -75,11 +95,11 @@ module _ {F : Type 0} (r : Residues F) where
   abbrev pub is_element : ℕ → Bool
   is_element word = nat_lt (cut word) r.order
 
-  -- how many of these groups a draw of an element takes: up to and with the first that is one, and no more than the
-  -- limit
+  -- how many of these groups a draw of an element takes: up to and with the first that is one, and where there is none,
+  -- as many as the limit
   unfoldable pub taken : ℕ → List ℕ → ℕ
   taken zero words = zero
-  taken (suc more) [] = zero
+  taken (suc more) [] = suc more
   taken (suc more) (word ∷ words) = if is_element word then 1 else suc (taken more words)
 
   -- the first of these groups that is an element
@@ -94,6 +114,9 @@ module _ {F : Type 0} (r : Residues F) where
   answers_off limit (draw ∷ calls) words =
       element (first_element (take limit words)) ∷ answers_off limit calls (drop (taken limit words) words)
   answers_off limit (draw_bits k ∷ calls) words = bits (first_bits k words) ∷ answers_off limit calls (drop 1 words)
+  answers_off limit (draw_uniform resample k ∷ calls) words =
+      bits (first_bits k words) ∷ answers_off limit calls (drop 1 words)
+  answers_off limit (drop_byte ∷ calls) words = answers_off limit calls words
 
   -- what calls are on the inner challenger, where these groups are read in all: an element's n bytes are one slice
   abbrev pub byte_calls : ℕ → ℕ → List (SerializingCall F) → List ℕ → List ByteCall
@@ -102,12 +125,14 @@ module _ {F : Type 0} (r : Residues F) where
   byte_calls n limit (draw ∷ calls) words =
       replicate (taken limit words) read ++ byte_calls n limit calls (drop (taken limit words) words)
   byte_calls n limit (draw_bits k ∷ calls) words = read ∷ byte_calls n limit calls (drop 1 words)
+  byte_calls n limit (draw_uniform resample k ∷ calls) words = read ∷ byte_calls n limit calls (drop 1 words)
+  byte_calls n limit (drop_byte ∷ calls) words = skip ∷ byte_calls n limit calls words
 
 -- Calls, done one by one, are calls on the inner challenger that read these groups: the answers are read off the
 -- groups, the inner challenger ends where its calls lead, and the draw limit stays.
-pub record AreRead {I F : Type 0} (fed : I → List ℕ → I) (group : Sampling I ℕ) (r : Residues F) (n : ℕ)
-    (by : CallByCall (SerializingState I) F) (calls : List (SerializingCall F)) (s : SerializingState I)
+pub record AreRead {I F : Type 0} (fed : I → List ℕ → I) (group : Sampling I ℕ) (past_byte : I → I) (r : Residues F)
+    (n : ℕ) (by : CallByCall (SerializingState I) F) (calls : List (SerializingCall F)) (s : SerializingState I)
     (words : List ℕ) : Type 0 where
-  pub reads : Reads fed group s.inner (byte_calls r n s.draw_limit calls words) words (after_calls by calls s).inner
+  pub reads : Reads fed group past_byte s.inner (byte_calls r n s.draw_limit calls words) words (after_calls by calls s).inner
   pub answers : answers_by_calls by calls s ≡ answers_off r s.draw_limit calls words
   pub limit : (after_calls by calls s).draw_limit ≡ s.draw_limit

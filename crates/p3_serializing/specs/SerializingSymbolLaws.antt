@@ -64,14 +64,6 @@ module _ {Symbol : Type 0} (symbols : ℕ → List Symbol) (prefix_code : IsPref
     element_rows-prefix_code N xs ys a b x_is y_is e =
         row-prefix_code (λ x. flat_map symbols (bytes_of n (r.number x))) element-read xs ys a b (x_is ∙ sym y_is) e
 
-  -- as many bytes
-  pub byte_rows-prefix_code : (N : ℕ) (xs ys : List ℕ) (a b : List Symbol) → AreBytes xs → AreBytes ys
-      → length xs ≡ length ys → flat_map symbols xs ++ a ≡ flat_map symbols ys ++ b → (xs ≡ ys) × (a ≡ b)
-  byte_rows-prefix_code N = bytes-prefix_code symbols prefix_code
-
-  word_symbols : ℕ → List Symbol
-  word_symbols w = flat_map symbols (bytes_of 8 w)
-
   word-fits : (w : ℕ) → IsWord w → w < 256 ^ 8
   word-fits w h = omega (arith, h)
 

@@ -6,25 +6,33 @@ ghost use Rattle.p3_serializing.specs.SerializingGroups.{SerializingCall, by_cal
 
 use crate::{SerializedIn, SerializingChallenger, SerializingState};
 use p3_challenger_core::{CanObserve, CanSample, CanSampleBits};
+use p3_grinding::{CanSampleUniformBits, PrepareCheck};
 
 impl<
     F: SerializedIn<BYTES>,
     Inner: CanObserve<u8> + CanSample<u8>,
     const BYTES: usize,
 > SerializingChallenger<F, Inner, BYTES> {
-    /// Every list of calls is one on the inner challenger: the bytes of each observed element as one slice, and for
-    /// each draw the groups that it takes. The answers are read off these groups, and the inner challenger ends where
-    /// these calls leave it. The draw limit stays. This holds where the inner challenger's draws meet no limit of their
-    /// own.
+    /// Every list of observes of elements, draws, draws of bits and of uniform bits, and of the bytes that checks of
+    /// witnesses drop, is a list of calls on the inner challenger: the bytes of each observed element as one slice, for
+    /// each draw the groups that it takes, and a byte for each that is dropped. The answers are read off these groups,
+    /// and the inner challenger ends where these calls leave it. The draw limit stays. This holds where the inner
+    /// challenger's draws meet no limit of their own.
+    ///
+    /// So it is of a check of a witness too, which is a byte that is dropped, an observe and a draw of bits. Digests and
+    /// arrays are not among these calls: their observes are stated one by one.
     ///
     /// A law: the body is empty, and a caller cites the clause.
     pub fn follows_groups()
         ensures { ((i : Inner.State) → IsSome (Inner.CanSample.sampling.sampled i))
             → (calls : List (SerializingCall F)) (s : SerializingState Inner.State) →
             (words : List ℕ) × AreRead (in_slice Inner.CanObserve.observation Inner.CanObserve.slice_may_leave).observed
-            (group Inner.CanSample.sampling BYTES) F.residues BYTES (by_calls
+            (group Inner.CanSample.sampling BYTES) Inner.CanSample.sampling.after F.residues BYTES (by_calls
             ⟦<SerializingChallenger<F, Inner, BYTES> as CanObserve<F>>⟧.observation.observed
             ⟦<SerializingChallenger<F, Inner, BYTES> as CanSample<F>>⟧.sampling
-            ⟦<SerializingChallenger<F, Inner, BYTES> as CanSampleBits<usize>>⟧.bits_sampling) calls s words }
+            ⟦<SerializingChallenger<F, Inner, BYTES> as CanSampleBits<usize>>⟧.bits_sampling
+            (λ resample bits.
+            (⟦<SerializingChallenger<F, Inner, BYTES> as CanSampleUniformBits<F>>⟧.uniform resample bits).draw)
+            ⟦<SerializingChallenger<F, Inner, BYTES> as PrepareCheck>⟧.before_witness.after) calls s words }
     {}
 }
