@@ -11,6 +11,7 @@ verdicts    what that says of one edit
 trials      which edits are checked together, and what is tried alone
 libraries   the libraries that a crate stands on
 lanes       work side by side
+kept        refusals that earlier runs on this machine saw
 run         the crates that are tried, their rows and the count
 command     the command line
 self_test   the command, tried on a small repository of its own

@@ -23,7 +23,9 @@ an edit of a constant or of a ghost member is.
 Edits of different functions are checked together, on a copy of the crate. What is not plainly refused so is tried alone, and
 so is an edit of more than bodies. Each edit has a row: a word, its name, the functions that it changes, and the first goal.
 First the crate is checked as it stands. Where tools/gate has marked it as proved, only the functions that have to refuse are
-checked, with what they call, and the crate as it stands only if an edit is not refused so.
+checked, with what they call, and the crate as it stands only if an edit is not refused so. What an earlier run on this machine
+saw refused is not tried again while the edit, the crate, its libraries, the kit and this command are the same; its row says
+'kept'. With --anew, --alone, --fresh or --keep all are tried.
 {MEANING}
 A refusal may have marks: [requires] only what a callee asks failed, [gave up] the search met a limit at each goal, [false]
 values are known at which a goal is false, [answers] only answers that a proof file gives failed.
@@ -37,6 +39,7 @@ def parsed(words):
     parser = argparse.ArgumentParser(description=USAGE, **how)
     parser.add_argument("names", nargs="*", metavar="CRATE | EDIT_FILE", help="what to try (every crate that has edits)")
     parser.add_argument("--jobs", type=int, metavar="N", help="use at most N processors (as many as there are, with 4 GB of memory each)")
+    parser.add_argument("--anew", action="store_true", help="try all, also what an earlier run here saw refused")
     parser.add_argument("--alone", action="store_true", help="check each edit by itself")
     parser.add_argument("--fresh", action="store_true", help="take nothing of what rt check kept of the crate")
     parser.add_argument("--keep", metavar="DIR", help="keep what each check printed, in DIR/CRATE")

@@ -7,6 +7,7 @@ import threading
 from . import lanes, libraries
 from .check import Workshop
 from .edits import Edit
+from .kept import Refusals
 from .kit import rtlib
 from .trials import Trials
 from .verdicts import REFUSED, Verdict
@@ -20,6 +21,9 @@ class Run:
         self.printing = threading.Lock()
         self.builds = libraries.Builds(self.say)
         self.passed, self.failed = 0, []
+        self.refusals = Refusals(not (given.anew or given.alone or given.fresh or given.keep))
+        # By crate and path of an edit, why an earlier run saw it refused.
+        self.told = {}
 
     def say(self, text):
         """Prints a line of progress."""
@@ -28,7 +32,9 @@ class Run:
 
     def all_of(self, asked):
         """Tries the edits of these crates, given by their paths, once the libraries that they stand on are built."""
-        below = list(dict.fromkeys(library for crate in asked for library in crate.below()))
+        self.told = {(it, path): self.refusals.told(it, path) for it, paths in asked.items() for path in paths}
+        left = [it for it, paths in asked.items() if not all(self.told[it, path] for path in paths)]
+        below = list(dict.fromkeys(library for crate in left for library in crate.below()))
         # (no other rt works in these folders meanwhile)
         held = rtlib.lock([*asked, *below])
         with open(os.devnull, "w", encoding="utf-8") as nowhere:
@@ -51,18 +57,27 @@ class Run:
         for it, paths in asked.items():
             call = lambda jobs, it=it, paths=paths: self.crate(it, paths, jobs)
             # (the work that a crate's own build keeps serves its edits)
-            made.append(lanes.Task(("edits", it.name), after([*it.below(), it]), len(paths), call))
+            left = sum(not self.told[it, path] for path in paths)
+            made.append(lanes.Task(("edits", it.name), after([*it.below(), it] * bool(left)), left, call))
         return made
 
     def crate(self, crate, paths, jobs):
-        """Tries one crate's edits, and prints their rows."""
+        """Tries one crate's edits, but for those that an earlier run saw refused, and prints their rows."""
         edits = [Edit(it) for it in paths]
+        left = [it for it in edits if not self.told[crate, it.path]]
+        names = {it: self.refusals.name_of(crate, it.path) for it in left}
         say = lambda text: self.say(f"{crate.name}: {text}")
         workshop, verdicts = None, {}
         try:
-            workshop, verdicts = self.tried(crate, edits, jobs, say)
+            if left:
+                workshop, verdicts = self.tried(crate, left, jobs, say)
         except subprocess.CalledProcessError as error:
-            verdicts = {it: Verdict("no-verdict", f"the crate's source cannot be read: {error}") for it in edits}
+            verdicts = {it: Verdict("no-verdict", f"the crate's source cannot be read: {error}") for it in left}
+        for it, verdict in verdicts.items():
+            # (of the text that was there before it was tried, if that is there still)
+            if verdict.word == REFUSED and names[it] == self.refusals.name_of(crate, it.path):
+                self.refusals.keep(names[it], f"{places_of(it)} | {verdict.why}")
+        verdicts.update((it, Verdict(REFUSED, f"kept: {self.told[crate, it.path]}")) for it in edits if it not in left)
         checks, seconds = (workshop.number, workshop.seconds) if workshop else (0, 0.0)
         with self.printing:
             print(f"== {crate.name}: {number_of(len(edits), 'edit')} in {number_of(checks, 'check')}, {seconds:.0f} processor seconds")
@@ -115,7 +130,12 @@ def rows(verdicts):
     wide = max((len(it.name) for it in verdicts), default=0)
     made = []
     for edit, verdict in sorted(verdicts.items(), key=lambda it: (it[1].word != REFUSED, it[0].name)):
-        where = ", ".join(it.shown() for it in edit.functions) or "no function"
-        where += "".join(f", refused at {it}" for it in edit.callers)
-        made.append(f"{verdict.word:<11}  {edit.name:<{wide}}  {where} | {verdict.why}")
+        where = "" if verdict.why.startswith("kept: ") else f"{places_of(edit)} | "
+        made.append(f"{verdict.word:<11}  {edit.name:<{wide}}  {where}{verdict.why}")
     return made
+
+
+def places_of(edit):
+    """Returns the functions that an edit changes, and those that refuse it instead."""
+    where = ", ".join(it.shown() for it in edit.functions) or "no function"
+    return where + "".join(f", refused at {it}" for it in edit.callers)

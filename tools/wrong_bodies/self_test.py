@@ -151,6 +151,8 @@ def make(root):
 def run(root, *words):
     """Runs the command in the repository, prints what it says, and returns its status and its lines."""
     how = {"cwd": root, "stdin": subprocess.DEVNULL, "stdout": subprocess.PIPE, "stderr": subprocess.STDOUT, "text": True}
+    # (what is kept for the repository that this is of stays apart)
+    how["env"] = {**os.environ, "XDG_CACHE_HOME": f"{root}/cache"}
     done = subprocess.run([sys.executable, COMMAND, *words], **how)
     lines = done.stdout.rstrip("\n").split("\n")
     print(*(f"    {it}" for it in lines), sep="\n", flush=True)
@@ -187,6 +189,19 @@ def of_one(root):
     yield "an edit can be named by its file", holds and any("1 edit in 0 checks" in it for it in lines)
 
 
+def of_kept(root):
+    """Tries some cases twice: once more what was refused, and what was not."""
+    names = ("meaning_turned", "text_not_there")
+    status, lines = run(root, *(f"crates/high/wrong-bodies/{it}.edit" for it in names))
+    told = [it for it in lines if it.startswith("refused ")]
+    yield "what was refused is not tried again", len(told) == 1 and "meaning_turned" in told[0] and " kept: " in told[0]
+    yield "what was not refused is", status == 1 and lines[-1] == "1 passed, 1 failed"
+    write(f"{root}/crates/low/src/lib.rt", LOW.replace("Twice a number.", "Two times a number."))
+    _, lines = run(root, "--jobs", "1", "crates/high/wrong-bodies/meaning_turned.edit")
+    yield "once a library has changed, all is tried", lines[-1] == "1 passed, 0 failed" and not any(" kept: " in it for it in lines)
+    write(f"{root}/crates/low/src/lib.rt", LOW)
+
+
 def mark(root):
     """Builds the two libraries, and marks them as the gate does after rt ci."""
     crates = rtlib.crates_below(root)
@@ -203,7 +218,7 @@ def of_marked(root):
     """Tries some cases in crates that are known to be proved as they stand."""
     mark(root)
     cases = {it: CASES[it] for it in ("meaning_turned", "callee_asked_too_much", "branches_exchanged", "constant_turned", "sum_in_another_order")}
-    _, lines = run(root, "--jobs", "1", *(f"crates/high/wrong-bodies/{it}.edit" for it in cases))
+    _, lines = run(root, "--anew", "--jobs", "1", *(f"crates/high/wrong-bodies/{it}.edit" for it in cases))
     for name, case in cases.items():
         yield f"where the crate is known to be proved, {name}: {case.word}", row_of(name, lines).startswith(f"{case.word} ")
     labels = re.findall(r"# high: check \d+ \((\w+)", "\n".join(lines))
@@ -217,7 +232,7 @@ def main():
     counts = collections.Counter()
     with tempfile.TemporaryDirectory(prefix="wrong-bodies-self-test-") as root:
         make(root)
-        told = [*of_all(root), *of_one(root), *of_marked(root)]
+        told = [*of_all(root), *of_one(root), *of_kept(root), *of_marked(root)]
         with open(f"{root}/crates/high/src/lib.rt", encoding="utf-8") as it:
             told.append(("the crate's own text is as it was", it.read() == HIGH))
     for text, holds in told:
