@@ -4,6 +4,7 @@ pub mod ExtraValue
 pub mod MerkleOpening
 pub mod OwnHasher
 pub mod OwnPermutation
+pub mod OwnRounds
 pub mod Protocol
 pub mod SentAndDrawn
 pub mod ThreeCalls
