@@ -32,11 +32,23 @@ class Refusals:
 
     def __init__(self, is_read):
         self.is_read, self.own = is_read, own_sum()
+        # By crate, the checksum of its text and of all libraries below it as the run began.
+        self.stamps = {}
+
+    def stamp(self, crate):
+        """Returns the crate's checksum as the run began."""
+        if crate not in self.stamps:
+            self.stamps[crate] = crate.stamp()
+        return self.stamps[crate]
+
+    def is_unchanged(self, crate):
+        """Returns whether the crate and all libraries below it are as they were when the run began."""
+        return crate.stamp() == self.stamp(crate)
 
     def name_of(self, crate, path):
-        """Returns the name under which the refusal of an edit of the crate is kept, as both are now."""
+        """Returns the name under which the refusal of an edit of the crate is kept."""
         with open(path, "rb") as it:
-            words = (self.own, crate.name, crate.stamp(), os.path.basename(path), it.read())
+            words = (self.own, crate.name, self.stamp(crate), os.path.basename(path), it.read())
         return hashlib.sha256(repr(words).encode()).hexdigest()
 
     def told(self, crate, path):

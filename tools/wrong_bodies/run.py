@@ -73,10 +73,10 @@ class Run:
                 workshop, verdicts = self.tried(crate, left, jobs, say)
         except subprocess.CalledProcessError as error:
             verdicts = {it: Verdict("no-verdict", f"the crate's source cannot be read: {error}") for it in left}
-        for it, verdict in verdicts.items():
-            # (of the text that was there before it was tried, if that is there still)
-            if verdict.word == REFUSED and names[it] == self.refusals.name_of(crate, it.path):
-                self.refusals.keep(names[it], f"{places_of(it)} | {verdict.why}")
+        refused = [it for it, verdict in verdicts.items() if verdict.word == REFUSED]
+        # (of the text that was there before they were tried, if that is there still)
+        for it in refused * bool(refused and self.refusals.is_unchanged(crate)):
+            self.refusals.keep(names[it], f"{places_of(it)} | {verdicts[it].why}")
         verdicts.update((it, Verdict(REFUSED, f"kept: {self.told[crate, it.path]}")) for it in edits if it not in left)
         checks, seconds = (workshop.number, workshop.seconds) if workshop else (0, 0.0)
         with self.printing:
