@@ -16,7 +16,7 @@
 //! | `turn K` | `v..`: what the permutation by K places makes of these cells of F257 |
 //! | `duplex F K W R` | the calls of `conformance_calls`, on a new challenger of W cells, R of them the rate |
 //! | `hash H [HEX]` | the same, on a new challenger with these bytes pending; H is `len`, `sum` or `sha256` |
-//! | `ser32 F H [HEX]`, `ser64 F H [HEX]` | the same, on a new challenger of elements of F, of 4 bytes or 8 each, over such a one |
+//! | `ser32 F H [HEX]`, `ser64 F H [HEX]` | the same, on a new one of elements of F of 4 or 8 bytes, over such a one |
 //! | `multi F G K W R` | the same, on a new challenger of scalars of F with W cells of G, R of them the rate |
 //! | `by-reference duplex ..` and so on | the same, each made on a reference to the challenger |
 //! | `codec`, `codec elements` | [`codecs::CodecCall`], through challengers of bytes, or of elements |

@@ -22,8 +22,9 @@ abbrev pub how_many_give : {F : Type 0} → Residues F → ℕ → ℕ → ℕ
 how_many_give r bits value =
     count_by (λ n. nat_eq (low_bits r bits (r.of n)) value) (range_with_len 0 (uniform_bound r.order bits))
 
--- The element that a draw of so many bits takes, where one element serves for them: the first one below the bound, of as
--- many as the draw limit allows; or, where no other may be drawn in its place, the next one, if it is below the bound.
+-- The element that a draw of so many bits takes, where one element serves for them: the first one below the bound, of
+-- as many as the draw limit allows; or, where no other may be drawn in its place, the next one, if it is below the
+-- bound.
 abbrev pub taken_element : {F P : Type 0} → Residues F → (P → List F → List F) → ℕ → Bool → ℕ → DuplexState F P →
     Option F
 taken_element r permute rate true bits c =

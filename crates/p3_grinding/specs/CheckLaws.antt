@@ -52,8 +52,10 @@ made_of-refused f d DrawLimit s t h = h
 made_of-refused f d NoWitness s t h = h
 made_of-refused f d TooLong s t h = h
 
-module _ {S Symbol W : Type 0} (before : Sampling S (Unit {0})) (o : Observation S Symbol W) (test : Sampling S Bool) where
-  pub checked-limit : LimitGivesNone before → LimitGivesNone test → (witness : W) → LimitGivesNone (checked before o test witness)
+module _ {S Symbol W : Type 0} (before : Sampling S (Unit {0})) (o : Observation S Symbol W)
+    (test : Sampling S Bool) where
+  pub checked-limit : LimitGivesNone before → LimitGivesNone test → (witness : W)
+      → LimitGivesNone (checked before o test witness)
   checked-limit first second witness s (inl here) =
       ap (option_and_then (λ _. test.sampled (o.observed (before.after s) witness))) (first s here)
   checked-limit first second witness s (inr later) =
@@ -75,7 +77,8 @@ module _ {S Symbol W : Type 0} (before : Sampling S (Unit {0})) (o : Observation
   checked-refused witness OutOfMemory s t ready h = inr (ready, inr h)
   checked-refused witness DrawLimit s t ready h = (
     inr (ready, h.0),
-    h.1 ∙ sym (tested_after (before.sampled s) (test.after (o.observed (before.after s) witness)) (before.after s) ready),
+    h.1 ∙ sym (tested_after (before.sampled s) (test.after (o.observed (before.after s) witness))
+        (before.after s) ready),
   )
   checked-refused witness NoWitness s t ready h = absurd h
   checked-refused witness TooLong s t ready h = absurd h

@@ -144,7 +144,8 @@ module _ {S : Type 0} (next : S → S) (resample : Bool) (count : ℕ) (low high
   both-none None p e = refl
   both-none (Some x) p e = ap (option_map (λ y. x + 2 ^ count * y)) e
 
-  halves-limit : (s : S) → (in_halves count low high).draw.meets_limit s → (in_halves count low high).draw.sampled s ≡ None
+  halves-limit : (s : S) → (in_halves count low high).draw.meets_limit s
+      → (in_halves count low high).draw.sampled s ≡ None
   unfolding both
   halves-limit s (inl here) =
       ap (λ o. both o (high.draw.sampled (low.draw.after s))) (first.draws.limit_gives_none s here)

@@ -58,7 +58,8 @@ abbrev pub bits_of_next : {S F : Type 0} → Residues F → Sampling S F → ℕ
 bits_of_next r d bound bits =
     record {
       draw = record {
-        sampled = λ s. option_and_then (λ x. if is_below r bound x then Some (low_bits r bits x) else None) (d.sampled s);
+        sampled = λ s.
+            option_and_then (λ x. if is_below r bound x then Some (low_bits r bits x) else None) (d.sampled s);
         after = d.after;
         meets_limit = d.meets_limit;
         may_leave = d.may_leave;

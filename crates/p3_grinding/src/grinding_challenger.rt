@@ -28,8 +28,8 @@ pub trait GrindingChallenger: PrepareCheck + CanObserve<Self::Witness> + CanSamp
     /// challenger is left as that check leaves it.
     ///
     /// The errors are [`ChallengerError::NoWitness`] where none passes, and [`ChallengerError::OutOfMemory`]. After
-    /// either the challenger is as it was. With 0 bits there is neither. The Rust crate answers any witness that passes,
-    /// and ends the process where none does.
+    /// either the challenger is as it was. With 0 bits there is neither. The Rust crate answers any witness that
+    /// passes, and ends the process where none does.
     fn grind(&mut self, bits: usize) -> Result<Self::Witness, ChallengerError>
         requires { bits ≤ Self.most_bits }
         ensures least { IfOk result (λ witness. IsLeast Self.Witness.residues (check_of Self.before_witness

@@ -14,8 +14,8 @@ use std::mem;
 /// The least witness that passes a check of `bits` bits. The challenger is left as that check leaves it.
 ///
 /// A witness whose check meets a draw limit does not pass. The errors are [`ChallengerError::NoWitness`] where none
-/// passes, and [`ChallengerError::OutOfMemory`]. After either the challenger is as it was. With 0 bits there is none: the
-/// witness 0 passes.
+/// passes, and [`ChallengerError::OutOfMemory`]. After either the challenger is as it was. With 0 bits there is none:
+/// the witness 0 passes.
 ///
 /// `bits` is at most `max_bits`. Not in the Rust crate.
 pub fn least_witness<

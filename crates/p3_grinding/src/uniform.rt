@@ -6,9 +6,9 @@ ghost use Rattle.p3_grinding.specs.UniformDraws.{UniformDraw, IsUniformDraw, Ref
 use crate::UniformBitsError;
 use p3_challenger_core::CanSampleBits;
 
-/// A challenger that uniform bits are drawn from: it rejects drawn values so that what is left has as many for each value
-/// of the bits. `F` is the field of the challenger. This trait does not say that no value of the bits is favoured; each
-/// challenger says that of its own draws.
+/// A challenger that uniform bits are drawn from: it rejects drawn values so that what is left has as many for each
+/// value of the bits. `F` is the field of the challenger. This trait does not say that no value of the bits is
+/// favoured; each challenger says that of its own draws.
 ///
 /// The Rust crate's `CanSampleUniformBits`.
 pub trait CanSampleUniformBits<F>: CanSampleBits<usize> {

@@ -133,6 +133,7 @@ module _ {F : Type 0} (r : Residues F) where
 pub record AreRead {I F : Type 0} (fed : I → List ℕ → I) (group : Sampling I ℕ) (past_byte : I → I) (r : Residues F)
     (n : ℕ) (by : CallByCall (SerializingState I) F) (calls : List (SerializingCall F)) (s : SerializingState I)
     (words : List ℕ) : Type 0 where
-  pub reads : Reads fed group past_byte s.inner (byte_calls r n s.draw_limit calls words) words (after_calls by calls s).inner
+  pub reads :
+      Reads fed group past_byte s.inner (byte_calls r n s.draw_limit calls words) words (after_calls by calls s).inner
   pub answers : answers_by_calls by calls s ≡ answers_off r s.draw_limit calls words
   pub limit : (after_calls by calls s).draw_limit ≡ s.draw_limit

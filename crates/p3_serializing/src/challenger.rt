@@ -34,9 +34,9 @@ use std::marker::{Model, PhantomData};
 /// A number of some bits, uniform or not, is the low bits of one group, also for no bits. Symbols, and the digest at
 /// the end, are those of the inner challenger.
 ///
-/// Want of memory is the inner challenger's. It leaves what it leaves of the bytes of the one slice that was refused, with
-/// all that came before it: of a list of elements, the elements before the refused one; of a digest of words, the words
-/// before it. In a draw it leaves the bytes drawn before the refused one.
+/// Want of memory is the inner challenger's. It leaves what it leaves of the bytes of the one slice that was refused,
+/// with all that came before it: of a list of elements, the elements before the refused one; of a digest of words, the
+/// words before it. In a draw it leaves the bytes drawn before the refused one.
 ///
 /// The Rust crate's `SerializingChallenger32` and `SerializingChallenger64`, over the bytes of a word. There a draw
 /// has no limit.

@@ -18,7 +18,7 @@ impl<T, const N: usize> HashOutput for [T; N] {
 /// A hash function: it takes a list of values to a digest, and equal lists to equal digests.
 ///
 /// `Out` is the digest, an array of values, and each digest has all its places. Nothing more is known of a
-/// hasher: neither that digests are hard to find nor that they differ.
+/// hasher: not that two lists with one digest are hard to find, nor that different lists have different digests.
 ///
 /// `p3-symmetric`'s `CryptographicHasher`, with `hash_slice` alone. A hasher is `Copy` here.
 pub trait CryptographicHasher<T, Out: HashOutput>: Copy {

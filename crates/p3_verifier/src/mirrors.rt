@@ -1,4 +1,4 @@
-//! What a prover writes in a step, a verifier reads in the step of the other name.
+//! What a prover writes in a step, a verifier reads in its own: of `add_..` in `next_..`, of `pow` in `check_pow`.
 //!
 //! Each law is a function with an empty body: a caller calls it, and cites its clauses. `mirrors` says what is written
 //! and read. `follows` is what a caller wants of the two calls: where the prover's step was played, and the verifier

@@ -37,8 +37,8 @@ pub struct Challenges<EF> {
 }
 
 /// Observes the caps of a prover, and searches for its witness. A cap is what is observed of each round: a
-/// `&MerkleCap`, for most. How many roots a cap has is not absorbed with it, so let the protocol fix that, or observe it
-/// first: caps of different lengths are no prefix code.
+/// `&MerkleCap`, for most. How many roots a cap has is not absorbed with it, so let the protocol fix that, or observe
+/// it first: caps of different lengths are no prefix code.
 ///
 /// The errors are those of the challenger, among them that no witness passes, that memory is out, and
 /// [`ChallengerError::DrawLimit`] where fewer than 1000 draws do not find the queries.

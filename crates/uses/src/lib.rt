@@ -7,8 +7,8 @@
 //!   [`first_challenge`]. Further ones are `bound_values`, `three_calls` and `extra_value`: which symbols calls fed,
 //!   also where one of them is refused, and that those symbols bind the values; and what a step is played from, after
 //!   a call on the challenger that a driver lends.
-//! - [`own_permutation`], [`own_rounds`] and [`own_hasher`]: what to hand in for a permutation, one of rounds with a table
-//!   of constants, and a hasher of one's own.
+//! - [`own_permutation`], [`own_rounds`] and [`own_hasher`]: what to hand in for a permutation, one of rounds with a
+//!   table of constants, and a hasher of one's own.
 //!
 //! Most have wrong versions in `wrong-bodies/` that their contracts refuse: a challenge drawn too early, a message read
 //! as a hint, bytes left over. The program `examples` plays the protocols.

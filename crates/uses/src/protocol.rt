@@ -1,9 +1,9 @@
 //! A small protocol, whole: the pattern of its steps, a prover and a verifier.
 //!
 //! The prover sends a line over a field. A place is drawn, and a divisor other than 0. The prover hands over the line's
-//! value at the place, divided by the divisor. That number is a hint: it is not absorbed, so no challenge depends on it,
-//! and the verifier checks it by itself. The place and the divisor have to depend on the line. The contract of [`verify`]
-//! says that they do, and which bytes the proof is.
+//! value at the place, divided by the divisor. That number is a hint: it is not absorbed, so no challenge depends on
+//! it, and the verifier checks it by itself. The place and the divisor have to depend on the line. The contract of
+//! [`verify`] says that they do, and which bytes the proof is.
 ghost use Rattle.std.specs.Prelude.{◌≡◌, ◌++◌, ℕ, List, [], IfOk, IfSome, OnOk};
 ghost use Rattle.p3_challenger.specs.HashCalls.{absorbing};
 ghost use Rattle.p3_challenger.specs.Proving.{proving_of};
@@ -126,7 +126,8 @@ fn receive(verifier: &mut Verifier<'_>) -> Result<Claim, TranscriptError>
     ensures { let before = verifying_of ⟦<Challenger as Sponge>⟧.state verifier.old in
         let after = verifying_of ⟦<Challenger as Sponge>⟧.state verifier.new in
         IfOk result (λ claim. AreBytes before.unread →
-        (bytes : List ℕ) × (before.unread ≡ bytes ++ after.unread) × IsRun ⟦<Scalars as Codec<Challenger, BabyBear>>⟧.observation
+        (bytes : List ℕ) × (before.unread ≡ bytes ++ after.unread)
+        × IsRun ⟦<Scalars as Codec<Challenger, BabyBear>>⟧.observation
         ⟦<Scalars as Codec<Challenger, BabyBear>>⟧.sampling ⟦<Coefficient as Codec<Challenger, BabyBear>>⟧.sampling
         ⟦<Scalars as Codec<Challenger, BabyBear>>⟧.encoding before.turn.challenger claim bytes) }
 {

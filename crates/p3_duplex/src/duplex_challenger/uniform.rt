@@ -24,8 +24,8 @@ impl<
     ghost use Rattle.p3_duplex.specs.DuplexState.{DuplexState};
 
     /// Bits that are drawn from one element have no bias: they are the low bits of the element that is taken, which is
-    /// below the bound for so many, and each value of the bits is that of as many of the elements below the bound as the
-    /// bound has multiples of `2^bits`. At least one bit is asked for, and as many as one element serves for.
+    /// below the bound for so many, and each value of the bits is that of as many of the elements below the bound as
+    /// the bound has multiples of `2^bits`. At least one bit is asked for, and as many as one element serves for.
     ///
     /// A law: the body does nothing, and a caller cites the clauses.
     pub fn uniform_bits_have_no_bias(&self)

@@ -43,8 +43,8 @@ impl<C: GrindingChallenger + Drop, U, D: DigestHasher> ProverState<C, U, D> {
     /// Searches for the least witness that passes a check of `bits` bits, and answers it: the proof does not carry it.
     /// The challenger is left as that check leaves it. With 0 bits each witness passes, and the answer is 0.
     ///
-    /// The errors and the condition are those of [`pow`](ProverState::pow), but that nothing is written: with each error
-    /// the challenger is as it was.
+    /// The errors and the condition are those of [`pow`](ProverState::pow), but that nothing is written: with each
+    /// error the challenger is as it was.
     pub fn observe_pow(&mut self, label: Label, bits: usize) -> Result<C::Witness, TranscriptError>
     where
         C::Witness: AlgebraIdentity<C::Witness> + Named,
