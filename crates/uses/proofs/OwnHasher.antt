@@ -1,5 +1,5 @@
 -- A byte more of a hashed string.
-use Rattle.std.proofs.Common.{◌≡◌, ℕ, suc, ◌+◌, ◌*◌, ◌/◌, ◌%◌, ◌^◌, ◌<◌, ◌≤◌, List, [], ◌∷◌, length, drop, get_or}
+use Rattle.std.proofs.Common.{◌≡◌, ℕ, suc, ◌+◌, ◌*◌, ◌/◌, ◌%◌, ◌^◌, ◌<◌, ◌≤◌, List, ◌∷◌, length, drop, get_or}
 use Rattle.std.proofs.Common.{add-mul, add_assoc, mul_assoc, mul_comm, mod-eq_of_lt, mul-one, add-zero, zero-mul, zero-add}
 use Rattle.std.proofs.Common.{pow-suc, ap, sym, ◌∙◌, add-one}
 use Rattle.std.proofs.Math.Nat.{div-add-mod, mul-add-mod_self_left}

@@ -55,6 +55,32 @@ module _ {S : Type 0} where
         )
     value_at (Err reason) is e_is = absurd (not_read reason (drop e.width bytes) x rest e_is)
 
+  -- bytes that were read are as many as were asked for
+  pub bytes-left : (n : ℕ) (bytes x rest : List ℕ) → read_bytes {S = S} n bytes ≡ Ok (x, rest)
+      → length bytes ≡ n + length rest
+  bytes-left n bytes x rest is =
+      let of = bytes-read n bytes x rest is in
+      omega (arith, ap length of.0, length-append x rest, of.1)
+
+  left_at : {A : Type 0} (after : List ℕ) (x : A) (rest : List ℕ) (o : Result (A × List ℕ) (List ℕ))
+      → value_in {S = S} o after ≡ Ok (x, rest) → after ≡ rest
+  left_at after x rest (Ok found) is =
+      let both : ◌≡◌ {A = _ × List ℕ} (found.0, after) (x, rest) = cc in
+      ap (λ p. p.1) both
+  left_at after x rest (Err reason) is = absurd (not_read reason after x rest is)
+
+  -- a value that was read takes as many bytes as its spelling has
+  pub value-left : {A : Type 0} (e : Encoding A) (bytes : List ℕ) (x : A) (rest : List ℕ)
+      → read_value {S = S} e bytes ≡ Ok (x, rest) → length bytes ≡ e.width + length rest
+  value-left e bytes x rest is = elim (one_of (nat_lt (length bytes) e.width) _ _ _ is) [
+    | inl short ↦ absurd (not_read ended_early bytes x rest short.1)
+    | inr whole ↦
+        let enough : e.width ≤ length bytes = grind (arith, nat_tests, whole.0) in
+        let left = left_at (drop e.width bytes) x rest (e.read (take e.width bytes)) whole.1 in
+        omega (arith, ap length (take-append-drop e.width bytes),
+        length-append (take e.width bytes) (drop e.width bytes), length-take-le e.width bytes enough, ap length left)
+  ]
+
   -- a value that was read stands at the head of the bytes in its spelling
   pub value-read : {A : Type 0} (e : Encoding A) → IsEncoding e → (bytes : List ℕ) (x : A) (rest : List ℕ) → AreBytes bytes
       → read_value {S = S} e bytes ≡ Ok (x, rest) → (bytes ≡ e.wire x ++ rest) × AreBytes rest

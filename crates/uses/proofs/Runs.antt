@@ -1,5 +1,6 @@
 -- A run of the small protocol, from what its steps did.
-use Rattle.std.proofs.Common.{◌≡◌, List, ℕ, [], ◌++◌, true, Some, Result, Ok, Err, IfOk, OnOk, append_assoc, append-nil, refl, ap, sym, subst, ◌∙◌}
+use Rattle.std.proofs.Common.{◌≡◌, ◌+◌, List, ℕ, [], ◌++◌, length, Some, Result, Ok, Err, IfOk, OnOk, append_assoc}
+use Rattle.std.proofs.Common.{append-nil, arith, refl, ap, sym, subst, ◌∙◌}
 use Rattle.std.specs.Result.{result_and}
 use Rattle.p3_challenger.specs.BabyBearResidues.{BabyBear}
 use Rattle.p3_challenger.specs.Encoding.{Encoding}
@@ -8,7 +9,7 @@ use Rattle.p3_challenger.specs.Proving.{Proving, Writes, WritesOrRefuses}
 use Rattle.p3_challenger.specs.Sampling.{Sampling}
 use Rattle.p3_challenger.specs.TranscriptError.{TranscriptError}
 use Rattle.p3_challenger.specs.Turns.{Meaning}
-use Rattle.uses.specs.Protocol.{IsDivisor, IsRun, IsSent, quotient_of}
+use Rattle.uses.specs.Protocol.{IsDivisor, IsRun, IsSent, after_line, bytes_of, quotient_of}
 use Rattle.uses.specs.declared.protocol.Claim.{Claim}
 
 -- what follows of the last step's being played
@@ -37,7 +38,7 @@ written before with_slope with_offset drawn divided after slope offset hint quot
     ∙ ap (λ l. before ++ l) (append_assoc slope offset quotient)
 
 -- bytes that were read one after another
-read : (unread after_slope after_offset drawn divided after slope offset quotient : List ℕ) →
+pub read : (unread after_slope after_offset drawn divided after slope offset quotient : List ℕ) →
     unread ≡ slope ++ after_slope → after_slope ≡ offset ++ after_offset → drawn ≡ after_offset → divided ≡ drawn →
     divided ≡ quotient ++ after → unread ≡ (slope ++ (offset ++ quotient)) ++ after
 read unread after_slope after_offset drawn divided after slope offset quotient first second kept still last =
@@ -48,17 +49,23 @@ read unread after_slope after_offset drawn divided after slope offset quotient f
     ∙ sym (append_assoc offset quotient after))
     ∙ sym (append_assoc slope (offset ++ quotient) after)
 
+-- how many bytes were read
+pub counted : (unread after_slope after_offset drawn divided after : List ℕ) →
+    length unread ≡ 4 + length after_slope → length after_slope ≡ 4 + length after_offset → drawn ≡ after_offset →
+    divided ≡ drawn → length divided ≡ 4 + length after → length unread ≡ 12 + length after
+counted unread after_slope after_offset drawn divided after first second kept still last =
+    omega (arith, first, second, ap length kept, ap length still, last)
+
 module _ {S Symbol : Type 0} (o : Observation S Symbol BabyBear) (places divisors : Sampling S BabyBear)
     (e : Encoding BabyBear) where
   -- the challenges, from the states that the steps leave
-  pub run-by : (s after_slope after_offset after_place : S) (claim : Claim) (bytes : List ℕ) →
+  run-by : (s after_slope after_offset after_place : S) (claim : Claim) (bytes : List ℕ) →
       after_slope ≡ o.observed s claim.slope → after_offset ≡ o.observed after_slope claim.offset →
       places.sampled after_offset ≡ Some claim.place → after_place ≡ places.after after_offset →
-      IsDivisor divisors after_place claim.divisor →
-      bytes ≡ e.wire claim.slope ++ (e.wire claim.offset ++ e.wire claim.quotient) → IsRun o places divisors e s claim bytes
+      IsDivisor divisors after_place claim.divisor → bytes ≡ bytes_of e claim →
+      IsRun o places divisors e s claim bytes
   run-by s after_slope after_offset after_place claim bytes slope offset place then divisor spelled =
-      let observed : after_offset ≡ o.observed (o.observed s claim.slope) claim.offset =
-      offset ∙ ap (λ u. o.observed u claim.offset) slope in
+      let observed : after_offset ≡ after_line o s claim = offset ∙ ap (λ u. o.observed u claim.offset) slope in
       record {
         place = ap places.sampled (sym observed) ∙ place;
         divisor = subst (λ u. IsDivisor divisors u claim.divisor) (then ∙ ap places.after observed) divisor;
@@ -88,7 +95,7 @@ module _ {S Symbol : Type 0} (o : Observation S Symbol BabyBear) (places divisor
       (bytes : List ℕ) × (after ≡ before ++ bytes) × IsSent o places divisors e s claim.slope claim.offset bytes
   sent-by s after_slope after_offset after_place claim before with_slope with_offset drawn divided after hint slope offset
       place then divisor quotient first second kept still last is =
-      let bytes : List ℕ = e.wire claim.slope ++ (e.wire claim.offset ++ e.wire claim.quotient) in (
+      let bytes : List ℕ = bytes_of e claim in (
         bytes,
         written before with_slope with_offset drawn divided after (e.wire claim.slope) (e.wire claim.offset) hint
             (e.wire claim.quotient) first second kept still last is,
@@ -98,23 +105,6 @@ module _ {S Symbol : Type 0} (o : Observation S Symbol BabyBear) (places divisor
           run = run-by s after_slope after_offset after_place claim bytes slope offset place then divisor refl;
           quotient = quotient;
         },
-      )
-
-  -- a verifier's steps one after another
-  pub received-by : (s after_slope after_offset after_place : S) (claim : Claim) (unread left_of_slope left_of_offset drawn
-      divided after : List ℕ) → after_slope ≡ o.observed s claim.slope →
-      after_offset ≡ o.observed after_slope claim.offset → places.sampled after_offset ≡ Some claim.place →
-      after_place ≡ places.after after_offset → IsDivisor divisors after_place claim.divisor →
-      unread ≡ e.wire claim.slope ++ left_of_slope → left_of_slope ≡ e.wire claim.offset ++ left_of_offset →
-      drawn ≡ left_of_offset → divided ≡ drawn → divided ≡ e.wire claim.quotient ++ after →
-      (bytes : List ℕ) × (unread ≡ bytes ++ after) × IsRun o places divisors e s claim bytes
-  received-by s after_slope after_offset after_place claim unread left_of_slope left_of_offset drawn divided after slope
-      offset place then divisor first second kept still last =
-      let bytes : List ℕ = e.wire claim.slope ++ (e.wire claim.offset ++ e.wire claim.quotient) in (
-        bytes,
-        read unread left_of_slope left_of_offset drawn divided after (e.wire claim.slope) (e.wire claim.offset)
-            (e.wire claim.quotient) first second kept still last,
-        run-by s after_slope after_offset after_place claim bytes slope offset place then divisor refl,
       )
 
 -- bytes that were written behind none are all that is there

@@ -19,18 +19,24 @@ abbrev pub may_divide : BabyBear → Bool
 may_divide x = not (residues.number x == 0)
 
 -- the divisor is the first element that is drawn and may be one, of at most 100
-pub record IsDivisor {S : Type 0} (d : Sampling S BabyBear) (s : S) (x : BabyBear) : Type 0 where
-  pub drawn : (taken d (λ y kept. may_divide y) 100 [] s).gives ≡ Some x
-  pub divides : may_divide x ≡ true
+abbrev pub IsDivisor : {S : Type 0} → Sampling S BabyBear → S → BabyBear → Type 0
+IsDivisor d s x = ((taken d (λ y kept. may_divide y) 100 [] s).gives ≡ Some x) × (may_divide x ≡ true)
 
--- The place is drawn of a challenger that observed the slope, and then the offset. The divisor is drawn of what is left
--- then. The bytes are slope, offset and quotient, spelled one after another.
+-- the state of a challenger that observed the slope, and then the offset
+abbrev pub after_line : {S Symbol : Type 0} → Observation S Symbol BabyBear → S → Claim → S
+after_line o s claim = o.observed (o.observed s claim.slope) claim.offset
+
+-- slope, offset and quotient, spelled one after another
+abbrev pub bytes_of : Encoding BabyBear → Claim → List ℕ
+bytes_of e claim = e.wire claim.slope ++ (e.wire claim.offset ++ e.wire claim.quotient)
+
+-- The place is drawn of a challenger that observed the line. The divisor is drawn of what is left then. The bytes are
+-- those of the claim, and no others.
 pub record IsRun {S Symbol : Type 0} (o : Observation S Symbol BabyBear) (places divisors : Sampling S BabyBear)
     (e : Encoding BabyBear) (s : S) (claim : Claim) (bytes : List ℕ) : Type 0 where
-  pub place : places.sampled (o.observed (o.observed s claim.slope) claim.offset) ≡ Some claim.place
-  pub divisor :
-      IsDivisor divisors (places.after (o.observed (o.observed s claim.slope) claim.offset)) claim.divisor
-  pub spelled : bytes ≡ e.wire claim.slope ++ (e.wire claim.offset ++ e.wire claim.quotient)
+  pub place : places.sampled (after_line o s claim) ≡ Some claim.place
+  pub divisor : IsDivisor divisors (places.after (after_line o s claim)) claim.divisor
+  pub spelled : bytes ≡ bytes_of e claim
 
 -- what a prover hands over: the line's value at the place, times a power of the divisor that divides by it
 abbrev pub quotient_of : Claim → BabyBear

@@ -4,13 +4,13 @@
 //! value at the place, divided by the divisor. That number is a hint: it is not absorbed, so no challenge depends on
 //! it, and the verifier checks it by itself. The place and the divisor have to depend on the line. The contract of
 //! [`verify`] says that they do, and which bytes the proof is.
-ghost use Rattle.std.specs.Prelude.{◌≡◌, ◌++◌, ℕ, List, [], IfOk, IfSome, OnOk};
+ghost use Rattle.std.specs.Prelude.{◌≡◌, ◌+◌, ◌++◌, ℕ, List, [], Some, length, IfOk, IfSome, OnOk};
 ghost use Rattle.p3_challenger.specs.HashCalls.{absorbing};
 ghost use Rattle.p3_challenger.specs.Proving.{proving_of};
 ghost use Rattle.p3_challenger.specs.Reading.{AreBytes};
 ghost use Rattle.p3_challenger.specs.SeparatorSeed.{seed_of_separator};
 ghost use Rattle.p3_challenger.specs.Verifying.{verifying_of};
-ghost use Rattle.uses.specs.Protocol.{IsDivisor, IsQuotient, IsRun, IsSent, may_divide};
+ghost use Rattle.uses.specs.Protocol.{IsDivisor, IsQuotient, IsRun, IsSent, after_line, bytes_of, may_divide};
 
 use p3_challenger::fs::{
     BytesToFieldCodec, Codec, DomainSeparator, ExtensionFieldCodec, Hierarchy, Interaction,
@@ -94,7 +94,7 @@ fn send(
     prover.add_hint("quotient", &hint)
 }
 
-/// Reads a proof, and gives the claim that it makes, or none where its quotient is wrong.
+/// Reads a proof, and gives the claim that it makes, or none where its quotient is wrong. A proof has 12 bytes.
 ///
 /// The errors are those of the transcript: a proof that is too short or too long, a number that is no element of the
 /// field, and want of memory.
@@ -103,7 +103,8 @@ pub fn verify(
     separator: &Separator,
     proof: &[u8],
 ) -> Result<Option<Claim>, TranscriptError>
-    ensures { let seed = seed_of_separator ⟦<Sha256Hasher as DigestHasher>⟧.digest_of separator.now in
+    ensures length { OnOk result (length proof.now ≡ 12) }
+    ensures run { let seed = seed_of_separator ⟦<Sha256Hasher as DigestHasher>⟧.digest_of separator.now in
         IfOk result (λ found. IfSome found (λ claim. IsRun ⟦<Scalars as Codec<Challenger, BabyBear>>⟧.observation
         ⟦<Scalars as Codec<Challenger, BabyBear>>⟧.sampling ⟦<Coefficient as Codec<Challenger, BabyBear>>⟧.sampling
         ⟦<Scalars as Codec<Challenger, BabyBear>>⟧.encoding
@@ -111,6 +112,7 @@ pub fn verify(
 {
     let mut verifier = Verifier::new(alloc, challenger(alloc), separator, proof)?;
     let received = receive(&mut verifier);
+    // A verifier has to be spent, also where a step was refused.
     let end = verifier.finalize();
     let claim = received?;
     end?;
@@ -123,13 +125,22 @@ pub fn verify(
 }
 
 fn receive(verifier: &mut Verifier<'_>) -> Result<Claim, TranscriptError>
-    ensures { let before = verifying_of ⟦<Challenger as Sponge>⟧.state verifier.old in
+    ensures place { let before = verifying_of ⟦<Challenger as Sponge>⟧.state verifier.old in
+        let places = ⟦<Scalars as Codec<Challenger, BabyBear>>⟧.sampling in
+        IfOk result (λ claim. places.sampled (after_line ⟦<Scalars as Codec<Challenger, BabyBear>>⟧.observation
+        before.turn.challenger claim) ≡ Some claim.place) }
+    ensures divisor { let before = verifying_of ⟦<Challenger as Sponge>⟧.state verifier.old in
+        let places = ⟦<Scalars as Codec<Challenger, BabyBear>>⟧.sampling in
+        IfOk result (λ claim. IsDivisor ⟦<Coefficient as Codec<Challenger, BabyBear>>⟧.sampling (places.after
+        (after_line ⟦<Scalars as Codec<Challenger, BabyBear>>⟧.observation before.turn.challenger claim))
+        claim.divisor) }
+    ensures read { let before = verifying_of ⟦<Challenger as Sponge>⟧.state verifier.old in
         let after = verifying_of ⟦<Challenger as Sponge>⟧.state verifier.new in
         IfOk result (λ claim. AreBytes before.unread →
-        (bytes : List ℕ) × (before.unread ≡ bytes ++ after.unread)
-        × IsRun ⟦<Scalars as Codec<Challenger, BabyBear>>⟧.observation
-        ⟦<Scalars as Codec<Challenger, BabyBear>>⟧.sampling ⟦<Coefficient as Codec<Challenger, BabyBear>>⟧.sampling
-        ⟦<Scalars as Codec<Challenger, BabyBear>>⟧.encoding before.turn.challenger claim bytes) }
+        before.unread ≡ bytes_of ⟦<Scalars as Codec<Challenger, BabyBear>>⟧.encoding claim ++ after.unread) }
+    ensures length { let before = verifying_of ⟦<Challenger as Sponge>⟧.state verifier.old in
+        let after = verifying_of ⟦<Challenger as Sponge>⟧.state verifier.new in
+        OnOk result (length before.unread ≡ 12 + length after.unread) }
 {
     let slope = verifier.next_scalar::<BabyBear, Scalars>("slope")?;
     let offset = verifier.next_scalar::<BabyBear, Scalars>("offset")?;

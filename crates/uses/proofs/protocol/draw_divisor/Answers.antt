@@ -14,7 +14,4 @@ pub returns-clause-drawn : goal.returns-clause-drawn
 returns-clause-drawn g c =
     let played = c.in_ok-drawn.ensures.played (λ x _. may_divide x) (λ x kept r post. post) in
     let one = one-of _ (λ x _. may_divide x) value_of 100 _ c.in_ok-drawn.drawn.items played.gives in
-    record {
-      drawn = rw (c.into_inner.ensures, c.index.ensures) (one.1 _).0;
-      divides = rw (c.into_inner.ensures, c.index.ensures) (one.1 _).1;
-    }
+    rw (c.into_inner.ensures, c.index.ensures) (one.1 _)

@@ -1,4 +1,4 @@
-use Rattle.std.proofs.Common.{ap, ◌∙◌}
+use Rattle.std.proofs.Common.{ap}
 use Rattle.p3_challenger.specs.Proving.{proving_of}
 use Rattle.p3_challenger.specs.SeparatorSeed.{seed_of_separator}
 use Rattle.p3_symmetric.specs.contracts.sha256.Sha256HasherDigestHasher.TheImpl as digests

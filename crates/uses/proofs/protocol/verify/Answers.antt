@@ -1,4 +1,4 @@
-use Rattle.std.proofs.Common.{arith, ◌∙◌, ap, subst, sym}
+use Rattle.std.proofs.Common.{arith, ◌∙◌, ap, refl, subst, sym}
 use Rattle.p3_challenger.specs.BabyBearResidues.{residues}
 use Rattle.p3_challenger.specs.Reading.{AreBytes}
 use Rattle.p3_challenger.specs.Residues.{sum_of}
@@ -10,19 +10,23 @@ use Rattle.uses.proofs.Begun.{begun-as}
 use Rattle.uses.proofs.Runs.{received-alone, run-as}
 use Rattle.uses.proofs.protocol.verify.Goals as goal
 
-pub returns-then-eq : goal.returns-then-eq
-returns-then-eq c =
+pub returns-then-eq-clause-run : goal.returns-then-eq-clause-run
+returns-then-eq-clause-run c =
     let verifier = verifying_of (λ s. s) c.in_ok-verifier.verifier in
     let start = begun-as c.challenger.result verifier.turn.challenger
     (seed_of_separator digests.ghosts.digest_of c.args.separator.now) (ap (λ v. v.turn.challenger) c.in_ok-verifier.ensures.ok)
     c.challenger.ensures in
     let are : AreBytes verifier.unread = subst AreBytes (sym (ap (λ v. v.unread) c.in_ok-verifier.ensures.ok))
     (λ i. omega (arith, c.type_inv.proof i)) in
-    let run = c.in_ok-claim.ensures are in
     let equal = (compared-by-numbers c.mul-2.result c.add-value.result).0 (sym c.eq.ensures ∙ c.if-eq.true) in (
       run-as _ _ _ _ _ _ _ _ _ start
-          (received-alone _ _ _ _ (ap (λ v. v.unread) c.in_ok-verifier.ensures.ok) c.in_ok-end.ensures.ok.whole run.1)
-          run.2,
+          (received-alone _ _ _ _ (ap (λ v. v.unread) c.in_ok-verifier.ensures.ok) c.in_ok-end.ensures.ok.whole
+          (c.in_ok-claim.ensures.read are))
+          (record {
+            place = c.in_ok-claim.ensures.place;
+            divisor = c.in_ok-claim.ensures.divisor;
+            spelled = refl;
+          }),
       sym c.mul-2.ensures ∙ equal ∙ c.add-value.ensures
           ∙ ap (λ x. sum_of residues x c.in_ok-claim.claim.offset) c.mul.ensures,
     )
