@@ -1,6 +1,7 @@
 -- A run of the small protocol, from what its steps did.
 use Rattle.std.proofs.Common.{◌≡◌, ◌+◌, List, ℕ, [], ◌++◌, length, Some, Result, Ok, Err, IfOk, OnOk, append_assoc}
-use Rattle.std.proofs.Common.{append-nil, arith, refl, ap, sym, subst, ◌∙◌}
+use Rattle.std.proofs.Common.{append-nil, arith, refl, ap, sym, subst, ◌∙◌, ◌↔◌, Bool, true, false, Option}
+use Rattle.std.specs.Bool.{then_some}
 use Rattle.std.specs.Result.{result_and}
 use Rattle.p3_challenger.specs.BabyBearResidues.{BabyBear}
 use Rattle.p3_challenger.specs.Encoding.{Encoding}
@@ -9,7 +10,7 @@ use Rattle.p3_challenger.specs.Proving.{Proving, Writes, WritesOrRefuses}
 use Rattle.p3_challenger.specs.Sampling.{Sampling}
 use Rattle.p3_challenger.specs.TranscriptError.{TranscriptError}
 use Rattle.p3_challenger.specs.Turns.{Meaning}
-use Rattle.uses.specs.Protocol.{IsDivisor, IsRun, IsSent, after_line, bytes_of, quotient_of}
+use Rattle.uses.specs.Protocol.{IsAnswer, IsDivisor, IsQuotient, IsRun, IsSent, after_line, bytes_of, quotient_of}
 use Rattle.uses.specs.declared.protocol.Claim.{Claim}
 
 -- what follows of the last step's being played
@@ -106,6 +107,14 @@ module _ {S Symbol : Type 0} (o : Observation S Symbol BabyBear) (places divisor
           quotient = quotient;
         },
       )
+
+-- what is answered, where just right quotients pass
+pub answered : (right : Bool) (claim : Claim) (found : Option Claim) → found ≡ then_some right claim →
+    (right ≡ true ↔ IsQuotient claim) → IsAnswer found claim
+answered true claim found is exact = subst (λ f. IsAnswer f claim) (sym is) (refl, exact.0 refl)
+answered false claim found is exact =
+    let refused : IsQuotient claim → ⊥ = λ q. let no : false ≡ true = exact.1 q in absurd (cc) in
+    subst (λ f. IsAnswer f claim) (sym is) refused
 
 -- bytes that were written behind none are all that is there
 pub sent-alone : (before after bytes proof : List ℕ) → before ≡ [] → proof ≡ after → after ≡ before ++ bytes → bytes ≡ proof

@@ -1,5 +1,5 @@
 -- What a run of the small protocol says.
-use Rattle.std.specs.Prelude.{◌≡◌, ◌==◌, ◌-◌, ℕ, List, [], ◌++◌, Bool, true, Some, not}
+use Rattle.std.specs.Prelude.{◌≡◌, ◌==◌, ◌-◌, ℕ, List, [], ◌++◌, Bool, true, Option, Some, None, not}
 use Rattle.p3_challenger.specs.BabyBearResidues.{BabyBear, residues}
 use Rattle.p3_challenger.specs.Encoding.{Encoding}
 use Rattle.p3_challenger.specs.Observation.{Observation}
@@ -13,6 +13,11 @@ abbrev pub IsQuotient : Claim → Type 0
 IsQuotient claim =
     product_of residues claim.quotient claim.divisor
     ≡ sum_of residues (product_of residues claim.slope claim.place) claim.offset
+
+-- what is answered for a claim: it, where its quotient is right, and else none
+abbrev pub IsAnswer : Option Claim → Claim → Type 0
+IsAnswer (Some found) claim = (found ≡ claim) × IsQuotient claim
+IsAnswer None claim = IsQuotient claim → ⊥
 
 -- an element that may be a divisor: any but 0
 abbrev pub may_divide : BabyBear → Bool

@@ -2,8 +2,8 @@
 //!
 //! The constants are fields of the permutation, which its definition is handed too: so no table of the code has to be
 //! held against a table of the definitions, and a test of one's own compares with the vectors of whoever chose them. A
-//! loop needs an invariant: the rounds that are left make of the cells what all of them make of the first ones. `rt
-//! check --start permute_mut` writes the file for it. [`Rounds`] shows the form and is of no strength.
+//! loop needs an invariant: the rounds that are left make of the cells what all of them make of the first ones.
+//! `rt check --start permute_mut` writes the file for it. [`Rounds`] shows the form and is of no strength.
 ghost use Rattle.std.specs.Prelude.{◌≡◌};
 ghost use Rattle.uses.specs.OwnRounds.{after_round};
 

@@ -4,13 +4,13 @@
 //! value at the place, divided by the divisor. That number is a hint: it is not absorbed, so no challenge depends on
 //! it, and the verifier checks it by itself. The place and the divisor have to depend on the line. The contract of
 //! [`verify`] says that they do, and which bytes the proof is.
-ghost use Rattle.std.specs.Prelude.{◌≡◌, ◌+◌, ◌++◌, ℕ, List, [], Some, length, IfOk, IfSome, OnOk};
+ghost use Rattle.std.specs.Prelude.{◌≡◌, ◌+◌, ◌++◌, ℕ, List, [], Some, length, IfOk, OnOk};
 ghost use Rattle.p3_challenger.specs.HashCalls.{absorbing};
 ghost use Rattle.p3_challenger.specs.Proving.{proving_of};
 ghost use Rattle.p3_challenger.specs.Reading.{AreBytes};
 ghost use Rattle.p3_challenger.specs.SeparatorSeed.{seed_of_separator};
 ghost use Rattle.p3_challenger.specs.Verifying.{verifying_of};
-ghost use Rattle.uses.specs.Protocol.{IsDivisor, IsQuotient, IsRun, IsSent, after_line, bytes_of, may_divide};
+ghost use Rattle.uses.specs.Protocol.{IsAnswer, IsDivisor, IsRun, IsSent, after_line, bytes_of, may_divide};
 
 use p3_challenger::fs::{
     BytesToFieldCodec, Codec, DomainSeparator, ExtensionFieldCodec, Hierarchy, Interaction,
@@ -105,10 +105,11 @@ pub fn verify(
 ) -> Result<Option<Claim>, TranscriptError>
     ensures length { OnOk result (length proof.now ≡ 12) }
     ensures run { let seed = seed_of_separator ⟦<Sha256Hasher as DigestHasher>⟧.digest_of separator.now in
-        IfOk result (λ found. IfSome found (λ claim. IsRun ⟦<Scalars as Codec<Challenger, BabyBear>>⟧.observation
+        IfOk result (λ found. (claim : Claim) × IsAnswer found claim
+        × IsRun ⟦<Scalars as Codec<Challenger, BabyBear>>⟧.observation
         ⟦<Scalars as Codec<Challenger, BabyBear>>⟧.sampling ⟦<Coefficient as Codec<Challenger, BabyBear>>⟧.sampling
         ⟦<Scalars as Codec<Challenger, BabyBear>>⟧.encoding
-        (record { sponge = absorbing seed; hasher = record {} }) claim proof.now × IsQuotient claim)) }
+        (record { sponge = absorbing seed; hasher = record {} }) claim proof.now) }
 {
     let mut verifier = Verifier::new(alloc, challenger(alloc), separator, proof)?;
     let received = receive(&mut verifier);
@@ -117,11 +118,7 @@ pub fn verify(
     let claim = received?;
     end?;
     let value = claim.slope * claim.place + claim.offset;
-    if claim.quotient * claim.divisor == value {
-        Ok(Some(claim))
-    } else {
-        Ok(None)
-    }
+    Ok((claim.quotient * claim.divisor == value).then_some(claim))
 }
 
 fn receive(verifier: &mut Verifier<'_>) -> Result<Claim, TranscriptError>

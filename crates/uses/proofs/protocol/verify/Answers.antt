@@ -7,18 +7,24 @@ use Rattle.p3_challenger.specs.SeparatorSeed.{seed_of_separator}
 use Rattle.p3_symmetric.specs.contracts.sha256.Sha256HasherDigestHasher.TheImpl as digests
 use Rattle.p3_challenger.specs.Verifying.{verifying_of}
 use Rattle.uses.proofs.Begun.{begun-as}
-use Rattle.uses.proofs.Runs.{received-alone, run-as}
+use Rattle.uses.proofs.Runs.{answered, received-alone, run-as}
 use Rattle.uses.proofs.protocol.verify.Goals as goal
 
-pub returns-then-eq-clause-run : goal.returns-then-eq-clause-run
-returns-then-eq-clause-run c =
+pub returns-clause-run : goal.returns-clause-run
+returns-clause-run c =
     let verifier = verifying_of (λ s. s) c.in_ok-verifier.verifier in
     let start = begun-as c.challenger.result verifier.turn.challenger
     (seed_of_separator digests.ghosts.digest_of c.args.separator.now) (ap (λ v. v.turn.challenger) c.in_ok-verifier.ensures.ok)
     c.challenger.ensures in
     let are : AreBytes verifier.unread = subst AreBytes (sym (ap (λ v. v.unread) c.in_ok-verifier.ensures.ok))
     (λ i. omega (arith, c.type_inv.proof i)) in
-    let equal = (compared-by-numbers c.mul-2.result c.add-value.result).0 (sym c.eq.ensures ∙ c.if-eq.true) in (
+    let exact = compared-by-numbers c.mul-2.result c.add-value.result in
+    let value = c.add-value.ensures ∙ ap (λ x. sum_of residues x c.in_ok-claim.claim.offset) c.mul.ensures in (
+      c.in_ok-claim.claim,
+      answered c.eq.result c.in_ok-claim.claim c.then_some.result c.then_some.ensures (
+        λ right. sym c.mul-2.ensures ∙ exact.0 (sym c.eq.ensures ∙ right) ∙ value,
+        λ quotient. c.eq.ensures ∙ exact.1 (c.mul-2.ensures ∙ quotient ∙ sym value),
+      ),
       run-as _ _ _ _ _ _ _ _ _ start
           (received-alone _ _ _ _ (ap (λ v. v.unread) c.in_ok-verifier.ensures.ok) c.in_ok-end.ensures.ok.whole
           (c.in_ok-claim.ensures.read are))
@@ -27,6 +33,4 @@ returns-then-eq-clause-run c =
             divisor = c.in_ok-claim.ensures.divisor;
             spelled = refl;
           }),
-      sym c.mul-2.ensures ∙ equal ∙ c.add-value.ensures
-          ∙ ap (λ x. sum_of residues x c.in_ok-claim.claim.offset) c.mul.ensures,
     )
