@@ -19,8 +19,9 @@ The repository's test command. It runs, at the top of the repository,
 
   rt ci                           every crate proved from nothing, its tests, and its programs as two compilers build them
   tools/misuse                    wrong programs that must not compile: they let go of what must be spent
-  tools/wrong-bodies --self-test  that the next command holds the right edits for refused
-  tools/wrong-bodies              every wrong body: an edit that the prover must refuse
+  tools/wrong-bodies --self-test  that the next command holds the right edits for refused, where tools/ changed since that passed
+  tools/wrong-bodies              wrong bodies, which the prover must refuse: those whose refusal is not on record as the text is
+                                  now, and a sample of the others
 
 each on all processors, and each also where one before it failed. It prints what each part and each crate took, and writes
 that to {TABLE}. The last line is 'N passed, M failed', the counts of the parts added; a part that gives no count is a

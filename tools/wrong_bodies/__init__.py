@@ -11,8 +11,12 @@ verdicts    what that says of one edit
 trials      which edits are checked together, and what is tried alone
 libraries   the libraries that a crate stands on
 lanes       work side by side
-kept        refusals that earlier runs on this machine saw
+texts       what of a crate's text a verdict rests on
+record      the record of refusals that is committed, and the key of an edit
+sample      the edits on record that a run tries again
 run         the crates that are tried, their rows and the count
+listing     the list of all edits
 command     the command line
 self_test   the command, tried on a small repository of its own
+self_record what the self test last passed on
 """

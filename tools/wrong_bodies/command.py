@@ -6,6 +6,7 @@ import signal
 import sys
 import tempfile
 
+from . import listing, record
 from .kit import rtlib
 from .run import Run
 from .verdicts import MEANING
@@ -23,9 +24,12 @@ an edit of a constant or of a ghost member is.
 Edits of different functions are checked together, on a copy of the crate. What is not plainly refused so is tried alone, and
 so is an edit of more than bodies. Each edit has a row: a word, its name, the functions that it changes, and the first goal.
 First the crate is checked as it stands. Where tools/gate has marked it as proved, only the functions that have to refuse are
-checked, with what they call, and the crate as it stands only if an edit is not refused so. What an earlier run on this machine
-saw refused is not tried again while the edit, the crate, its libraries, the kit and this command are the same; its row says
-'kept'. With --anew, --alone, --fresh or --keep all are tried.
+checked, with what they call, and the crate as it stands only if an edit is not refused so.
+
+Refusals are on record, in crates/NAME/{FOLDER}/{record.FILE}, under a key: a checksum of all that a verdict rests on. An edit whose
+key is still the one on record is not tried again, and its row says 'on record'. But where no names are given, a sample of those is
+tried all the same, 3 in 100 and at least 20, which the hash of the commit chooses; where one of them is not refused, all edits of
+its crate are tried. With --all every edit is tried. With --record what was seen refused is put on record; nothing else writes it.
 {MEANING}
 A refusal may have marks: [requires] only what a callee asks failed, [gave up] the search met a limit at each goal, [false]
 values are known at which a goal is false, [answers] only answers that a proof file gives failed.
@@ -39,12 +43,14 @@ def parsed(words):
     parser = argparse.ArgumentParser(description=USAGE, **how)
     parser.add_argument("names", nargs="*", metavar="CRATE | EDIT_FILE", help="what to try (every crate that has edits)")
     parser.add_argument("--jobs", type=int, metavar="N", help="use at most N processors (as many as there are, with 4 GB of memory each)")
-    parser.add_argument("--anew", action="store_true", help="try all, also what an earlier run here saw refused")
+    parser.add_argument("--all", action="store_true", help="try all, also what is on record")
+    parser.add_argument("--record", action="store_true", help="put on record what is seen refused, and try no sample")
+    parser.add_argument("--list", action="store_true", help="print what each edit does, and try none")
     parser.add_argument("--alone", action="store_true", help="check each edit by itself")
     parser.add_argument("--fresh", action="store_true", help="take nothing of what rt check kept of the crate")
     parser.add_argument("--keep", metavar="DIR", help="keep what each check printed, in DIR/CRATE")
     parser.add_argument("--rows", metavar="FILE", help="append a line for each crate: its name, edits, checks and processor seconds, with tabs between")
-    parser.add_argument("--self-test", action="store_true", help="try the command on a small repository that it makes")
+    parser.add_argument("--self-test", action="store_true", help="try the command on a small repository that it makes, unless it passed on just these files of tools/; with --all in any case, and with --record note that it passed")
     return parser.parse_args(words)
 
 
@@ -60,16 +66,20 @@ def main(words):
     if given.self_test:
         from . import self_test
 
-        return self_test.main()
+        return self_test.main(given.all, given.record)
     rtlib.guarded()
     root = rtlib.root_above(os.getcwd())
     if not root or not os.path.isfile(f"{root}/{rtlib.LIST}"):
         root = OWN_ROOT
-    asked = asked_for(given.names, rtlib.crates_below(root))
+    crates = rtlib.crates_below(root)
+    if given.list:
+        print(*listing.lines([it for it in crates if not given.names or it.name in given.names]), sep="\n")
+        return 0
+    asked = asked_for(given.names, crates)
     with tempfile.TemporaryDirectory(prefix="wrong-bodies-") as room:
         remove_when_stopped(room)
         run = Run(given, room)
-        run.all_of(asked)
+        run.all_of(asked, root)
     print(*run.last_lines(), sep="\n")
     return 1 if run.failed else 0
 
@@ -104,7 +114,7 @@ def asked_for(names, crates):
 
 
 def edits_in(folder):
-    """Returns the paths of a folder's edits. A file ending in .md is only there to be read."""
+    """Returns the paths of a folder's edits. The record is none, and a file ending in .md is only there to be read."""
     if not os.path.isdir(folder):
         stop(f"there is no folder {folder}")
-    return [f"{folder}/{name}" for name in sorted(os.listdir(folder)) if not name.endswith(".md")]
+    return [f"{folder}/{name}" for name in sorted(os.listdir(folder)) if name != record.FILE and not name.endswith(".md")]

@@ -4,10 +4,9 @@ import shutil
 import subprocess
 import threading
 
-from . import lanes, libraries
+from . import lanes, libraries, record, sample, texts
 from .check import Workshop
 from .edits import Edit
-from .kept import Refusals
 from .kit import rtlib
 from .trials import Trials
 from .verdicts import REFUSED, Verdict
@@ -20,20 +19,22 @@ class Run:
         self.given, self.room = given, room
         self.printing = threading.Lock()
         self.builds = libraries.Builds(self.say)
-        self.passed, self.failed = 0, []
-        self.refusals = Refusals(not (given.anew or given.alone or given.fresh or given.keep))
-        # By crate and path of an edit, why an earlier run saw it refused.
-        self.told = {}
+        self.passed, self.on_record, self.failed = 0, 0, []
+        self.keys = record.Keys()
+        # By crate, the lines of its record; by crate and path of an edit, its key as the run began, and the line of one that is not tried.
+        self.records, self.begun, self.told = {}, {}, {}
+        # The edits on record that are tried all the same, as pairs of a crate and a path.
+        self.sample = set()
 
     def say(self, text):
         """Prints a line of progress."""
         with self.printing:
             print(f"# {text}", flush=True)
 
-    def all_of(self, asked):
+    def all_of(self, asked, root):
         """Tries the edits of these crates, given by their paths, once the libraries that they stand on are built."""
-        self.told = {(it, path): self.refusals.told(it, path) for it, paths in asked.items() for path in paths}
-        left = [it for it, paths in asked.items() if not all(self.told[it, path] for path in paths)]
+        self.look_up(asked, root)
+        left = [it for it, paths in asked.items() if not all((it, path) in self.told for path in paths)]
         below = list(dict.fromkeys(library for crate in left for library in crate.below()))
         # (no other rt works in these folders meanwhile)
         held = rtlib.lock([*asked, *below])
@@ -46,6 +47,26 @@ class Run:
         for it in held:
             os.close(it)
 
+    def look_up(self, asked, root):
+        """Notes which edits are on record, and which of these are tried all the same."""
+        self.records = {it: record.read(it) for it in asked}
+        for crate, paths in asked.items():
+            for path in paths:
+                key = self.begun[crate, path] = self.keys.of(crate, path)
+                line = self.records[crate].get(name_of(path))
+                if line and line.key == key and not self.given.all:
+                    self.told[crate, path] = line
+        if self.given.names or self.given.record:
+            return
+        by_name = {f"{crate.name}/{name_of(path)}": (crate, path) for crate, path in self.told}
+        commit = sample.commit_of(root)
+        chosen = sample.chosen(by_name, commit)
+        self.sample = {by_name[it] for it in chosen}
+        for it in self.sample:
+            del self.told[it]
+        if chosen:
+            self.say(f"{number_of(len(chosen), 'edit')} of the {len(by_name)} on record, chosen by the commit {commit or '(none)'}: {', '.join(chosen)}")
+
     def tasks(self, asked, missing):
         """Returns the work to do: first the libraries that most crates wait for, then the crates with the most edits."""
         names, made = {it.name for it in missing}, []
@@ -57,52 +78,73 @@ class Run:
         for it, paths in asked.items():
             call = lambda jobs, it=it, paths=paths: self.crate(it, paths, jobs)
             # (the work that a crate's own build keeps serves its edits)
-            left = sum(not self.told[it, path] for path in paths)
+            left = sum((it, path) not in self.told for path in paths)
             made.append(lanes.Task(("edits", it.name), after([*it.below(), it] * bool(left)), left, call))
         return made
 
     def crate(self, crate, paths, jobs):
-        """Tries one crate's edits, but for those that an earlier run saw refused, and prints their rows."""
+        """Tries one crate's edits, but for those that stay as the record has them, and prints their rows."""
         edits = [Edit(it) for it in paths]
-        left = [it for it in edits if not self.told[crate, it.path]]
-        names = {it: self.refusals.name_of(crate, it.path) for it in left}
-        say = lambda text: self.say(f"{crate.name}: {text}")
-        workshop, verdicts = None, {}
-        try:
-            if left:
-                workshop, verdicts = self.tried(crate, left, jobs, say)
-        except subprocess.CalledProcessError as error:
-            verdicts = {it: Verdict("no-verdict", f"the crate's source cannot be read: {error}") for it in left}
-        refused = [it for it, verdict in verdicts.items() if verdict.word == REFUSED]
-        # (of the text that was there before they were tried, if that is there still)
-        for it in refused * bool(refused and self.refusals.is_unchanged(crate)):
-            self.refusals.keep(names[it], f"{places_of(it)} | {verdicts[it].why}")
-        verdicts.update((it, Verdict(REFUSED, f"kept: {self.told[crate, it.path]}")) for it in edits if it not in left)
-        checks, seconds = (workshop.number, workshop.seconds) if workshop else (0, 0.0)
+        verdicts, checks, seconds = self.tried(crate, [it for it in edits if (crate, it.path) not in self.told], jobs)
+        lost = [it for it in verdicts if (crate, it.path) in self.sample and verdicts[it].word != REFUSED]
+        if lost:
+            self.say(f"{crate.name}: {lost[0].name} is on record and is not refused, so the whole crate is tried")
+            more = self.tried(crate, [it for it in edits if it not in verdicts], jobs)
+            verdicts, checks, seconds = {**verdicts, **more[0]}, checks + more[1], seconds + more[2]
+        if self.given.record:
+            self.note(crate, edits, verdicts)
+        told = {it: on_record(self.told[crate, it.path]) for it in edits if it not in verdicts}
+        verdicts = {it: verdicts.get(it) or told[it] for it in edits}
         with self.printing:
             print(f"== {crate.name}: {number_of(len(edits), 'edit')} in {number_of(checks, 'check')}, {seconds:.0f} processor seconds")
             print(*rows(verdicts), sep="\n", flush=True)
             refused = [it for it, verdict in verdicts.items() if verdict.word == REFUSED]
             self.passed += len(refused)
+            self.on_record += len(told)
             self.failed += [f"{crate.name}/{it.name} ({verdicts[it].word})" for it in edits if it not in refused]
             self.write_rows([crate], {crate.name: (len(edits), checks, seconds)})
 
-    def tried(self, crate, edits, jobs, say):
-        """Returns the copy on which a crate's edits were tried, and the verdict on each."""
+    def tried(self, crate, edits, jobs):
+        """Tries these edits of a crate, and returns the verdict on each, how many checks it took, and the processor seconds."""
+        if not edits:
+            return {}, 0, 0.0
+        try:
+            return self.tried_on_a_copy(crate, edits, jobs)
+        except subprocess.CalledProcessError as error:
+            return {it: Verdict("no-verdict", f"the crate's source cannot be read: {error}") for it in edits}, 0, 0.0
+
+    def tried_on_a_copy(self, crate, edits, jobs):
+        """Does the same, where the crate's source can be read."""
         lost = next((it for it in crate.below() if it.name in self.builds.failed), None)
         if lost:
             why = f"the library {lost.name}: {self.builds.failed[lost.name]}"
-            return None, {it: Verdict("no-verdict", why) for it in edits}
+            return {it: Verdict("no-verdict", why) for it in edits}, 0, 0.0
         log_folder = self.given.keep and f"{os.path.abspath(self.given.keep)}/{crate.name}"
         workshop = Workshop(crate, f"{self.room}/{crate.name}", log_folder, self.given.fresh)
         for it in edits:
             it.read(workshop.functions.text_of)
             if not it.why:
                 workshop.functions.place(it)
-        trials = Trials(workshop, jobs, say)
+        trials = Trials(workshop, jobs, lambda text: self.say(f"{crate.name}: {text}"))
         trials.run(edits, self.given.alone, libraries.names_where_proved(crate))
         shutil.rmtree(workshop.room, ignore_errors=True)
-        return workshop, trials.verdicts
+        return trials.verdicts, workshop.number, workshop.seconds
+
+    def note(self, crate, edits, verdicts):
+        """Writes the crate's record: what this run saw refused, and what was on record and was not tried."""
+        names = [it for it in os.listdir(os.path.dirname(record.file_of(crate))) if it.endswith(".edit")]
+        lines = {name: line for name, line in self.records[crate].items() if f"{name}.edit" in names}
+        texts.forget()
+        now = record.Keys()
+        for it in edits:
+            if it not in verdicts:
+                continue
+            lines.pop(it.name, None)
+            # (of the text that was there before it was tried, if that is there still)
+            key = self.begun[crate, it.path]
+            if verdicts[it].word == REFUSED and key and key == now.of(crate, it.path):
+                lines[it.name] = record.Line(key, ", ".join(judge.shown() for judge in it.judges), verdicts[it].why)
+        record.write(crate, lines)
 
     def write_rows(self, crates, counts):
         """Appends a line for each of these crates to the file of --rows. Its seconds are with those of its own library."""
@@ -117,7 +159,18 @@ class Run:
     def last_lines(self):
         """Returns the lines that end the output."""
         failed = [f"FAILED: {', '.join(self.failed)}"] * bool(self.failed)
-        return [*failed, f"{self.passed} passed, {len(self.failed)} failed"]
+        told = f"{self.passed + len(self.failed) - self.on_record} tried, {self.on_record} refused as the record has it"
+        return [*failed, told, f"{self.passed} passed, {len(self.failed)} failed"]
+
+
+def name_of(path):
+    """Returns the name of an edit, given by its file."""
+    return os.path.splitext(os.path.basename(path))[0]
+
+
+def on_record(line):
+    """Returns the verdict on an edit that is not tried, from its line in the record."""
+    return Verdict(REFUSED, f"on record: {line.refused_at} | {line.goal}")
 
 
 def number_of(many, word):
@@ -130,7 +183,7 @@ def rows(verdicts):
     wide = max((len(it.name) for it in verdicts), default=0)
     made = []
     for edit, verdict in sorted(verdicts.items(), key=lambda it: (it[1].word != REFUSED, it[0].name)):
-        where = "" if verdict.why.startswith("kept: ") else f"{places_of(edit)} | "
+        where = "" if verdict.why.startswith("on record: ") else f"{places_of(edit)} | "
         made.append(f"{verdict.word:<11}  {edit.name:<{wide}}  {where}{verdict.why}")
     return made
 

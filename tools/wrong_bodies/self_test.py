@@ -7,7 +7,7 @@ import subprocess
 import sys
 import tempfile
 
-from . import libraries
+from . import libraries, record, sample, self_record, texts
 from .kit import rtlib
 
 COMMAND = f"{os.path.dirname(os.path.dirname(os.path.realpath(__file__)))}/wrong-bodies"
@@ -15,15 +15,22 @@ COMMAND = f"{os.path.dirname(os.path.dirname(os.path.realpath(__file__)))}/wrong
 LOW = """// A library for the crate above.
 #![tactic(auto)]
 
-ghost use Rattle.std.specs.Prelude.{◌≡◌, ◌≤◌, ◌+◌};
+ghost use Rattle.std.specs.Prelude.{◌≡◌, ◌≤◌};
+ghost use Rattle.low.specs.Sums.{twice};
 
 /// Twice a number.
 pub fn doubled(n: u8) -> u8
     requires { n ≤ 100 }
-    ensures { result ≡ n + n }
+    ensures { result ≡ twice n }
 {
     n + n
 }
+"""
+SUMS = """-- Sums.
+use Rattle.std.specs.Prelude.{ℕ, ◌+◌}
+
+abbrev pub twice : ℕ → ℕ
+twice n = n + n
 """
 HIGH = """// Small functions to try wrong bodies on.
 #![tactic(auto)]
@@ -138,6 +145,8 @@ def make(root):
     """Makes the repository."""
     write(f"{root}/crates.txt", "low:\nhigh: low\n")
     write(f"{root}/crates/low/src/lib.rt", LOW)
+    write(f"{root}/crates/low/specs/Sums.antt", SUMS)
+    write(f"{root}/crates/low/specs/Lib.antt", "pub mod Sums\n")
     write(f"{root}/crates/high/src/lib.rt", HIGH)
     write(f"{root}/crates/high/proofs/lesser/Answers.antt", ANSWERS)
     for name, case in CASES.items():
@@ -151,8 +160,6 @@ def make(root):
 def run(root, *words):
     """Runs the command in the repository, prints what it says, and returns its status and its lines."""
     how = {"cwd": root, "stdin": subprocess.DEVNULL, "stdout": subprocess.PIPE, "stderr": subprocess.STDOUT, "text": True}
-    # (what is kept for the repository that this is of stays apart)
-    how["env"] = {**os.environ, "XDG_CACHE_HOME": f"{root}/cache"}
     done = subprocess.run([sys.executable, COMMAND, *words], **how)
     lines = done.stdout.rstrip("\n").split("\n")
     print(*(f"    {it}" for it in lines), sep="\n", flush=True)
@@ -189,17 +196,86 @@ def of_one(root):
     yield "an edit can be named by its file", holds and any("1 edit in 0 checks" in it for it in lines)
 
 
-def of_kept(root):
-    """Tries some cases twice: once more what was refused, and what was not."""
-    names = ("meaning_turned", "text_not_there")
-    status, lines = run(root, *(f"crates/high/wrong-bodies/{it}.edit" for it in names))
+# Changes of one place, as what it is, the file below crates/, the old and the new text, and whether a verdict rests on it.
+CHANGES = (
+    ("its own text", "high/wrong-bodies/meaning_turned.edit", "new: doubled(n)", "new: doubled(n) + 2", True),
+    ("a remark in it", "high/wrong-bodies/meaning_turned.edit", "file:", "what: it adds nothing\nfile:", False),
+    ("its function", "high/src/lib.rt", NEXT, f"({NEXT})", True),
+    ("a comment beside it", "high/src/lib.rt", "// How far", "// As far as", False),
+    ("a proof beside it", "high/proofs/lesser/Answers.antt", "omega arith", "(omega arith)", True),
+    ("the contract of what it calls", "low/src/lib.rt", "n ≤ 100", "n ≤ 101", True),
+    ("a definition that this cites", "low/specs/Sums.antt", "twice n = n + n", "twice n = n + (n + 0)", True),
+    ("a body below", "low/src/lib.rt", "    n + n\n", "    let sum = n + n;\n    sum\n", False),
+    ("a comment below", "low/src/lib.rt", "Twice a number.", "Two times a number.", False),
+    ("a comment in a definition", "low/specs/Sums.antt", "-- Sums.", "-- Sums of numbers.", False),
+    ("a private function below", "low/src/lib.rt", "/// Twice", "fn unused() {}\n\n/// Twice", False),
+)
+
+
+def key_of(root, name):
+    """Returns the key of an edit on the text that there is."""
+    texts.forget()
+    crate = next(it for it in rtlib.crates_below(root) if it.name == "high")
+    return record.Keys().of(crate, f"{crate.folder}/wrong-bodies/{name}.edit")
+
+
+def of_keys(root):
+    """Changes one place after another, and asks whether the edit is still the one on record."""
+    first = key_of(root, "meaning_turned")
+    for what, file, old, new, is_tried in CHANGES:
+        path = f"{root}/crates/{file}"
+        text = rtlib.text_of(path)
+        write(path, text.replace(old, new, 1))
+        is_other = key_of(root, "meaning_turned") != first
+        yield f"after a change of {what} an edit is {'tried again' if is_tried else 'still on record'}", old in text and is_other == is_tried
+        write(path, text)
+    yield "the key of an edit tells edits apart", first not in (None, key_of(root, "two_functions_turned"))
+
+
+def of_record(root):
+    """Puts two cases on record, and tries them again."""
+    paths = [f"crates/high/wrong-bodies/{it}.edit" for it in ("meaning_turned", "text_not_there")]
+    high = next(it for it in rtlib.crates_below(root) if it.name == "high")
+    yield "a missing file is an empty record", record.read(high) == {}
+    run(root, "--record", "--jobs", "1", *paths)
+    yield "what was refused is put on record, and nothing else", [*record.read(high)] == ["meaning_turned"]
+    status, lines = run(root, *paths)
     told = [it for it in lines if it.startswith("refused ")]
-    yield "what was refused is not tried again", len(told) == 1 and "meaning_turned" in told[0] and " kept: " in told[0]
-    yield "what was not refused is", status == 1 and lines[-1] == "1 passed, 1 failed"
-    write(f"{root}/crates/low/src/lib.rt", LOW.replace("Twice a number.", "Two times a number."))
-    _, lines = run(root, "--jobs", "1", "crates/high/wrong-bodies/meaning_turned.edit")
-    yield "once a library has changed, all is tried", lines[-1] == "1 passed, 0 failed" and not any(" kept: " in it for it in lines)
+    yield "what is on record is not tried again", len(told) == 1 and "meaning_turned" in told[0] and " on record: " in told[0]
+    yield "what is not is", status == 1 and lines[-1] == "1 passed, 1 failed"
+    write(f"{root}/crates/low/src/lib.rt", LOW.replace("n ≤ 100", "n ≤ 101"))
+    _, lines = run(root, "--jobs", "1", paths[0])
+    yield "once a contract below has changed, it is tried", lines[-1] == "1 passed, 0 failed" and not any(" on record: " in it for it in lines)
     write(f"{root}/crates/low/src/lib.rt", LOW)
+
+
+def of_forged(root):
+    """Forges a line of the record, and tries the sample: all that is on record, where that is little."""
+    high = next(it for it in rtlib.crates_below(root) if it.name == "high")
+    forged, held = "sum_in_another_order", {}
+    for name in os.listdir(f"{high.folder}/wrong-bodies"):
+        path = f"{high.folder}/wrong-bodies/{name}"
+        if name not in (f"{forged}.edit", "meaning_turned.edit", "branches_exchanged.edit", record.FILE):
+            held[path] = rtlib.text_of(path)
+            os.remove(path)
+    lines_of_record = {it: record.Line(key_of(root, it), "with_next", "forged") for it in (forged, "meaning_turned")}
+    record.write(high, lines_of_record)
+    status, lines = run(root, "--jobs", "1")
+    yield "the sample is named", any("2 edits of the 2 on record" in it and f"high/{forged}" in it for it in lines)
+    yield "a forged line in the sample fails the run", status == 1 and row_of(forged, lines).startswith("not-refused ")
+    yield "then the whole crate is tried", any("is on record and is not refused" in it for it in lines)
+    for path, text in held.items():
+        write(path, text)
+    os.remove(record.file_of(high))
+
+
+def of_samples():
+    """Chooses among many names."""
+    names = [f"crate/edit_{it}" for it in range(1000)]
+    one, other = sample.chosen(names, "a"), sample.chosen(names, "b")
+    yield "a sample has 3 in 100", len(one) == 30 and {*one} <= {*names}
+    yield "the same commit chooses the same, and another others", one == sample.chosen(names[::-1], "a") and one != other
+    yield "a sample has at least 20, and at most all", len(sample.chosen(names[:100], "a")) == 20 and len(sample.chosen(names[:7], "a")) == 7
 
 
 def mark(root):
@@ -218,7 +294,7 @@ def of_marked(root):
     """Tries some cases in crates that are known to be proved as they stand."""
     mark(root)
     cases = {it: CASES[it] for it in ("meaning_turned", "callee_asked_too_much", "branches_exchanged", "constant_turned", "sum_in_another_order")}
-    _, lines = run(root, "--anew", "--jobs", "1", *(f"crates/high/wrong-bodies/{it}.edit" for it in cases))
+    _, lines = run(root, "--all", "--jobs", "1", *(f"crates/high/wrong-bodies/{it}.edit" for it in cases))
     for name, case in cases.items():
         yield f"where the crate is known to be proved, {name}: {case.word}", row_of(name, lines).startswith(f"{case.word} ")
     labels = re.findall(r"# high: check \d+ \((\w+)", "\n".join(lines))
@@ -227,12 +303,16 @@ def of_marked(root):
     yield "the edits of other functions are tried together there too", labels[:first].count("batch_1") == 1
 
 
-def main():
-    """Runs the self test and returns its exit status."""
+def main(is_asked=True, is_recorded=False):
+    """Runs the self test, unless it passed on just these files and is not asked for all the same, and returns its exit status."""
+    if not is_asked and not is_recorded and self_record.is_recorded():
+        print(f"the self test passed on just these files of tools/, with this kit: {self_record.sum_of_tools()}")
+        print("0 passed, 0 failed")
+        return 0
     counts = collections.Counter()
     with tempfile.TemporaryDirectory(prefix="wrong-bodies-self-test-") as root:
         make(root)
-        told = [*of_all(root), *of_one(root), *of_kept(root), *of_marked(root)]
+        told = [*of_samples(), *of_keys(root), *of_all(root), *of_one(root), *of_record(root), *of_forged(root), *of_marked(root)]
         with open(f"{root}/crates/high/src/lib.rt", encoding="utf-8") as it:
             told.append(("the crate's own text is as it was", it.read() == HIGH))
     for text, holds in told:
@@ -240,5 +320,7 @@ def main():
         print(f"{'ok    ' if holds else 'FAILED'}  {text}")
     used = resource.getrusage(resource.RUSAGE_CHILDREN)
     print(f"the self test took {used.ru_utime + used.ru_stime:.0f} processor seconds")
+    if is_recorded and not counts[False]:
+        self_record.write()
     print(f"{counts[True]} passed, {counts[False]} failed")
     return 1 if counts[False] else 0
