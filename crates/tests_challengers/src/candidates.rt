@@ -1,7 +1,7 @@
 use p3_challenger_core::{CanSample, ChallengerError};
 use p3_grinding::{ByteCandidates, ByteGrindingChallenger};
 use p3_hash_challenger::HashChallenger;
-use p3_test_support::{LengthHasher, SumHasher};
+use p3_test_support::{SumHasher, length_challenger};
 use std::process::Abort;
 use std::test::Fail;
 
@@ -55,53 +55,46 @@ impl ByteCandidates<0, 1> for NoByte {
     }
 }
 
-fn find<const W: usize, C: ByteGrindingChallenger<W, 1>, K: ByteCandidates<W, 1> + Drop>(
+fn find<const W: usize, C: ByteGrindingChallenger<W, 1>, K: ByteCandidates<W, 1>>(
     challenger: &C,
     count: u64,
-    candidates: K,
+    candidates: &K,
 ) -> Result<Option<u64>, ChallengerError> {
-    challenger.find_witness(count, &candidates)
+    challenger.find_witness(count, candidates)
 }
 
 fn assert_least_found<C: ByteGrindingChallenger<1, 1>>(
     rt: &impl Abort,
     challenger: &C,
-) -> Result<(), ChallengerError> {
-    for (count, before, least) in [
-        (11, 40, Some(3)),
-        (3, 40, None),
-        (11, 47, Some(10)),
-        (10, 47, None),
-    ] {
-        let found = find(challenger, count, OneByte(before))?;
-        assert_eq!(rt; found, least, "{count} {before}");
-    }
-    Ok(())
+    count: u64,
+    before: u8,
+    least: Option<u64>,
+) {
+    let found = find(challenger, count, &OneByte(before));
+    assert_eq!(rt; found, Ok(least), "{count} {before}");
 }
 
 #[test]
 fn least_candidate_that_passes_is_found(rt: HostRuntime) -> Result<(), Fail> {
     let initial_state = vec![in rt.alloc(); 0u8, 1, 2, 3]?;
     let challenger = HashChallenger::new(initial_state, SumHasher);
-    assert_least_found(&rt, &challenger)?;
+    assert_least_found(&rt, &challenger, 11, 40, Some(3));
+    assert_least_found(&rt, &challenger, 3, 40, None);
+    assert_least_found(&rt, &challenger, 11, 47, Some(10));
+    assert_least_found(&rt, &challenger, 10, 47, None);
     Ok(())
 }
 
-fn assert_output_kept<C: ByteGrindingChallenger<0, 1>>(
-    rt: &impl Abort,
-    challenger: &mut C,
-) -> Result<(), ChallengerError> {
-    assert_eq!(rt; challenger.sample()?, 35);
-    assert_eq!(rt; find(challenger, 5, NoByte(34))?, Some(0));
-    assert_eq!(rt; find(challenger, 5, NoByte(35))?, None);
-    assert_eq!(rt; challenger.sample()?, 34);
-    Ok(())
+fn assert_output_kept<C: ByteGrindingChallenger<0, 1>>(rt: &impl Abort, challenger: &mut C) {
+    assert_eq!(rt; challenger.sample(), Ok(35));
+    assert_eq!(rt; find(challenger, 5, &NoByte(34)), Ok(Some(0)));
+    assert_eq!(rt; find(challenger, 5, &NoByte(35)), Ok(None));
+    assert_eq!(rt; challenger.sample(), Ok(34));
 }
 
 #[test]
 fn candidates_of_no_byte_keep_the_output(rt: HostRuntime) -> Result<(), Fail> {
-    let initial_state = vec![in rt.alloc(); 0u8, 1, 2, 3]?;
-    let mut challenger = HashChallenger::new(initial_state, LengthHasher);
-    assert_output_kept(&rt, &mut challenger)?;
+    let mut challenger = length_challenger(rt.alloc(), 4)?;
+    assert_output_kept(&rt, &mut challenger);
     Ok(())
 }

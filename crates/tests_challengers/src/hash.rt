@@ -1,30 +1,12 @@
+use crate::support::{holds, observe_many, observe_one};
 use p3_challenger_core::{CanObserve, CanSample, ChallengerError};
-use p3_hash_challenger::HashChallenger;
 use p3_symmetric::{Hash, MerkleCap};
-use p3_test_support::LengthHasher;
+use p3_test_support::length_challenger;
 use std::alloc::{AllocError, Global};
 use std::test::Fail;
 
-fn length_challenger(alloc: Global) -> Result<LengthChallenger, AllocError> {
-    let initial_state = vec![in alloc; 0u8, 1, 2, 3]?;
-    Ok(HashChallenger::new(initial_state, LengthHasher))
-}
-
 // The field of the digests: a marker alone.
 struct Marker;
-
-type LengthChallenger = HashChallenger<u8, LengthHasher, 32>;
-
-fn observe_one<V, C: CanObserve<V>>(challenger: &mut C, value: V) -> Result<(), ChallengerError> {
-    challenger.observe(value)
-}
-
-fn observe_many<V, C: CanObserve<V>>(
-    challenger: &mut C,
-    values: &[V],
-) -> Result<(), ChallengerError> {
-    challenger.observe_slice(values)
-}
 
 type Digest = Hash<Marker, u8, 3>;
 
@@ -36,7 +18,7 @@ fn draws_after<V, C: CanObserve<V> + CanSample<u8>>(
     value: V,
     byte: u8,
 ) -> Result<bool, ChallengerError> {
-    challenger.observe(value)?;
+    observe_one(challenger, value)?;
     Ok(challenger.sample()? == byte)
 }
 
@@ -95,12 +77,13 @@ fn digests_and_caps_have_their_values(rt: HostRuntime) -> Result<(), Fail> {
 #[test]
 fn digests_caps_and_lists_are_observed_by_value(rt: HostRuntime) -> Result<(), Fail> {
     let alloc = rt.alloc();
-    let mut challenger = length_challenger(alloc)?;
+    let mut challenger = length_challenger(alloc, 4)?;
     let lent = cap(alloc)?;
-    assert!(rt; feeds_digests(&mut challenger, Hash::from(*b"abc"), &lent)?);
+    let fed = feeds_digests(&mut challenger, Hash::from(*b"abc"), &lent);
+    assert!(rt; holds(&rt, fed));
     let no_cap = MerkleCap::new(Vec::new(alloc));
-    assert!(rt; feeds_caps(&mut &mut challenger, no_cap, lent)?);
-    assert!(rt; feeds_lists(alloc, &mut challenger)?);
-    assert!(rt; feeds_arrays(&mut challenger)?);
+    assert!(rt; holds(&rt, feeds_caps(&mut &mut challenger, no_cap, lent)));
+    assert!(rt; holds(&rt, feeds_lists(alloc, &mut challenger)));
+    assert!(rt; holds(&rt, feeds_arrays(&mut challenger)));
     Ok(())
 }

@@ -6,7 +6,11 @@ mod candidates;
 #[cfg(test)]
 mod hash;
 #[cfg(test)]
+mod multi_field;
+#[cfg(test)]
 mod serializing;
+#[cfg(test)]
+mod support;
 #[cfg(test)]
 mod symmetric;
 #[cfg(test)]

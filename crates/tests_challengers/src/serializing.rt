@@ -1,9 +1,10 @@
+use crate::support::{bits, grind, holds, observe_many, observe_one, passes};
 use p3_challenger_core::{
     CanFinalizeDigest, CanObserve, CanSample, CanSampleBits, ChallengerError, FieldChallenger,
     sample_array,
 };
 use p3_field::{BabyBear, Coeffs, F257, Goldilocks, PrimeCharacteristicRing};
-use p3_grinding::{CanSampleUniformBits, GrindingChallenger, Replica, UniformBitsError};
+use p3_grinding::{CanSampleUniformBits, GrindingChallenger, Replica};
 use p3_hash_challenger::HashChallenger;
 use p3_serializing::{SerializingChallenger32, SerializingChallenger64};
 use p3_symmetric::{Hash, MerkleCap};
@@ -17,23 +18,12 @@ type Over32<F, H> = SerializingChallenger32<F, HashChallenger<u8, H, 32>>;
 type Over64<F, H> = SerializingChallenger64<F, HashChallenger<u8, H, 32>>;
 
 fn over_four_bytes(alloc: Global) -> Result<Over32<BabyBear, LengthHasher>, AllocError> {
-    let initial_state = vec![in alloc; 0u8, 1, 2, 3]?;
-    Ok(Over32::from_hasher(initial_state, LengthHasher, 10))
+    let four = length_challenger(alloc, 4)?;
+    Ok(SerializingChallenger32::new(four, 10))
 }
 
 fn over_no_bytes(alloc: Global) -> Over32<F257, SumHasher> {
     Over32::from_hasher(Vec::new(alloc), SumHasher, 10)
-}
-
-fn observe_one<V, C: CanObserve<V>>(challenger: &mut C, value: V) -> Result<(), ChallengerError> {
-    challenger.observe(value)
-}
-
-fn observe_many<V, C: CanObserve<V>>(
-    challenger: &mut C,
-    values: &[V],
-) -> Result<(), ChallengerError> {
-    challenger.observe_slice(values)
 }
 
 // Whether this value is drawn next.
@@ -44,43 +34,15 @@ fn draws<T: PartialEq + Drop, C: CanSample<T>>(
     Ok(challenger.sample()? == value)
 }
 
-// Bits, a check and a search, each of as many bits as may be asked for.
-
-fn bits<C: CanSampleBits<usize>>(
+// Whether a number of so many uniform bits, if as many may be asked for, is the next one.
+fn draws_uniform_bits<C: CanSampleUniformBits<Goldilocks>>(
     rt: &impl Abort,
     challenger: &mut C,
     bits: usize,
-) -> Result<usize, ChallengerError> {
+    number: usize,
+) -> bool {
     assert!(rt; bits <= C::max_bits());
-    challenger.sample_bits(bits)
-}
-
-fn uniform_bits<C: CanSampleUniformBits<Goldilocks>>(
-    rt: &impl Abort,
-    challenger: &mut C,
-    bits: usize,
-) -> Result<usize, UniformBitsError> {
-    assert!(rt; bits <= C::max_bits());
-    challenger.sample_uniform_bits(bits, false)
-}
-
-fn passes<C: GrindingChallenger<Witness = F257>>(
-    rt: &impl Abort,
-    challenger: &mut C,
-    bits: usize,
-    number: u64,
-) -> Result<bool, ChallengerError> {
-    assert!(rt; bits <= C::max_bits());
-    challenger.check_witness(bits, F257::from_u64(number))
-}
-
-fn grind<C: GrindingChallenger<Witness = F257>>(
-    rt: &impl Abort,
-    challenger: &mut C,
-    bits: usize,
-) -> Result<F257, ChallengerError> {
-    assert!(rt; bits <= C::max_bits());
-    challenger.grind(bits)
+    challenger.sample_uniform_bits(bits, false) == Ok(number)
 }
 
 fn short(number: u64) -> BabyBear {
@@ -93,13 +55,16 @@ fn long(number: u64) -> Goldilocks {
 
 type Words = MerkleCap<BabyBear, [u64; 1]>;
 
-fn feeds_short_digests<
+fn feeds_short<
     'a,
-    C: CanObserve<Hash<BabyBear, u8, 3>>
+    C: CanObserve<BabyBear>
+        + CanObserve<Hash<BabyBear, u8, 3>>
         + CanObserve<Hash<BabyBear, u64, 1>>
         + CanObserve<MerkleCap<BabyBear, [u8; 2]>>
         + CanObserve<&'a Words>,
 >(alloc: Global, challenger: &mut C, words: &'a Words) -> Result<(), ChallengerError> {
+    observe_one(challenger, short(7))?;
+    observe_many(challenger, &[short(1), short(2), short(3)])?;
     observe_one(challenger, Hash::<BabyBear, u8, 3>::from([9, 8, 7]))?;
     observe_one(challenger, Hash::<BabyBear, u64, 1>::from([258]))?;
     let bytes: MerkleCap<BabyBear, [u8; 2]> = MerkleCap::new(vec![in alloc; [1u8, 2], [3, 4]]?);
@@ -130,11 +95,9 @@ fn draws_short<
 fn short_elements_and_digests_are_bytes(rt: HostRuntime) -> Result<(), Fail> {
     let alloc = rt.alloc();
     let mut challenger = over_four_bytes(alloc)?;
-    observe_one(&mut challenger, short(7))?;
-    observe_many(&mut challenger, &[short(1), short(2), short(3)])?;
     let words: Words = MerkleCap::new(vec![in alloc; [5u64], [6]]?);
-    feeds_short_digests(alloc, &mut challenger, &words)?;
-    assert!(rt; draws_short(&rt, challenger)?);
+    assert!(rt; feeds_short(alloc, &mut challenger, &words).is_ok());
+    assert!(rt; holds(&rt, draws_short(&rt, challenger)));
     Ok(())
 }
 
@@ -161,10 +124,10 @@ fn draws_long<
         + CanSampleUniformBits<Goldilocks>
         + CanFinalizeDigest<Digest = [u8; 32]>
         + Drop,
->(rt: &impl Abort, mut challenger: C) -> Result<bool, Fail> {
+>(rt: &impl Abort, mut challenger: C) -> Result<bool, ChallengerError> {
     let first = draws(&mut challenger, long(3038570946151526449))?;
     let second = bits(rt, &mut challenger, 12)? == 2089;
-    let third = uniform_bits(rt, &mut challenger, 3)? == 1;
+    let third = draws_uniform_bits(rt, &mut challenger, 3, 1);
     let drawn: Coeffs<Goldilocks, 4> = challenger.sample_algebra_element()?;
     let coefficients = [
         long(1302406798037686297),
@@ -186,8 +149,8 @@ fn long_elements_and_digests_are_bytes(rt: HostRuntime) -> Result<(), Fail> {
         10,
     );
     let bytes: Bytes = MerkleCap::new(vec![in alloc; [1u8], [2]]?);
-    feeds_long(&mut challenger, &bytes)?;
-    assert!(rt; draws_long(&rt, challenger)?);
+    assert!(rt; feeds_long(&mut challenger, &bytes).is_ok());
+    assert!(rt; holds(&rt, draws_long(&rt, challenger)));
     Ok(())
 }
 
@@ -204,7 +167,7 @@ fn draws_group_by_group<C: Replica + CanSample<BabyBear> + CanSampleBits<usize>>
 #[test]
 fn draws_go_on_from_group_to_group(rt: HostRuntime) -> Result<(), Fail> {
     let mut challenger = over_four_bytes(rt.alloc())?;
-    assert!(rt; draws_group_by_group(&rt, &mut challenger)?);
+    assert!(rt; holds(&rt, draws_group_by_group(&rt, &mut challenger)));
     Ok(())
 }
 
@@ -218,10 +181,10 @@ fn limit_is_met_after_as_many_groups(rt: HostRuntime) -> Result<(), Fail> {
     let alloc = rt.alloc();
     let once = length_challenger(alloc, 92)?;
     let mut challenger: Over32<BabyBear, LengthHasher> = SerializingChallenger32::new(once, 1);
-    assert!(rt; meets_the_limit(&mut challenger)?);
+    assert!(rt; holds(&rt, meets_the_limit(&mut challenger)));
     let twice = length_challenger(alloc, 92)?;
     let mut challenger: Over32<BabyBear, LengthHasher> = SerializingChallenger32::new(twice, 2);
-    assert!(rt; draws(&mut challenger, short(1953855095))?);
+    assert!(rt; holds(&rt, draws(&mut challenger, short(1953855095))));
     Ok(())
 }
 
@@ -236,10 +199,9 @@ fn drops_a_byte<C: GrindingChallenger<Witness = F257> + CanSample<F257>>(
 }
 
 #[test]
-fn byte_is_dropped_before_a_witness(rt: HostRuntime) -> Result<(), Fail> {
+fn byte_is_dropped_before_a_witness(rt: HostRuntime) {
     let mut challenger = over_no_bytes(rt.alloc());
-    assert!(rt; drops_a_byte(&rt, &mut challenger)?);
-    Ok(())
+    assert!(rt; holds(&rt, drops_a_byte(&rt, &mut challenger)));
 }
 
 fn finds_no_witness<C: Replica + GrindingChallenger<Witness = F257> + CanSample<F257>>(
@@ -257,6 +219,6 @@ fn finds_no_witness<C: Replica + GrindingChallenger<Witness = F257> + CanSample<
 fn no_witness_leaves_the_challenger(rt: HostRuntime) -> Result<(), Fail> {
     let five = length_challenger(rt.alloc(), 5)?;
     let mut challenger: Over32<F257, LengthHasher> = SerializingChallenger32::new(five, 10);
-    assert!(rt; finds_no_witness(&rt, &mut challenger)?);
+    assert!(rt; holds(&rt, finds_no_witness(&rt, &mut challenger)));
     Ok(())
 }

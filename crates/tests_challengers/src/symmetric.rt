@@ -3,6 +3,7 @@ ghost use Rattle.p3_symmetric.specs.HashValues.{values_of};
 
 use p3_field::{BabyBear, F257, PrimeCharacteristicRing, PrimeField64};
 use p3_symmetric::{CryptographicPermutation, Hash, MerkleCap, Turn};
+use p3_test_support::element;
 use std::test::Fail;
 
 // ---- what generic code knows: each of these is proved from its bound alone
@@ -32,10 +33,6 @@ fn same_digest<F, T: PrimeField64, const N: usize>(x: &Hash<F, T, N>, y: &Hash<F
 
 // The field of digests and caps: a marker alone.
 struct Marker;
-
-fn element(n: u64) -> F257 {
-    F257::from_u64(n)
-}
 
 fn three(x: u64, y: u64, z: u64) -> [F257; 3] {
     [element(x), element(y), element(z)]

@@ -42,59 +42,49 @@ fn assert_answered<C: CanObserve<BabyBear> + CanSampleUniformBits<BabyBear>>(
     challenger: &mut C,
     observed: &[u64],
     draw: Draw,
-) -> Result<(), ChallengerError> {
+) {
     let (bits, resample, answer) = draw;
     for number in observed {
-        challenger.observe(BabyBear::from_u64(*number))?;
+        assert!(rt; challenger.observe(BabyBear::from_u64(*number)).is_ok());
     }
     assert!(rt; bits <= C::max_bits());
     assert_eq!(rt; challenger.sample_uniform_bits(bits, resample), answer);
-    Ok(())
 }
 
 // Asserts the same, and which number is drawn next.
 fn assert_answered_before<
     C: CanObserve<BabyBear> + CanSample<BabyBear> + CanSampleUniformBits<BabyBear>,
->(
-    rt: &impl Abort,
-    challenger: &mut C,
-    observed: &[u64],
-    draw: Draw,
-    next: u64,
-) -> Result<(), ChallengerError> {
-    assert_answered(rt, challenger, observed, draw)?;
-    assert!(rt; challenger.sample()? == BabyBear::from_u64(next));
-    Ok(())
+>(rt: &impl Abort, challenger: &mut C, observed: &[u64], draw: Draw, next: u64) {
+    assert_answered(rt, challenger, observed, draw);
+    assert_eq!(rt; challenger.sample(), Ok(BabyBear::from_u64(next)));
 }
 
 #[test]
-fn value_at_the_bound_is_rejected_or_drawn_again(rt: HostRuntime) -> Result<(), Fail> {
+fn value_at_the_bound_is_rejected_or_drawn_again(rt: HostRuntime) {
     let rejects = (4, false, rejected());
-    assert_answered(&rt, &mut fresh::<2>(1), BEFORE_LARGEST, rejects)?;
+    assert_answered(&rt, &mut fresh::<2>(1), BEFORE_LARGEST, rejects);
     let meets_limit = (4, true, limit());
-    assert_answered_before(&rt, &mut fresh::<2>(1), BEFORE_LARGEST, meets_limit, 2)?;
-    assert_answered(&rt, &mut fresh::<2>(2), BEFORE_LARGEST, (4, true, Ok(2)))?;
-    Ok(())
+    assert_answered_before(&rt, &mut fresh::<2>(1), BEFORE_LARGEST, meets_limit, 2);
+    assert_answered(&rt, &mut fresh::<2>(2), BEFORE_LARGEST, (4, true, Ok(2)));
 }
 
 #[test]
-fn limit_holds_for_each_half(rt: HostRuntime) -> Result<(), Fail> {
+fn limit_holds_for_each_half(rt: HostRuntime) {
     let observed = BEFORE_OTHER_AND_LARGEST;
-    for answer in [(28, false, rejected()), (28, true, limit())] {
-        assert_answered_before(&rt, &mut fresh::<1>(1), observed, answer, 12)?;
-    }
+    let rejects = (28, false, rejected());
+    assert_answered_before(&rt, &mut fresh::<1>(1), observed, rejects, 12);
+    let meets_limit = (28, true, limit());
+    assert_answered_before(&rt, &mut fresh::<1>(1), observed, meets_limit, 12);
     let mut twice = fresh::<1>(2);
-    assert_answered_before(&rt, &mut &mut twice, observed, (28, true, Ok(196612)), 5)?;
-    Ok(())
+    assert_answered_before(&rt, &mut &mut twice, observed, (28, true, Ok(196612)), 5);
 }
 
 #[test]
-fn no_bits_draw_nothing(rt: HostRuntime) -> Result<(), Fail> {
-    for resample in [false, true] {
-        let draw = (0, resample, Ok(0));
-        assert_answered_before(&rt, &mut fresh::<2>(1), BEFORE_LARGEST, draw, 2013265920)?;
-    }
-    Ok(())
+fn no_bits_draw_nothing(rt: HostRuntime) {
+    let once = (0, false, Ok(0));
+    assert_answered_before(&rt, &mut fresh::<2>(1), BEFORE_LARGEST, once, 2013265920);
+    let again = (0, true, Ok(0));
+    assert_answered_before(&rt, &mut fresh::<2>(1), BEFORE_LARGEST, again, 2013265920);
 }
 
 // Whether an error prints this text.

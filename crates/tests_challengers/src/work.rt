@@ -1,12 +1,13 @@
 ghost use Rattle.std.specs.Prelude.{◌≤◌};
 
+use crate::support::{draws, grind, holds, passes};
 use p3_challenger_core::{CanObserve, CanSample, ChallengerError};
 use p3_duplex::DuplexChallenger;
-use p3_field::{F257, PrimeCharacteristicRing};
+use p3_field::F257;
 use p3_grinding::{GrindingChallenger, Replica, UniformGrindingChallenger};
 use p3_symmetric::Turn;
+use p3_test_support::element;
 use std::process::Abort;
-use std::test::Fail;
 
 type Sponge<const K: usize> = DuplexChallenger<F257, Turn<K>, 3, 2>;
 
@@ -16,30 +17,7 @@ fn fresh<const K: usize>(draw_limit: u64) -> Sponge<K>
     DuplexChallenger::new(Turn, draw_limit)
 }
 
-fn element(number: u64) -> F257 {
-    F257::from_u64(number)
-}
-
-// Whether these numbers are drawn next.
-fn draws<C: CanSample<F257>>(challenger: &mut C, numbers: &[u64]) -> Result<bool, ChallengerError> {
-    for number in numbers {
-        if challenger.sample()? != element(*number) {
-            return Ok(false);
-        }
-    }
-    Ok(true)
-}
-
-// Searches and checks, each of as many bits as may be asked for.
-
-fn grind<C: GrindingChallenger<Witness = F257>>(
-    rt: &impl Abort,
-    challenger: &mut C,
-    bits: usize,
-) -> Result<F257, ChallengerError> {
-    assert!(rt; bits <= C::max_bits());
-    challenger.grind(bits)
-}
+// A search and a check, each of as many uniform bits as may be asked for.
 
 fn grind_uniform<C: UniformGrindingChallenger<Witness = F257>>(
     rt: &impl Abort,
@@ -53,16 +31,6 @@ fn grind_uniform<C: UniformGrindingChallenger<Witness = F257>>(
     } else {
         challenger.grind_uniform_may_error(bits)
     }
-}
-
-fn passes<C: GrindingChallenger<Witness = F257>>(
-    rt: &impl Abort,
-    challenger: &mut C,
-    bits: usize,
-    witness: u64,
-) -> Result<bool, ChallengerError> {
-    assert!(rt; bits <= C::max_bits());
-    challenger.check_witness(bits, element(witness))
 }
 
 fn passes_uniform<C: UniformGrindingChallenger<Witness = F257>>(
@@ -114,19 +82,24 @@ fn asks_for_no_work<C: UniformGrindingChallenger<Witness = F257> + CanSample<F25
     Ok(first && uniform && draws(challenger, &[2, 1])?)
 }
 
+fn finds_uniform_witness<C: Replica + UniformGrindingChallenger<Witness = F257> + CanSample<F257>>(
+    rt: &impl Abort,
+    challenger: &C,
+    resample: bool,
+) -> Result<bool, ChallengerError> {
+    let mut copy = challenger.copy()?;
+    let found = grind_uniform(rt, &mut copy, 8, resample)? == element(255);
+    Ok(found && draws(&mut copy, &[2, 4])?)
+}
+
 fn finds_uniform_witnesses<
     C: Replica + UniformGrindingChallenger<Witness = F257> + CanSample<F257>,
 >(rt: &impl Abort, challenger: &C) -> Result<bool, ChallengerError> {
-    for resample in [true, false] {
-        let mut copy = challenger.copy()?;
-        if grind_uniform(rt, &mut copy, 8, resample)? != element(255)
-            || !draws(&mut copy, &[2, 4])?
-        {
-            return Ok(false);
-        }
-    }
+    let again = finds_uniform_witness(rt, challenger, true)?;
+    let or_fails = finds_uniform_witness(rt, challenger, false)?;
     let mut copy = challenger.copy()?;
-    Ok(grind(rt, &mut copy, 8)? == element(254) && draws(&mut copy, &[2, 4])?)
+    let plain = grind(rt, &mut copy, 8)? == element(254) && draws(&mut copy, &[2, 4])?;
+    Ok(again && or_fails && plain)
 }
 
 fn meets_the_limit<C: Replica + UniformGrindingChallenger<Witness = F257>>(
@@ -141,31 +114,26 @@ fn meets_the_limit<C: Replica + UniformGrindingChallenger<Witness = F257>>(
 }
 
 #[test]
-fn least_witness_is_found_and_observed(rt: HostRuntime) -> Result<(), Fail> {
-    assert!(rt; finds_least_witnesses(&rt, fresh::<2>(10))?);
-    Ok(())
+fn least_witness_is_found_and_observed(rt: HostRuntime) {
+    assert!(rt; holds(&rt, finds_least_witnesses(&rt, fresh::<2>(10))));
 }
 
 #[test]
-fn no_witness_leaves_the_challenger(rt: HostRuntime) -> Result<(), Fail> {
-    assert!(rt; finds_no_witness(&rt, fresh::<1>(10))?);
-    Ok(())
+fn no_witness_leaves_the_challenger(rt: HostRuntime) {
+    assert!(rt; holds(&rt, finds_no_witness(&rt, fresh::<1>(10))));
 }
 
 #[test]
-fn no_bits_ask_for_no_work(rt: HostRuntime) -> Result<(), Fail> {
-    assert!(rt; asks_for_no_work(&rt, &mut fresh::<1>(10))?);
-    Ok(())
+fn no_bits_ask_for_no_work(rt: HostRuntime) {
+    assert!(rt; holds(&rt, asks_for_no_work(&rt, &mut fresh::<1>(10))));
 }
 
 #[test]
-fn uniform_work_draws_again_or_fails(rt: HostRuntime) -> Result<(), Fail> {
-    assert!(rt; finds_uniform_witnesses(&rt, &fresh::<2>(2))?);
-    Ok(())
+fn uniform_work_draws_again_or_fails(rt: HostRuntime) {
+    assert!(rt; holds(&rt, finds_uniform_witnesses(&rt, &fresh::<2>(2))));
 }
 
 #[test]
-fn uniform_check_may_meet_the_limit(rt: HostRuntime) -> Result<(), Fail> {
-    assert!(rt; meets_the_limit(&rt, &fresh::<2>(1))?);
-    Ok(())
+fn uniform_check_may_meet_the_limit(rt: HostRuntime) {
+    assert!(rt; holds(&rt, meets_the_limit(&rt, &fresh::<2>(1))));
 }

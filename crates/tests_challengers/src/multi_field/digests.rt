@@ -1,5 +1,6 @@
 // Digests and caps of words, beside scalars.
-use crate::support::{draws, draws_after, ends_in, fresh, observe_each, word};
+use crate::multi_field::{draws_after, ends_in, fresh, observe_each, word};
+use crate::support::{draws, holds};
 use p3_challenger_core::{CanFinalizeDigest, CanObserve, CanSample, ChallengerError};
 use p3_field::{BabyBear, F257};
 use p3_grinding::Replica;
@@ -55,27 +56,26 @@ fn drops_outputs_at_an_empty_digest<
 }
 
 #[test]
-fn words_of_a_digest_are_absorbed_in_blocks(rt: HostRuntime) -> Result<(), Fail> {
-    assert!(rt; absorbs_words_in_blocks(fresh()?)?);
-    Ok(())
+fn words_of_a_digest_are_absorbed_in_blocks(rt: HostRuntime) {
+    assert!(rt; holds(&rt, absorbs_words_in_blocks(fresh(&rt))));
 }
 
 #[test]
 fn cap_is_observed_digest_by_digest(rt: HostRuntime) -> Result<(), Fail> {
     let cap = cap(rt.alloc())?;
-    assert!(rt; draws_after(&mut fresh()?, &cap, &[0, 11, 0, 14, 0])?);
-    assert!(rt; draws_after(&mut fresh()?, cap, &[0, 11, 0, 14, 0])?);
+    let lent = draws_after(&mut fresh(&rt), &cap, &[0, 11, 0, 14, 0]);
+    assert!(rt; holds(&rt, lent));
+    let given = draws_after(&mut fresh(&rt), cap, &[0, 11, 0, 14, 0]);
+    assert!(rt; holds(&rt, given));
     Ok(())
 }
 
 #[test]
-fn scalar_and_digest_of_one_word_are_not_told_apart(rt: HostRuntime) -> Result<(), Fail> {
-    assert!(rt; confuses_scalars_with_words(fresh()?)?);
-    Ok(())
+fn scalar_and_digest_of_one_word_are_not_told_apart(rt: HostRuntime) {
+    assert!(rt; holds(&rt, confuses_scalars_with_words(fresh(&rt))));
 }
 
 #[test]
-fn digest_of_no_words_drops_the_outputs_and_an_array_does_not(rt: HostRuntime) -> Result<(), Fail> {
-    assert!(rt; drops_outputs_at_an_empty_digest(fresh()?)?);
-    Ok(())
+fn digest_of_no_words_drops_the_outputs_and_an_array_does_not(rt: HostRuntime) {
+    assert!(rt; holds(&rt, drops_outputs_at_an_empty_digest(fresh(&rt))));
 }

@@ -1,0 +1,74 @@
+// What the tests share. Each function is generic over the challenger, and so proved once, from its bounds alone: of a
+// test on a challenger as it is each call takes seconds to prove.
+use p3_challenger_core::{CanObserve, CanSample, CanSampleBits, ChallengerError};
+use p3_field::F257;
+use p3_grinding::GrindingChallenger;
+use p3_test_support::element;
+use std::process::Abort;
+
+/// Whether calls were answered as they should be. One that was refused ends the test.
+pub fn holds(rt: &impl Abort, answered: Result<bool, ChallengerError>) -> bool {
+    answered.expect(rt, "no call is refused")
+}
+
+/// Observes a value.
+pub fn observe_one<V, C: CanObserve<V>>(
+    challenger: &mut C,
+    value: V,
+) -> Result<(), ChallengerError> {
+    challenger.observe(value)
+}
+
+/// Observes values by one call.
+pub fn observe_many<V, C: CanObserve<V>>(
+    challenger: &mut C,
+    values: &[V],
+) -> Result<(), ChallengerError> {
+    challenger.observe_slice(values)
+}
+
+/// Whether the elements of these numbers are drawn next.
+pub fn draws<C: CanSample<F257>>(
+    challenger: &mut C,
+    numbers: &[u64],
+) -> Result<bool, ChallengerError> {
+    for number in numbers {
+        if challenger.sample()? != element(*number) {
+            return Ok(false);
+        }
+    }
+    Ok(true)
+}
+
+// Bits, a search and a check, each of as many bits as may be asked for.
+
+/// The next number of so many bits.
+pub fn bits<C: CanSampleBits<usize>>(
+    rt: &impl Abort,
+    challenger: &mut C,
+    bits: usize,
+) -> Result<usize, ChallengerError> {
+    assert!(rt; bits <= C::max_bits());
+    challenger.sample_bits(bits)
+}
+
+/// The witness that is found and observed.
+pub fn grind<C: GrindingChallenger<Witness = F257>>(
+    rt: &impl Abort,
+    challenger: &mut C,
+    bits: usize,
+) -> Result<F257, ChallengerError> {
+    assert!(rt; bits <= C::max_bits());
+    challenger.grind(bits)
+}
+
+/// Whether the element of a number is a witness; it is observed.
+pub fn passes<C: GrindingChallenger<Witness = F257>>(
+    rt: &impl Abort,
+    challenger: &mut C,
+    bits: usize,
+    witness: u64,
+) -> Result<bool, ChallengerError> {
+    assert!(rt; bits <= C::max_bits());
+    challenger.check_witness(bits, element(witness))
+}
