@@ -3,10 +3,10 @@ ghost use Rattle.std.specs.Prelude.{◌<◌, ◌≤◌};
 
 use crate::names::{ALGEBRAS, AlgebraName, FIELDS, FieldName};
 use anyhow::{Context, Result, bail};
-use conformance_calls::answer;
 use conformance_calls::replay::Replayed;
-use conformance_calls::symbol::{Symbol, coefficients_of, element_of, numbers_of};
-use conformance_calls::words::{look_up, split_name};
+use conformance_words::answer;
+use conformance_words::symbol::{Symbol, coefficients_of, element_of, numbers_of};
+use conformance_words::words::{look_up, split_name};
 use p3_challenger::fs::{
     BytesToFieldCodec, Codec, ExtensionFieldCodec, FieldToFieldCodec, FieldUnit, Unit,
 };

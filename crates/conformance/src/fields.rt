@@ -1,11 +1,11 @@
 // Fields, their algebras and names, through their bounds.
 use crate::names::{ALGEBRAS, AlgebraName, FIELDS, FieldName};
 use anyhow::{Result, bail};
-use conformance_calls::answer;
-use conformance_calls::line::Step;
 use conformance_calls::replay::{Replayed, first_difference};
-use conformance_calls::symbol::{Symbol, coefficients_of};
-use conformance_calls::words::{look_up, parse_pair, split_name};
+use conformance_words::answer;
+use conformance_words::line::Step;
+use conformance_words::symbol::{Symbol, coefficients_of};
+use conformance_words::words::{look_up, parse_pair, split_name};
 use p3_field::{
     Algebra, AlgebraIdentity, BabyBear, Coeffs, F257, Field, Goldilocks, Named, PrimeField,
     PrimeField32, PrimeField64,

@@ -38,10 +38,11 @@ mod steps;
 
 use anyhow::{Context, Result};
 use codecs::Codecs;
-use conformance_calls::line::{Line, Step};
+use conformance_calls::challengers;
 use conformance_calls::replay::first_difference;
 use conformance_calls::symmetric::Turning;
-use conformance_calls::{challengers, words};
+use conformance_words::line::{Line, Step};
+use conformance_words::words;
 use counts::Counts;
 use patterns::Steps;
 use program::Program;

@@ -1,9 +1,9 @@
 // Lists of steps: what is wrong with them, how they print, and how they are recorded and played.
 use crate::steps::{KINDS, StepHead, parse_label, parse_step};
 use anyhow::{Context, Result, bail};
-use conformance_calls::answer;
 use conformance_calls::replay::Replayed;
-use conformance_calls::words::{look_up, split_name};
+use conformance_words::answer;
+use conformance_words::words::{look_up, split_name};
 use p3_challenger::fs::{
     Interaction, InteractionPattern, Kind, Label, Pattern, PatternPlayer, PatternState,
     TranscriptError,

@@ -2,11 +2,11 @@
 ghost use Rattle.std.specs.Prelude.{◌≤◌, length};
 
 use anyhow::{Result, bail};
-use conformance_calls::answer;
-use conformance_calls::line::Step;
 use conformance_calls::replay::{Replayed, first_difference};
-use conformance_calls::symbol::{Symbol, numbers_of};
-use conformance_calls::words::{split_first, split_name};
+use conformance_words::answer;
+use conformance_words::line::Step;
+use conformance_words::symbol::{Symbol, numbers_of};
+use conformance_words::words::{split_first, split_name};
 use p3_challenger::CanObserve;
 use p3_challenger::fs::{DomainSeparator, FieldUnit, InteractionPattern, Unit};
 use p3_field::{BabyBear, F257};

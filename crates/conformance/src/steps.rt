@@ -1,9 +1,9 @@
 // Steps and their parts, as a file writes them.
 use crate::names::{ALGEBRAS, AlgebraName, FieldName};
 use anyhow::{Context, Result, bail};
-use conformance_calls::answer;
 use conformance_calls::replay::Replayed;
-use conformance_calls::words::{look_up, split_first, split_name};
+use conformance_words::answer;
+use conformance_words::words::{look_up, split_first, split_name};
 use p3_challenger::fs::{Hierarchy, Interaction, Kind, Label, Length, TypeTag};
 use p3_field::{BabyBear, Coeffs, F257, Goldilocks};
 use p3_symmetric::Sha256Hasher;

@@ -1,9 +1,9 @@
 // The challengers that calls of a line are made on.
-use crate::line::Step;
 use crate::subject::Way;
-use crate::words::split_name;
 use crate::{duplex, hash, multi_field, serializing};
 use anyhow::{Result, bail};
+use conformance_words::line::Step;
+use conformance_words::words::split_name;
 use std::alloc::Global;
 
 /// The first call with another answer, on a new challenger: `duplex F K W R`, `hash H [HEX]`, `ser32 F H [HEX]`,

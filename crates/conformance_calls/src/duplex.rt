@@ -1,14 +1,14 @@
-use crate::answer;
 use crate::challenger_call::{ArraysKind, ChallengerCall, Draw, Form, Observation};
 use crate::digests::{cap, observe_digests};
 use crate::elements::answer_elements;
-use crate::line::Step;
 use crate::replay::{Replayed, first_difference};
 use crate::subject::{DRAW_LIMIT, Subject, Way, finalized, observe};
-use crate::symbol::{Extended, numbers_of};
 use crate::symmetric::permuted;
 use crate::work::{WorkCall, uniform_bits, uniform_work};
 use anyhow::{Context, Result, bail};
+use conformance_words::answer;
+use conformance_words::line::Step;
+use conformance_words::symbol::{Extended, numbers_of};
 use p3_challenger::DuplexChallenger;
 use p3_field::{BabyBear, F257, Goldilocks};
 use p3_symmetric::{CryptographicPermutation, Turn};
@@ -45,16 +45,23 @@ macro_rules! new_duplex {
     };
 }
 
+// The first difference on a duplex challenger of the shape that the line has.
+macro_rules! duplex_difference {
+    ($field:ty, $way:expr, $alloc:expr, $shape:expr, $steps:expr) => {
+        match $shape {
+            "1 3 2" => first_difference($alloc, new_duplex!(($field, $way), 1, 3, 2), $steps),
+            _ => difference_over!(new_duplex, ($field, $way), $alloc, $shape, $steps),
+        }
+    };
+}
+
 fn over_baby_bear(
     alloc: Global,
     way: Way,
     shape: &str,
     steps: &[Step<'_>],
 ) -> Result<Option<(usize, String)>> {
-    if shape == "1 9 8" {
-        return first_difference(alloc, new_duplex!((BabyBear, way), 1, 9, 8), steps);
-    }
-    difference_over!(new_duplex, (BabyBear, way), alloc, shape, steps)
+    duplex_difference!(BabyBear, way, alloc, shape, steps)
 }
 
 fn over_goldilocks(
@@ -63,7 +70,7 @@ fn over_goldilocks(
     shape: &str,
     steps: &[Step<'_>],
 ) -> Result<Option<(usize, String)>> {
-    difference_over!(new_duplex, (Goldilocks, way), alloc, shape, steps)
+    duplex_difference!(Goldilocks, way, alloc, shape, steps)
 }
 
 fn over_f257(
@@ -72,7 +79,7 @@ fn over_f257(
     shape: &str,
     steps: &[Step<'_>],
 ) -> Result<Option<(usize, String)>> {
-    difference_over!(new_duplex, (F257, way), alloc, shape, steps)
+    duplex_difference!(F257, way, alloc, shape, steps)
 }
 
 impl<F: Extended, P: CryptographicPermutation<[F; W]>, const W: usize, const R: usize> Replayed

@@ -1,13 +1,13 @@
 // Calls on a challenger of the elements of a field, through its bounds.
-use crate::answer;
 use crate::challenger_call::{ChallengerCall, Draw, Observation, RowKind};
 use crate::subject::{
     Subject, Way, draw_bits, draw_element, draw_extension, draw_symbols, most_bits, observe_bytes,
     observe_element,
 };
-use crate::symbol::{Extended, coefficients_of, element_of, symbols};
 use crate::work::{WorkCall, plain_work};
 use anyhow::{Result, bail};
+use conformance_words::answer;
+use conformance_words::symbol::{Extended, coefficients_of, element_of, symbols};
 use p3_challenger::fs::{ExtensionFieldCodec, FieldToFieldCodec, FieldUnit};
 use p3_challenger::{CanSample, FieldChallenger, GrindingChallenger};
 use p3_field::BasedVectorSpace;

@@ -1,16 +1,16 @@
-use crate::answer;
 use crate::candidates::least_candidate;
 use crate::challenger_call::{ArraysKind, ChallengerCall, Draw, Form, Observation, RowKind};
 use crate::digests::{cap, observe_digests};
-use crate::line::Step;
 use crate::replay::{Replayed, first_difference};
 use crate::subject::{
     Subject, Way, draw_element, draw_symbols, finalized, observe, observe_bytes, observe_element,
 };
-use crate::symbol::{Extended, numbers_of, symbols};
 use crate::symmetric::digest_of;
-use crate::words::split_name;
 use anyhow::{Context, Result, bail};
+use conformance_words::answer;
+use conformance_words::line::Step;
+use conformance_words::symbol::{Extended, numbers_of, symbols};
+use conformance_words::words::split_name;
 use p3_challenger::fs::{BytesToFieldCodec, ExtensionFieldCodec};
 use p3_challenger::{CanObserve, CanSample, HashChallenger};
 use p3_field::BabyBear;

@@ -1,5 +1,4 @@
-//! What the program `conformance` is made of: the lines of its files, the calls on challengers, permutations and
-//! hash functions, and how answers are written.
+//! What the program `conformance` is made of: the calls on challengers, permutations and hash functions.
 #![tactic(auto)]
 
 // An expression of the values as an array, whose length is part of its type.
@@ -48,25 +47,21 @@ macro_rules! with_challenger {
     };
 }
 
-// The first difference on a new challenger of the shape that the line has, which the macro `$new` makes.
+// The first difference on a new challenger of the shape that the line has, which the macro `$new` makes: the places
+// that `Turn` turns by, the width and the rate. Each shape over each field is proved by itself, so they are few.
 // (Each array has to be seen to fit in memory, so no function that makes a challenger is generic over the field.)
 macro_rules! difference_over {
     ($new:ident, $of:tt, $alloc:expr, $shape:expr, $steps:expr) => {
         match $shape {
             "1 2 1" => first_difference($alloc, $new!($of, 1, 2, 1), $steps),
-            "1 3 2" => first_difference($alloc, $new!($of, 1, 3, 2), $steps),
             "2 3 2" => first_difference($alloc, $new!($of, 2, 3, 2), $steps),
-            "2 4 2" => first_difference($alloc, $new!($of, 2, 4, 2), $steps),
-            "1 5 3" => first_difference($alloc, $new!($of, 1, 5, 3), $steps),
             "2 5 3" => first_difference($alloc, $new!($of, 2, 5, 3), $steps),
-            "5 8 4" => first_difference($alloc, $new!($of, 5, 8, 4), $steps),
             "9 16 8" => first_difference($alloc, $new!($of, 9, 16, 8), $steps),
             _ => bail!("an unknown shape"),
         }
     };
 }
 
-pub mod answer;
 mod candidates;
 pub mod challenger_call;
 pub mod challengers;
@@ -74,12 +69,9 @@ mod digests;
 mod duplex;
 mod elements;
 mod hash;
-pub mod line;
 mod multi_field;
 pub mod replay;
 mod serializing;
 mod subject;
-pub mod symbol;
 pub mod symmetric;
-pub mod words;
 mod work;

@@ -1,14 +1,14 @@
 // Multi-field challengers.
-use crate::answer;
 use crate::challenger_call::{ArraysKind, ChallengerCall, Form, Observation};
 use crate::digests::{cap, observe_digests};
 use crate::elements::answer_elements;
-use crate::line::Step;
 use crate::replay::{Replayed, first_difference};
 use crate::subject::{Subject, Way, finalized, observe};
-use crate::symbol::{Extended, Symbol, numbers_of, rows_of_symbols};
-use crate::words::{look_up, parse_rows, split_name};
 use anyhow::{Context, Result, bail};
+use conformance_words::answer;
+use conformance_words::line::Step;
+use conformance_words::symbol::{Extended, Symbol, numbers_of, rows_of_symbols};
+use conformance_words::words::{look_up, parse_rows, split_name};
 use p3_challenger::MultiField32Challenger;
 use p3_field::{
     BabyBear, F257, FieldBridge, Goldilocks, PrimeCharacteristicRing, PrimeField32, PrimeField64,

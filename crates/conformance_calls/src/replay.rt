@@ -1,6 +1,6 @@
 // The calls of a line, made in order.
-use crate::line::Step;
 use anyhow::{Context, Result};
+use conformance_words::line::Step;
 use std::alloc::Global;
 
 /// What calls of a file are made on.

@@ -1,15 +1,15 @@
 // Challengers of the elements of a field over a hash challenger.
-use crate::answer;
 use crate::challenger_call::{ArraysKind, ChallengerCall, Form};
 use crate::digests::{cap, observe_digests};
 use crate::elements::answer_elements;
-use crate::line::Step;
 use crate::replay::{Replayed, first_difference};
 use crate::subject::{DRAW_LIMIT, Subject, Way, finalized, observe};
-use crate::symbol::{Extended, rows_of_symbols};
-use crate::words::{look_up, parse_rows, split_name};
 use crate::work::{WorkCall, uniform_bits};
 use anyhow::{Context, Result, bail};
+use conformance_words::answer;
+use conformance_words::line::Step;
+use conformance_words::symbol::{Extended, rows_of_symbols};
+use conformance_words::words::{look_up, parse_rows, split_name};
 use p3_challenger::{
     ByteGrindingChallenger, CanFinalizeDigest, HashChallenger, SerializedIn, SerializingChallenger,
 };

@@ -1,9 +1,9 @@
 // Permutations and hash functions, through their bounds.
-use crate::answer;
 use crate::replay::Replayed;
-use crate::symbol::{numbers_of, symbols};
-use crate::words::parse_row;
 use anyhow::{Result, bail};
+use conformance_words::answer;
+use conformance_words::symbol::{numbers_of, symbols};
+use conformance_words::words::parse_row;
 use p3_field::F257;
 use p3_symmetric::{CryptographicHasher, CryptographicPermutation, HashOutput, Turn};
 use std::alloc::Global;

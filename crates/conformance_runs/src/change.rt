@@ -1,6 +1,6 @@
 // What becomes of a proof between the prover and the verifier.
 use anyhow::{Result, bail};
-use conformance_calls::words::split_first;
+use conformance_words::words::split_first;
 use std::alloc::Global;
 
 /// A change of a proof.

@@ -2,7 +2,7 @@
 use crate::change::Change;
 use crate::steps::Step;
 use anyhow::{Context, Result};
-use conformance_calls::words::split_name;
+use conformance_words::words::split_name;
 use std::alloc::Global;
 
 /// A script, and the answer to it.

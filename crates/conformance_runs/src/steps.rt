@@ -1,8 +1,8 @@
 // The steps of a script, as a file writes them.
 use crate::world::BitWidth;
 use anyhow::{Result, bail};
-use conformance_calls::symbol::{Symbol, symbols};
-use conformance_calls::words::{parse_row, split_name};
+use conformance_words::symbol::{Symbol, symbols};
+use conformance_words::words::{parse_row, split_name};
 use p3_challenger::fs::Label;
 use p3_field::F257;
 use std::alloc::Global;
