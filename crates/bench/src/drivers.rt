@@ -4,14 +4,14 @@ ghost use Rattle.std.specs.Prelude.{◌≤◌};
 
 use crate::duplex::Duplex;
 use crate::hash::{Chain, new_chain};
-use crate::timing::{Lap, least, least_lap};
+use crate::timing::{Lap, least, least_lap, nanoseconds_since};
 use anyhow::Result;
-use p3_challenger::Sponge;
 use p3_challenger::fs::{
     BytesToFieldCodec, Codec, DomainSeparator, FieldToFieldCodec, FieldUnit, Hierarchy,
     Interaction, InteractionPattern, Kind, Length, ProverState, TranscriptError, Unit,
     VerifierState,
 };
+use p3_challenger::{CanObserve, Sponge};
 use p3_field::{BabyBear, PrimeCharacteristicRing, PrimeField64};
 use p3_symmetric::{Sha256Hasher, Turn};
 use std::alloc::Global;
@@ -29,138 +29,157 @@ type Symbols = FieldUnit<BabyBear>;
 
 type Elements = FieldToFieldCodec<BabyBear>;
 
-/// What is played: so many steps, with a challenge after each message or without.
+/// What is played: so many steps, with a challenge after each message or without. Its rows are named with what makes
+/// the driver, and without.
 #[derive(Clone, Copy)]
 struct Script {
+    whole: &'static str,
+    alone: &'static str,
     steps: u32,
     draws: bool,
 }
 
-/// The rows of a script: their names, with what makes the driver and without, and how many runs they have.
-#[derive(Clone, Copy)]
-struct Rows<'a> {
-    whole: &'a str,
-    alone: &'a str,
-    runs: u32,
+const SCRIPTS: [Script; 4] = [
+    Script {
+        whole: "10^4 scalar steps with seed",
+        alone: "10^4 scalar steps without seed",
+        steps: 10_000,
+        draws: false,
+    },
+    Script {
+        whole: "10^4 steps message/challenge",
+        alone: "10^4 steps message/challenge without seed",
+        steps: 10_000,
+        draws: true,
+    },
+    Script {
+        whole: "10^5 scalar steps with seed",
+        alone: "10^5 scalar steps without seed",
+        steps: 100_000,
+        draws: false,
+    },
+    Script {
+        whole: "10^5 steps message/challenge",
+        alone: "10^5 steps message/challenge without seed",
+        steps: 100_000,
+        draws: true,
+    },
+];
+
+/// A challenger of which a new one is made for each run.
+trait Fresh {
+    fn fresh(alloc: Global) -> Self;
 }
 
-/// Times both drivers over a hash and over a duplex sponge, at two lengths, and gives a sum of what they leave.
+impl Fresh for Chain {
+    fn fresh(alloc: Global) -> Self {
+        new_chain(alloc)
+    }
+}
+
+impl Fresh for Duplex {
+    fn fresh(_alloc: Global) -> Self {
+        Duplex::new(Turn, 1)
+    }
+}
+
+/// Times both drivers over a hash, and their steps over a duplex sponge too, and gives a sum of what they leave.
 pub fn measure(rt: &HostRuntime, runs: u32) -> Result<u64> {
     let mut sum = 0u64;
-    for (steps, name) in [(10_000u32, "10^4"), (100_000, "10^5")] {
-        for (draws, kind, seed) in [
-            (false, "scalar steps", " with seed"),
-            (true, "steps message/challenge", ""),
-        ] {
-            let script = Script { steps, draws };
-            let alloc = rt.alloc();
-            let whole = format!(in alloc; "{name} {kind}{seed}")?;
-            let alone = format!(in alloc; "{name} {kind} without seed")?;
-            let rows = Rows {
-                whole: whole.as_str(),
-                alone: alone.as_str(),
-                runs,
-            };
-            let hash = measure_hash(rt, &rows, script)?;
-            let duplex = measure_duplex(rt, &rows, script)?;
-            sum = sum.wrapping_add(hash).wrapping_add(duplex);
-        }
+    for script in &SCRIPTS {
+        let hash = measure_hash(rt, runs, script)?;
+        let duplex = measure_duplex(rt, runs, script)?;
+        sum = sum.wrapping_add(hash).wrapping_add(duplex);
     }
     Ok(sum)
 }
 
-fn measure_hash(rt: &HostRuntime, rows: &Rows<'_>, script: Script) -> Result<u64> {
+fn measure_hash(rt: &HostRuntime, runs: u32, script: &Script) -> Result<u64> {
+    let separator = separator::<u8>(rt.alloc(), script)?;
+    let whole = measure_whole::<Chain, u8, Bytes>(rt, runs, &separator, script)?;
+    let steps = measure_steps::<Chain, u8, Bytes>(rt, "", runs, &separator, script)?;
+    Ok(whole.wrapping_add(steps))
+}
+
+fn measure_duplex(rt: &HostRuntime, runs: u32, script: &Script) -> Result<u64> {
+    let separator = separator::<Symbols>(rt.alloc(), script)?;
+    measure_steps::<Duplex, Symbols, Elements>(rt, "duplex ", runs, &separator, script)
+}
+
+fn measure_whole<C: Sponge + CanObserve<U::Item> + Fresh + Drop, U: Unit, Cdc: Codec<C, BabyBear>>(
+    rt: &HostRuntime,
+    runs: u32,
+    separator: &Separator<U>,
+    script: &Script,
+) -> Result<u64>
+    requires alphabet { U.is_alphabet }
+    requires secure { 128 ≤ Cdc.SECURITY_BITS }
+{
     let alloc = rt.alloc();
-    let separator = separator::<u8>(alloc, script)?;
-    let proof = hash_proof(alloc, &separator, script)?;
-    let narg = proof.as_slice();
-    let steps = script.steps;
-    let name = format!(in alloc; "prover, {}", rows.whole)?;
-    let mut sum = least(
+    let narg = proof::<C, U, Cdc>(alloc, separator, script)?;
+    let name = format!(in alloc; "prover, {}", script.whole)?;
+    let sent = least(
         rt,
         name.as_str(),
-        rows.runs,
-        steps,
+        runs,
+        script.steps,
         || Ok(()),
-        |_| { hash_proof(alloc, &separator, script) },
+        |_| proof::<C, U, Cdc>(alloc, separator, script),
     )?;
-    let name = format!(in alloc; "prover, {}", rows.alone)?;
-    sum = sum.wrapping_add(least_lap(rt, name.as_str(), rows.runs, steps, || {
-        let prover = Prover::new(alloc, new_chain(alloc), &separator)?;
-        lap_of_prover::<Chain, u8, Bytes>(rt, prover, script)
-    })?);
-    let name = format!(in alloc; "verifier, {}", rows.whole)?;
-    sum = sum.wrapping_add(least(
+    let name = format!(in alloc; "verifier, {}", script.whole)?;
+    let received = least(
         rt,
         name.as_str(),
-        rows.runs,
-        steps,
+        runs,
+        script.steps,
         || Ok(()),
         |_| {
-            let verifier = Verifier::new(alloc, new_chain(alloc), &separator, narg)?;
-            verify::<Chain, u8, Bytes>(verifier, script)
+            let verifier = Verifier::new(alloc, C::fresh(alloc), separator, narg.as_slice())?;
+            verify::<C, U, Cdc>(verifier, script)
         },
-    )?);
-    let name = format!(in alloc; "verifier, {}", rows.alone)?;
-    sum = sum.wrapping_add(least_lap(rt, name.as_str(), rows.runs, steps, || {
-        let verifier = Verifier::new(alloc, new_chain(alloc), &separator, narg)?;
-        lap_of_verifier::<Chain, u8, Bytes>(rt, verifier, script)
-    })?);
-    Ok(sum)
-}
-
-fn hash_proof(alloc: Global, separator: &Separator<u8>, script: Script) -> Result<Vec<u8>> {
-    let prover = Prover::new(alloc, new_chain(alloc), separator)?;
-    prove::<Chain, u8, Bytes>(prover, script)
-}
-
-fn measure_duplex(rt: &HostRuntime, rows: &Rows<'_>, script: Script) -> Result<u64> {
-    let alloc = rt.alloc();
-    let separator = separator::<Symbols>(alloc, script)?;
-    let proof = duplex_proof(alloc, &separator, script)?;
-    let narg = proof.as_slice();
-    let steps = script.steps;
-    let name = format!(in alloc; "duplex prover, {}", rows.whole)?;
-    let mut sum = least(
-        rt,
-        name.as_str(),
-        rows.runs,
-        steps,
-        || Ok(()),
-        |_| { duplex_proof(alloc, &separator, script) },
     )?;
-    let name = format!(in alloc; "duplex prover, {}", rows.alone)?;
-    sum = sum.wrapping_add(least_lap(rt, name.as_str(), rows.runs, steps, || {
-        let prover = Prover::new(alloc, Duplex::new(Turn, 1), &separator)?;
-        lap_of_prover::<Duplex, Symbols, Elements>(rt, prover, script)
-    })?);
-    let name = format!(in alloc; "duplex verifier, {}", rows.whole)?;
-    sum = sum.wrapping_add(least(
-        rt,
-        name.as_str(),
-        rows.runs,
-        steps,
-        || Ok(()),
-        |_| {
-            let verifier = Verifier::new(alloc, Duplex::new(Turn, 1), &separator, narg)?;
-            verify::<Duplex, Symbols, Elements>(verifier, script)
-        },
-    )?);
-    let name = format!(in alloc; "duplex verifier, {}", rows.alone)?;
-    sum = sum.wrapping_add(least_lap(rt, name.as_str(), rows.runs, steps, || {
-        let verifier = Verifier::new(alloc, Duplex::new(Turn, 1), &separator, narg)?;
-        lap_of_verifier::<Duplex, Symbols, Elements>(rt, verifier, script)
-    })?);
-    Ok(sum)
+    Ok(sent.wrapping_add(received))
 }
 
-fn duplex_proof(alloc: Global, separator: &Separator<Symbols>, script: Script) -> Result<Vec<u8>> {
-    let prover = Prover::new(alloc, Duplex::new(Turn, 1), separator)?;
-    prove::<Duplex, Symbols, Elements>(prover, script)
+fn measure_steps<C: Sponge + CanObserve<U::Item> + Fresh + Drop, U: Unit, Cdc: Codec<C, BabyBear>>(
+    rt: &HostRuntime,
+    challenger: &str,
+    runs: u32,
+    separator: &Separator<U>,
+    script: &Script,
+) -> Result<u64>
+    requires alphabet { U.is_alphabet }
+    requires secure { 128 ≤ Cdc.SECURITY_BITS }
+{
+    let alloc = rt.alloc();
+    let narg = proof::<C, U, Cdc>(alloc, separator, script)?;
+    let name = format!(in alloc; "{challenger}prover, {}", script.alone)?;
+    let sent = least_lap(rt, name.as_str(), runs, script.steps, || {
+        let prover = Prover::new(alloc, C::fresh(alloc), separator)?;
+        lap_of_prover::<C, U, Cdc>(rt, prover, script)
+    })?;
+    let name = format!(in alloc; "{challenger}verifier, {}", script.alone)?;
+    let received = least_lap(rt, name.as_str(), runs, script.steps, || {
+        let verifier = Verifier::new(alloc, C::fresh(alloc), separator, narg.as_slice())?;
+        lap_of_verifier::<C, U, Cdc>(rt, verifier, script)
+    })?;
+    Ok(sent.wrapping_add(received))
+}
+
+fn proof<C: Sponge + CanObserve<U::Item> + Fresh + Drop, U: Unit, Cdc: Codec<C, BabyBear>>(
+    alloc: Global,
+    separator: &Separator<U>,
+    script: &Script,
+) -> Result<Vec<u8>>
+    requires alphabet { U.is_alphabet }
+    requires secure { 128 ≤ Cdc.SECURITY_BITS }
+{
+    let prover = Prover::new(alloc, C::fresh(alloc), separator)?;
+    prove::<C, U, Cdc>(prover, script)
 }
 
 // The pattern of the script's steps, and its separator.
-fn separator<U>(alloc: Global, script: Script) -> Result<Separator<U>> {
+fn separator<U>(alloc: Global, script: &Script) -> Result<Separator<U>> {
     let message = Interaction::algebra::<BabyBear, BabyBear, Sha256Hasher>(
         Hierarchy::Atomic,
         Kind::Message,
@@ -185,7 +204,7 @@ fn separator<U>(alloc: Global, script: Script) -> Result<Separator<U>> {
 // Plays the script, and gives the bytes of the proof.
 fn prove<C: Sponge + Drop, U, Cdc: Codec<C, BabyBear>>(
     mut prover: Prover<C, U>,
-    script: Script,
+    script: &Script,
 ) -> Result<Vec<u8>>
     requires { 128 ≤ Cdc.SECURITY_BITS }
 {
@@ -200,7 +219,7 @@ fn prove<C: Sponge + Drop, U, Cdc: Codec<C, BabyBear>>(
 
 fn verify<C: Sponge + Drop, U, Cdc: Codec<C, BabyBear>>(
     mut verifier: Verifier<'_, C, U>,
-    script: Script,
+    script: &Script,
 ) -> Result<u64>
     requires { 128 ≤ Cdc.SECURITY_BITS }
 {
@@ -220,7 +239,7 @@ fn verify<C: Sponge + Drop, U, Cdc: Codec<C, BabyBear>>(
 fn lap_of_prover<C: Sponge + Drop, U, Cdc: Codec<C, BabyBear>>(
     rt: &HostRuntime,
     mut prover: Prover<C, U>,
-    script: Script,
+    script: &Script,
 ) -> Result<Lap>
     requires { 128 ≤ Cdc.SECURITY_BITS }
 {
@@ -239,7 +258,7 @@ fn lap_of_prover<C: Sponge + Drop, U, Cdc: Codec<C, BabyBear>>(
 fn lap_of_verifier<C: Sponge + Drop, U, Cdc: Codec<C, BabyBear>>(
     rt: &HostRuntime,
     mut verifier: Verifier<'_, C, U>,
-    script: Script,
+    script: &Script,
 ) -> Result<Lap>
     requires { 128 ≤ Cdc.SECURITY_BITS }
 {
@@ -258,32 +277,32 @@ fn lap_of_verifier<C: Sponge + Drop, U, Cdc: Codec<C, BabyBear>>(
 fn timed_send<C: Sponge + Drop, U, Cdc: Codec<C, BabyBear>>(
     rt: &HostRuntime,
     prover: &mut Prover<C, U>,
-    script: Script,
+    script: &Script,
 ) -> Result<f64>
     requires { 128 ≤ Cdc.SECURITY_BITS }
 {
     let start = Instant::now(rt)?;
     send::<C, U, Cdc>(prover, script)?;
-    Ok(start.elapsed(rt)?.as_secs_f64() * 1e9)
+    nanoseconds_since(rt, start)
 }
 
 fn timed_receive<C: Sponge + Drop, U, Cdc: Codec<C, BabyBear>>(
     rt: &HostRuntime,
     verifier: &mut Verifier<'_, C, U>,
-    script: Script,
+    script: &Script,
 ) -> Result<Lap>
     requires { 128 ≤ Cdc.SECURITY_BITS }
 {
     let start = Instant::now(rt)?;
     let left = receive::<C, U, Cdc>(verifier, script)?;
-    let nanoseconds = start.elapsed(rt)?.as_secs_f64() * 1e9;
+    let nanoseconds = nanoseconds_since(rt, start)?;
     Ok(Lap { nanoseconds, left })
 }
 
 // The prover's steps: the value that is sent is the number of the step.
 fn send<C: Sponge + Drop, U, Cdc: Codec<C, BabyBear>>(
     prover: &mut Prover<C, U>,
-    script: Script,
+    script: &Script,
 ) -> Result<(), TranscriptError>
     requires { 128 ≤ Cdc.SECURITY_BITS }
 {
@@ -300,7 +319,7 @@ fn send<C: Sponge + Drop, U, Cdc: Codec<C, BabyBear>>(
 // The verifier's steps, and a sum of what is received.
 fn receive<C: Sponge + Drop, U, Cdc: Codec<C, BabyBear>>(
     verifier: &mut Verifier<'_, C, U>,
-    script: Script,
+    script: &Script,
 ) -> Result<u64, TranscriptError>
     requires { 128 ≤ Cdc.SECURITY_BITS }
 {

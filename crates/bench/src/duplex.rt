@@ -1,21 +1,25 @@
 // How long the calls of a duplex sponge take.
+use crate::calls::{
+    DRAWS, OBSERVES, draw, draw_bits, observe_numbers, observe_slice, observe_values,
+};
 use crate::timing::{Left, least};
 use anyhow::Result;
-use p3_challenger::{CanObserve, CanSample, CanSampleBits, ChallengerError, DuplexChallenger};
+use p3_challenger::{CanObserve, CanSample, DuplexChallenger};
 use p3_field::{BabyBear, PrimeCharacteristicRing, PrimeField64};
 use p3_symmetric::Turn;
 use std::alloc::Global;
-
-const OBSERVES: u32 = 1_000_000;
-
-const DRAWS: u32 = 100_000;
 
 pub type Duplex = DuplexChallenger<BabyBear, Turn<1>, 16, 8>;
 
 /// Times each call, and gives a sum of what they draw.
 pub fn measure(rt: &HostRuntime, runs: u32) -> Result<u64> {
-    let alloc = rt.alloc();
-    let values: Vec<BabyBear> = (0..OBSERVES).map(BabyBear::from_u32).collect(alloc)?;
+    let observes = measure_observes(rt, runs)?;
+    let draws = measure_draws(rt, runs)?;
+    Ok(observes.wrapping_add(draws))
+}
+
+fn measure_observes(rt: &HostRuntime, runs: u32) -> Result<u64> {
+    let values: Vec<BabyBear> = (0..OBSERVES).map(BabyBear::from_u32).collect(rt.alloc())?;
     let made = least(
         rt,
         "duplex observe from_u32",
@@ -40,6 +44,11 @@ pub fn measure(rt: &HostRuntime, runs: u32) -> Result<u64> {
         fresh,
         |duplex| { observe_slice(duplex, values.as_slice()) },
     )?;
+    Ok(made.wrapping_add(each).wrapping_add(slice))
+}
+
+fn measure_draws(rt: &HostRuntime, runs: u32) -> Result<u64> {
+    let alloc = rt.alloc();
     let draws = least(rt, "duplex sample", runs, DRAWS, fresh, draw)?;
     let turns = least(rt, "duplex turn", runs, DRAWS, fresh, observe_and_draw)?;
     let list = least(rt, "duplex sample_vec", runs, DRAWS, fresh, |duplex| {
@@ -47,42 +56,15 @@ pub fn measure(rt: &HostRuntime, runs: u32) -> Result<u64> {
     })?;
     let bits = least(rt, "duplex sample_bits20", runs, DRAWS, fresh, draw_bits)?;
     Ok(
-        [made, each, slice, draws, turns, list, bits]
-            .iter()
-            .fold(0, |sum: u64, part| sum.wrapping_add(*part)),
+        draws
+            .wrapping_add(turns)
+            .wrapping_add(list)
+            .wrapping_add(bits),
     )
 }
 
 fn fresh() -> Result<Duplex> {
     Ok(Duplex::new(Turn, 1))
-}
-
-fn observe_numbers(mut duplex: Duplex) -> Result<u64> {
-    for i in 0..OBSERVES {
-        duplex.observe(BabyBear::from_u32(i))?;
-    }
-    next_draw(duplex)
-}
-
-fn observe_values(mut duplex: Duplex, values: &[BabyBear]) -> Result<u64> {
-    for value in values {
-        duplex.observe(*value)?;
-    }
-    next_draw(duplex)
-}
-
-fn observe_slice(mut duplex: Duplex, values: &[BabyBear]) -> Result<u64> {
-    duplex.observe_slice(values)?;
-    next_draw(duplex)
-}
-
-fn draw(mut duplex: Duplex) -> Result<u64> {
-    let mut sum = 0u64;
-    for _ in 0..DRAWS {
-        let drawn: BabyBear = duplex.sample()?;
-        sum = sum.wrapping_add(drawn.as_canonical_u64());
-    }
-    Ok(sum)
 }
 
 fn observe_and_draw(mut duplex: Duplex) -> Result<u64> {
@@ -103,18 +85,4 @@ impl Left for Vec<BabyBear> {
 
 fn draw_list(alloc: Global, mut duplex: Duplex) -> Result<Vec<BabyBear>> {
     Ok(duplex.sample_vec(alloc, DRAWS as usize)?)
-}
-
-fn draw_bits(mut duplex: Duplex) -> Result<u64> {
-    let bits = Duplex::max_bits().min(20);
-    let mut sum = 0u64;
-    for _ in 0..DRAWS {
-        sum = sum.wrapping_add(duplex.sample_bits(bits)? as u64);
-    }
-    Ok(sum)
-}
-
-fn next_draw(mut duplex: Duplex) -> Result<u64> {
-    let drawn: BabyBear = duplex.sample()?;
-    Ok(drawn.as_canonical_u64())
 }

@@ -95,12 +95,6 @@ impl Left for Chain {
     }
 }
 
-impl Left for Vec<u8> {
-    fn shown(&self) -> u64 {
-        self.last().map_or(0, |last| u64::from(*last))
-    }
-}
-
 fn observe_bytes(mut chain: Chain) -> Result<Chain> {
     for i in 0..OBSERVES {
         chain.observe((i % 256) as u8)?;

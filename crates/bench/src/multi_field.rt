@@ -1,15 +1,10 @@
 // How long the calls of a challenger over two fields take.
+use crate::calls::{DRAWS, OBSERVES, draw, grind, observe_slice};
 use crate::timing::least;
 use anyhow::Result;
-use p3_challenger::{
-    CanObserve, CanSample, CanSampleBits, GrindingChallenger, MultiField32Challenger,
-};
-use p3_field::{BabyBear, Goldilocks, PrimeCharacteristicRing, PrimeField64};
+use p3_challenger::MultiField32Challenger;
+use p3_field::{BabyBear, Goldilocks, PrimeCharacteristicRing};
 use p3_symmetric::Turn;
-
-const OBSERVES: u32 = 1_000_000;
-
-const DRAWS: u32 = 100_000;
 
 const CANDIDATES: u32 = 65_529;
 
@@ -23,7 +18,7 @@ pub fn measure(rt: &HostRuntime, runs: u32) -> Result<u64> {
         "MultiField32 bb/gl 16/8 Turn<1>: observe_slice of 10^6",
         runs,
         OBSERVES,
-        fresh,
+        fresh::<1>,
         |challenger| observe_slice(challenger, values.as_slice()),
     )?;
     let draws = least(
@@ -31,7 +26,7 @@ pub fn measure(rt: &HostRuntime, runs: u32) -> Result<u64> {
         "MultiField32 bb/gl 16/8 Turn<1>: 10^5 sample",
         runs,
         DRAWS,
-        fresh,
+        fresh::<1>,
         draw,
     )?;
     let work = least(
@@ -39,36 +34,12 @@ pub fn measure(rt: &HostRuntime, runs: u32) -> Result<u64> {
         "MultiField32 bb/gl 16/8 Turn<9>: grind(16), 65529 candidates",
         runs,
         CANDIDATES,
-        fresh,
-        grind,
+        fresh::<9>,
+        |challenger| grind(challenger, 16),
     )?;
     Ok(slice.wrapping_add(draws).wrapping_add(work))
 }
 
 fn fresh<const K: usize>() -> Result<MultiField<K>> {
     Ok(MultiField::new(Turn)?)
-}
-
-fn observe_slice(mut challenger: MultiField<1>, values: &[BabyBear]) -> Result<u64> {
-    challenger.observe_slice(values)?;
-    next_draw(challenger)
-}
-
-fn draw(mut challenger: MultiField<1>) -> Result<u64> {
-    let mut sum = 0u64;
-    for _ in 0..DRAWS {
-        let drawn: BabyBear = challenger.sample()?;
-        sum = sum.wrapping_add(drawn.as_canonical_u64());
-    }
-    Ok(sum)
-}
-
-fn grind(mut challenger: MultiField<9>) -> Result<u64> {
-    let bits = MultiField::<9>::max_bits().min(16);
-    Ok(challenger.grind(bits)?.as_canonical_u64())
-}
-
-fn next_draw(mut challenger: MultiField<1>) -> Result<u64> {
-    let drawn: BabyBear = challenger.sample()?;
-    Ok(drawn.as_canonical_u64())
 }

@@ -15,20 +15,20 @@ const STEPS: u32 = 100_000;
 
 const LONG: u32 = 50_000;
 
+// The length of a pattern, and how many of them there are.
+const LENGTHS: [(u32, u32); 5] = [
+    (10, 10_000),
+    (100, 1000),
+    (1000, 100),
+    (10_000, 10),
+    (100_000, 1),
+];
+
 /// Times each operation at several lengths.
 pub fn measure(rt: &HostRuntime, runs: u32) -> Result<u64> {
     let mut sum = 0u64;
-    for (length, count) in [
-        (10u32, 10_000u32),
-        (100, 1000),
-        (1000, 100),
-        (10_000, 10),
-        (100_000, 1),
-    ] {
-        sum = sum.wrapping_add(measure_recordings(rt, runs, length, count)?);
-        sum = sum.wrapping_add(measure_renderings(rt, runs, length, count)?);
-        sum = sum.wrapping_add(measure_checks(rt, runs, length, count)?);
-        sum = sum.wrapping_add(measure_plays(rt, runs, length, count)?);
+    for (length, count) in &LENGTHS {
+        sum = sum.wrapping_add(measure_length(rt, runs, *length, *count)?);
     }
     let alloc = rt.alloc();
     let long = least(
@@ -48,6 +48,19 @@ pub fn measure(rt: &HostRuntime, runs: u32) -> Result<u64> {
         |_| Ok(elements()),
     )?;
     Ok(sum.wrapping_add(long).wrapping_add(made))
+}
+
+fn measure_length(rt: &HostRuntime, runs: u32, length: u32, count: u32) -> Result<u64> {
+    let recordings = measure_recordings(rt, runs, length, count)?;
+    let renderings = measure_renderings(rt, runs, length, count)?;
+    let checks = measure_checks(rt, runs, length, count)?;
+    let plays = measure_plays(rt, runs, length, count)?;
+    Ok(
+        recordings
+            .wrapping_add(renderings)
+            .wrapping_add(checks)
+            .wrapping_add(plays),
+    )
 }
 
 // A container is recorded step by step, and a list of steps that stand in none.
@@ -102,21 +115,38 @@ fn measure_renderings(rt: &HostRuntime, runs: u32, length: u32, count: u32) -> R
 // Lists of steps are made patterns: a container, steps that stand in none, and containers beside one another.
 fn measure_checks(rt: &HostRuntime, runs: u32, length: u32, count: u32) -> Result<u64> {
     let alloc = rt.alloc();
+    let lists = [
+        ("container", container(alloc, length)?),
+        ("flat", flat(alloc, length)?),
+        ("siblings", siblings(alloc, length)?),
+    ];
     let mut sum = 0u64;
-    for (shape, steps, handled) in [
-        ("container", container(alloc, length)?, STEPS),
-        ("flat", flat(alloc, length)?, STEPS),
-        (
-            "siblings",
-            siblings(alloc, length)?,
-            (length / 4 * 4).saturating_mul(count),
-        ),
-    ] {
+    for (shape, steps) in &lists {
         let name = format!(in alloc; "new {shape} {length}")?;
-        let copies = || copies_of(alloc, steps.as_slice(), count);
-        sum = sum.wrapping_add(least(rt, name.as_str(), runs, handled, copies, checks)?);
+        sum = sum.wrapping_add(measure_check(rt, name.as_str(), runs, steps.as_slice(), count)?);
     }
     Ok(sum)
+}
+
+fn measure_check(
+    rt: &HostRuntime,
+    name: &str,
+    runs: u32,
+    steps: &[Interaction],
+    count: u32,
+) -> Result<u64> {
+    let alloc = rt.alloc();
+    let handled = u32::try_from(steps.len())
+        .unwrap_or(0)
+        .saturating_mul(count);
+    least(
+        rt,
+        name,
+        runs,
+        handled,
+        || copies_of(alloc, steps, count),
+        checks,
+    )
 }
 
 fn measure_plays(rt: &HostRuntime, runs: u32, length: u32, count: u32) -> Result<u64> {

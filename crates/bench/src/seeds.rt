@@ -1,11 +1,14 @@
 // How long it takes to absorb the seed of a transcript.
+ghost use Rattle.std.specs.Prelude.{◌<◌};
+
+use crate::calls::next_draw;
 use crate::duplex::Duplex;
 use crate::hash::{Chain, new_chain};
 use crate::patterns;
 use crate::timing::least;
 use anyhow::Result;
 use p3_challenger::fs::{DomainSeparator, FieldUnit, InteractionPattern};
-use p3_challenger::{CanSample, DuplexChallenger};
+use p3_challenger::{CanObserve, CanSample, DuplexChallenger};
 use p3_field::{BabyBear, Goldilocks, PrimeField64};
 use p3_symmetric::{Sha256Hasher, Turn};
 use std::alloc::Global;
@@ -41,7 +44,7 @@ fn measure_baby(rt: &HostRuntime, runs: u32, text: &[u8]) -> Result<u64> {
         runs,
         MEBIBYTE,
         || Ok(Duplex::new(Turn, 1)),
-        |duplex| seed_baby(&separator, duplex),
+        |duplex| seed(&separator, duplex),
     )
 }
 
@@ -55,7 +58,7 @@ fn measure_goldilocks(rt: &HostRuntime, runs: u32, text: &[u8]) -> Result<u64> {
         runs,
         MEBIBYTE,
         || Ok(Large::new(Turn, 1)),
-        |duplex| seed_goldilocks(&separator, duplex),
+        |duplex| seed(&separator, duplex),
     )
 }
 
@@ -82,7 +85,7 @@ fn measure_small(rt: &HostRuntime, runs: u32) -> Result<u64> {
         runs.saturating_mul(200),
         1,
         || Ok(Duplex::new(Turn, 1)),
-        |duplex| seed_baby(&separator, duplex),
+        |duplex| seed(&separator, duplex),
     )
 }
 
@@ -96,17 +99,15 @@ fn separator<U>(alloc: Global, pattern: InteractionPattern, chunk: &[u8]) -> Res
     Ok(separator)
 }
 
-// Absorbs the seed, and shows something of what it left, so that no part of it can be left out.
-fn seed_baby(separator: &Separator<FieldUnit<BabyBear>>, mut duplex: Duplex) -> Result<u64> {
-    separator.seed(&mut duplex)?;
-    let drawn: BabyBear = duplex.sample()?;
-    Ok(drawn.as_canonical_u64())
-}
-
-fn seed_goldilocks(separator: &Separator<FieldUnit<Goldilocks>>, mut duplex: Large) -> Result<u64> {
-    separator.seed(&mut duplex)?;
-    let drawn: Goldilocks = duplex.sample()?;
-    Ok(drawn.as_canonical_u64())
+// Absorbs the seed, and shows something of what it left.
+fn seed<F: PrimeField64, C: CanObserve<F> + CanSample<F> + Drop>(
+    separator: &Separator<FieldUnit<F>>,
+    mut challenger: C,
+) -> Result<u64>
+    requires { 256 < F.residues.order }
+{
+    separator.seed(&mut challenger)?;
+    next_draw(challenger)
 }
 
 // The bytes are pending, and nothing is hashed.

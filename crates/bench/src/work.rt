@@ -1,19 +1,18 @@
 // How long a serializing challenger, uniform draws and searches for a witness take.
+use crate::calls::{DRAWS, grind};
 use crate::duplex::Duplex;
 use crate::hash::{Chain, new_chain};
 use crate::timing::least;
 use anyhow::Result;
 use p3_challenger::{
     CanObserve, CanSample, CanSampleBits, CanSampleUniformBits, DuplexChallenger,
-    GrindingChallenger, SerializingChallenger32, UniformGrindingChallenger,
+    SerializingChallenger32, UniformGrindingChallenger,
 };
 use p3_field::{BabyBear, PrimeCharacteristicRing, PrimeField64};
 use p3_symmetric::Turn;
 use std::alloc::Global;
 
 const ROUNDS: u32 = 100_000;
-
-const DRAWS: u32 = 100_000;
 
 type Serializing = SerializingChallenger32<BabyBear, Chain>;
 
@@ -71,15 +70,6 @@ fn measure_serializing(rt: &HostRuntime, runs: u32) -> Result<u64> {
 // The numbers of candidates are those that the witnesses show: 1 above each.
 fn measure_duplex(rt: &HostRuntime, runs: u32) -> Result<u64> {
     let fresh = || Ok(Worked::new(Turn, 1));
-    let plain = candidates(grind(Worked::new(Turn, 1), 16)?);
-    let sixteen = least(
-        rt,
-        "Duplex 16/8 Turn<9>: grind(16)",
-        runs,
-        plain,
-        fresh,
-        |challenger| grind(challenger, 16),
-    )?;
     let plain = candidates(grind(Worked::new(Turn, 1), 20)?);
     let twenty = least(
         rt,
@@ -98,7 +88,7 @@ fn measure_duplex(rt: &HostRuntime, runs: u32) -> Result<u64> {
         fresh,
         grind_uniform,
     )?;
-    Ok(sixteen.wrapping_add(twenty).wrapping_add(uniform))
+    Ok(twenty.wrapping_add(uniform))
 }
 
 fn candidates(witness: u64) -> u32 {
@@ -134,11 +124,6 @@ fn draw_uniform_bits(mut duplex: Duplex) -> Result<u64> {
         sum = sum.wrapping_add(duplex.sample_uniform_bits(bits, true)? as u64);
     }
     Ok(sum)
-}
-
-fn grind<C: GrindingChallenger + Drop>(mut challenger: C, bits: usize) -> Result<u64> {
-    let witness = challenger.grind(C::max_bits().min(bits))?;
-    Ok(witness.as_canonical_u64())
 }
 
 fn grind_uniform(mut challenger: Worked) -> Result<u64> {
