@@ -3,11 +3,12 @@ use Rattle.std.proofs.Common.{◌≡◌, ℕ, zero, suc, ◌<◌, ◌≤◌, ◌
 use Rattle.std.proofs.Common.{drop, Bool, true, false, ◌==◌, if◌then◌else◌, refl, sym, ap, subst, ◌∙◌, append_assoc}
 use Rattle.std.proofs.Common.{append-nil, add-one, arith}
 use Rattle.std.proofs.lemmas.Bool.Decides.{nat_tests}
-use Rattle.std.proofs.lemmas.List.{length-append, take_at, drop_at, drop-drop}
+use Rattle.std.proofs.lemmas.List.{length-append, length-take-le, take_at, drop_at, drop-drop}
 use Rattle.std.proofs.Math.Nat.{add-div_left, add-mod_left, div-eq_of_lt, mod-eq_of_lt}
 use Rattle.p3_field_core.specs.Residues.{Residues}
 use Rattle.p3_challenger_core.specs.Segments.{Call, observe, observe_empty_array, draw, stays, run_before}
 use Rattle.p3_challenger_core.specs.SegmentLaws.{StepsAgree}
+use Rattle.p3_duplex.specs.DuplexState.{KeepsRate}
 use Rattle.p3_duplex.specs.DuplexCalls.{DuplexSponge, DuplexRun, cell, overwritten, absorbing, duplexed, appended}
 use Rattle.p3_duplex.specs.DuplexCalls.{observed, last_output, one_taken, after_sampled, run_call, run_digest}
 use Rattle.p3_duplex.specs.DuplexCalls.{duplex_by_calls}
@@ -21,6 +22,18 @@ pub record Fits {F : Type 0} (rate : ℕ) (s : DuplexSponge F) : Type 0 where
   pub short : length s.pending < rate
   pub left : s.outputs_left ≤ rate
   pub none_left : 0 < length s.pending → s.outputs_left ≡ 0
+
+-- so does the sponge that a challenger keeps
+pub kept-fits : {F : Type 0} (width rate inputs outputs_left draw_limit : ℕ) (cells buffer : List F)
+    → length buffer ≡ rate → KeepsRate width rate inputs outputs_left draw_limit
+    → Fits rate (record { cells = cells; pending = take inputs buffer; outputs_left = outputs_left })
+kept-fits width rate inputs outputs_left draw_limit cells buffer whole keeps =
+    let long : length (take inputs buffer) ≡ inputs = length-take-le inputs buffer (omega (arith, whole, keeps.short)) in
+    record {
+      short = omega (arith, long, keeps.short);
+      left = keeps.left;
+      none_left = λ more. keeps.none_left (omega (arith, long, more));
+    }
 
 -- one block more of a list that begins with a whole one
 further-div : (n q : ℕ) → 0 < n → (n + q) / n ≡ suc (q / n)

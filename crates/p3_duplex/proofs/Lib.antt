@@ -1,4 +1,5 @@
 pub mod Blocks
+pub mod Calls
 pub mod Drawing
 pub mod DuplexHanded
 pub mod DuplexSteps

@@ -103,6 +103,13 @@ run_draws r permute rate s (suc n) =
     let opening = opened r permute rate s.cells s.pending s.outputs_left in
     run_before opening (draws_from r permute rate opening.after.cells (rate - opening.after.outputs_left) n)
 
+-- the cells that draws after values begin at: all that is pending and the values are absorbed, a last block that does
+-- not fill the rate too
+abbrev pub absorbed_cells : {F : Type 0} → Residues F → (List F → List F) → ℕ → DuplexSponge F → List F → List F
+absorbed_cells r permute rate start values =
+    let end = (run_values r permute rate start values).after in
+    (opened r permute rate end.cells end.pending end.outputs_left).after.cells
+
 -- ---- the digest
 
 -- The digest after segments is the rate after one step more: the block that is pending is absorbed, or,

@@ -2,8 +2,9 @@
 use Rattle.std.specs.Prelude.{◌≡◌, ℕ, zero, suc, ◌<◌, ◌≤◌, List, [], ◌∷◌}
 use Rattle.p3_field_core.specs.Residues.{Residues}
 use Rattle.p3_duplex.specs.DuplexCalls as calls
-use Rattle.p3_duplex.specs.DuplexCalls.{DuplexSponge}
+use Rattle.p3_duplex.specs.DuplexCalls.{DuplexSponge, DuplexRun, duplex_by_calls}
 use Rattle.p3_challenger_core.specs.Observation.{observed_all}
+use Rattle.p3_challenger_core.specs.Segments.{Call, run_calls}
 
 -- what a challenger keeps of its numbers: the rate is some cells but not all of them, and their number
 -- is below 256; fewer values are pending than it has cells, no more outputs are left than that, and
@@ -52,3 +53,12 @@ after_drawn r permute rate (suc n) c = after_drawn r permute rate n (after_sampl
 
 abbrev pub digest : {F P : Type 0} → Residues F → (P → List F → List F) → ℕ → DuplexState F P → List F
 digest r permute rate c = calls.digest r (permute c.permutation) rate c.sponge
+
+-- what calls do from a challenger on
+abbrev pub run : {F P : Type 0} → Residues F → (P → List F → List F) → ℕ → DuplexState F P → List (Call F) → DuplexRun F
+run r permute rate c calls = run_calls (duplex_by_calls r (permute c.permutation) rate) c.sponge calls
+
+-- the challenger after calls
+abbrev pub after_calls : {F P : Type 0} → Residues F → (P → List F → List F) → ℕ → DuplexState F P → List (Call F)
+    → DuplexState F P
+after_calls r permute rate c calls = record c { sponge = (run r permute rate c calls).after }

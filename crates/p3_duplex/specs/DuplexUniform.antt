@@ -1,5 +1,5 @@
 -- Uniform bits that are drawn from a duplex challenger.
-use Rattle.std.specs.Prelude.{ℕ, zero, suc, ◌-◌, ◌/◌, List, Option, Some, None, Bool, true, false, nat_eq, nat_lt}
+use Rattle.std.specs.Prelude.{◌≡◌, ◌↔◌, ℕ, zero, suc, ◌-◌, ◌/◌, List, Option, Some, None, Bool, true, false, nat_eq, nat_lt}
 use Rattle.std.specs.Prelude.{if◌then◌else◌}
 use Rattle.std.specs.List.{count_by, range_with_len}
 use Rattle.p3_field_core.specs.Residues.{Residues}
@@ -16,6 +16,13 @@ base_draw r permute rate = unrefused_draw (λ c. Some (sampled r permute rate c)
 -- how many elements are drawn at most, until one is below its bound
 abbrev pub draws_allowed : {F P : Type 0} → DuplexState F P → ℕ
 draws_allowed c = c.draw_limit
+
+-- two draws of bits do the same
+pub record SameDraw {S : Type 0} (u v : UniformDraw S) : Type 0 where
+  pub sampled : (s : S) → u.draw.sampled s ≡ v.draw.sampled s
+  pub after : (s : S) → u.draw.after s ≡ v.draw.after s
+  pub limits : (s : S) → u.draw.meets_limit s ↔ v.draw.meets_limit s
+  pub rejects : (s : S) → u.rejects s ≡ v.rejects s
 
 -- how many of the elements whose numbers are below the bound for so many bits give a value as their bits
 abbrev pub how_many_give : {F : Type 0} → Residues F → ℕ → ℕ → ℕ

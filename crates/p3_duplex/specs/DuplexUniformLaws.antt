@@ -1,6 +1,6 @@
 -- Laws of uniform bits that are drawn from a duplex challenger.
-use Rattle.std.proofs.Common.{◌≡◌, ℕ, zero, suc, ◌<◌, ◌≤◌, ◌+◌, ◌-◌, ◌*◌, ◌/◌, ◌%◌, ◌^◌, Bool, true, false, List, [], ◌∷◌}
-use Rattle.std.proofs.Common.{Option, Some, None, inl, inr, nat_eq, nat_lt, if◌then◌else◌, refl, sym, ap, ap₂, ◌∙◌, subst}
+use Rattle.std.proofs.Common.{◌≡◌, ℕ, zero, suc, ◌<◌, ◌≤◌, ◌+◌, ◌-◌, ◌/◌, ◌%◌, ◌^◌, Bool, true, false, List, [], ◌∷◌}
+use Rattle.std.proofs.Common.{Some, None, inl, inr, nat_eq, nat_lt, if◌then◌else◌, refl, sym, ap, ap₂, ◌∙◌, subst}
 use Rattle.std.proofs.Common.{arith, rules, cond}
 use Rattle.std.proofs.Math.Nat.{mod-eq_of_lt}
 use Rattle.std.specs.List.{count_by, range_with_len}
@@ -16,18 +16,25 @@ use Rattle.p3_grinding.specs.CandidateLaws.{none_left_behind, accepted-is}
 use Rattle.std.proofs.lemmas.Bool.Decides.{nat_tests}
 use Rattle.std.specs.Option.{option_map}
 use Rattle.p3_grinding.specs.Checks.{check_of, draws_nothing, zero_and_uniform}
-use Rattle.p3_grinding.specs.UniformDraws.{IsUniformDraw, bits_of_one, is_below, low_bits}
+use Rattle.p3_grinding.specs.UniformDraws.{UniformDraw, IsUniformDraw, bits_of_one, is_below, low_bits}
 use Rattle.p3_grinding.specs.UniformDrawLaws.{no_bits-is_uniform, bits_of_one-is_uniform, bits_of_one-below}
 use Rattle.p3_grinding.specs.UniformDrawLaws.{in_halves-is_uniform, both-below}
 use Rattle.p3_duplex.specs.DuplexState.{DuplexState, observed, sampled, after_sampled}
 use Rattle.p3_duplex.specs.DuplexUniform.{how_many_give, base_draw, draws_allowed, taken_element, single, in_parts}
-use Rattle.p3_duplex.specs.DuplexUniform.{uniform_bits}
+use Rattle.p3_duplex.specs.DuplexUniform.{uniform_bits, SameDraw, halved}
 
 under : (n bound : ℕ) → nat_lt n bound ≡ true → n < bound
 under n bound h = grind (arith, nat_tests)
 
 not_more : (most bits : ℕ) → bits ≤ most → nat_lt most bits ≡ false
 not_more most bits few = grind (arith, nat_tests)
+
+more_than : (most bits : ℕ) → most < bits → nat_lt most bits ≡ true
+more_than most bits more = grind (arith, nat_tests)
+
+pub same_draw : {S : Type 0} (u : UniformDraw S) → SameDraw u u
+same_draw u =
+    record { sampled = λ s. refl; after = λ s. refl; limits = λ s. (λ h. h, λ h. h); rejects = λ s. refl }
 
 given : {m n : ℕ} → Some m ≡ Some n → m ≡ n
 given e = search (rules, e)
@@ -180,6 +187,22 @@ module _ {F P : Type 0} (r : Residues F) (permute : P → List F → List F) (ra
     uniform_bits-taken most_of_one (suc more) c some few =
         ap (λ b. (in_parts r permute rate resample b (suc more)).draw.sampled c) (not_more most_of_one (suc more) few)
         ∙ single-taken resample (suc more) c
+
+    -- as few bits as one element serves for are drawn from one
+    pub uniform_bits-one : (most_of_one bits : ℕ) → 0 < bits → bits ≤ most_of_one
+        → SameDraw (uniform_bits r permute rate resample most_of_one bits) (single r permute rate resample bits)
+    uniform_bits-one most_of_one zero some few = absurd (omega (arith, some))
+    uniform_bits-one most_of_one (suc more) some few =
+        subst (λ b. SameDraw (in_parts r permute rate resample b (suc more)) (single r permute rate resample (suc more)))
+        (sym (not_more most_of_one (suc more) few)) (same_draw (single r permute rate resample (suc more)))
+
+    -- and more of them in halves
+    pub uniform_bits-halved : (most_of_one bits : ℕ) → most_of_one < bits
+        → SameDraw (uniform_bits r permute rate resample most_of_one bits) (halved r permute rate resample bits)
+    uniform_bits-halved most_of_one zero more = absurd (omega (arith, more))
+    uniform_bits-halved most_of_one (suc n) more =
+        subst (λ b. SameDraw (in_parts r permute rate resample b (suc n)) (halved r permute rate resample (suc n)))
+        (sym (more_than most_of_one (suc n) more)) (same_draw (halved r permute rate resample (suc n)))
 
   -- a draw that may not draw another value in the place of a rejected one meets no limit
 

@@ -24,6 +24,7 @@ ghost use Rattle.p3_duplex.specs.DuplexCalls.{absorbing, overwritten, fresh, out
 ghost use Rattle.p3_challenger_core.specs.declared.error.ChallengerError.{ChallengerError};
 
 mod bits;
+mod calls;
 mod digests;
 mod grinding;
 mod uniform;

@@ -1,3 +1,4 @@
+pub mod Calls
 pub mod HashHanded
 pub mod HashOutputs
 pub mod HashSteps

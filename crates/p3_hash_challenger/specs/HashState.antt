@@ -1,8 +1,9 @@
 -- A hash challenger as contracts see it.
-use Rattle.std.specs.Prelude.{◌≡◌, ℕ, ◌<◌, ◌≤◌, List, length, Option, Some, None, IfSome}
+use Rattle.std.specs.Prelude.{◌≡◌, ℕ, ◌<◌, ◌≤◌, List, [], ◌∷◌, length, map, Option, Some, None, IfSome}
 use Rattle.std.specs.Option.{ForNone}
+use Rattle.p3_challenger_core.specs.Segments.{Call, observe, observe_empty_array, run_calls}
 use Rattle.p3_hash_challenger.specs.HashCalls as calls
-use Rattle.p3_hash_challenger.specs.HashCalls.{HashFunction, HashSponge}
+use Rattle.p3_hash_challenger.specs.HashCalls.{HashFunction, HashSponge, HashRun, hash_by_calls}
 
 -- what a challenger of digests of out_len places keeps: of its digest, how many outputs are left
 pub record KeepsOutputs {T : Type 0} (out_len : ℕ) (digest : Option (List T)) (outputs_left : ℕ) : Type 0 where
@@ -46,3 +47,16 @@ flushed function s = record s { sponge = calls.flushed (function s.hasher) s.spo
 
 abbrev pub digest : {T H : Type 0} → (H → HashFunction T) → HashState T H → List T
 digest function s = calls.digest (function s.hasher) s.sponge
+
+-- what calls do from a challenger on
+abbrev pub run : {T H : Type 0} → (H → HashFunction T) → HashState T H → List (Call T) → HashRun T
+run function s calls = run_calls (hash_by_calls (function s.hasher)) s.sponge calls
+
+-- the challenger after calls
+abbrev pub after_calls : {T H : Type 0} → (H → HashFunction T) → HashState T H → List (Call T) → HashState T H
+after_calls function s calls = record s { sponge = (run function s calls).after }
+
+-- the calls that an observed array is: of each of its values; and one of its own where it has none
+abbrev pub calls_of_array : {T : Type 0} → List T → List (Call T)
+calls_of_array [] = observe_empty_array ∷ []
+calls_of_array (x ∷ xs) = map observe (x ∷ xs)

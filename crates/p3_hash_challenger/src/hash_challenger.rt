@@ -23,6 +23,7 @@ ghost use Rattle.p3_challenger_core.specs.Sponge.{IsNonEmpty};
 ghost use Rattle.p3_challenger_core.specs.Sampling.{RefusesDraws};
 ghost use Rattle.p3_challenger_core.specs.declared.error.ChallengerError.{ChallengerError};
 
+mod calls;
 mod digests;
 mod grinding;
 

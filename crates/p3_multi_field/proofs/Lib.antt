@@ -1,4 +1,5 @@
 pub mod Batches
+pub mod Calls
 pub mod Drawing
 pub mod MultiFieldHanded
 pub mod MultiFieldSteps

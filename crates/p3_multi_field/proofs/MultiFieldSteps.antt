@@ -1,10 +1,10 @@
 -- A multi-field challenger does over segments what the calls do one by one.
 use Rattle.std.proofs.Common.{◌≡◌, ℕ, zero, suc, ◌<◌, ◌≤◌, ◌+◌, ◌-◌, ◌*◌, ◌/◌, ◌%◌, List, [], ◌∷◌, ◌++◌, length, take}
 use Rattle.std.proofs.Common.{drop, Bool, true, false, ◌==◌, if◌then◌else◌, refl, sym, ap, subst, ◌∙◌, append_assoc}
-use Rattle.std.proofs.Common.{append-nil, add-one, inl, inr, arith}
+use Rattle.std.proofs.Common.{append-nil, add-one, inl, inr, min, arith}
 use Rattle.std.proofs.lemmas.Bool.{cases_lt}
 use Rattle.std.proofs.lemmas.Bool.Decides.{nat_tests}
-use Rattle.std.proofs.lemmas.List.{length-append, length-drop, take_at, drop_at, drop-drop}
+use Rattle.std.proofs.lemmas.List.{length-append, length-drop, length-take, take_at, drop_at, drop-drop}
 use Rattle.std.proofs.Math.Nat.{add-div_left, add-mod_left, div-eq_of_lt, mod-eq_of_lt}
 use Rattle.p3_challenger_core.specs.Segments.{Call, observe, observe_empty_array, draw, Run, stays, run_before}
 use Rattle.p3_challenger_core.specs.SegmentLaws.{StepsAgree}
@@ -20,6 +20,7 @@ use Rattle.p3_multi_field.specs.MultiFieldSegments.{run_words, opened, run_diges
 use Rattle.p3_multi_field.specs.MultiFieldSegments.{run_symbols, permuted, handed_in_turn, output_at, left_after}
 use Rattle.p3_multi_field.specs.MultiFieldSegments.{outputs_from, draws_from, run_draws, digest_after}
 use Rattle.p3_multi_field.specs.MultiFieldSegments.{multi_field_by_segments}
+use Rattle.p3_multi_field.specs.MultiFieldState.{KeepsNumbers}
 
 -- what a challenger keeps: fewer scalars are pending than the rate packs, no more outputs are left than it gives
 -- digits, and none where a scalar is pending
@@ -27,6 +28,19 @@ pub record Fits {F PF : Type 0} (pair : FieldPair F PF) (rate : ℕ) (s : MultiF
   pub short : length s.pending < batch_of pair rate
   pub left : s.outputs_left ≤ row_of pair rate
   pub none_left : 0 < length s.pending → s.outputs_left ≡ 0
+
+-- so does the sponge that a challenger keeps
+pub kept-fits : {F PF : Type 0} (pair : FieldPair F PF) (width rate order greater scalars outputs_left : ℕ)
+    (cells : List PF) (pending : List F)
+    → KeepsNumbers width rate order greater pair.absorb pair.squeeze scalars outputs_left
+    → Fits pair rate (record { cells = cells; pending = take scalars pending; outputs_left = outputs_left })
+kept-fits pair width rate order greater scalars outputs_left cells pending keeps =
+    let long : length (take scalars pending) ≡ min scalars (length pending) = length-take scalars pending in
+    record {
+      short = omega (arith, long, keeps.short);
+      left = keeps.left;
+      none_left = λ more. keeps.none_left (omega (arith, long, more));
+    }
 
 -- ---- numbers
 

@@ -190,6 +190,12 @@ module _ {F PF : Type 0} (pair : FieldPair F PF) (permute : List PF → List PF)
       let opening = opened s.cells s.pending s.outputs_left in
       run_before opening (draws_from opening.after.cells (row_of pair rate - opening.after.outputs_left) n)
 
+  -- the cells that draws after symbols begin at: all that is pending and the symbols are absorbed, scalars that do not
+  -- fill the rate too
+  abbrev pub absorbed_cells : MultiFieldSponge F PF → List (Symbol F PF) → List PF
+  absorbed_cells start symbols =
+      let end = (run_symbols start symbols).after in (opened end.cells end.pending end.outputs_left).after.cells
+
   -- ---- the digest
 
   -- The digest after segments is the rate after one step more: the scalars that are pending are absorbed, or,

@@ -2,7 +2,8 @@
 use Rattle.std.specs.Prelude.{◌≡◌, ℕ, zero, suc, ◌<◌, ◌≤◌, ◌*◌, List, [], ◌∷◌}
 use Rattle.p3_challenger_core.specs.Observation.{observed_all}
 use Rattle.p3_multi_field.specs.MultiFieldCalls as calls
-use Rattle.p3_multi_field.specs.MultiFieldCalls.{FieldPair, Symbol, MultiFieldSponge}
+use Rattle.p3_challenger_core.specs.Segments.{Call, Run, run_calls}
+use Rattle.p3_multi_field.specs.MultiFieldCalls.{FieldPair, Symbol, MultiFieldSponge, multi_field_by_calls}
 
 -- What a challenger keeps of its numbers: the rate is some cells but not all of them; the order of the scalars is
 -- below that of the cells; a cell packs some scalars and gives some digits; the rate packs at most 255 scalars, and
@@ -69,3 +70,11 @@ module _ {F PF P : Type 0} (pair : FieldPair F PF) (permute : P → List PF → 
   -- the digest that it ends in
   abbrev pub finalized : MultiFieldState F PF P → List PF
   finalized c = calls.finalized pair (permute c.permutation) rate c.sponge
+
+  -- what calls do from a challenger on
+  abbrev pub run : MultiFieldState F PF P → List (Call (Symbol F PF)) → Run F (List PF) (MultiFieldSponge F PF)
+  run c calls = run_calls (multi_field_by_calls pair (permute c.permutation) rate) c.sponge calls
+
+  -- the challenger after calls
+  abbrev pub after_calls : MultiFieldState F PF P → List (Call (Symbol F PF)) → MultiFieldState F PF P
+  after_calls c calls = record c { sponge = (run c calls).after }

@@ -26,6 +26,7 @@ ghost use Rattle.p3_multi_field.specs.MultiFieldSegments.{multi_field_by_segment
 ghost use Rattle.p3_multi_field.specs.Refusals.{MakeChallenger, Refuses};
 
 mod bits;
+mod calls;
 mod digests;
 mod grinding;
 

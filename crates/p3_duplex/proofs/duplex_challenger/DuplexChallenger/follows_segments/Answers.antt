@@ -1,11 +1,10 @@
-use Rattle.std.proofs.Common.{◌≡◌, length, take, subst, arith}
-use Rattle.std.proofs.lemmas.List.{length-take-le}
+use Rattle.std.proofs.Common.{subst}
 use Rattle.p3_challenger_core.specs.SegmentLaws.{run_calls-segments, run_calls-segments_to_digest, run_calls-same}
 use Rattle.p3_challenger_core.specs.SegmentLaws.{run_calls_to_digest-same}
-use Rattle.p3_duplex.specs.DuplexCalls.{DuplexSponge, duplex_by_calls}
+use Rattle.p3_duplex.specs.DuplexCalls.{duplex_by_calls}
 use Rattle.p3_duplex.specs.DuplexSegments.{duplex_by_segments}
 use Rattle.p3_duplex.specs.DuplexState.{DuplexState}
-use Rattle.p3_duplex.proofs.DuplexSteps.{Fits, duplex_steps}
+use Rattle.p3_duplex.proofs.DuplexSteps.{Fits, kept-fits, duplex_steps}
 use Rattle.p3_duplex.proofs.DuplexHanded.{Agree, same_call, same_digest}
 use Rattle.p3_duplex.proofs.duplex_challenger.DuplexChallenger.follows_segments.Goals as goal
 
@@ -15,20 +14,10 @@ returns g c =
     let rate = g.row.RATE in
     let inside = c.self.inside in
     let keeps = c.self.invariant in
-    let long : length (take inside.inputs inside.input_buffer) ≡ inside.inputs =
-    length-take-le inside.inputs inside.input_buffer (omega (arith, c.self.told2)) in
-    let sponge : DuplexSponge g.row.F.Denot = record {
-      cells = inside.sponge_state;
-      pending = take inside.inputs inside.input_buffer;
-      outputs_left = inside.outputs_left;
-    } in
-    let inside_fits : Fits rate sponge = record {
-      short = omega (arith, long);
-      left = keeps.left;
-      none_left = λ more. keeps.none_left (omega (arith, long, more));
-    } in
     let fits : Fits rate c.args.self.now.sponge =
-    subst (λ (d : DuplexState g.row.F.Denot g.row.P.Denot). Fits rate d.sponge) c.self.view_is inside_fits in
+    subst (λ (d : DuplexState g.row.F.Denot g.row.P.Denot). Fits rate d.sponge) c.self.view_is
+    (kept-fits g.row.WIDTH rate inside.inputs inside.outputs_left inside.draw_limit inside.sponge_state
+    inside.input_buffer c.self.told2 keeps) in
     let residues = g.F.PrimeCharacteristicRing.residues in
     let permute = g.P.CryptographicPermutation.permutation c.args.self.now.permutation in
     let by_calls = duplex_by_calls residues permute rate in

@@ -1,12 +1,11 @@
-use Rattle.std.proofs.Common.{◌≡◌, length, take, min, subst, arith}
-use Rattle.std.proofs.lemmas.List.{length-take}
+use Rattle.std.proofs.Common.{subst}
 use Rattle.p3_challenger_core.specs.SegmentLaws.{run_calls-segments, run_calls-segments_to_digest, run_calls-same}
 use Rattle.p3_challenger_core.specs.SegmentLaws.{run_calls_to_digest-same}
-use Rattle.p3_multi_field.specs.MultiFieldCalls.{pair_of, MultiFieldSponge, multi_field_by_calls}
+use Rattle.p3_multi_field.specs.MultiFieldCalls.{pair_of, multi_field_by_calls}
 use Rattle.p3_multi_field.specs.MultiFieldSegments.{multi_field_by_segments}
 use Rattle.p3_multi_field.specs.MultiFieldState.{MultiFieldState}
 use Rattle.p3_multi_field.proofs.Numbers.{some_product}
-use Rattle.p3_multi_field.proofs.MultiFieldSteps.{Fits, multi_field_steps}
+use Rattle.p3_multi_field.proofs.MultiFieldSteps.{Fits, kept-fits, multi_field_steps}
 use Rattle.p3_multi_field.proofs.MultiFieldHanded.{Agree, same_call, same_end}
 use Rattle.p3_multi_field.proofs.multi_field_challenger.MultiField32Challenger.follows_segments.Goals as goal
 
@@ -19,21 +18,11 @@ returns g c =
     let rate = g.row.RATE in
     let inside = c.self.inside in
     let keeps = c.self.invariant in
-    let long : length (take inside.scalars inside.pending) ≡ min inside.scalars (length inside.pending) =
-    length-take inside.scalars inside.pending in
-    let sponge : MultiFieldSponge g.row.F.Denot g.row.PF.Denot = record {
-      cells = inside.sponge_state;
-      pending = take inside.scalars inside.pending;
-      outputs_left = inside.outputs_left;
-    } in
-    let inside_fits : Fits pair rate sponge = record {
-      short = omega (arith, long, keeps.short);
-      left = keeps.left;
-      none_left = λ more. keeps.none_left (omega (arith, long, more));
-    } in
     let fits : Fits pair rate c.args.self.now.sponge =
     subst (λ (d : MultiFieldState g.row.F.Denot g.row.PF.Denot g.row.P.Denot). Fits pair rate d.sponge) c.self.view_is
-    inside_fits in
+    (kept-fits pair g.row.WIDTH rate g.F.PrimeCharacteristicRing.residues.order
+    g.PF.PrimeCharacteristicRing.residues.order inside.scalars inside.outputs_left inside.sponge_state inside.pending
+    keeps) in
     let permute = g.P.CryptographicPermutation.permutation c.args.self.now.permutation in
     let by_calls = multi_field_by_calls pair permute rate in
     let by_segments = multi_field_by_segments pair permute rate in

@@ -1,0 +1,127 @@
+//! What each method is as a list of calls: of the call-by-call definition that `follows_segments` speaks of.
+ghost use Rattle.std.specs.Prelude.{◌≡◌, ◌<◌, ◌≤◌, ◌^◌, ◌%◌, ◌==◌, ◌++◌, ℕ, suc, Bool, List, [], ◌∷◌, Some, map, replicate};
+ghost use Rattle.std.specs.List.{flat_map, range_with_len};
+ghost use Rattle.p3_symmetric.specs.HashValues.{values_of};
+ghost use Rattle.p3_challenger_core.specs.Segments.{observe, draw, run_calls_to_digest};
+ghost use Rattle.p3_grinding.specs.Checks.{all_zero, check_of};
+ghost use Rattle.p3_duplex.specs.DuplexCalls.{duplex_by_calls};
+ghost use Rattle.p3_duplex.specs.DuplexSegments.{absorbed_cells, output_at};
+ghost use Rattle.p3_duplex.specs.DuplexState.{DuplexState, run, after_calls};
+
+use crate::DuplexChallenger;
+use p3_challenger_core::{CanFinalizeDigest, CanObserve, CanSample, CanSampleBits};
+use p3_field_core::{BasedVectorSpace, PrimeField64, UniformSamplingField};
+use p3_grinding::{CanSampleUniformBits, PrepareCheck};
+use p3_symmetric::{CryptographicPermutation, Hash, MerkleCap};
+
+impl<
+    F: PrimeField64,
+    P: CryptographicPermutation<[F; WIDTH]>,
+    const WIDTH: usize,
+    const RATE: usize,
+> DuplexChallenger<F, P, WIDTH, RATE> {
+    /// Whatever is observed, each of its values is, in order: those of an array, of a digest, of the roots of a cap one
+    /// after another, of lists in a list.
+    ///
+    /// A law: the body is empty, and a caller cites the clauses.
+    pub fn observes_are_calls<'a, M, const N: usize>()
+        ensures value { (c : DuplexState F P) (x : F) →
+            ⟦<Self as CanObserve<F>>⟧.observation.observed c x
+            ≡ after_calls F.residues P.permutation RATE c (observe x ∷ []) }
+        ensures array { (c : DuplexState F P) (xs : List F) →
+            ⟦<Self as CanObserve<[F; N]>>⟧.observation.observed c xs
+            ≡ after_calls F.residues P.permutation RATE c (map observe xs) }
+        ensures digest { (c : DuplexState F P) (digest : _) →
+            ⟦<Self as CanObserve<Hash<M, F, N>>>⟧.observation.observed c digest
+            ≡ after_calls F.residues P.permutation RATE c (map observe (values_of digest)) }
+        ensures cap { (c : DuplexState F P) (cap : List (List F)) →
+            ⟦<Self as CanObserve<MerkleCap<M, [F; N]>>>⟧.observation.observed c cap
+            ≡ after_calls F.residues P.permutation RATE c (map observe (flat_map (λ root. root) cap)) }
+        ensures lists { (c : DuplexState F P) (lists : _) →
+            ⟦<Self as CanObserve<Vec<Vec<F>>>>⟧.observation.observed c lists
+            ≡ after_calls F.residues P.permutation RATE c (map observe (flat_map (λ list. list.items) lists.items)) }
+    {}
+
+    /// An element of a space of some dimension is as many draws, whose answers are its coefficients, coefficient 0
+    /// first; a number of some bits is the low bits of one draw; and the digest is that of the calls before it.
+    ///
+    /// A law: the body is empty, and a caller cites the clauses.
+    pub fn draws_are_calls<A: BasedVectorSpace<F>>()
+        ensures element { (c : DuplexState F P) →
+            ⟦<Self as CanSample<A>>⟧.sampling.sampled c
+            ≡ Some (A.element (run F.residues P.permutation RATE c (replicate A.DIMENSION draw)).answers) }
+        ensures after { (c : DuplexState F P) →
+            ⟦<Self as CanSample<A>>⟧.sampling.after c
+            ≡ after_calls F.residues P.permutation RATE c (replicate A.DIMENSION draw) }
+        ensures bits { (bits : ℕ) (c : DuplexState F P) (x : F) →
+            (run F.residues P.permutation RATE c (draw ∷ [])).answers ≡ x ∷ [] →
+            (⟦<Self as CanSampleBits<usize>>⟧.bits_sampling bits).sampled c
+            ≡ Some (F.residues.number x % 2 ^ bits) }
+        ensures after_bits { (bits : ℕ) (c : DuplexState F P) →
+            (⟦<Self as CanSampleBits<usize>>⟧.bits_sampling bits).after c
+            ≡ after_calls F.residues P.permutation RATE c (draw ∷ []) }
+        ensures digest { (c : DuplexState F P) →
+            ⟦<Self as CanFinalizeDigest>⟧.digest_of c
+            ≡ (run_calls_to_digest (duplex_by_calls F.residues (P.permutation c.permutation) RATE) c.sponge []).after }
+    {}
+
+    /// After a value that is observed, and more values, draw `k` answers output `k` of the cells that they leave when
+    /// all of them are absorbed, whatever was left or pending before.
+    ///
+    /// A law: the body does nothing, and a caller cites the clause.
+    pub fn draws_have_places(&self)
+        ensures { (x : F) (xs : List F) (n : ℕ) →
+            let cells = absorbed_cells F.residues (P.permutation self.now.permutation) RATE self.now.sponge (x ∷ xs) in
+            (run F.residues P.permutation RATE self.now (map observe (x ∷ xs) ++ replicate n draw)).answers
+            ≡ map (λ k. output_at F.residues (P.permutation self.now.permutation) RATE cells k) (range_with_len 0 n) }
+    {
+        let _ = &self.outputs_left;
+    }
+
+    /// A check of a witness by at least one bit observes it and draws once, and passes where the low bits are 0; a
+    /// check by no bits does nothing, and passes.
+    ///
+    /// A law: the body is empty, and a caller cites the clauses.
+    pub fn checks_are_calls()
+        ensures none { (witness : F) (c : DuplexState F P) →
+            (check_of ⟦<Self as PrepareCheck>⟧.before_witness ⟦<Self as CanObserve<F>>⟧.observation
+            (all_zero (⟦<Self as CanSampleBits<usize>>⟧.bits_sampling 0)) 0 witness).sampled c ≡ Some Bool.true }
+        ensures sampled { (more : ℕ) (witness x : F) (c : DuplexState F P) →
+            (run F.residues P.permutation RATE c (observe witness ∷ draw ∷ [])).answers ≡ x ∷ [] →
+            (check_of ⟦<Self as PrepareCheck>⟧.before_witness ⟦<Self as CanObserve<F>>⟧.observation
+            (all_zero (⟦<Self as CanSampleBits<usize>>⟧.bits_sampling (suc more))) (suc more) witness).sampled c
+            ≡ Some (F.residues.number x % 2 ^ suc more == 0) }
+        ensures after { (more : ℕ) (witness : F) (c : DuplexState F P) →
+            (check_of ⟦<Self as PrepareCheck>⟧.before_witness ⟦<Self as CanObserve<F>>⟧.observation
+            (all_zero (⟦<Self as CanSampleBits<usize>>⟧.bits_sampling (suc more))) (suc more) witness).after c
+            ≡ after_calls F.residues P.permutation RATE c (observe witness ∷ draw ∷ []) }
+        ensures memory { (bits : ℕ) (witness : F) (c d : DuplexState F P) →
+            ¬ ((check_of ⟦<Self as PrepareCheck>⟧.before_witness ⟦<Self as CanObserve<F>>⟧.observation
+            (all_zero (⟦<Self as CanSampleBits<usize>>⟧.bits_sampling bits)) bits witness).may_leave c d) }
+    {}
+}
+
+impl<
+    F: UniformSamplingField,
+    P: CryptographicPermutation<[F; WIDTH]>,
+    const WIDTH: usize,
+    const RATE: usize,
+> DuplexChallenger<F, P, WIDTH, RATE> {
+    ghost use Rattle.p3_grinding.specs.UniformDraws.{no_bits};
+    ghost use Rattle.p3_duplex.specs.DuplexUniform.{SameDraw, single, halved};
+
+    /// A draw of no uniform bits draws nothing; one of as many as one element serves for is that of one element; and
+    /// one of more is two, the low half first, each with a bound and a draw limit of its own.
+    ///
+    /// A law: the body is empty, and a caller cites the clauses.
+    pub fn uniform_draws_have_parts()
+        ensures none { (resample : Bool) →
+            SameDraw (⟦<Self as CanSampleUniformBits<F>>⟧.uniform resample 0) no_bits }
+        ensures one { (resample : Bool) (bits : ℕ) → 0 < bits → bits ≤ F.MAX_SINGLE_SAMPLE_BITS →
+            SameDraw (⟦<Self as CanSampleUniformBits<F>>⟧.uniform resample bits)
+            (single F.residues P.permutation RATE resample bits) }
+        ensures halves { (resample : Bool) (bits : ℕ) → F.MAX_SINGLE_SAMPLE_BITS < bits →
+            SameDraw (⟦<Self as CanSampleUniformBits<F>>⟧.uniform resample bits)
+            (halved F.residues P.permutation RATE resample bits) }
+    {}
+}

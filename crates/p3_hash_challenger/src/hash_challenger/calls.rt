@@ -1,0 +1,73 @@
+//! What each method is as a list of calls: of the call-by-call definition that `follows_segments` speaks of.
+ghost use Rattle.std.specs.Prelude.{◌≡◌, ◌+◌, ◌++◌, ℕ, List, [], ◌∷◌, Some, map, replicate};
+ghost use Rattle.std.specs.List.{flat_map, range_with_len};
+ghost use Rattle.p3_symmetric.specs.HashValues.{values_of};
+ghost use Rattle.p3_challenger_core.specs.Segments.{observe, observe_empty_array, draw, run_calls_to_digest};
+ghost use Rattle.p3_hash_challenger.specs.HashCalls.{hash_by_calls};
+ghost use Rattle.p3_hash_challenger.specs.HashSegments.{output_at};
+ghost use Rattle.p3_hash_challenger.specs.HashState.{HashState, function_of, run, after_calls, calls_of_array};
+
+use crate::HashChallenger;
+use p3_challenger_core::{CanFinalizeDigest, CanObserve, CanSample};
+use p3_symmetric::{CryptographicHasher, Hash, MerkleCap};
+
+impl<T: Copy, H: CryptographicHasher<T, [T; OUT_LEN]>, const OUT_LEN: usize> HashChallenger<
+    T,
+    H,
+    OUT_LEN,
+> {
+    /// Whatever is observed, each of its values is, in order: those of an array, of a digest, of the roots of a cap one
+    /// after another, of lists in a list. An array of no places is a call of its own, and drops the outputs.
+    ///
+    /// A law: the body is empty, and a caller cites the clauses.
+    pub fn observes_are_calls<F, const N: usize>()
+        ensures value { (s : HashState T H) (x : T) →
+            ⟦<Self as CanObserve<T>>⟧.observation.observed s x
+            ≡ after_calls (function_of H.hash OUT_LEN H.filler) s (observe x ∷ []) }
+        ensures array { (s : HashState T H) (xs : List T) →
+            ⟦<Self as CanObserve<[T; N]>>⟧.observation.observed s xs
+            ≡ after_calls (function_of H.hash OUT_LEN H.filler) s (calls_of_array xs) }
+        ensures digest { (s : HashState T H) (digest : _) →
+            ⟦<Self as CanObserve<Hash<F, T, N>>>⟧.observation.observed s digest
+            ≡ after_calls (function_of H.hash OUT_LEN H.filler) s (map observe (values_of digest)) }
+        ensures cap { (s : HashState T H) (cap : List (List T)) →
+            ⟦<Self as CanObserve<MerkleCap<F, [T; N]>>>⟧.observation.observed s cap
+            ≡ after_calls (function_of H.hash OUT_LEN H.filler) s (map observe (flat_map (λ root. root) cap)) }
+        ensures lists { (s : HashState T H) (lists : _) →
+            ⟦<Self as CanObserve<Vec<Vec<T>>>>⟧.observation.observed s lists
+            ≡ after_calls (function_of H.hash OUT_LEN H.filler) s
+            (map observe (flat_map (λ list. list.items) lists.items)) }
+    {}
+
+    /// A draw is one draw, and the digest is that of the calls before it.
+    ///
+    /// A law: the body is empty, and a caller cites the clauses.
+    pub fn draws_are_calls()
+        ensures value { (s : HashState T H) (x : T) →
+            (run (function_of H.hash OUT_LEN H.filler) s (draw ∷ [])).answers ≡ x ∷ [] →
+            ⟦<Self as CanSample<T>>⟧.sampling.sampled s ≡ Some x }
+        ensures after { (s : HashState T H) →
+            ⟦<Self as CanSample<T>>⟧.sampling.after s
+            ≡ after_calls (function_of H.hash OUT_LEN H.filler) s (draw ∷ []) }
+        ensures digest { (s : HashState T H) →
+            ⟦<Self as CanFinalizeDigest>⟧.digest_of s
+            ≡ (run_calls_to_digest (hash_by_calls (function_of H.hash OUT_LEN H.filler s.hasher)) s.sponge []).after }
+    {}
+
+    /// After a value that is observed, and more values, draw `k` answers output `OUT_LEN + k` of the chain, which is
+    /// what was pending and then the values; and so it does after an array of no places, of what was pending.
+    ///
+    /// A law: the body does nothing, and a caller cites the clauses.
+    pub fn draws_have_places(&self)
+        ensures values { (x : T) (xs : List T) (n : ℕ) →
+            let h = function_of H.hash OUT_LEN H.filler self.now.hasher in
+            (run (function_of H.hash OUT_LEN H.filler) self.now (map observe (x ∷ xs) ++ replicate n draw)).answers
+            ≡ map (λ k. output_at h (self.now.sponge.pending ++ x ∷ xs) (OUT_LEN + k)) (range_with_len 0 n) }
+        ensures array { (n : ℕ) →
+            let h = function_of H.hash OUT_LEN H.filler self.now.hasher in
+            (run (function_of H.hash OUT_LEN H.filler) self.now (observe_empty_array ∷ replicate n draw)).answers
+            ≡ map (λ k. output_at h self.now.sponge.pending (OUT_LEN + k)) (range_with_len 0 n) }
+    {
+        let _ = &self.outputs_left;
+    }
+}

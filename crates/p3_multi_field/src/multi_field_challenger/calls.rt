@@ -1,0 +1,118 @@
+//! What each method is as a list of calls: of the call-by-call definition that `follows_segments` speaks of.
+ghost use Rattle.std.specs.Prelude.{◌≡◌, ◌^◌, ◌%◌, ◌==◌, ◌++◌, ℕ, suc, Bool, List, [], ◌∷◌, Some, map, replicate};
+ghost use Rattle.std.specs.List.{flat_map, range_with_len};
+ghost use Rattle.p3_symmetric.specs.HashValues.{values_of};
+ghost use Rattle.p3_challenger_core.specs.Segments.{observe, draw, run_calls_to_digest};
+ghost use Rattle.p3_grinding.specs.Checks.{all_zero, check_of};
+ghost use Rattle.p3_multi_field.specs.MultiFieldCalls.{scalar, digest, multi_field_by_calls};
+ghost use Rattle.p3_multi_field.specs.MultiFieldSegments.{absorbed_cells, output_at};
+ghost use Rattle.p3_multi_field.specs.MultiFieldState.{MultiFieldState, run, after_calls};
+
+use crate::{MultiField32Challenger, Paired};
+use p3_challenger_core::{CanFinalizeDigest, CanObserve, CanSample, CanSampleBits};
+use p3_field_bridge::FieldBridge;
+use p3_field_core::{BasedVectorSpace, PrimeField32, PrimeField64};
+use p3_grinding::PrepareCheck;
+use p3_symmetric::{CryptographicPermutation, Hash, MerkleCap};
+
+impl<
+    F: PrimeField32,
+    PF: PrimeField64 + FieldBridge<F, PF>,
+    P: CryptographicPermutation<[PF; WIDTH]>,
+    const WIDTH: usize,
+    const RATE: usize,
+> MultiField32Challenger<F, PF, P, WIDTH, RATE> {
+    /// Whatever is observed, each of its symbols is, in order: each scalar of an array, and of the lists in a list; a
+    /// digest at once; and each root of a cap as a digest.
+    ///
+    /// A law: the body is empty, and a caller cites the clauses.
+    pub fn observes_are_calls<const N: usize>()
+        ensures value { (c : MultiFieldState F PF P) (x : F) →
+            ⟦<Self as CanObserve<F>>⟧.observation.observed c x
+            ≡ after_calls ⟦<PF as Paired<F>>⟧.pair P.permutation RATE c (observe (scalar x) ∷ []) }
+        ensures array { (c : MultiFieldState F PF P) (xs : List F) →
+            ⟦<Self as CanObserve<[F; N]>>⟧.observation.observed c xs
+            ≡ after_calls ⟦<PF as Paired<F>>⟧.pair P.permutation RATE c (map observe (map scalar xs)) }
+        ensures lists { (c : MultiFieldState F PF P) (lists : _) →
+            ⟦<Self as CanObserve<Vec<Vec<F>>>>⟧.observation.observed c lists
+            ≡ after_calls ⟦<PF as Paired<F>>⟧.pair P.permutation RATE c
+            (map observe (flat_map (λ list. map scalar list.items) lists.items)) }
+        ensures digest { (c : MultiFieldState F PF P) (words : _) →
+            ⟦<Self as CanObserve<Hash<F, PF, N>>>⟧.observation.observed c words
+            ≡ after_calls ⟦<PF as Paired<F>>⟧.pair P.permutation RATE c (observe (digest (values_of words)) ∷ []) }
+        ensures cap { (c : MultiFieldState F PF P) (cap : List (List PF)) →
+            ⟦<Self as CanObserve<MerkleCap<F, [PF; N]>>>⟧.observation.observed c cap
+            ≡ after_calls ⟦<PF as Paired<F>>⟧.pair P.permutation RATE c (map observe (map digest cap)) }
+    {}
+
+    /// An element of a space of some dimension is as many draws, whose answers are its coefficients, coefficient 0
+    /// first; a number of some bits is the low bits of one draw; and the digest is that of the calls before it.
+    ///
+    /// A law: the body is empty, and a caller cites the clauses.
+    pub fn draws_are_calls<A: BasedVectorSpace<F>>()
+        ensures element { (c : MultiFieldState F PF P) →
+            ⟦<Self as CanSample<A>>⟧.sampling.sampled c
+            ≡ Some (A.element
+            (run ⟦<PF as Paired<F>>⟧.pair P.permutation RATE c (replicate A.DIMENSION draw)).answers) }
+        ensures after { (c : MultiFieldState F PF P) →
+            ⟦<Self as CanSample<A>>⟧.sampling.after c
+            ≡ after_calls ⟦<PF as Paired<F>>⟧.pair P.permutation RATE c (replicate A.DIMENSION draw) }
+        ensures bits { (bits : ℕ) (c : MultiFieldState F PF P) (x : F) →
+            (run ⟦<PF as Paired<F>>⟧.pair P.permutation RATE c (draw ∷ [])).answers ≡ x ∷ [] →
+            (⟦<Self as CanSampleBits<usize>>⟧.bits_sampling bits).sampled c
+            ≡ Some (F.residues.number x % 2 ^ bits) }
+        ensures after_bits { (bits : ℕ) (c : MultiFieldState F PF P) →
+            (⟦<Self as CanSampleBits<usize>>⟧.bits_sampling bits).after c
+            ≡ after_calls ⟦<PF as Paired<F>>⟧.pair P.permutation RATE c (draw ∷ []) }
+        ensures digest { (c : MultiFieldState F PF P) →
+            ⟦<Self as CanFinalizeDigest>⟧.digest_of c
+            ≡ (run_calls_to_digest (multi_field_by_calls ⟦<PF as Paired<F>>⟧.pair (P.permutation c.permutation) RATE)
+            c.sponge []).after }
+    {}
+
+    /// After scalars that are observed, at least one, draw `k` answers output `k` of the cells that they leave when all
+    /// of them are absorbed, whatever was left or pending before; and so it does after a digest with at least one word.
+    ///
+    /// A law: the body does nothing, and a caller cites the clauses.
+    pub fn draws_have_places(&self)
+        ensures scalars { (x : F) (xs : List F) (n : ℕ) →
+            let pair = ⟦<PF as Paired<F>>⟧.pair in
+            let permute = P.permutation self.now.permutation in
+            let symbols = map scalar (x ∷ xs) in
+            (run pair P.permutation RATE self.now (map observe symbols ++ replicate n draw)).answers
+            ≡ map (λ k. output_at pair permute RATE (absorbed_cells pair permute RATE self.now.sponge symbols) k)
+            (range_with_len 0 n) }
+        ensures digest { (word : PF) (words : List PF) (n : ℕ) →
+            let pair = ⟦<PF as Paired<F>>⟧.pair in
+            let permute = P.permutation self.now.permutation in
+            let symbols = digest (word ∷ words) ∷ [] in
+            (run pair P.permutation RATE self.now (map observe symbols ++ replicate n draw)).answers
+            ≡ map (λ k. output_at pair permute RATE (absorbed_cells pair permute RATE self.now.sponge symbols) k)
+            (range_with_len 0 n) }
+    {
+        let _ = &self.outputs_left;
+    }
+
+    /// A check of a witness by at least one bit observes it and draws once, and passes where the low bits are 0; a
+    /// check by no bits passes and does nothing.
+    ///
+    /// A law: the body is empty, and a caller cites the clauses.
+    pub fn checks_are_calls()
+        ensures none { (witness : F) (c : MultiFieldState F PF P) →
+            (check_of ⟦<Self as PrepareCheck>⟧.before_witness ⟦<Self as CanObserve<F>>⟧.observation
+            (all_zero (⟦<Self as CanSampleBits<usize>>⟧.bits_sampling 0)) 0 witness).sampled c ≡ Some Bool.true }
+        ensures sampled { (more : ℕ) (witness x : F) (c : MultiFieldState F PF P) →
+            (run ⟦<PF as Paired<F>>⟧.pair P.permutation RATE c (observe (scalar witness) ∷ draw ∷ [])).answers
+            ≡ x ∷ [] →
+            (check_of ⟦<Self as PrepareCheck>⟧.before_witness ⟦<Self as CanObserve<F>>⟧.observation
+            (all_zero (⟦<Self as CanSampleBits<usize>>⟧.bits_sampling (suc more))) (suc more) witness).sampled c
+            ≡ Some (F.residues.number x % 2 ^ suc more == 0) }
+        ensures after { (more : ℕ) (witness : F) (c : MultiFieldState F PF P) →
+            (check_of ⟦<Self as PrepareCheck>⟧.before_witness ⟦<Self as CanObserve<F>>⟧.observation
+            (all_zero (⟦<Self as CanSampleBits<usize>>⟧.bits_sampling (suc more))) (suc more) witness).after c
+            ≡ after_calls ⟦<PF as Paired<F>>⟧.pair P.permutation RATE c (observe (scalar witness) ∷ draw ∷ []) }
+        ensures memory { (bits : ℕ) (witness : F) (c d : MultiFieldState F PF P) →
+            ¬ ((check_of ⟦<Self as PrepareCheck>⟧.before_witness ⟦<Self as CanObserve<F>>⟧.observation
+            (all_zero (⟦<Self as CanSampleBits<usize>>⟧.bits_sampling bits)) bits witness).may_leave c d) }
+    {}
+}
