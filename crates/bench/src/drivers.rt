@@ -116,7 +116,8 @@ fn measure_whole<C: Sponge + CanObserve<U::Item> + Fresh + Drop, U: Unit, Cdc: C
     requires secure { 128 ≤ Cdc.SECURITY_BITS }
 {
     let alloc = rt.alloc();
-    let narg = proof::<C, U, Cdc>(alloc, separator, script)?;
+    let proof = prove::<C, U, Cdc>(alloc, separator, script)?;
+    let narg = proof.as_slice();
     let name = format!(in alloc; "prover, {}", script.whole)?;
     let sent = least(
         rt,
@@ -124,7 +125,7 @@ fn measure_whole<C: Sponge + CanObserve<U::Item> + Fresh + Drop, U: Unit, Cdc: C
         runs,
         script.steps,
         || Ok(()),
-        |_| proof::<C, U, Cdc>(alloc, separator, script),
+        |_| prove::<C, U, Cdc>(alloc, separator, script),
     )?;
     let name = format!(in alloc; "verifier, {}", script.whole)?;
     let received = least(
@@ -133,10 +134,7 @@ fn measure_whole<C: Sponge + CanObserve<U::Item> + Fresh + Drop, U: Unit, Cdc: C
         runs,
         script.steps,
         || Ok(()),
-        |_| {
-            let verifier = Verifier::new(alloc, C::fresh(alloc), separator, narg.as_slice())?;
-            verify::<C, U, Cdc>(verifier, script)
-        },
+        |_| verify::<C, U, Cdc>(alloc, separator, narg, script),
     )?;
     Ok(sent.wrapping_add(received))
 }
@@ -152,30 +150,17 @@ fn measure_steps<C: Sponge + CanObserve<U::Item> + Fresh + Drop, U: Unit, Cdc: C
     requires secure { 128 ≤ Cdc.SECURITY_BITS }
 {
     let alloc = rt.alloc();
-    let narg = proof::<C, U, Cdc>(alloc, separator, script)?;
+    let proof = prove::<C, U, Cdc>(alloc, separator, script)?;
+    let narg = proof.as_slice();
     let name = format!(in alloc; "{challenger}prover, {}", script.alone)?;
     let sent = least_lap(rt, name.as_str(), runs, script.steps, || {
-        let prover = Prover::new(alloc, C::fresh(alloc), separator)?;
-        lap_of_prover::<C, U, Cdc>(rt, prover, script)
+        lap_of_prover::<C, U, Cdc>(rt, separator, script)
     })?;
     let name = format!(in alloc; "{challenger}verifier, {}", script.alone)?;
     let received = least_lap(rt, name.as_str(), runs, script.steps, || {
-        let verifier = Verifier::new(alloc, C::fresh(alloc), separator, narg.as_slice())?;
-        lap_of_verifier::<C, U, Cdc>(rt, verifier, script)
+        lap_of_verifier::<C, U, Cdc>(rt, separator, narg, script)
     })?;
     Ok(sent.wrapping_add(received))
-}
-
-fn proof<C: Sponge + CanObserve<U::Item> + Fresh + Drop, U: Unit, Cdc: Codec<C, BabyBear>>(
-    alloc: Global,
-    separator: &Separator<U>,
-    script: &Script,
-) -> Result<Vec<u8>>
-    requires alphabet { U.is_alphabet }
-    requires secure { 128 ≤ Cdc.SECURITY_BITS }
-{
-    let prover = Prover::new(alloc, C::fresh(alloc), separator)?;
-    prove::<C, U, Cdc>(prover, script)
 }
 
 // The pattern of the script's steps, and its separator.
@@ -202,12 +187,15 @@ fn separator<U>(alloc: Global, script: &Script) -> Result<Separator<U>> {
 }
 
 // Plays the script, and gives the bytes of the proof.
-fn prove<C: Sponge + Drop, U, Cdc: Codec<C, BabyBear>>(
-    mut prover: Prover<C, U>,
+fn prove<C: Sponge + CanObserve<U::Item> + Fresh + Drop, U: Unit, Cdc: Codec<C, BabyBear>>(
+    alloc: Global,
+    separator: &Separator<U>,
     script: &Script,
 ) -> Result<Vec<u8>>
-    requires { 128 ≤ Cdc.SECURITY_BITS }
+    requires alphabet { U.is_alphabet }
+    requires secure { 128 ≤ Cdc.SECURITY_BITS }
 {
+    let mut prover = Prover::new(alloc, C::fresh(alloc), separator)?;
     match send::<C, U, Cdc>(&mut prover, script) {
         Ok(()) => Ok(prover.finalize()?),
         Err(refused) => {
@@ -217,12 +205,17 @@ fn prove<C: Sponge + Drop, U, Cdc: Codec<C, BabyBear>>(
     }
 }
 
-fn verify<C: Sponge + Drop, U, Cdc: Codec<C, BabyBear>>(
-    mut verifier: Verifier<'_, C, U>,
+// Reads a proof of the script whole, and gives a sum of what is received.
+fn verify<C: Sponge + CanObserve<U::Item> + Fresh + Drop, U: Unit, Cdc: Codec<C, BabyBear>>(
+    alloc: Global,
+    separator: &Separator<U>,
+    narg: &[u8],
     script: &Script,
 ) -> Result<u64>
-    requires { 128 ≤ Cdc.SECURITY_BITS }
+    requires alphabet { U.is_alphabet }
+    requires secure { 128 ≤ Cdc.SECURITY_BITS }
 {
+    let mut verifier = Verifier::new(alloc, C::fresh(alloc), separator, narg)?;
     match receive::<C, U, Cdc>(&mut verifier, script) {
         Ok(sum) => {
             verifier.finalize()?;
@@ -236,13 +229,15 @@ fn verify<C: Sponge + Drop, U, Cdc: Codec<C, BabyBear>>(
 }
 
 // Plays the script, of which the steps alone are timed.
-fn lap_of_prover<C: Sponge + Drop, U, Cdc: Codec<C, BabyBear>>(
+fn lap_of_prover<C: Sponge + CanObserve<U::Item> + Fresh + Drop, U: Unit, Cdc: Codec<C, BabyBear>>(
     rt: &HostRuntime,
-    mut prover: Prover<C, U>,
+    separator: &Separator<U>,
     script: &Script,
 ) -> Result<Lap>
-    requires { 128 ≤ Cdc.SECURITY_BITS }
+    requires alphabet { U.is_alphabet }
+    requires secure { 128 ≤ Cdc.SECURITY_BITS }
 {
+    let mut prover = Prover::new(rt.alloc(), C::fresh(rt.alloc()), separator)?;
     match timed_send::<C, U, Cdc>(rt, &mut prover, script) {
         Ok(nanoseconds) => {
             let left = prover.finalize()?.len() as u64;
@@ -255,13 +250,15 @@ fn lap_of_prover<C: Sponge + Drop, U, Cdc: Codec<C, BabyBear>>(
     }
 }
 
-fn lap_of_verifier<C: Sponge + Drop, U, Cdc: Codec<C, BabyBear>>(
-    rt: &HostRuntime,
-    mut verifier: Verifier<'_, C, U>,
-    script: &Script,
-) -> Result<Lap>
-    requires { 128 ≤ Cdc.SECURITY_BITS }
+fn lap_of_verifier<
+    C: Sponge + CanObserve<U::Item> + Fresh + Drop,
+    U: Unit,
+    Cdc: Codec<C, BabyBear>,
+>(rt: &HostRuntime, separator: &Separator<U>, narg: &[u8], script: &Script) -> Result<Lap>
+    requires alphabet { U.is_alphabet }
+    requires secure { 128 ≤ Cdc.SECURITY_BITS }
 {
+    let mut verifier = Verifier::new(rt.alloc(), C::fresh(rt.alloc()), separator, narg)?;
     match timed_receive::<C, U, Cdc>(rt, &mut verifier, script) {
         Ok(lap) => {
             verifier.finalize()?;
