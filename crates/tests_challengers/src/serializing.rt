@@ -167,6 +167,7 @@ fn draws_group_by_group<C: Replica + CanSample<BabyBear> + CanSampleBits<usize>>
 #[test]
 fn draws_go_on_from_group_to_group(rt: HostRuntime) -> Result<(), Fail> {
     let mut challenger = over_four_bytes(rt.alloc())?;
+    assert_eq!(rt; challenger.inner().input().len(), 4);
     assert!(rt; holds(&rt, draws_group_by_group(&rt, &mut challenger)));
     Ok(())
 }

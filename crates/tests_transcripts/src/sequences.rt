@@ -97,6 +97,7 @@ fn nested_containers_are_a_pattern(rt: HostRuntime) -> Result<(), Fail> {
             assert!(rt; !pattern.is_empty());
             assert_eq!(rt; pattern.interactions()[4], steps[4]);
             assert_eq!(rt; pattern.clone()?, pattern);
+            assert!(rt; InteractionPattern::empty(rt.alloc()) < pattern);
         }
         Err(_) => assert!(rt; false),
     }

@@ -7,6 +7,8 @@ use std::test::Fail;
 
 type Wide = MultiField32Challenger<BabyBear, Goldilocks, Turn<1>, 129, 128>;
 
+type Full = MultiField32Challenger<BabyBear, Goldilocks, Turn<1>, 128, 127>;
+
 type OneField = MultiField32Challenger<BabyBear, BabyBear, Turn<1>, 257, 256>;
 
 fn says(
@@ -27,6 +29,7 @@ fn batch_of_more_scalars_than_a_byte_counts_is_refused(rt: HostRuntime) -> Resul
     let text =
         "a full absorb batch contains 256 sampled-field elements, exceeding the u8 length-tag limit of 255";
     assert!(rt; says(rt.alloc(), &error, text)?);
+    assert!(rt; Full::new(Turn).is_ok());
     Ok(())
 }
 
