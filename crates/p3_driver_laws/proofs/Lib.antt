@@ -1,0 +1,3 @@
+mod LimitLaws
+mod ReadOnly
+mod SpelledLaws
