@@ -1,3 +1,4 @@
 mod LimitLaws
+mod OnlyMemory
 mod ReadOnly
 mod SpelledLaws
