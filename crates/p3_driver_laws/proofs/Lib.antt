@@ -1,4 +1,6 @@
+mod ExtensionReasons
 mod LimitLaws
+mod OneReason
 mod OnlyMemory
 mod ReadOnly
 mod SpelledLaws
