@@ -22,11 +22,12 @@ pub use memory::{
 };
 pub use reasons::{
     bit_draws_are_refused_for_one_reason, bytes_are_refused_for_one_reason,
-    bytes_are_unread_for_one_reason, draws_are_refused_for_one_reason,
-    hints_are_refused_for_one_reason, hints_are_unread_for_one_reason,
-    markers_are_refused_for_one_reason, opaque_values_are_refused_for_one_reason,
-    uniform_draws_are_refused_for_one_reason, values_are_refused_for_one_reason,
-    values_are_unread_for_one_reason,
+    bytes_are_unread_for_one_reason, carried_lists_are_refused_for_one_reason,
+    draws_are_refused_for_one_reason, hints_are_refused_for_one_reason,
+    hints_are_unread_for_one_reason, markers_are_refused_for_one_reason,
+    opaque_values_are_refused_for_one_reason, uniform_draws_are_refused_for_one_reason,
+    values_are_refused_for_one_reason, values_are_unread_for_one_reason,
+    work_is_refused_for_one_reason,
 };
 pub use spelled::{
     read_bytes_are_spelled, read_hints_are_spelled, read_values_are_spelled, read_work_is_spelled,
