@@ -1,13 +1,12 @@
 -- From one turn, a list that a caller carries is refused for one reason.
-use Rattle.std.proofs.Common.{◌≡◌, ◌⊎◌, ℕ, List, Bool, true, false, refl, sym, ap, ◌∙◌, inl, inr}
-use Rattle.p3_challenger_core.specs.declared.error.ChallengerError.TheVariants.{DrawLimit}
-use Rattle.p3_fs_core.specs.Errors.{misfit_of, refusal_of, misfit, bad_proof_shape, Refusal}
+use Rattle.std.proofs.Common.{◌≡◌, ◌⊎◌, ℕ, List, Bool, true, false, sym, ap, ◌∙◌, inl, inr}
+use Rattle.p3_fs_core.specs.Errors.{refusal_of, misfit, Refusal}
 use Rattle.p3_fs_core.specs.Steps.{Step}
 use Rattle.p3_fs_core.specs.declared.error.PatternError.TheVariants.{Finished}
 use Rattle.p3_fs_core.specs.declared.error.TranscriptError.{TranscriptError}
-use Rattle.p3_fs_core.specs.declared.error.TranscriptError.TheVariants.{Pattern, OutOfMemory}
+use Rattle.p3_fs_core.specs.declared.error.TranscriptError.TheVariants.{OutOfMemory}
 use Rattle.p3_patterns.specs.Playing.{Playing}
-use Rattle.p3_driver_core.specs.Turns.{Meaning, Turn, Refuses}
+use Rattle.p3_driver_core.specs.Turns.{Meaning, Refuses}
 use Rattle.p3_verifier.specs.Verifying.{Verifying, RefusesList}
 use Rattle.p3_driver_laws.proofs.OneReason.{Cause, Tells, refused-cause, refused-one_reason}
 use Rattle.p3_driver_laws.proofs.WorkReasons.{bad_shape}

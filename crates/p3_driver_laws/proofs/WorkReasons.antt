@@ -1,5 +1,5 @@
 -- From one turn, proof of work is refused for one reason.
-use Rattle.std.proofs.Common.{◌≡◌, ◌⊎◌, ℕ, List, Bool, true, false, Option, Some, None, Ok, refl, sym, ap, ◌∙◌, inl}
+use Rattle.std.proofs.Common.{◌≡◌, ◌⊎◌, ℕ, List, Bool, true, false, Option, Some, None, refl, sym, ap, ◌∙◌, inl}
 use Rattle.std.proofs.Common.{inr}
 use Rattle.p3_challenger_core.specs.declared.error.ChallengerError.TheVariants.{DrawLimit, NoWitness, TooLong}
 use Rattle.p3_challenger_core.specs.declared.error.ChallengerError.TheVariants as challenger
@@ -14,7 +14,7 @@ use Rattle.p3_driver_core.specs.Turns.{Turn}
 use Rattle.p3_driver_core.specs.Working.{Work, checking, too_few_zero_bits, RefusesToCheck, RefusesToGrind}
 use Rattle.p3_verifier.specs.Reads.{received_work}
 use Rattle.p3_verifier.specs.Verifying.{Verifying, RefusesToRead, FailsWork}
-use Rattle.p3_driver_laws.proofs.OneReason.{Cause, Tells, one_reason, told_of_read, told_here, unread-cause}
+use Rattle.p3_driver_laws.proofs.OneReason.{Cause, Tells, one_reason, told_of_read, unread-cause}
 use Rattle.p3_driver_laws.specs.OneReason.{TellOneReason}
 
 -- what a check tells that does not pass

@@ -14,7 +14,7 @@ use p3_codecs::{Codec, Unit};
 use p3_grinding::{CanSampleUniformBits, GrindingChallenger};
 
 /// A step of one value, and one of a list, meets no limit. One of a list after its count is refused as too long only
-/// where the count's bytes are too long for the alphabet.
+/// where the count's bytes do not fit the alphabet.
 ///
 /// A law: the body is empty, and a caller cites the clauses.
 pub fn values_tell_limits<A, U: Unit, C: CanObserve<U::Item>, Cdc: Codec<C, A>>()
@@ -32,7 +32,7 @@ pub fn opaque_values_tell_limits<T, C: CanObserve<T>>()
     ensures { (x : T) → TellsLimits (observing C.observation x) }
 {}
 
-/// A step of bytes is refused as too long only where they, or the bytes of their count, are too long for the alphabet.
+/// A step of bytes is refused as too long only where they, or the bytes of their count, do not fit the alphabet.
 ///
 /// A law: the body is empty, and a caller cites the clauses.
 pub fn bytes_tell_limits<U: Unit, C: CanObserve<U::Item>>()

@@ -2,7 +2,7 @@
 //! alone.
 //!
 //! The laws of `p3_verifier` say what comes of the verifier's step where it is played, and that no fault of the pattern
-//! or of the proof refuses it. These say that no limit does either. What its laws on proof of work say, is exact.
+//! or of the proof refuses it. These say that no limit does either. Its laws on proof of work say so themselves.
 ghost use Rattle.std.specs.Prelude.{◌^◌, ◌<◌, ◌≤◌, ℕ, List, length, true};
 ghost use Rattle.p3_fs_core.specs.Steps.{Step};
 ghost use Rattle.p3_driver_core.specs.Effects.{alphabet_of};

@@ -2,8 +2,8 @@
 //! `check_pow` as of `pow`.
 //!
 //! The laws of `p3_verifier` say that what is written is read. These say the converse: bytes of which a step reads a
-//! value begin with the one spelling of that value. So a proof that a verifier takes is written by the values that it
-//! reads, and by no others.
+//! value begin with the one spelling of that value. So a proof that is read to its end is what a prover writes of the
+//! values that were read.
 ghost use Rattle.std.specs.Prelude.{◌≡◌, ◌≤◌, ℕ, List, length};
 ghost use Rattle.p3_fs_core.specs.Scalar.{encoding};
 ghost use Rattle.p3_fs_core.specs.Steps.{Step};
@@ -18,9 +18,9 @@ use p3_codecs::{Codec, Unit};
 use p3_fs_core::Kind;
 use p3_grinding::GrindingChallenger;
 
-/// Where a verifier's step reads one value, the bytes begin with its spelling. Where it reads a list of so many, it has
-/// so many, and the bytes begin with the spellings of its values in order; where it reads a list after its count, it
-/// has no more than so many, and the bytes begin with its count, in as few bytes as hold the most, and then these.
+/// Where a verifier's step reads one value, the bytes begin with its spelling. Where it reads a list of so many, the list
+/// has so many, and the bytes begin with the spellings of its values in order. Where it reads a list after its count,
+/// the list has at most so many, and the bytes begin with its count and these spellings.
 ///
 /// A law: the body is empty, and a caller cites the clauses.
 pub fn read_values_are_spelled<A, U: Unit, C: CanObserve<U::Item>, Cdc: Codec<C, A>>()
@@ -33,8 +33,8 @@ pub fn read_values_are_spelled<A, U: Unit, C: CanObserve<U::Item>, Cdc: Codec<C,
         (λ xs. length xs ≤ max) (λ xs. meaning.sent_bounded step alphabet max Cdc.observation Cdc.encoding xs) }
 {}
 
-/// Where a verifier's step reads so many bytes, they are so many, and stand there as they are. Where it reads bytes
-/// after their count, they are no more than so many, and stand there after it.
+/// Where a verifier's step reads so many bytes, they are so many, and the proof's bytes begin with them. Where it reads
+/// bytes after their count, they are at most so many, and the proof's bytes begin with their count and them.
 ///
 /// A law: the body is empty, and a caller cites the clauses.
 pub fn read_bytes_are_spelled<U: Unit, C: CanObserve<U::Item>>()

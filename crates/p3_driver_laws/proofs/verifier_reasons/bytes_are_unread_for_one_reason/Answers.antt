@@ -4,7 +4,7 @@ use Rattle.p3_driver_core.specs.Effects.{alphabet_of}
 use Rattle.p3_verifier.specs.Reads as reads
 use Rattle.p3_driver_laws.proofs.LimitLaws.{bytes-tell, counted_bytes-tell}
 use Rattle.p3_driver_laws.proofs.OneReason.{given-unread_one_reason}
-use Rattle.p3_driver_laws.proofs.reasons.bytes_are_unread_for_one_reason.Goals as goal
+use Rattle.p3_driver_laws.proofs.verifier_reasons.bytes_are_unread_for_one_reason.Goals as goal
 
 pub returns-clause-fixed : goal.returns-clause-fixed
 returns-clause-fixed g c = λ kind label n.

@@ -2,7 +2,7 @@ use Rattle.std.specs.Prelude.{refl}
 use Rattle.p3_verifier.specs.Reads as reads
 use Rattle.p3_driver_laws.proofs.LimitLaws.{untouched-tells}
 use Rattle.p3_driver_laws.proofs.OneReason.{given-unread_one_reason}
-use Rattle.p3_driver_laws.proofs.reasons.hints_are_unread_for_one_reason.Goals as goal
+use Rattle.p3_driver_laws.proofs.verifier_reasons.hints_are_unread_for_one_reason.Goals as goal
 
 pub returns-clause-fixed : goal.returns-clause-fixed
 returns-clause-fixed g c = λ label n.

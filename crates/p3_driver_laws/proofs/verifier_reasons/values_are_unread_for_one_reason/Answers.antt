@@ -5,7 +5,7 @@ use Rattle.p3_driver_core.specs.Effects.{alphabet_of}
 use Rattle.p3_verifier.specs.Reads as reads
 use Rattle.p3_driver_laws.proofs.LimitLaws.{observing-tells, counted-tell}
 use Rattle.p3_driver_laws.proofs.OneReason.{given-unread_one_reason}
-use Rattle.p3_driver_laws.proofs.reasons.values_are_unread_for_one_reason.Goals as goal
+use Rattle.p3_driver_laws.proofs.verifier_reasons.values_are_unread_for_one_reason.Goals as goal
 
 pub returns-clause-value : goal.returns-clause-value
 returns-clause-value g c = λ step.

@@ -1,4 +1,4 @@
-use Rattle.std.proofs.Common.{ℕ, ◌<◌, ◌≤◌, length, refl, arith}
+use Rattle.std.proofs.Common.{◌<◌, ◌≤◌, length, refl, arith}
 use Rattle.p3_challenger_core.specs.Observation as observation
 use Rattle.p3_challenger_core.specs.declared.error.ChallengerError.TheVariants.{DrawLimit, TooLong}
 use Rattle.p3_fs_core.specs.Errors.{challenger_refused}
@@ -10,7 +10,7 @@ use Rattle.p3_driver_core.specs.Turns.{IsOtherLength, longer_list, another_lengt
 use Rattle.p3_driver_laws.proofs.LimitLaws.{observing-tells, counted-tell}
 use Rattle.p3_driver_laws.proofs.ListReasons.{list-one_reason}
 use Rattle.p3_driver_laws.proofs.OneReason.{short-tells, given-tells}
-use Rattle.p3_driver_laws.proofs.reasons.carried_lists_are_refused_for_one_reason.Goals as goal
+use Rattle.p3_driver_laws.proofs.verifier_reasons.carried_lists_are_refused_for_one_reason.Goals as goal
 
 pub returns-clause-within : goal.returns-clause-within
 returns-clause-within g c = λ step max xs.

@@ -3,7 +3,7 @@ use Rattle.p3_grinding.specs.CheckLaws.{all_zero-limit, check-limit}
 use Rattle.p3_grinding.specs.Checks.{all_zero}
 use Rattle.p3_driver_core.specs.Working.{work_of}
 use Rattle.p3_driver_laws.proofs.WorkReasons.{ground-one_reason, carried-one_reason, work-one_reason}
-use Rattle.p3_driver_laws.proofs.reasons.work_is_refused_for_one_reason.Goals as goal
+use Rattle.p3_driver_laws.proofs.verifier_reasons.work_is_refused_for_one_reason.Goals as goal
 
 pub returns-clause-ground : goal.returns-clause-ground
 returns-clause-ground g c = λ step bits.
