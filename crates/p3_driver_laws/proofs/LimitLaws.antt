@@ -1,5 +1,5 @@
 -- A refusal tells which limit is met.
-use Rattle.std.proofs.Common.{◌≡◌, ℕ, zero, suc, None, List, [], ◌∷◌, ◌++◌}
+use Rattle.std.proofs.Common.{◌≡◌, ℕ, zero, suc, Option, Some, None, List, [], ◌∷◌, ◌++◌}
 use Rattle.std.proofs.Common.{refl, ap, ◌∙◌, inl, inr, if◌then◌else◌}
 use Rattle.p3_challenger_core.specs.Observation.{Observation}
 use Rattle.p3_challenger_core.specs.Sampling.{Sampling, IsSampling, RefusesDrawVec, draws}
@@ -12,6 +12,10 @@ use Rattle.p3_driver_core.specs.Rejecting.{Rule, given, go_on, taken, RefusesTak
 use Rattle.p3_driver_core.specs.Rejecting.{drawing_rejecting}
 use Rattle.p3_driver_core.specs.Working.{Work, checking, where_passed}
 use Rattle.p3_driver_laws.specs.Limits.{TellsLimits}
+
+-- nothing and something is not given
+pub some_none : {A : Type 0} {x : A} {o : Option A} → o ≡ Some x → o ≡ None → ⊥
+some_none some none = absurd (cc)
 
 no_witness : NoWitness ≡ DrawLimit → ⊥
 no_witness is = absurd (cc)
@@ -138,7 +142,8 @@ module _ {S : Type 0} (next : S → S) {T : Type 0} (d : Sampling S T) (laws : I
     keeps-witness limit (suc more) kept s t (inr h) =
         keeps-witness limit more (kept ++ (h.0 ∷ [])) (taken d rule limit kept s).after t h.2
 
-    pub rejecting-tells : {Symbol : Type 0} (limit n : ℕ) → TellsLimits (drawing_rejecting {Symbol = Symbol} d rule limit n)
+    pub rejecting-tells : {Symbol : Type 0} (limit n : ℕ) →
+        TellsLimits (drawing_rejecting {Symbol = Symbol} d rule limit n)
     rejecting-tells limit n =
         record {
           limit = λ s t. elim [ inl h ↦ absurd h | inr h ↦ keeps-limit limit n [] s t h ];

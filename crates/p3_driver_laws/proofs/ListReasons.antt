@@ -1,5 +1,5 @@
 -- From one turn, a list that a caller carries is refused for one reason.
-use Rattle.std.proofs.Common.{◌≡◌, ◌⊎◌, ℕ, List, Bool, true, false, sym, ap, ◌∙◌, inl, inr}
+use Rattle.std.proofs.Common.{◌≡◌, ◌⊎◌, ℕ, List, true, sym, ap, ◌∙◌, inl, inr}
 use Rattle.p3_fs_core.specs.Errors.{refusal_of, misfit, Refusal}
 use Rattle.p3_fs_core.specs.Steps.{Step}
 use Rattle.p3_fs_core.specs.declared.error.PatternError.TheVariants.{Finished}
@@ -8,19 +8,15 @@ use Rattle.p3_fs_core.specs.declared.error.TranscriptError.TheVariants.{OutOfMem
 use Rattle.p3_patterns.specs.Playing.{Playing}
 use Rattle.p3_driver_core.specs.Turns.{Meaning, Refuses}
 use Rattle.p3_verifier.specs.Verifying.{Verifying, RefusesList}
-use Rattle.p3_driver_laws.proofs.OneReason.{Cause, Tells, refused-cause, refused-one_reason}
-use Rattle.p3_driver_laws.proofs.WorkReasons.{bad_shape}
+use Rattle.p3_driver_laws.proofs.OneReason.{Cause, Tells, both_ways, bad_shape, refused-cause, refused-one_reason}
 use Rattle.p3_driver_laws.specs.OneReason.{TellOneReason}
-
-going_and_finished : {b : Bool} → b ≡ true → b ≡ false → ⊥
-going_and_finished on off = absurd (cc)
 
 -- once a step was refused, nothing else is told
 finished-told : (playing : Playing) (s : Step) (told : Refusal) (e : TranscriptError) → playing.finished ≡ true →
     Cause playing s told e → refusal_of e ≡ misfit Finished
 finished-told playing s told e finished (inl (p, is, inl fault)) = ap refusal_of is ∙ ap misfit fault.1
-finished-told playing s told e finished (inl (p, is, inr fault)) = absurd (going_and_finished finished fault.0)
-finished-told playing s told e finished (inr next) = absurd (going_and_finished finished next.0.0)
+finished-told playing s told e finished (inl (p, is, inr fault)) = absurd (both_ways finished fault.0)
+finished-told playing s told e finished (inr next) = absurd (both_ways finished next.0.0)
 
 module _ {S Symbol A : Type 0} (m : Meaning S Symbol A) (told : S → Refusal) (tells : Tells m.effect told)
     (IsWrong IsRight : Playing → Type 0) (apart : (p : Playing) → IsWrong p → IsRight p → ⊥) (reason : List ℕ) where
@@ -48,10 +44,10 @@ module _ {S Symbol A : Type 0} (m : Meaning S Symbol A) (told : S → Refusal) (
       elim first.playing.fault [
         | inl late ↦ elim second.playing.fault [
           | inl again ↦ ap refusal_of (late.1 ∙ sym again.1)
-          | inr wrong ↦ absurd (going_and_finished late.0 wrong.0)
+          | inr wrong ↦ absurd (both_ways late.0 wrong.0)
         ]
         | inr wrong ↦ elim second.playing.fault [
-          | inl late ↦ absurd (going_and_finished late.0 wrong.0)
+          | inl late ↦ absurd (both_ways late.0 wrong.0)
           | inr again ↦ bad_shape reason e wrong.2 ∙ sym (bad_shape reason f again.2)
         ]
       ]

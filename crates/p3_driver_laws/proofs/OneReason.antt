@@ -1,10 +1,11 @@
 -- From one turn, a step is refused for one reason.
-use Rattle.std.proofs.Common.{◌≡◌, ◌⊎◌, Bool, true, false, Option, Some, None, Ok, Err, refl, sym, ap}
+use Rattle.std.proofs.Common.{◌≡◌, ◌⊎◌, ℕ, List, Bool, true, false, Option, Some, Ok, Err, refl, sym, ap}
 use Rattle.std.proofs.Common.{◌∙◌, inl, inr}
 use Rattle.p3_challenger_core.specs.declared.error.ChallengerError.{ChallengerError}
 use Rattle.p3_challenger_core.specs.declared.error.ChallengerError.TheVariants.{DrawLimit, NoWitness, TooLong}
 use Rattle.p3_challenger_core.specs.declared.error.ChallengerError.TheVariants as challenger
-use Rattle.p3_fs_core.specs.Errors.{misfit_of, Refusal, refusal_of, misfit, challenger_refused, bad_proof_shape}
+use Rattle.p3_fs_core.specs.Errors.{IsBadShape, misfit_of, Refusal, refusal_of, misfit, challenger_refused}
+use Rattle.p3_fs_core.specs.Errors.{bad_proof_shape}
 use Rattle.p3_fs_core.specs.Steps.{Step}
 use Rattle.p3_fs_core.specs.declared.interaction.Interaction.{Interaction}
 use Rattle.p3_fs_core.specs.declared.error.PatternError.{PatternError}
@@ -19,12 +20,13 @@ use Rattle.p3_driver_core.specs.Effects.{Effect}
 use Rattle.p3_driver_core.specs.Turns.{Meaning, Turn, IsNext, Refuses}
 use Rattle.p3_verifier.specs.Reads.{Reading, Read}
 use Rattle.p3_verifier.specs.Verifying.{Verifying, RefusesToRead}
+use Rattle.p3_driver_laws.proofs.LimitLaws.{some_none}
 use Rattle.p3_driver_laws.specs.Limits.{TellsLimits}
 use Rattle.p3_driver_laws.specs.OneReason.{TellOneReason}
 
 -- ---- the pattern
 
-both_ways : {b : Bool} → b ≡ true → b ≡ false → ⊥
+pub both_ways : {b : Bool} → b ≡ true → b ≡ false → ⊥
 both_ways on off = absurd (cc)
 
 one_misfit : (next : Option Step) (s : Step) (e f : PatternError Step) → IsNotNext next s e → IsNotNext next s f → e ≡ f
@@ -70,6 +72,18 @@ Cause playing s told e =
     ((p : PatternError Interaction) × (e ≡ Pattern p) × FaultOfPlay playing s (misfit_of p))
     ⊎ (IsNext playing s × (refusal_of e ≡ told))
 
+-- what an error tells that names a bad shape
+pub bad_shape : (reason : List ℕ) (e : TranscriptError) → IsBadShape reason e → refusal_of e ≡ bad_proof_shape reason
+bad_shape reason (MissingBegin info) is = absurd is
+bad_shape reason (InvalidKind info) is = absurd is
+bad_shape reason (MismatchedBeginEnd info) is = absurd is
+bad_shape reason (MissingEnd info) is = absurd is
+bad_shape reason (BadProofShape text) is = ap bad_proof_shape is
+bad_shape reason (Pattern e) is = absurd is
+bad_shape reason (Challenger e) is = absurd is
+bad_shape reason LabelTooLong is = absurd is
+bad_shape reason OutOfMemory is = absurd is
+
 one_cause : (playing : Playing) (s : Step) (told : Refusal) (e f : TranscriptError) → Cause playing s told e →
     Cause playing s told f → refusal_of e ≡ refusal_of f
 one_cause playing s told e f (inl x) (inl y) =
@@ -95,9 +109,6 @@ Tells {S} effect told =
     (d : ChallengerError) (s t : S) → effect.refuses d s t → (d ≡ challenger.OutOfMemory → ⊥) →
     challenger_refused d ≡ told s
 
-none_some : {A : Type 0} {x : A} {o : Option A} → o ≡ None → o ≡ Some x → ⊥
-none_some none some = absurd (cc)
-
 module _ {S Symbol A : Type 0} (effect : Effect S Symbol A) (tells : TellsLimits effect) where
   -- where nothing is too long, that a draw meets its limit
   pub short-tells : effect.fits → Tells effect (λ _. challenger_refused DrawLimit)
@@ -109,7 +120,7 @@ module _ {S Symbol A : Type 0} (effect : Effect S Symbol A) (tells : TellsLimits
   -- where something is given from every state, that what is fed is too long
   pub given-tells : ((s : S) → (x : A) × (effect.gives s ≡ Some x)) → Tells effect (λ _. challenger_refused TooLong)
   given-tells gives challenger.OutOfMemory s t refuses other = absurd (other refl)
-  given-tells gives DrawLimit s t refuses other = absurd (none_some (tells.limit s t refuses) (gives s).1)
+  given-tells gives DrawLimit s t refuses other = absurd (some_none (gives s).1 (tells.limit s t refuses))
   given-tells gives NoWitness s t refuses other = absurd (tells.witness s t refuses)
   given-tells gives TooLong s t refuses other = refl
 

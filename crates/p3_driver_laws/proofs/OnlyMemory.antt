@@ -1,5 +1,5 @@
 -- A step that a prover has played is refused for want of memory alone.
-use Rattle.std.proofs.Common.{◌≡◌, ℕ, List, ◌++◌, Option, Some, None, Ok, refl, sym, ap, ◌∙◌, subst}
+use Rattle.std.proofs.Common.{◌≡◌, ℕ, List, ◌++◌, Some, Ok, refl, sym, ap, ◌∙◌, subst}
 use Rattle.p3_challenger_core.specs.declared.error.ChallengerError.{ChallengerError}
 use Rattle.p3_challenger_core.specs.declared.error.ChallengerError.TheVariants.{DrawLimit, NoWitness, TooLong}
 use Rattle.p3_challenger_core.specs.declared.error.ChallengerError.TheVariants as challenger
@@ -13,11 +13,9 @@ use Rattle.p3_verifier.specs.FollowingLaws.{mirror-follows, meaning-agrees}
 use Rattle.p3_verifier.specs.Mirrors.{Mirrors}
 use Rattle.p3_verifier.specs.Reads.{Reading}
 use Rattle.p3_verifier.specs.Verifying.{Verifying, RefusesToRead}
+use Rattle.p3_driver_laws.proofs.LimitLaws.{some_none}
 use Rattle.p3_driver_laws.specs.Limits.{TellsLimits}
 use Rattle.p3_driver_laws.specs.Memory.{OnlyMemoryRefuses, OnlyMemoryRefusesToRead}
-
-some_none : {A : Type 0} {x : A} {o : Option A} → o ≡ Some x → o ≡ None → ⊥
-some_none some none = absurd (cc)
 
 -- ---- a step that both play alike
 

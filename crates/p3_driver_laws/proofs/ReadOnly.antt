@@ -1,6 +1,6 @@
--- What is read is spelled so: the bytes are the spelling and what is left.
-use Rattle.std.proofs.Common.{◌≡◌, ℕ, zero, suc, ◌+◌, ◌*◌, ◌≤◌, List, [], ◌∷◌, ◌++◌, length, take, drop, nat_lt, Result, Ok}
-use Rattle.std.proofs.Common.{Err, refl, sym, ap, ◌∙◌, subst, arith, append_assoc, append-nil, if◌then◌else◌}
+-- What is read is spelled so: the bytes are the spelling, and then those that are left.
+use Rattle.std.proofs.Common.{◌≡◌, ℕ, zero, suc, ◌+◌, ◌*◌, ◌≤◌, List, [], ◌∷◌, ◌++◌, length, take, drop, nat_lt, Result}
+use Rattle.std.proofs.Common.{Ok, Err, refl, sym, ap, ◌∙◌, subst, arith, append_assoc, append-nil, if◌then◌else◌}
 use Rattle.std.proofs.lemmas.List.{take-append-drop, length-take-le, length-append}
 use Rattle.std.specs.List.{flat_map}
 use Rattle.p3_challenger_core.specs.Reading.{AreBytes}
@@ -18,6 +18,15 @@ none_left [] w n same long = refl
 none_left (x ∷ l) w n same long =
     let more : length (x ∷ l) ≡ suc (length l) = refl in
     absurd (omega (arith, same, long, more))
+
+-- after a front of bytes, what is left is bytes too
+pub are_left : (bytes front rest : List ℕ) → AreBytes bytes → bytes ≡ front ++ rest → AreBytes rest
+are_left bytes front rest are is =
+    let after : drop (length front) bytes ≡ rest =
+    ap (drop (length front)) is ∙ drop-front (length front) front rest refl in
+    subst (λ (l : List ℕ). AreBytes l) after (AreBytes-drop (length front) bytes are)
+
+-- ---- where something is read, each part of it is
 
 then_read-ok : {S A B : Type 0} (next : A → List ℕ → Read S B) (r : Read S A) (y : B × List ℕ) →
     then_read next r ≡ Ok y → (a : A × List ℕ) × (r ≡ Ok a) × (next a.0 a.1 ≡ Ok y)
@@ -41,6 +50,8 @@ value_in-ok {S} {A} (Ok found) after x rest h =
     let same : ◌≡◌ {A = A × List ℕ} (found.0, after) (x, rest) = cc in
     (found.1, ap (λ z. Ok (z, found.1)) (ap (λ p. p.0) same), ap (λ p. p.1) same)
 value_in-ok (Err reason) after x rest h = absurd (cc)
+
+-- ---- bytes, and values
 
 pub bytes-only : {S : Type 0} (n : ℕ) (bytes x rest : List ℕ) → read_bytes {S = S} n bytes ≡ Ok (x, rest) →
     (length x ≡ n) × (bytes ≡ x ++ rest)
@@ -74,10 +85,7 @@ module _ {S A : Type 0} (e : Encoding A) (encodes : IsEncoding e) where
 
   after_value : (bytes : List ℕ) (x : A) (rest : List ℕ) → AreBytes bytes → read_value {S = S} e bytes ≡ Ok (x, rest) →
       AreBytes rest
-  after_value bytes x rest are h =
-      let after : drop e.width bytes ≡ rest =
-      ap (drop e.width) (value-only bytes x rest are h) ∙ drop-front e.width (e.wire x) rest (encodes.fixed_width x) in
-      subst (λ (l : List ℕ). AreBytes l) after (AreBytes-drop e.width bytes are)
+  after_value bytes x rest are h = are_left bytes (e.wire x) rest are (value-only bytes x rest are h)
 
   each-only : (observed : S → A → S) (n : ℕ) (bytes : List ℕ) (xs : List A) (rest : List ℕ) → AreBytes bytes →
       read_each e observed n bytes ≡ Ok (xs, rest) → (length xs ≡ n) × (bytes ≡ flat_map e.wire xs ++ rest)
@@ -107,6 +115,8 @@ module _ {S A : Type 0} (e : Encoding A) (encodes : IsEncoding e) where
       let failure : Unreadable S = record { reason = too_many_values; left = bytes; absorbed = λ s. s } in
       each-only observed n bytes xs rest are
       (chosen (nat_lt (length bytes) (n * e.width)) failure (read_each e observed n bytes) (xs, rest) h).1
+
+-- ---- after a count
 
 module _ {S : Type 0} (over : List ℕ) (max : ℕ) where
   pub count-only : (bytes : List ℕ) (n : ℕ) (rest : List ℕ) → AreBytes bytes →

@@ -1,8 +1,7 @@
 -- A step that reads takes bytes in one spelling alone.
-use Rattle.std.proofs.Common.{◌≡◌, ℕ, ◌≤◌, List, ◌++◌, length, drop, Ok, refl, ap, ◌∙◌, subst}
+use Rattle.std.proofs.Common.{◌≡◌, ℕ, ◌≤◌, List, ◌++◌, length, Ok}
 use Rattle.p3_challenger_core.specs.Observation.{Observation}
 use Rattle.p3_challenger_core.specs.Reading.{AreBytes}
-use Rattle.p3_fs_core.specs.BigEndianLaws.{AreBytes-drop, drop-front}
 use Rattle.p3_fs_core.specs.Encoding.{Encoding, IsEncoding}
 use Rattle.p3_fs_core.specs.Steps.{Step}
 use Rattle.p3_fs_core.specs.declared.step.Kind.{Kind}
@@ -16,14 +15,9 @@ use Rattle.p3_driver_core.specs.Working.{Work, sent_work}
 use Rattle.p3_verifier.specs.Reads.{Reading, received, received_all, received_bounded, received_bytes}
 use Rattle.p3_verifier.specs.Reads.{received_bytes_bounded, hint_received, hint_received_bounded, received_work}
 use Rattle.p3_verifier.specs.Reads.{message_too_long, hint_too_long}
-use Rattle.p3_driver_laws.proofs.ReadOnly.{bytes-only, value-only, values-only, counted_bytes-only, counted_values-only}
+use Rattle.p3_driver_laws.proofs.ReadOnly.{are_left, bytes-only, value-only, values-only, counted_bytes-only}
+use Rattle.p3_driver_laws.proofs.ReadOnly.{counted_values-only}
 use Rattle.p3_driver_laws.specs.Spelled.{OnlyReads, AnyValue}
-
-are_left : (bytes front rest : List ℕ) → AreBytes bytes → bytes ≡ front ++ rest → AreBytes rest
-are_left bytes front rest are is =
-    let after : drop (length front) bytes ≡ rest =
-    ap (drop (length front)) is ∙ drop-front (length front) front rest refl in
-    subst (λ (l : List ℕ). AreBytes l) after (AreBytes-drop (length front) bytes are)
 
 -- where the value fits, and the bytes are its spelling and what is left
 only_reads : {S Symbol A : Type 0} (r : Reading S Symbol A) (Fits : A → Type 0) (writes : A → Meaning S Symbol A) →

@@ -1,10 +1,10 @@
 -- From one turn, proof of work is refused for one reason.
-use Rattle.std.proofs.Common.{◌≡◌, ◌⊎◌, ℕ, List, Bool, true, false, Option, Some, None, refl, sym, ap, ◌∙◌, inl}
+use Rattle.std.proofs.Common.{◌≡◌, ◌⊎◌, Bool, true, false, Option, Some, None, refl, sym, ap, ◌∙◌, inl}
 use Rattle.std.proofs.Common.{inr}
 use Rattle.p3_challenger_core.specs.declared.error.ChallengerError.TheVariants.{DrawLimit, NoWitness, TooLong}
 use Rattle.p3_challenger_core.specs.declared.error.ChallengerError.TheVariants as challenger
 use Rattle.p3_fs_core.specs.Encoding.{Encoding}
-use Rattle.p3_fs_core.specs.Errors.{IsBadShape, Refusal, refusal_of, challenger_refused, bad_proof_shape, out_of_memory}
+use Rattle.p3_fs_core.specs.Errors.{Refusal, challenger_refused, bad_proof_shape, out_of_memory}
 use Rattle.p3_fs_core.specs.declared.error.TranscriptError.{TranscriptError}
 use Rattle.p3_fs_core.specs.declared.error.TranscriptError.TheVariants.{MissingBegin, InvalidKind, MismatchedBeginEnd}
 use Rattle.p3_fs_core.specs.declared.error.TranscriptError.TheVariants.{MissingEnd, BadProofShape, Pattern}
@@ -14,7 +14,7 @@ use Rattle.p3_driver_core.specs.Turns.{Turn}
 use Rattle.p3_driver_core.specs.Working.{Work, checking, too_few_zero_bits, RefusesToCheck, RefusesToGrind}
 use Rattle.p3_verifier.specs.Reads.{received_work}
 use Rattle.p3_verifier.specs.Verifying.{Verifying, RefusesToRead, FailsWork}
-use Rattle.p3_driver_laws.proofs.OneReason.{Cause, Tells, one_reason, told_of_read, unread-cause}
+use Rattle.p3_driver_laws.proofs.OneReason.{Cause, Tells, one_reason, bad_shape, told_of_read, unread-cause}
 use Rattle.p3_driver_laws.specs.OneReason.{TellOneReason}
 
 -- what a check tells that does not pass
@@ -22,17 +22,6 @@ abbrev verdict : Option Bool → Refusal
 verdict None = challenger_refused DrawLimit
 verdict (Some true) = out_of_memory
 verdict (Some false) = bad_proof_shape too_few_zero_bits
-
-pub bad_shape : (reason : List ℕ) (e : TranscriptError) → IsBadShape reason e → refusal_of e ≡ bad_proof_shape reason
-bad_shape reason (MissingBegin info) is = absurd is
-bad_shape reason (InvalidKind info) is = absurd is
-bad_shape reason (MismatchedBeginEnd info) is = absurd is
-bad_shape reason (MissingEnd info) is = absurd is
-bad_shape reason (BadProofShape text) is = ap bad_proof_shape is
-bad_shape reason (Pattern e) is = absurd is
-bad_shape reason (Challenger e) is = absurd is
-bad_shape reason LabelTooLong is = absurd is
-bad_shape reason OutOfMemory is = absurd is
 
 module _ {S Symbol W : Type 0} (work : Work S Symbol W) where
   -- ---- a witness is searched for

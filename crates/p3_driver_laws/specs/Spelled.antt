@@ -4,7 +4,7 @@ use Rattle.p3_challenger_core.specs.Reading.{AreBytes}
 use Rattle.p3_driver_core.specs.Turns.{Meaning}
 use Rattle.p3_verifier.specs.Reads.{Reading}
 
--- every value, where a step says nothing of its own about them
+-- where a step reads one value, each value of its type fits
 abbrev pub AnyValue : {A : Type 0} → A → Type 0
 AnyValue x = Unit {0}
 

@@ -1,5 +1,5 @@
-//! A challenger or an alphabet refuses a step only where a limit is met, and the error says which: a draw that meets its
-//! limit, or bytes that are too long for the alphabet. Laws, of every challenger, codec and alphabet.
+//! A challenger or an alphabet refuses a step only where a limit is met, and the error says which: a draw that meets
+//! its limit, or bytes that are too long for the alphabet. Laws, of every challenger, codec and alphabet.
 ghost use Rattle.std.specs.Prelude.{ℕ, List, length, true};
 ghost use Rattle.p3_driver_core.specs.Counts.{count_bytes};
 ghost use Rattle.p3_driver_core.specs.Effects.{alphabet_of, untouched, observing, observing_all, observing_bytes};

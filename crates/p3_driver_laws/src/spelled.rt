@@ -18,9 +18,9 @@ use p3_codecs::{Codec, Unit};
 use p3_fs_core::Kind;
 use p3_grinding::GrindingChallenger;
 
-/// Where a verifier's step reads one value, the bytes begin with its spelling. Where it reads a list of so many, the list
-/// has so many, and the bytes begin with the spellings of its values in order. Where it reads a list after its count,
-/// the list has at most so many, and the bytes begin with its count and these spellings.
+/// Where a verifier's step reads one value, the bytes begin with its spelling. Where it reads a list of so many, the
+/// list has so many, and the bytes begin with the spellings of its values in order. Where it reads a list after its
+/// count, the list has at most so many, and the bytes begin with its count and these spellings.
 ///
 /// A law: the body is empty, and a caller cites the clauses.
 pub fn read_values_are_spelled<A, U: Unit, C: CanObserve<U::Item>, Cdc: Codec<C, A>>()

@@ -1,6 +1,6 @@
-//! A step of a verifier that reads, or to which its caller carries a list, is refused for one reason: what an error says
-//! follows from the turn before the step, and from the bytes that are left. So is proof of work, on either side. Want of
-//! memory alone may come in its place.
+//! A step of a verifier that reads, or to which its caller carries a list, is refused for one reason: what an error
+//! says follows from the turn before the step, and from the bytes that are left. So is proof of work, on either side.
+//! Want of memory alone may come in its place.
 ghost use Rattle.std.specs.Prelude.{◌<◌, ◌≤◌, ◌⊎◌, ℕ, List, length};
 ghost use Rattle.p3_fs_core.specs.Scalar.{encoding};
 ghost use Rattle.p3_fs_core.specs.Steps.{Step};

@@ -5,4 +5,5 @@ use Rattle.p3_driver_laws.proofs.reasons.opaque_values_are_refused_for_one_reaso
 
 pub returns : goal.returns
 returns g c = λ step x.
-    short-one_reason (meaning.observed step g.C.CanObserve.observation x) (observing-tells g.C.CanObserve.observation x) tt
+    short-one_reason (meaning.observed step g.C.CanObserve.observation x)
+    (observing-tells g.C.CanObserve.observation x) tt

@@ -8,9 +8,11 @@ use Rattle.p3_driver_laws.proofs.reasons.uniform_draws_are_refused_for_one_reaso
 pub returns-clause-list : goal.returns-clause-list
 returns-clause-list g c = λ step width n.
     let d = (g.C.CanSampleUniformBits.uniform true width).draw in
-    short-one_reason {Symbol = g.row.C-Symbol.Denot} (meaning.drawn_all step d n) (drawing_all-tells g.C.Sponge.next d (g.met.C.CanSampleUniformBits.draws_uniform true width).draws n) tt
+    short-one_reason {Symbol = g.row.C-Symbol.Denot} (meaning.drawn_all step d n)
+    (drawing_all-tells g.C.Sponge.next d (g.met.C.CanSampleUniformBits.draws_uniform true width).draws n) tt
 
 pub returns-clause-rejecting : goal.returns-clause-rejecting
 returns-clause-rejecting g c = λ step width rule limit n.
     let d = (g.C.CanSampleUniformBits.uniform true width).draw in
-    short-one_reason {Symbol = g.row.C-Symbol.Denot} (drawn_rejecting step d rule limit n) (rejecting-tells g.C.Sponge.next d (g.met.C.CanSampleUniformBits.draws_uniform true width).draws rule limit n) tt
+    short-one_reason {Symbol = g.row.C-Symbol.Denot} (drawn_rejecting step d rule limit n)
+    (rejecting-tells g.C.Sponge.next d (g.met.C.CanSampleUniformBits.draws_uniform true width).draws rule limit n) tt

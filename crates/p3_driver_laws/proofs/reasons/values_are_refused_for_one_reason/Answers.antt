@@ -21,11 +21,13 @@ returns-clause-observed_counted g c = λ step max xs.
     let alphabet = alphabet_of g.U.Unit.items g.U.Unit.is_too_long g.C.CanObserve.observation
     g.C.CanObserve.slice_may_leave in
     given-one_reason (meaning.observed_bounded step alphabet max g.Cdc.Codec.observation xs)
-    (counted-tell alphabet (count_bytes max (length xs)) (observation.in_row g.Cdc.Codec.observation) xs) (λ s. (xs, refl))
+    (counted-tell alphabet (count_bytes max (length xs)) (observation.in_row g.Cdc.Codec.observation) xs)
+    (λ s. (xs, refl))
 
 pub returns-clause-sent : goal.returns-clause-sent
 returns-clause-sent g c = λ step x.
-    short-one_reason (meaning.sent step g.Cdc.Codec.observation g.Cdc.Codec.encoding x) (observing-tells g.Cdc.Codec.observation x) tt
+    short-one_reason (meaning.sent step g.Cdc.Codec.observation g.Cdc.Codec.encoding x)
+    (observing-tells g.Cdc.Codec.observation x) tt
 
 pub returns-clause-sent_list : goal.returns-clause-sent_list
 returns-clause-sent_list g c = λ step xs.
@@ -37,4 +39,5 @@ returns-clause-sent_counted g c = λ step max xs.
     let alphabet = alphabet_of g.U.Unit.items g.U.Unit.is_too_long g.C.CanObserve.observation
     g.C.CanObserve.slice_may_leave in
     given-one_reason (meaning.sent_bounded step alphabet max g.Cdc.Codec.observation g.Cdc.Codec.encoding xs)
-    (counted-tell alphabet (count_bytes max (length xs)) (observation.in_row g.Cdc.Codec.observation) xs) (λ s. (xs, refl))
+    (counted-tell alphabet (count_bytes max (length xs)) (observation.in_row g.Cdc.Codec.observation) xs)
+    (λ s. (xs, refl))

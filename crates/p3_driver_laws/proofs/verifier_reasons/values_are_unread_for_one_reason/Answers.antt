@@ -9,8 +9,8 @@ use Rattle.p3_driver_laws.proofs.verifier_reasons.values_are_unread_for_one_reas
 
 pub returns-clause-value : goal.returns-clause-value
 returns-clause-value g c = λ step.
-    given-unread_one_reason (reads.received step g.Cdc.Codec.observation g.Cdc.Codec.encoding) (λ x. observing-tells g.Cdc.Codec.observation x)
-    (λ x s. (x, refl))
+    given-unread_one_reason (reads.received step g.Cdc.Codec.observation g.Cdc.Codec.encoding)
+    (λ x. observing-tells g.Cdc.Codec.observation x) (λ x s. (x, refl))
 
 pub returns-clause-list : goal.returns-clause-list
 returns-clause-list g c = λ step n.
