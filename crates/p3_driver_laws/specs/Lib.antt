@@ -1,0 +1,4 @@
+pub mod Limits
+pub mod Memory
+pub mod OneReason
+pub mod Spelled
