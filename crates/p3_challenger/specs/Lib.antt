@@ -106,6 +106,10 @@ pub use Rattle.p3_verifier.specs.Mirrors
 pub use Rattle.p3_verifier.specs.Reads
 pub use Rattle.p3_verifier.specs.VerifierLends
 pub use Rattle.p3_verifier.specs.Verifying
+pub use Rattle.p3_driver_laws.specs.Limits
+pub use Rattle.p3_driver_laws.specs.Memory
+pub use Rattle.p3_driver_laws.specs.OneReason
+pub use Rattle.p3_driver_laws.specs.Spelled
 pub use Rattle.p3_field.specs.Residues
 pub use Rattle.p3_field.specs.ResidueLaws
 pub use Rattle.p3_field.specs.Coefficients

@@ -18,6 +18,22 @@ pub use p3_driver_core::{
     opaque_values_feed_their_symbols, uniform_draws_feed_nothing, values_feed_their_symbols,
     work_feeds_its_witness,
 };
+pub use p3_driver_laws::{
+    bit_draws_are_refused_for_one_reason, bit_draws_tell_limits, bytes_are_refused_for_one_reason,
+    bytes_are_unread_for_one_reason, bytes_tell_limits, carried_lists_are_refused_for_one_reason,
+    draws_are_refused_for_one_reason, draws_tell_limits, extensions_are_refused_for_one_reason,
+    hints_are_refused_for_one_reason, hints_are_unread_for_one_reason,
+    markers_and_hints_tell_limits, markers_are_refused_for_one_reason,
+    only_memory_refuses_drawn_bits, only_memory_refuses_drawn_uniform_bits,
+    only_memory_refuses_drawn_values, only_memory_refuses_hints, only_memory_refuses_markers,
+    only_memory_refuses_observed_values, only_memory_refuses_opaque_values,
+    only_memory_refuses_sent_bytes, only_memory_refuses_sent_values,
+    opaque_values_are_refused_for_one_reason, opaque_values_tell_limits, read_bytes_are_spelled,
+    read_hints_are_spelled, read_values_are_spelled, read_work_is_spelled,
+    uniform_draws_are_refused_for_one_reason, uniform_draws_tell_limits,
+    values_are_refused_for_one_reason, values_are_unread_for_one_reason, values_tell_limits,
+    work_is_refused_for_one_reason, work_tells_limits,
+};
 pub use p3_duplex::duplex_elements_are_prefix_code;
 pub use p3_fs_core::{
     Alternate, Hierarchy, Interaction, InvalidKindInfo, Kind, Label, Length,

@@ -11,6 +11,8 @@ mod extensions;
 #[cfg(test)]
 mod long_lists;
 #[cfg(test)]
+mod nested;
+#[cfg(test)]
 mod played;
 #[cfg(test)]
 mod reads;

@@ -1,3 +1,4 @@
+pub mod Accepting
 pub mod Begun
 pub mod BoundValues
 pub mod CommitPhase

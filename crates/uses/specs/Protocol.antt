@@ -1,12 +1,33 @@
 -- What a run of the small protocol says.
-use Rattle.std.specs.Prelude.{◌≡◌, ◌==◌, ◌-◌, ℕ, List, [], ◌++◌, Bool, true, Option, Some, None, not}
+use Rattle.std.specs.Prelude.{◌≡◌, ◌==◌, ◌-◌, ℕ, List, [], ◌∷◌, ◌++◌, Bool, true, false, Option, Some, None, not, codes}
 use Rattle.p3_challenger.specs.BabyBearResidues.{BabyBear, residues}
 use Rattle.p3_challenger.specs.Encoding.{Encoding}
+use Rattle.p3_challenger.specs.Kind.{Kind}
+use Rattle.p3_challenger.specs.Kind.TheVariants.{Challenge, Hint, Message}
+use Rattle.p3_challenger.specs.Length.{Length}
+use Rattle.p3_challenger.specs.Length.TheVariants.{Fixed, Scalar}
 use Rattle.p3_challenger.specs.Observation.{Observation}
 use Rattle.p3_challenger.specs.Rejecting.{taken}
 use Rattle.p3_challenger.specs.Residues.{sum_of, product_of, power_of}
 use Rattle.p3_challenger.specs.Sampling.{Sampling}
+use Rattle.p3_challenger.specs.Steps.{Step}
+use Rattle.p3_challenger.specs.Turns.{algebra_step, bytes_step}
+use Rattle.p3_challenger.specs.Verifying.{Verifying}
 use Rattle.uses.specs.declared.protocol.Claim.{Claim}
+
+-- the step of an element of the field, or of a list of some, where the field's identity has this digest
+abbrev pub element_step : List ℕ → Kind → List ℕ → Length → Step
+element_step digest kind label length = algebra_step kind label residues.order 1 digest (codes "BabyBear") length
+
+-- the steps of the protocol in order
+abbrev pub steps_of_line : List ℕ → List Step
+steps_of_line digest =
+    element_step digest Message (codes "slope") Scalar
+    ∷ element_step digest Message (codes "offset") Scalar
+    ∷ element_step digest Challenge (codes "place") Scalar
+    ∷ element_step digest Challenge (codes "divisor") (Fixed 1)
+    ∷ bytes_step Hint (codes "quotient") (Fixed 4)
+    ∷ []
 
 -- the quotient is that of the line's value at the place
 abbrev pub IsQuotient : Claim → Type 0
@@ -56,3 +77,20 @@ pub record IsSent {S Symbol : Type 0} (o : Observation S Symbol BabyBear) (place
   pub line : (claim.slope ≡ slope) × (claim.offset ≡ offset)
   pub run : IsRun o places divisors e s claim bytes
   pub quotient : claim.quotient ≡ quotient_of claim
+
+-- A verifier stands before the protocol: its steps are the pattern, and none was played. The bytes that it has left begin
+-- with those of a run, and these follow.
+pub record IsAhead {S Symbol : Type 0} (o : Observation S Symbol BabyBear) (places divisors : Sampling S BabyBear)
+    (e : Encoding BabyBear) (digest : List ℕ) (v : Verifying S) (claim : Claim) (rest : List ℕ) : Type 0 where
+  pub steps : v.turn.playing.pattern.steps ≡ steps_of_line digest
+  pub position : v.turn.playing.position ≡ 0
+  pub going : v.turn.playing.finished ≡ false
+  pub run : IsRun o places divisors e v.turn.challenger claim (bytes_of e claim)
+  pub unread : v.unread ≡ bytes_of e claim ++ rest
+
+-- it has played all of the protocol, and has these bytes left
+pub record IsPast {S : Type 0} (before : Verifying S) (rest : List ℕ) (after : Verifying S) : Type 0 where
+  pub pattern : after.turn.playing.pattern ≡ before.turn.playing.pattern
+  pub position : after.turn.playing.position ≡ 5
+  pub going : after.turn.playing.finished ≡ false
+  pub unread : after.unread ≡ rest

@@ -4,21 +4,26 @@
 //! value at the place, divided by the divisor. That number is a hint: it is not absorbed, so no challenge depends on
 //! it, and the verifier checks it by itself. The place and the divisor have to depend on the line. The contract of
 //! [`verify`] says that they do, and which bytes the proof is.
-ghost use Rattle.std.specs.Prelude.{◌≡◌, ◌+◌, ◌++◌, ℕ, List, [], Some, length, IfOk, OnOk};
+ghost use Rattle.std.specs.Prelude.{◌≡◌, ◌+◌, ◌++◌, ℕ, List, [], Some, codes, length, IfOk, OnOk, MatchResult};
+ghost use Rattle.p3_challenger.specs.BabyBearResidues as baby_bear;
 ghost use Rattle.p3_challenger.specs.HashCalls.{absorbing};
 ghost use Rattle.p3_challenger.specs.Proving.{proving_of};
 ghost use Rattle.p3_challenger.specs.Reading.{AreBytes};
-ghost use Rattle.p3_challenger.specs.SeparatorSeed.{seed_of_separator};
+ghost use Rattle.p3_challenger.specs.SeparatorSeed.{pattern_of, seed_of_separator};
+ghost use Rattle.p3_challenger.specs.Turns.{IsNext, step_on};
 ghost use Rattle.p3_challenger.specs.Verifying.{verifying_of};
-ghost use Rattle.uses.specs.Protocol.{IsAnswer, IsDivisor, IsRun, IsSent, after_line, bytes_of, may_divide};
+ghost use Rattle.uses.specs.Protocol.{IsAhead, IsAnswer, IsDivisor, IsPast, IsRun, IsSent, after_line, bytes_of};
+ghost use Rattle.uses.specs.Protocol.{element_step, may_divide, steps_of_line};
 
 use p3_challenger::fs::{
     BytesToFieldCodec, Codec, DomainSeparator, ExtensionFieldCodec, Hierarchy, Interaction,
     InteractionPattern, Kind, Length, Pattern, PatternState, ProverState, SymmetricSteps,
-    TranscriptError, TranscriptField, VerifierState,
+    TranscriptError, TranscriptField, VerifierState, hint_is_received,
+    only_memory_refuses_drawn_values, only_memory_refuses_hints, only_memory_refuses_sent_values,
+    sent_value_is_received,
 };
 use p3_challenger::{HashChallenger, Sponge};
-use p3_field::{BabyBear, PrimeCharacteristicRing, PrimeField32, PrimeField64};
+use p3_field::{AlgebraIdentity, BabyBear, PrimeCharacteristicRing, PrimeField32, PrimeField64};
 use p3_symmetric::{DigestHasher, Sha256Hasher};
 use std::alloc::Global;
 
@@ -97,7 +102,8 @@ fn send(
 /// Reads a proof, and gives the claim that it makes, or none where its quotient is wrong. A proof has 12 bytes.
 ///
 /// The errors are those of the transcript: a proof that is too short or too long, a number that is no element of the
-/// field, and want of memory.
+/// field, and want of memory. A proof that [`prove`] sent under the same separator, one that [`separator`] made, is
+/// accepted, for the same claim; want of memory alone can come instead.
 pub fn verify(
     alloc: Global,
     separator: &Separator,
@@ -110,6 +116,14 @@ pub fn verify(
         ⟦<Scalars as Codec<Challenger, BabyBear>>⟧.sampling ⟦<Coefficient as Codec<Challenger, BabyBear>>⟧.sampling
         ⟦<Scalars as Codec<Challenger, BabyBear>>⟧.encoding
         (record { sponge = absorbing seed; hasher = record {} }) claim proof.now) }
+    ensures accepted { let seed = seed_of_separator ⟦<Sha256Hasher as DigestHasher>⟧.digest_of separator.now in
+        let digest = ⟦<Sha256Hasher as DigestHasher>⟧.digest_of ⟦<BabyBear as AlgebraIdentity<BabyBear>>⟧.identity in
+        (claim : Claim) → (pattern_of separator.now).steps ≡ steps_of_line digest →
+        IsRun ⟦<Scalars as Codec<Challenger, BabyBear>>⟧.observation
+        ⟦<Scalars as Codec<Challenger, BabyBear>>⟧.sampling ⟦<Coefficient as Codec<Challenger, BabyBear>>⟧.sampling
+        ⟦<Scalars as Codec<Challenger, BabyBear>>⟧.encoding
+        (record { sponge = absorbing seed; hasher = record {} }) claim proof.now →
+        MatchResult result (λ found. IsAnswer found claim) (λ e. e ≡ TranscriptError.OutOfMemory) }
 {
     let mut verifier = Verifier::new(alloc, challenger(alloc), separator, proof)?;
     let received = receive(&mut verifier);
@@ -138,7 +152,21 @@ fn receive(verifier: &mut Verifier<'_>) -> Result<Claim, TranscriptError>
     ensures length { let before = verifying_of ⟦<Challenger as Sponge>⟧.state verifier.old in
         let after = verifying_of ⟦<Challenger as Sponge>⟧.state verifier.new in
         OnOk result (length before.unread ≡ 12 + length after.unread) }
+    ensures accepted { let before = verifying_of ⟦<Challenger as Sponge>⟧.state verifier.old in
+        let after = verifying_of ⟦<Challenger as Sponge>⟧.state verifier.new in
+        let digest = ⟦<Sha256Hasher as DigestHasher>⟧.digest_of ⟦<BabyBear as AlgebraIdentity<BabyBear>>⟧.identity in
+        (claim : Claim) (rest : List ℕ) → IsAhead ⟦<Scalars as Codec<Challenger, BabyBear>>⟧.observation
+        ⟦<Scalars as Codec<Challenger, BabyBear>>⟧.sampling ⟦<Coefficient as Codec<Challenger, BabyBear>>⟧.sampling
+        ⟦<Scalars as Codec<Challenger, BabyBear>>⟧.encoding digest before claim rest →
+        MatchResult result (λ found. (found ≡ claim) × IsPast before rest after)
+        (λ e. e ≡ TranscriptError.OutOfMemory) }
 {
+    // Laws, which do nothing: where a prover has sent a value or a hint, or drawn, memory alone can be refused.
+    sent_value_is_received::<BabyBear, Challenger, Scalars>();
+    only_memory_refuses_sent_values::<BabyBear, u8, Challenger, Scalars>();
+    only_memory_refuses_drawn_values::<BabyBear, Challenger, Scalars>();
+    hint_is_received::<Challenger>();
+    only_memory_refuses_hints::<Challenger>();
     let slope = verifier.next_scalar::<BabyBear, Scalars>("slope")?;
     let offset = verifier.next_scalar::<BabyBear, Scalars>("offset")?;
     let place = verifier.challenge_scalar::<BabyBear, Scalars>("place")?;
@@ -154,13 +182,22 @@ fn receive(verifier: &mut Verifier<'_>) -> Result<Claim, TranscriptError>
 }
 
 // Both sides draw it: any element but 0.
-fn draw_divisor<S: SymmetricSteps<Challenger = Challenger>>(
+fn draw_divisor<S: SymmetricSteps<Challenger = Challenger, Digest = Sha256Hasher>>(
     side: &mut S,
 ) -> Result<BabyBear, TranscriptError>
     ensures drawn { IfOk result (IsDivisor ⟦<Coefficient as Codec<Challenger, BabyBear>>⟧.sampling
         (S.turn side.old).challenger) }
     ensures bytes { OnOk result (S.bytes side.new ≡ S.bytes side.old) }
+    ensures accepted { let before = S.turn side.old in
+        let digest = ⟦<Sha256Hasher as DigestHasher>⟧.digest_of ⟦<BabyBear as AlgebraIdentity<BabyBear>>⟧.identity in
+        (divisor : baby_bear.BabyBear) →
+        IsNext before.playing (element_step digest Kind.Challenge (codes "divisor") (Length.Fixed 1)) →
+        IsDivisor ⟦<Coefficient as Codec<Challenger, BabyBear>>⟧.sampling before.challenger divisor →
+        MatchResult result (λ found. (found ≡ divisor) × ((S.turn side.new).playing ≡ step_on before.playing))
+        (λ e. e ≡ TranscriptError.OutOfMemory) }
 {
+    // A law, which does nothing: where one side has drawn it, memory alone can be refused to the other.
+    only_memory_refuses_drawn_values::<BabyBear, Challenger, Coefficient>();
     let accept = |divisor: &BabyBear, _kept: &[BabyBear]| -> bool
         ensures { result ≡ may_divide divisor.now }
     { divisor.as_canonical_u32() != 0 };
@@ -180,7 +217,10 @@ fn challenger(alloc: Global) -> Challenger
 /// What every challenge depends on besides the messages: version, name, and the pattern of the steps.
 ///
 /// The one error in fact is that memory is out.
-pub fn separator(alloc: Global) -> Result<Separator, TranscriptError> {
+pub fn separator(alloc: Global) -> Result<Separator, TranscriptError>
+    ensures { let digest = ⟦<Sha256Hasher as DigestHasher>⟧.digest_of ⟦<BabyBear as AlgebraIdentity<BabyBear>>⟧.identity in
+        IfOk result (λ separator. (pattern_of separator).steps ≡ steps_of_line digest) }
+{
     let mut recorder = PatternState::<u8>::new(alloc);
     let recorded = record(&mut recorder);
     let pattern = recorded.and(recorder.finalize())?;
@@ -188,7 +228,10 @@ pub fn separator(alloc: Global) -> Result<Separator, TranscriptError> {
 }
 
 // The steps in order. Each names its value's type, so that a proof of one type is not read as another.
-fn record(recorder: &mut PatternState<u8>) -> Result<(), TranscriptError> {
+fn record(recorder: &mut PatternState<u8>) -> Result<(), TranscriptError>
+    ensures { let digest = ⟦<Sha256Hasher as DigestHasher>⟧.digest_of ⟦<BabyBear as AlgebraIdentity<BabyBear>>⟧.identity in
+        OnOk result (recorder.new.steps ≡ recorder.old.steps ++ steps_of_line digest) }
+{
     let leaf = Hierarchy::Atomic;
     let slope = Interaction::algebra::<BabyBear, BabyBear, Sha256Hasher>(
         leaf,

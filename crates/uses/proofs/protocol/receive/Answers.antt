@@ -1,4 +1,5 @@
-use Rattle.std.proofs.Common.{lit<, ◌++◌, ap, ◌∙◌}
+use Rattle.std.proofs.Common.{lit<, ◌≡◌, ℕ, ◌++◌, [], length, codes, append-nil, ap, refl, subst, sym, ◌∙◌}
+use Rattle.std.proofs.lemmas.Result.{err_from_is_err_and}
 use Rattle.p3_challenger.specs.BabyBearResidues.{residues}
 use Rattle.p3_challenger.specs.Bound.{value_of}
 use Rattle.p3_challenger.specs.Encoding.{Encoding, IsEncoding}
@@ -6,6 +7,11 @@ use Rattle.p3_challenger.specs.BabyBearResidues.{BabyBear}
 use Rattle.p3_challenger.specs.Scalar.{encoding}
 use Rattle.p3_challenger.specs.ScalarLaws.{is_encoding}
 use Rattle.p3_challenger.specs.SmallPrimeLaws.{laws}
+use Rattle.p3_challenger.specs.Turns.{step_on}
+use Rattle.p3_challenger.specs.Verifying.{Verifying, verifying_of}
+use Rattle.uses.proofs.Accepting.{begins, divisor-drawn, divisor-next, draws-place, ends-past, following-of, memory-of}
+use Rattle.uses.proofs.Accepting.{plays-on, plays-or_memory, reads, reads-or_memory, same-claim}
+use Rattle.uses.proofs.Accepting.{sends-offset, sends-quotient, sends-slope}
 use Rattle.uses.proofs.ReadBytes.{bytes-left, bytes-read, value-left, value-read, spelled-whole}
 use Rattle.uses.proofs.Runs.{counted, read}
 use Rattle.uses.proofs.protocol.receive.Goals as goal
@@ -35,3 +41,139 @@ returns-clause-length c =
     counted _ _ _ _ _ _ (value-left elements _ _ _ c.in_ok-slope.ensures.read)
     (value-left elements _ _ _ c.in_ok-offset.ensures.read) c.in_ok-place.ensures.1 c.in_ok-divisor.ensures.bytes
     (bytes-left 4 _ _ _ c.in_ok-next_hint.ensures.exact.read)
+
+pub returns-in_err-slope-clause-accepted : goal.returns-in_err-slope-clause-accepted
+unfolding elements
+returns-in_err-slope-clause-accepted c claim rest ahead =
+    let p = err_from_is_err_and c.from_residual.result c.from_residual.ensures.1 in
+    rw (p.1, p.2)
+    (reads-or_memory _ _ _ (c.sent_value_is_received.ensures.follows _ claim.slope)
+    (c.only_memory_refuses_sent_values.ensures.value _ claim.slope) _ _ (sends-slope _ _ _ _ _ _ _ _ ahead) _ _
+    (begins _ _ _ _ _ _ _ _ ahead) _ _ c.in_err-slope.ensures)
+
+pub returns-in_err-offset-clause-accepted : goal.returns-in_err-offset-clause-accepted
+unfolding elements
+returns-in_err-offset-clause-accepted c claim rest ahead =
+    let slope = reads _ _ _ (c.sent_value_is_received.ensures.follows _ claim.slope)
+    (c.only_memory_refuses_sent_values.ensures.value _ claim.slope) _ _ (sends-slope _ _ _ _ _ _ _ _ ahead) _ _
+    (begins _ _ _ _ _ _ _ _ ahead) _ _ c.in_ok-slope.ensures in
+    let p = err_from_is_err_and c.from_residual-in_err-offset.result c.from_residual-in_err-offset.ensures.1 in
+    rw (p.1, p.2)
+    (reads-or_memory _ _ _ (c.sent_value_is_received.ensures.follows _ claim.offset)
+    (c.only_memory_refuses_sent_values.ensures.value _ claim.offset) _ _ (sends-offset _ _ _ _ _ _ _ _ ahead) _ _
+    slope.1 _ _ c.in_err-offset.ensures)
+
+pub returns-in_err-place-clause-accepted : goal.returns-in_err-place-clause-accepted
+unfolding elements
+returns-in_err-place-clause-accepted c claim rest ahead =
+    let slope = reads _ _ _ (c.sent_value_is_received.ensures.follows _ claim.slope)
+    (c.only_memory_refuses_sent_values.ensures.value _ claim.slope) _ _ (sends-slope _ _ _ _ _ _ _ _ ahead) _ _
+    (begins _ _ _ _ _ _ _ _ ahead) _ _ c.in_ok-slope.ensures in
+    let offset = reads _ _ _ (c.sent_value_is_received.ensures.follows _ claim.offset)
+    (c.only_memory_refuses_sent_values.ensures.value _ claim.offset) _ _ (sends-offset _ _ _ _ _ _ _ _ ahead) _ _
+    slope.1 _ _ c.in_ok-offset.ensures in
+    let p = err_from_is_err_and c.from_residual-in_err-place.result c.from_residual-in_err-place.ensures.1 in
+    rw (p.1, p.2)
+    (plays-or_memory _ claim.place (c.only_memory_refuses_drawn_values.ensures.value _) _ _
+    (draws-place _ _ _ _ _ _ _ _ ahead) _ _ offset.1 _ _ c.in_err-place.ensures.0)
+
+pub returns-in_err-divisor-clause-accepted : goal.returns-in_err-divisor-clause-accepted
+unfolding elements
+returns-in_err-divisor-clause-accepted c claim rest ahead =
+    let slope = reads _ _ _ (c.sent_value_is_received.ensures.follows _ claim.slope)
+    (c.only_memory_refuses_sent_values.ensures.value _ claim.slope) _ _ (sends-slope _ _ _ _ _ _ _ _ ahead) _ _
+    (begins _ _ _ _ _ _ _ _ ahead) _ _ c.in_ok-slope.ensures in
+    let offset = reads _ _ _ (c.sent_value_is_received.ensures.follows _ claim.offset)
+    (c.only_memory_refuses_sent_values.ensures.value _ claim.offset) _ _ (sends-offset _ _ _ _ _ _ _ _ ahead) _ _
+    slope.1 _ _ c.in_ok-offset.ensures in
+    let place = plays-on _ claim.place (c.only_memory_refuses_drawn_values.ensures.value _) _ _
+    (draws-place _ _ _ _ _ _ _ _ ahead) _ _ offset.1 _ _ c.in_ok-place.ensures.0 c.in_ok-place.ensures.1 in
+    let here = ap (λ w. w.turn) place.1 in
+    let next = divisor-next _ _ _ _ _ _ _ _ ahead _ here in
+    let drawn = divisor-drawn _ _ _ _ _ _ _ _ ahead _ here in
+    let p = err_from_is_err_and c.from_residual-in_err-divisor.result c.from_residual-in_err-divisor.ensures.1 in
+    rw (p.1, p.2)
+    (c.in_err-divisor.ensures.accepted claim.divisor next drawn)
+
+pub returns-in_err-next_hint-clause-accepted : goal.returns-in_err-next_hint-clause-accepted
+unfolding elements
+returns-in_err-next_hint-clause-accepted c claim rest ahead =
+    let slope = reads _ _ _ (c.sent_value_is_received.ensures.follows _ claim.slope)
+    (c.only_memory_refuses_sent_values.ensures.value _ claim.slope) _ _ (sends-slope _ _ _ _ _ _ _ _ ahead) _ _
+    (begins _ _ _ _ _ _ _ _ ahead) _ _ c.in_ok-slope.ensures in
+    let offset = reads _ _ _ (c.sent_value_is_received.ensures.follows _ claim.offset)
+    (c.only_memory_refuses_sent_values.ensures.value _ claim.offset) _ _ (sends-offset _ _ _ _ _ _ _ _ ahead) _ _
+    slope.1 _ _ c.in_ok-offset.ensures in
+    let place = plays-on _ claim.place (c.only_memory_refuses_drawn_values.ensures.value _) _ _
+    (draws-place _ _ _ _ _ _ _ _ ahead) _ _ offset.1 _ _ c.in_ok-place.ensures.0 c.in_ok-place.ensures.1 in
+    let here = ap (λ w. w.turn) place.1 in
+    let next = divisor-next _ _ _ _ _ _ _ _ ahead _ here in
+    let drawn = divisor-drawn _ _ _ _ _ _ _ _ ahead _ here in
+    let divisor = c.in_ok-divisor.ensures.accepted claim.divisor next drawn in
+    let played = divisor.1 ∙ ap (λ t. step_on t.playing) here in
+    let left = c.in_ok-divisor.ensures.bytes ∙ ap (λ w. w.unread) place.1 in
+    let wide : length (elements.wire claim.quotient) ≡ 4 = are_spelled.fixed_width claim.quotient in
+    let turn = (verifying_of (λ s. s) c.draw_divisor.new.side).turn in
+    let p = err_from_is_err_and c.from_residual-in_err-next_hint.result c.from_residual-in_err-next_hint.ensures.1 in
+    rw (p.1, p.2)
+    (reads-or_memory _ _ _ (following-of _ _ 4 wide (c.hint_is_received.ensures.follows _ _))
+    (memory-of _ _ 4 wide (c.only_memory_refuses_hints.ensures.fixed _ _)) _ _
+    (sends-quotient _ _ _ _ _ _ _ _ ahead turn played wide) _ _ (λ i. record { turn = turn; unread = left i }) _ _
+    c.in_err-next_hint.ensures.exact)
+
+pub returns-in_err-quotient-clause-accepted : goal.returns-in_err-quotient-clause-accepted
+unfolding elements
+returns-in_err-quotient-clause-accepted c claim rest ahead =
+    let slope = reads _ _ _ (c.sent_value_is_received.ensures.follows _ claim.slope)
+    (c.only_memory_refuses_sent_values.ensures.value _ claim.slope) _ _ (sends-slope _ _ _ _ _ _ _ _ ahead) _ _
+    (begins _ _ _ _ _ _ _ _ ahead) _ _ c.in_ok-slope.ensures in
+    let offset = reads _ _ _ (c.sent_value_is_received.ensures.follows _ claim.offset)
+    (c.only_memory_refuses_sent_values.ensures.value _ claim.offset) _ _ (sends-offset _ _ _ _ _ _ _ _ ahead) _ _
+    slope.1 _ _ c.in_ok-offset.ensures in
+    let place = plays-on _ claim.place (c.only_memory_refuses_drawn_values.ensures.value _) _ _
+    (draws-place _ _ _ _ _ _ _ _ ahead) _ _ offset.1 _ _ c.in_ok-place.ensures.0 c.in_ok-place.ensures.1 in
+    let here = ap (λ w. w.turn) place.1 in
+    let next = divisor-next _ _ _ _ _ _ _ _ ahead _ here in
+    let drawn = divisor-drawn _ _ _ _ _ _ _ _ ahead _ here in
+    let divisor = c.in_ok-divisor.ensures.accepted claim.divisor next drawn in
+    let played = divisor.1 ∙ ap (λ t. step_on t.playing) here in
+    let left = c.in_ok-divisor.ensures.bytes ∙ ap (λ w. w.unread) place.1 in
+    let wide : length (elements.wire claim.quotient) ≡ 4 = are_spelled.fixed_width claim.quotient in
+    let turn = (verifying_of (λ s. s) c.draw_divisor.new.side).turn in
+    let hint = reads _ _ _ (following-of _ _ 4 wide (c.hint_is_received.ensures.follows _ _))
+    (memory-of _ _ 4 wide (c.only_memory_refuses_hints.ensures.fixed _ _)) _ _
+    (sends-quotient _ _ _ _ _ _ _ _ ahead turn played wide) _ _ (λ i. record { turn = turn; unread = left i }) _ _
+    c.in_ok-next_hint.ensures.exact in
+    let p = err_from_is_err_and c.from_residual-in_err-quotient.result c.from_residual-in_err-quotient.ensures.1 in
+    rw (p.1, p.2)
+    (let none = c.in_err-quotient.ensures.only claim.quotient [] (hint.0 ∙ sym (append-nil _)) in absurd (cc))
+
+pub returns-clause-accepted : goal.returns-clause-accepted
+unfolding elements
+returns-clause-accepted c claim rest ahead =
+    let slope = reads _ _ _ (c.sent_value_is_received.ensures.follows _ claim.slope)
+    (c.only_memory_refuses_sent_values.ensures.value _ claim.slope) _ _ (sends-slope _ _ _ _ _ _ _ _ ahead) _ _
+    (begins _ _ _ _ _ _ _ _ ahead) _ _ c.in_ok-slope.ensures in
+    let offset = reads _ _ _ (c.sent_value_is_received.ensures.follows _ claim.offset)
+    (c.only_memory_refuses_sent_values.ensures.value _ claim.offset) _ _ (sends-offset _ _ _ _ _ _ _ _ ahead) _ _
+    slope.1 _ _ c.in_ok-offset.ensures in
+    let place = plays-on _ claim.place (c.only_memory_refuses_drawn_values.ensures.value _) _ _
+    (draws-place _ _ _ _ _ _ _ _ ahead) _ _ offset.1 _ _ c.in_ok-place.ensures.0 c.in_ok-place.ensures.1 in
+    let here = ap (λ w. w.turn) place.1 in
+    let next = divisor-next _ _ _ _ _ _ _ _ ahead _ here in
+    let drawn = divisor-drawn _ _ _ _ _ _ _ _ ahead _ here in
+    let divisor = c.in_ok-divisor.ensures.accepted claim.divisor next drawn in
+    let played = divisor.1 ∙ ap (λ t. step_on t.playing) here in
+    let left = c.in_ok-divisor.ensures.bytes ∙ ap (λ w. w.unread) place.1 in
+    let wide : length (elements.wire claim.quotient) ≡ 4 = are_spelled.fixed_width claim.quotient in
+    let turn = (verifying_of (λ s. s) c.draw_divisor.new.side).turn in
+    let hint = reads _ _ _ (following-of _ _ 4 wide (c.hint_is_received.ensures.follows _ _))
+    (memory-of _ _ 4 wide (c.only_memory_refuses_hints.ensures.fixed _ _)) _ _
+    (sends-quotient _ _ _ _ _ _ _ _ ahead turn played wide) _ _ (λ i. record { turn = turn; unread = left i }) _ _
+    c.in_ok-next_hint.ensures.exact in
+    let quotient : c.in_ok-quotient.quotient ≡ claim.quotient
+    = let same = c.in_ok-quotient.ensures.only claim.quotient [] (hint.0 ∙ sym (append-nil _)) in cc in (
+      same-claim _ claim (c.into_inner.ensures ∙ slope.0) (c.into_inner-2.ensures ∙ offset.0)
+          (c.into_inner-3.ensures ∙ place.0) divisor.0 quotient,
+      ends-past _ _ _ _ _ _ _ _ ahead turn _ played hint.1,
+    )

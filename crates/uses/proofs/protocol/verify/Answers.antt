@@ -1,11 +1,14 @@
 use Rattle.std.proofs.Common.{arith, ◌∙◌, ap, refl, subst, sym}
+use Rattle.std.proofs.lemmas.Result.{err_from_is_err_and}
 use Rattle.p3_challenger.specs.BabyBearResidues.{residues}
 use Rattle.p3_challenger.specs.Reading.{AreBytes}
 use Rattle.p3_challenger.specs.Residues.{sum_of}
 use Rattle.p3_challenger.specs.SmallPrimeLaws.{compared-by-numbers}
-use Rattle.p3_challenger.specs.SeparatorSeed.{seed_of_separator}
+use Rattle.p3_challenger.specs.SeparatorSeed.{pattern_of, seed_of_separator}
 use Rattle.p3_symmetric.specs.contracts.sha256.Sha256HasherDigestHasher.TheImpl as digests
 use Rattle.p3_challenger.specs.Verifying.{verifying_of}
+use Rattle.uses.specs.Protocol.{IsAnswer}
+use Rattle.uses.proofs.Accepting.{ahead-of, ends-reading}
 use Rattle.uses.proofs.Begun.{begun-as}
 use Rattle.uses.proofs.Runs.{answered, received-alone, run-as}
 use Rattle.uses.proofs.protocol.verify.Goals as goal
@@ -34,3 +37,39 @@ returns-clause-run c =
             spelled = refl;
           }),
     )
+
+pub returns-in_err-claim-clause-accepted : goal.returns-in_err-claim-clause-accepted
+returns-in_err-claim-clause-accepted c claim steps run =
+    let start = begun-as c.challenger.result (verifying_of (λ s. s) c.in_ok-verifier.verifier).turn.challenger
+    (seed_of_separator digests.ghosts.digest_of c.args.separator.now) (ap (λ v. v.turn.challenger) c.in_ok-verifier.ensures.ok)
+    c.challenger.ensures in
+    let ahead = ahead-of _ _ _ _ _ _ _ (pattern_of c.args.separator.now) _ _ claim c.in_ok-verifier.ensures.ok refl refl
+    steps start run in
+    let p = err_from_is_err_and c.from_residual-in_err-claim.result c.from_residual-in_err-claim.ensures.1 in
+    rw (p.1, p.2) (c.in_err-claim.ensures.accepted claim _ ahead)
+
+pub returns-in_err-end-clause-accepted : goal.returns-in_err-end-clause-accepted
+returns-in_err-end-clause-accepted c claim steps run =
+    let start = begun-as c.challenger.result (verifying_of (λ s. s) c.in_ok-verifier.verifier).turn.challenger
+    (seed_of_separator digests.ghosts.digest_of c.args.separator.now) (ap (λ v. v.turn.challenger) c.in_ok-verifier.ensures.ok)
+    c.challenger.ensures in
+    let ahead = ahead-of _ _ _ _ _ _ _ (pattern_of c.args.separator.now) _ _ claim c.in_ok-verifier.ensures.ok refl refl
+    steps start run in
+    let past = (c.in_ok-claim.ensures.accepted claim _ ahead).1 in
+    let ended = c.in_err-end.ensures.only (ends-reading _ _ _ _ _ _ _ claim ahead past) in
+    absurd (cc)
+
+pub returns-clause-accepted : goal.returns-clause-accepted
+returns-clause-accepted c claim steps run =
+    let start = begun-as c.challenger.result (verifying_of (λ s. s) c.in_ok-verifier.verifier).turn.challenger
+    (seed_of_separator digests.ghosts.digest_of c.args.separator.now) (ap (λ v. v.turn.challenger) c.in_ok-verifier.ensures.ok)
+    c.challenger.ensures in
+    let ahead = ahead-of _ _ _ _ _ _ _ (pattern_of c.args.separator.now) _ _ claim c.in_ok-verifier.ensures.ok refl refl
+    steps start run in
+    let exact = compared-by-numbers c.mul-2.result c.add-value.result in
+    let value = c.add-value.ensures ∙ ap (λ x. sum_of residues x c.in_ok-claim.claim.offset) c.mul.ensures in
+    subst (IsAnswer c.then_some.result) (c.in_ok-claim.ensures.accepted claim _ ahead).0
+    (answered c.eq.result c.in_ok-claim.claim c.then_some.result c.then_some.ensures (
+      λ right. sym c.mul-2.ensures ∙ exact.0 (sym c.eq.ensures ∙ right) ∙ value,
+      λ quotient. c.eq.ensures ∙ exact.1 (c.mul-2.ensures ∙ quotient ∙ sym value),
+    ))

@@ -1,0 +1,279 @@
+-- A verifier that stands before the small protocol, with the bytes of a run next.
+use Rattle.std.proofs.Common.{◌≡◌, ℕ, ◌+◌, ◌≤◌, true, false, List, [], ◌∷◌, ◌++◌, Option, Some, None, slice_get, codes, append_assoc}
+use Rattle.std.proofs.Common.{append-nil, length, Result, Ok, Err, OnOk, arith, refl, ap, sym, subst, ◌∙◌}
+use Rattle.p3_challenger.specs.BabyBearResidues.{BabyBear}
+use Rattle.p3_challenger.specs.Encoding.{Encoding}
+use Rattle.p3_challenger.specs.Following.{Follows}
+use Rattle.p3_challenger.specs.FollowingLaws.{meaning-agrees}
+use Rattle.p3_challenger.specs.Kind.TheVariants.{Challenge, Hint, Message}
+use Rattle.p3_challenger.specs.Length.TheVariants.{Fixed, Scalar}
+use Rattle.p3_challenger.specs.Meanings.{sent, drawn, hinted}
+use Rattle.p3_challenger.specs.Memory.{OnlyMemoryRefuses, OnlyMemoryRefusesToRead}
+use Rattle.p3_challenger.specs.Observation.{Observation}
+use Rattle.p3_challenger.specs.PatternSteps.{PatternSteps}
+use Rattle.p3_challenger.specs.Playing.{Playing}
+use Rattle.p3_challenger.specs.Reads.{Reading, hint_received}
+use Rattle.p3_challenger.specs.Recording.{Recording, Records}
+use Rattle.p3_challenger.specs.Rejecting.{Rule, drawn_rejecting, taken, keeps, go_on}
+use Rattle.p3_challenger.specs.Sampling.{Sampling}
+use Rattle.p3_challenger.specs.Steps.{Step}
+use Rattle.p3_challenger.specs.TranscriptError.{TranscriptError}
+use Rattle.p3_challenger.specs.TranscriptError.TheVariants.{OutOfMemory}
+use Rattle.p3_challenger.specs.Turns.{IsNext, Meaning, Plays, Refuses, Turn, algebra_step, bytes_step, step_on}
+use Rattle.p3_challenger.specs.Verifying.{EndsReading, Receives, RefusesToRead, Verifying}
+use Rattle.uses.specs.Protocol.{IsAhead, IsDivisor, IsPast, IsRun, after_line, bytes_of, element_step, may_divide}
+use Rattle.uses.specs.Protocol.{steps_of_line}
+use Rattle.uses.specs.declared.protocol.Claim.{Claim}
+
+-- ---- one step
+
+-- A step that a verifier reads, where it is next, with its bytes, and would be played: it is, or memory is refused.
+module _ {S Symbol A : Type 0} (m : Meaning S Symbol A) (r : Reading S Symbol A) (x : A) (follows : Follows m r x)
+    (memory : OnlyMemoryRefusesToRead m r x) (turn after : Turn S) (plays : Plays m turn x after) (rest : List ℕ)
+    (before : Verifying S) (at : before ≡ record { turn = turn; unread = m.wire ++ rest }) where
+  pub reads : (y : A) (end : Verifying S) → Receives r before y end →
+      (y ≡ x) × (end ≡ record { turn = after; unread = rest })
+  reads y end receives = follows.receives turn after rest before end y plays at receives
+
+  pub reads-or_memory : (e : TranscriptError) (end : Verifying S) → RefusesToRead r before e end → e ≡ OutOfMemory
+  reads-or_memory e end refuses = memory turn after rest before end e plays at refuses
+
+-- the same of one that leaves the bytes as they are
+module _ {S Symbol A : Type 0} (m : Meaning S Symbol A) (x : A) (memory : OnlyMemoryRefuses m) (turn after : Turn S)
+    (plays : Plays m turn x after) (rest : List ℕ) (before : Verifying S)
+    (at : before ≡ record { turn = turn; unread = rest }) where
+  start : before.turn ≡ turn
+  start = ap (λ (v : Verifying S). v.turn) at
+
+  pub plays-on : (y : A) (end : Verifying S) → Plays m before.turn y end.turn → end.unread ≡ before.unread →
+      (y ≡ x) × (end ≡ record { turn = after; unread = rest })
+  plays-on y end second keeps =
+      let alike = (meaning-agrees m).plays turn after before.turn end.turn x y plays start second in
+      let then = alike.1 in
+      let left : end.unread ≡ rest = keeps ∙ ap (λ (v : Verifying S). v.unread) at in
+      (alike.0, λ i. record { turn = then i; unread = left i })
+
+  pub plays-or_memory : (e : TranscriptError) (end : Turn S) → Refuses m before.turn e end → e ≡ OutOfMemory
+  plays-or_memory e end refuses = memory turn after before.turn end x e plays start refuses
+
+-- ---- a draw of one value that a rule may reject
+
+module _ {S T : Type 0} (d : Sampling S T) (rule : Rule T) (limit : ℕ) (s : S) (x : T) where
+  -- the first value that the rule takes is all that is kept of one
+  kept-one : (taken d rule limit [] s).gives ≡ Some x → (keeps d rule limit 1 [] s).gives ≡ Some (x ∷ [])
+  unfolding keeps
+  kept-one is =
+      ap (λ g. (go_on (λ y t. keeps d rule limit 0 (y ∷ []) t) g (taken d rule limit [] s).after).gives) is
+
+  pub draws-one : {Symbol : Type 0} (step : Step) (turn : Turn S) → turn.challenger ≡ s → IsNext turn.playing step →
+      (taken d rule limit [] s).gives ≡ Some x →
+      Plays {Symbol = Symbol} (drawn_rejecting step d rule limit 1) turn (x ∷ [])
+      (record { challenger = (keeps d rule limit 1 [] turn.challenger).after; playing = step_on turn.playing })
+  draws-one step turn at is_next is =
+      record {
+        is_next = is_next;
+        fits = tt;
+        gives = ap (λ u. (keeps d rule limit 1 [] u).gives) at ∙ kept-one is;
+        challenger = refl;
+        playing = refl;
+      }
+
+-- ---- the protocol
+
+-- a step is next in a pattern
+next-at : (p : Playing) (steps : List Step) (k : ℕ) (s : Step) → p.pattern.steps ≡ steps → p.position ≡ k →
+    p.finished ≡ false → slice_get steps k ≡ Some s → IsNext p s
+next-at p steps k s is position going at = (going, (λ i. slice_get (is i) (position i)) ∙ at)
+
+module _ {S Symbol : Type 0} (o : Observation S Symbol BabyBear) (places divisors : Sampling S BabyBear)
+    (e : Encoding BabyBear) (digest : List ℕ) (v : Verifying S) (claim : Claim) (rest : List ℕ)
+    (ahead : IsAhead o places divisors e digest v claim rest) where
+  -- the turns after slope, offset and place
+  abbrev pub after_slope : Turn S
+  after_slope =
+      record { challenger = o.observed v.turn.challenger claim.slope; playing = step_on v.turn.playing }
+
+  abbrev pub after_offset : Turn S
+  after_offset =
+      record { challenger = after_line o v.turn.challenger claim; playing = step_on after_slope.playing }
+
+  abbrev pub after_place : Turn S
+  after_place =
+      record { challenger = places.after after_offset.challenger; playing = step_on after_offset.playing }
+
+  -- the bytes after slope and offset
+  abbrev pub quotient_on : List ℕ
+  quotient_on = e.wire claim.quotient ++ rest
+
+  abbrev pub offset_on : List ℕ
+  offset_on = e.wire claim.offset ++ quotient_on
+
+  pub begins : v ≡ record { turn = v.turn; unread = e.wire claim.slope ++ offset_on }
+  begins =
+      let spelled = ahead.unread
+      ∙ append_assoc (e.wire claim.slope) (e.wire claim.offset ++ e.wire claim.quotient) rest
+      ∙ ap (λ l. e.wire claim.slope ++ l) (append_assoc (e.wire claim.offset) (e.wire claim.quotient) rest) in
+      λ i. record { turn = v.turn; unread = spelled i }
+
+  line_at : (k : ℕ) (p : Playing) → p.pattern ≡ v.turn.playing.pattern → p.position ≡ k → p.finished ≡ false → (s : Step) →
+      slice_get (steps_of_line digest) k ≡ Some s → IsNext p s
+  line_at k p same position going s at =
+      next-at p (steps_of_line digest) k s (ap (λ it. it.steps) same ∙ ahead.steps) position going at
+
+  pub sends-slope : Plays (sent (element_step digest Message (codes "slope") Scalar) o e claim.slope) v.turn claim.slope
+      after_slope
+  sends-slope =
+      record {
+        is_next = line_at 0 v.turn.playing refl ahead.position ahead.going _ refl;
+        fits = tt;
+        gives = refl;
+        challenger = refl;
+        playing = refl;
+      }
+
+  pub sends-offset : Plays (sent (element_step digest Message (codes "offset") Scalar) o e claim.offset) after_slope
+      claim.offset after_offset
+  sends-offset =
+      record {
+        is_next = line_at 1 after_slope.playing refl (ap (λ k. k + 1) ahead.position) refl _ refl;
+        fits = tt;
+        gives = refl;
+        challenger = refl;
+        playing = refl;
+      }
+
+  pub draws-place : Plays {Symbol = Symbol} (drawn (element_step digest Challenge (codes "place") Scalar) places)
+      after_offset claim.place after_place
+  draws-place =
+      record {
+        is_next = line_at 2 after_offset.playing refl (ap (λ k. k + 1 + 1) ahead.position) refl _ refl;
+        fits = tt;
+        gives = ahead.run.place;
+        challenger = refl;
+        playing = refl;
+      }
+
+  -- the divisor is next from there, and is drawn
+  pub divisor-next : (turn : Turn S) → turn ≡ after_place →
+      IsNext turn.playing (element_step digest Challenge (codes "divisor") (Fixed 1))
+  divisor-next turn at =
+      subst (λ (t : Turn S). IsNext t.playing (element_step digest Challenge (codes "divisor") (Fixed 1))) (sym at)
+      (line_at 3 after_place.playing refl (ap (λ k. k + 1 + 1 + 1) ahead.position) refl _ refl)
+
+  pub divisor-drawn : (turn : Turn S) → turn ≡ after_place → IsDivisor divisors turn.challenger claim.divisor
+  divisor-drawn turn at =
+      subst (λ (t : Turn S). IsDivisor divisors t.challenger claim.divisor) (sym at) ahead.run.divisor
+
+  pub sends-quotient : (turn : Turn S) → turn.playing ≡ step_on after_place.playing →
+      length (e.wire claim.quotient) ≡ 4 →
+      Plays {Symbol = Symbol} (hinted (codes "quotient") (e.wire claim.quotient)) turn (e.wire claim.quotient)
+      (record { challenger = turn.challenger; playing = step_on turn.playing })
+  sends-quotient turn at wide =
+      let steps = ap (λ (p : Playing). p.pattern) at in
+      let position : turn.playing.position ≡ 4
+      = ap (λ (p : Playing). p.position) at ∙ ap (λ k. k + 1 + 1 + 1 + 1) ahead.position in
+      let going = ap (λ (p : Playing). p.finished) at in
+      record {
+        is_next = line_at 4 turn.playing steps position going _
+            (ap (λ n. Some (bytes_step Hint (codes "quotient") (Fixed n))) (sym wide));
+        fits = tt;
+        gives = refl;
+        challenger = refl;
+        playing = refl;
+      }
+
+  pub ends-past : (turn : Turn S) (end : Verifying S) → turn.playing ≡ step_on after_place.playing →
+      end ≡ record {
+        turn = record { challenger = turn.challenger; playing = step_on turn.playing };
+        unread = rest;
+      } → IsPast v rest end
+  ends-past turn end at is =
+      let playing = ap (λ (w : Verifying S). w.turn.playing) is ∙ ap step_on at in
+      record {
+        pattern = ap (λ (p : Playing). p.pattern) playing;
+        position = ap (λ (p : Playing). p.position) playing ∙ ap (λ k. k + 1 + 1 + 1 + 1 + 1) ahead.position;
+        going = ap (λ (p : Playing). p.finished) playing;
+        unread = ap (λ (w : Verifying S). w.unread) is;
+      }
+
+-- ---- the pattern
+
+-- steps that were recorded one after another
+pub recorded-five : (start one two three four end : Recording) (a b c d f : Step) → Records start a one → Records one b two →
+    Records two c three → Records three d four → Records four f end →
+    end.steps ≡ start.steps ++ (a ∷ b ∷ c ∷ d ∷ f ∷ [])
+recorded-five start one two three four end a b c d f first second third fourth last =
+    let steps : Recording → List Step = λ r. r.steps in
+    ap steps last.recorded
+    ∙ ap (λ l. l ++ (f ∷ [])) (ap steps fourth.recorded
+    ∙ ap (λ l. l ++ (d ∷ [])) (ap steps third.recorded
+    ∙ ap (λ l. l ++ (c ∷ [])) (ap steps second.recorded
+    ∙ ap (λ l. l ++ (b ∷ [])) (ap steps first.recorded)
+    ∙ append_assoc start.steps (a ∷ []) (b ∷ []))
+    ∙ append_assoc start.steps (a ∷ b ∷ []) (c ∷ []))
+    ∙ append_assoc start.steps (a ∷ b ∷ c ∷ []) (d ∷ []))
+    ∙ append_assoc start.steps (a ∷ b ∷ c ∷ d ∷ []) (f ∷ [])
+
+-- what follows of a call's being answered
+pub once-ok : {R : Type 0} {P Q : Type 0} (r : Result R TranscriptError) → OnOk r P → (P → Q) → OnOk r Q
+once-ok (Ok x) p then = then p
+once-ok (Err e) p then = tt
+
+-- a value that is given is one
+pub one-given : {A : Type 0} (given : Option A) (x y : A) → given ≡ Some x → given ≡ Some y → x ≡ y
+one-given {A = A} given x y is other = let both : ◌≡◌ {A = Option A} (Some x) (Some y) = sym is ∙ other in cc
+
+-- a hint of so many bytes
+module _ {S Symbol : Type 0} (label bytes : List ℕ) (n : ℕ) (wide : length bytes ≡ n) where
+  pub following-of : Follows {S = S} {Symbol = Symbol} (hinted label bytes) (hint_received label (length bytes)) bytes →
+      Follows {S = S} {Symbol = Symbol} (hinted label bytes) (hint_received label n) bytes
+  following-of follows =
+      subst (λ k. Follows {S = S} {Symbol = Symbol} (hinted label bytes) (hint_received label k) bytes) wide follows
+
+  pub memory-of : OnlyMemoryRefusesToRead {S = S} {Symbol = Symbol} (hinted label bytes)
+      (hint_received label (length bytes)) bytes →
+      OnlyMemoryRefusesToRead {S = S} {Symbol = Symbol} (hinted label bytes) (hint_received label n) bytes
+  memory-of memory =
+      subst
+      (λ k. OnlyMemoryRefusesToRead {S = S} {Symbol = Symbol} (hinted label bytes) (hint_received label k) bytes) wide
+      memory
+
+-- a claim is its five numbers
+pub same-claim : (a b : Claim) → a.slope ≡ b.slope → a.offset ≡ b.offset → a.place ≡ b.place → a.divisor ≡ b.divisor →
+    a.quotient ≡ b.quotient → a ≡ b
+same-claim a b slope offset place divisor quotient =
+    λ i. record {
+      slope = slope i;
+      offset = offset i;
+      place = place i;
+      divisor = divisor i;
+      quotient = quotient i;
+    }
+
+module _ {S Symbol : Type 0} (o : Observation S Symbol BabyBear) (places divisors : Sampling S BabyBear)
+    (e : Encoding BabyBear) (digest : List ℕ) where
+  -- a verifier that has just begun stands before the protocol, where its bytes are those of a run
+  pub ahead-of : (v start : Verifying S) (p : PatternSteps) (s : S) (proof : List ℕ) (claim : Claim) → v ≡ start →
+      start.turn.playing ≡ record { pattern = p; position = 0; finished = false } → start.unread ≡ proof →
+      p.steps ≡ steps_of_line digest → v.turn.challenger ≡ s → IsRun o places divisors e s claim proof →
+      IsAhead o places divisors e digest v claim []
+  ahead-of v start p s proof claim is playing unread steps at run =
+      let here = ap (λ (w : Verifying S). w.turn.playing) is ∙ playing in
+      record {
+        steps = ap (λ (q : Playing). q.pattern.steps) here ∙ steps;
+        position = ap (λ (q : Playing). q.position) here;
+        going = ap (λ (q : Playing). q.finished) here;
+        run = subst (λ u. IsRun o places divisors e u claim (bytes_of e claim)) (sym at)
+            (record { place = run.place; divisor = run.divisor; spelled = refl });
+        unread = ap (λ (w : Verifying S). w.unread) is ∙ unread ∙ run.spelled ∙ sym (append-nil (bytes_of e claim));
+      }
+
+  -- one that has played it all ends
+  pub ends-reading : (v after : Verifying S) (claim : Claim) → IsAhead o places divisors e digest v claim [] →
+      IsPast v [] after → EndsReading after
+  ends-reading v after claim ahead past =
+      let steps = ap (λ (p : PatternSteps). p.steps) past.pattern ∙ ahead.steps in
+      record {
+        played = record { going = past.going; end = past.position ∙ sym (ap length steps) };
+        whole = past.unread;
+      }
