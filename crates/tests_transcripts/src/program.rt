@@ -73,6 +73,16 @@ fn each_error_has_its_reason(rt: HostRuntime) {
     for (error, want) in &reasons {
         assert_eq!(rt; program::reason(error), *want);
     }
+    let no_text = io::Error::from(io::ErrorKind::InvalidData);
+    assert!(rt; matches!(program::answer_unread(&no_text), program::Answer::Usage));
+    let no_memory = io::Error::from(io::ErrorKind::OutOfMemory);
+    let refused = program::answer_unread(&no_memory);
+    assert!(rt;
+        matches!(
+            refused,
+            program::Answer::Refused(TranscriptError::OutOfMemory)
+        )
+    );
 }
 
 #[test]

@@ -4,7 +4,9 @@
 use p3_field::{F257, PrimeField64};
 use p3_fs_core::{Interaction, Kind, Length, TranscriptError};
 use p3_prover::ProverState;
-use p3_test_steps::{Prover, Scalars, Verifier, World, challenge, drawn, scalars, separator, world};
+use p3_test_steps::{
+    Prover, Scalars, Verifier, World, challenge, drawn, scalars, separator, world,
+};
 use p3_test_support::element;
 use p3_verifier::VerifierState;
 use std::alloc::{AllocError, Global};
@@ -16,7 +18,7 @@ const DRAWN: [u64; 3] = [2, 6, 8];
 // Two values are sent, and an element is drawn.
 fn outer_steps(alloc: Global) -> Result<Vec<Interaction>, AllocError> {
     let value = scalars(Kind::Message, "v", Length::Scalar);
-    vec![in alloc; value, value, challenge()]
+    Ok(vec![in alloc; value, value, challenge()]?)
 }
 
 // An element is drawn by a prover of its own on the challenger that is lent.
@@ -45,7 +47,10 @@ fn play_prover(alloc: Global, outer: &mut Prover<World>) -> Result<[u64; 2], Tra
     Ok([inner, value.into_inner().as_canonical_u64()])
 }
 
-fn play_verifier(alloc: Global, outer: &mut Verifier<'_, World>) -> Result<[u64; 2], TranscriptError> {
+fn play_verifier(
+    alloc: Global,
+    outer: &mut Verifier<'_, World>,
+) -> Result<[u64; 2], TranscriptError> {
     outer.next_scalar::<F257, Scalars>("v")?;
     outer.next_scalar::<F257, Scalars>("v")?;
     let inner = verify_within(alloc, outer.challenger_mut())?;

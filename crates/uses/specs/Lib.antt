@@ -2,6 +2,8 @@ pub mod BoundValues
 pub mod CommitPhase
 pub mod ExtraValue
 pub mod MerkleOpening
+pub mod OwnAlgebra
+pub mod OwnAlgebraLaws
 pub mod OwnHasher
 pub mod OwnPermutation
 pub mod OwnRounds

@@ -8,7 +8,7 @@
 //!   also where one of them is refused, and that those symbols bind the values; and what a step is played from, after
 //!   a call on the challenger that a driver lends.
 //! - [`own_permutation`], [`own_rounds`] and [`own_hasher`]: what to hand in for a permutation, one of rounds with a
-//!   table of constants, and a hasher of one's own.
+//!   table of constants, and a hasher of one's own; [`own_algebra`]: the same of an extension of a field.
 //!
 //! Most have wrong versions in `wrong-bodies/` that their contracts refuse: a challenge drawn too early, a message read
 //! as a hint, bytes left over. The program `examples` plays the protocols.
@@ -18,6 +18,7 @@ mod bound_values;
 pub mod commit_phase;
 mod extra_value;
 pub mod opening;
+pub mod own_algebra;
 pub mod own_hasher;
 pub mod own_permutation;
 pub mod own_rounds;

@@ -1,0 +1,12 @@
+-- An algebra of one's own: its elements by their coefficients.
+use Rattle.std.specs.Prelude.{List}
+use Rattle.p3_challenger.specs.BabyBearResidues.{BabyBear, residues}
+use Rattle.p3_challenger.specs.CoeffsCoefficients as coeffs
+use Rattle.uses.specs.declared.own_algebra.Quartic.{Quartic}
+
+abbrev pub coefficients_of : Quartic → List BabyBear
+coefficients_of x = coeffs.coefficients_of x.coefficients
+
+-- the element of these coefficients
+abbrev pub element_of : List BabyBear → Quartic
+element_of xs = record { coefficients = coeffs.element_of (residues.of 0) xs }

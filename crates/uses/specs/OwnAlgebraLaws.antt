@@ -1,0 +1,19 @@
+-- What holds of the coefficients of an algebra of one's own.
+use Rattle.std.specs.Prelude.{◌≡◌, Bool}
+use Rattle.p3_challenger.specs.BabyBearResidues.{BabyBear}
+use Rattle.p3_challenger.specs.CoefficientLaws as laws
+use Rattle.p3_challenger.specs.Equality.{IsExact, exact-by}
+use Rattle.std.specs.Cmp.Lexicographic.{pointwise, pointwise_decides}
+use Rattle.uses.specs.OwnAlgebra.{coefficients_of}
+use Rattle.uses.specs.declared.own_algebra.Quartic.{Quartic}
+
+-- elements of the same coefficients are one
+pub coefficients-injective : (x y : Quartic) → coefficients_of x ≡ coefficients_of y → x ≡ y
+coefficients-injective x y e =
+    let same = laws.coefficients-injective x.coefficients y.coefficients e in
+    λ i. record { coefficients = same i }
+
+-- elements compare equal exactly where they are one
+pub compared-by-coefficients : {eq : BabyBear → BabyBear → Bool} → IsExact eq →
+    IsExact (λ (x y : Quartic). pointwise eq (coefficients_of x) (coefficients_of y))
+compared-by-coefficients exact = exact-by coefficients_of (pointwise_decides exact) coefficients-injective
