@@ -5,7 +5,7 @@ mod folding;
 
 use folding::folded;
 use p3_field_core::{
-    AlgebraIdentity, Field, Named, PrimeCharacteristicRing, PrimeField, PrimeField64,
+    AlgebraIdentity, Field, Named, PrimeCharacteristicRing, PrimeField, PrimeField64, ScalarField,
     UniformSamplingField,
 };
 use std::ops::{Add, Mul, Sub};
@@ -178,7 +178,7 @@ impl Field for Goldilocks {
 
     ghost bits_least = { lit≤ tt };
 
-    ghost fits_in_memory = { lit< tt };
+    ghost is_small = { lit≤ tt };
 
     ghost default_law = { λ _ given. given };
 
@@ -244,4 +244,12 @@ impl AlgebraIdentity<Goldilocks> for Goldilocks {
     fn algebra_id() -> &'static [u8] {
         b"prime:18446744069414584321"
     }
+}
+
+impl ScalarField for Goldilocks {
+    ghost use Rattle.std.specs.Prelude.{refl};
+
+    ghost one_coefficient = { refl };
+
+    ghost own_coefficient = { λ _. refl };
 }

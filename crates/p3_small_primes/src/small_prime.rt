@@ -240,7 +240,7 @@ impl<const ORDER: u32> Field for SmallPrime<ORDER>
 where
     Self: SmallOrder<ORDER>,
 {
-    ghost use Rattle.std.proofs.Common.{lit<};
+    ghost use Rattle.std.proofs.Common.{lit≤};
 
     ghost bit_length = { ⟦<Self as SmallOrder<ORDER>>⟧.bit_length };
 
@@ -248,7 +248,7 @@ where
 
     ghost bits_least = { ⟦<Self as SmallOrder<ORDER>>⟧.bits_least };
 
-    ghost fits_in_memory = { lit< tt };
+    ghost is_small = { lit≤ tt };
 
     ghost default_law = { λ _ given. given };
 
