@@ -91,7 +91,7 @@ pub trait PrimeField32: PrimeField64 {
 
     /// The element with this canonical number, which is below the order.
     ///
-    /// `p3-field`'s `from_canonical`, whose name the trait above has here.
+    /// [`PrimeField64`] has the short name, and takes 64 bits.
     fn from_canonical_u32(value: u32) -> Self
         requires { value < Self.residues.order }
         ensures { result ≡ Self.residues.of value }
@@ -101,7 +101,7 @@ pub trait PrimeField32: PrimeField64 {
 
     /// The element with this canonical number, or `None` where the number is not below the order.
     ///
-    /// `p3-field`'s `from_canonical_checked`, whose name the trait above has here.
+    /// [`PrimeField64`] has the short name, and takes 64 bits.
     fn from_canonical_u32_checked(value: u32) -> Option<Self>
         ensures canonical { value < Self.residues.order → result ≡ Some (Self.residues.of value) }
         ensures other { Self.residues.order ≤ value → result ≡ None }
