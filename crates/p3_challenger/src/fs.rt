@@ -14,9 +14,9 @@ pub use p3_codecs::{
 };
 pub use p3_driver_core::{
     SymmetricSteps, TranscriptBound, bit_draws_feed_nothing, bytes_feed_their_symbols,
-    counted_values_feed_their_symbols, counts_are_told, counts_take_the_least_width, draws_feed_nothing, markers_and_hints_feed_nothing,
-    opaque_values_feed_their_symbols, uniform_draws_feed_nothing, values_feed_their_symbols,
-    work_feeds_its_witness,
+    counted_values_feed_their_symbols, counts_are_told, counts_take_the_least_width,
+    draws_feed_nothing, markers_and_hints_feed_nothing, opaque_values_feed_their_symbols,
+    uniform_draws_feed_nothing, values_feed_their_symbols, work_feeds_its_witness,
 };
 pub use p3_duplex::duplex_elements_are_prefix_code;
 pub use p3_fs_core::{

@@ -53,7 +53,7 @@ identifier-bytes version name small short bytes =
     (bytes-append name (zeros ++ end) bytes filled)
 
 label-bytes : (chunks : List (List ℕ)) → All AreBytes chunks → AreBytes (label_of chunks)
-label-bytes [] all i = lit< tt
+label-bytes [] all = λ i. lit< tt
 label-bytes (chunk ∷ chunks) all =
     bytes-append (counted chunk) (label_of chunks) (bytes-counted chunk (all zero chunk (omega arith)))
     (label-bytes chunks (λ k bytes within. all (suc k) bytes (omega (arith, within))))

@@ -1,7 +1,7 @@
 //! Two scalars in one step, as a polynomial of degree one by its values at 0 and 1, over any field.
 //!
-//! Nothing is known here of the field but [`ScalarField`]: that it has one coefficient over itself, and that an array of
-//! two elements fits in memory.
+//! Nothing is known here of the field but what [`ScalarField`] says: that it has one coefficient over itself, and that
+//! an array of two elements fits in memory.
 ghost use Rattle.std.specs.Prelude.{[], ◌∷◌};
 ghost use Rattle.p3_challenger.specs.Bound.{values_of};
 ghost use Rattle.p3_challenger.specs.Meanings as meaning;
