@@ -86,8 +86,10 @@ pub use Rattle.p3_turn.specs.SeparatorLaws
 pub use Rattle.p3_turn.specs.SeparatorParts
 pub use Rattle.p3_turn.specs.Separators
 pub use Rattle.p3_turn.specs.SeparatorSeed
+pub use Rattle.p3_turn.specs.SeparatorSeedLaws
 pub use Rattle.p3_driver_core.specs.Bound
 pub use Rattle.p3_driver_core.specs.BoundLaws
+pub use Rattle.p3_driver_core.specs.CountLaws
 pub use Rattle.p3_driver_core.specs.Counts
 pub use Rattle.p3_driver_core.specs.Effects
 pub use Rattle.p3_driver_core.specs.Feeding
@@ -112,6 +114,9 @@ pub use Rattle.p3_driver_laws.specs.OneReason
 pub use Rattle.p3_driver_laws.specs.Spelled
 pub use Rattle.p3_field.specs.Residues
 pub use Rattle.p3_field.specs.ResidueLaws
+pub use Rattle.p3_field.specs.Rings
+pub use Rattle.p3_field.specs.RingLaws
+pub use Rattle.p3_field.specs.Sizes
 pub use Rattle.p3_field.specs.Coefficients
 pub use Rattle.p3_field.specs.CoeffsCoefficients
 pub use Rattle.p3_field.specs.CoefficientLaws

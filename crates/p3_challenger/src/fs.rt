@@ -14,9 +14,9 @@ pub use p3_codecs::{
 };
 pub use p3_driver_core::{
     SymmetricSteps, TranscriptBound, bit_draws_feed_nothing, bytes_feed_their_symbols,
-    counted_values_feed_their_symbols, draws_feed_nothing, markers_and_hints_feed_nothing,
-    opaque_values_feed_their_symbols, uniform_draws_feed_nothing, values_feed_their_symbols,
-    work_feeds_its_witness,
+    counted_values_feed_their_symbols, counts_are_told, counts_take_the_least_width,
+    draws_feed_nothing, markers_and_hints_feed_nothing, opaque_values_feed_their_symbols,
+    uniform_draws_feed_nothing, values_feed_their_symbols, work_feeds_its_witness,
 };
 pub use p3_driver_laws::{
     bit_draws_are_refused_for_one_reason, bit_draws_tell_limits, bytes_are_refused_for_one_reason,
@@ -48,7 +48,7 @@ pub use p3_patterns::{
 pub use p3_prover::ProverState;
 pub use p3_turn::{
     DomainSeparator, PROTOCOL_ID_LEN, identifiers_are_injective, labels_are_injective,
-    seeds_are_prefix_code,
+    seeds_are_prefix_code, separators_have_seeds,
 };
 pub use p3_verifier::{
     VerifierState, carried_lists_are_let_through, carried_work_agrees, counted_hint_is_received,

@@ -14,6 +14,7 @@ pub use p3_challenger_core::{
 pub use p3_duplex::{
     DuplexChallenger, duplex_arrays_are_prefix_code, duplex_elements_are_prefix_code,
 };
+pub use p3_field_core::UniformSamplingField;
 pub use p3_grinding::{
     ByteCandidates, ByteGrindingChallenger, CanSampleUniformBits, GrindingChallenger, PrepareCheck,
     Replica, ResamplingError, UniformBitsError, UniformGrindingChallenger, least_uniform_witness,

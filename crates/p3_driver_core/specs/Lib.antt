@@ -1,5 +1,6 @@
 pub mod Bound
 pub mod BoundLaws
+pub mod CountLaws
 pub mod Counts
 pub mod Effects
 pub mod Feeding

@@ -1,11 +1,12 @@
 //! The count of a bounded step.
-ghost use Rattle.std.specs.Prelude.{◌≡◌, ◌≤◌, ◌<◌, ◌^◌, take, IfErr};
+ghost use Rattle.std.specs.Prelude.{◌≡◌, ℕ, ◌≤◌, ◌<◌, ◌^◌, length, take, IfErr};
+ghost use Rattle.p3_challenger_core.specs.Reading.{AreBytes};
 ghost use Rattle.p3_driver_core.specs.Counts.{count_width, count_bytes};
 ghost use Rattle.p3_driver_core.specs.Effects.{alphabet_of, observing_bytes, Does};
 
 use p3_challenger_core::{CanObserve, ChallengerError};
 use p3_codecs::Unit;
-use p3_fs_core::{bound_byte_width, encode_len_be};
+use p3_fs_core::{bound_byte_width, counts_are_prefix_code, encode_len_be};
 
 /// How many bytes the count of a step takes that carries at most so many values. Not in the Rust crate.
 pub fn count_width(max: usize) -> usize
@@ -46,4 +47,27 @@ pub fn observe_count<U: Unit, C: CanObserve<U::Item>>(
 {
     let (bytes, width) = counted(count, max);
     U::observe_bytes(challenger, &bytes[..width])
+}
+
+/// The count of a step takes the least number of bytes that holds every count it may carry, and at most 8.
+///
+/// A law: the body is empty, and a caller cites the clauses. Not in the Rust crate.
+pub fn counts_take_the_least_width()
+    ensures enough { (max : ℕ) → max < 2 ^ 64 → max < 256 ^ count_width max }
+    ensures least { (max width : ℕ) → max < 256 ^ width → count_width max ≤ width }
+    ensures most { (max : ℕ) → count_width max ≤ 8 }
+{}
+
+/// The count of a step is told by its bytes: counts of one step that may be carried have the same bytes where they are
+/// one, and equally many of them, at most 8.
+///
+/// A law: a caller cites the clauses. Not in the Rust crate.
+pub fn counts_are_told()
+    ensures told { (max count other : ℕ) → max < 2 ^ 64 → count ≤ max → other ≤ max →
+        count_bytes max count ≡ count_bytes max other → count ≡ other }
+    ensures as_long { (max count other : ℕ) → length (count_bytes max count) ≡ length (count_bytes max other) }
+    ensures short { (max count : ℕ) → length (count_bytes max count) ≤ 8 }
+    ensures bytes { (max count : ℕ) → AreBytes (count_bytes max count) }
+{
+    counts_are_prefix_code();
 }

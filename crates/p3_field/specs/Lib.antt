@@ -1,5 +1,8 @@
 pub use Rattle.p3_field_core.specs.Residues
 pub use Rattle.p3_field_core.specs.ResidueLaws
+pub use Rattle.p3_field_core.specs.Rings
+pub use Rattle.p3_field_core.specs.RingLaws
+pub use Rattle.p3_field_core.specs.Sizes
 pub use Rattle.p3_field_core.specs.Coefficients
 pub use Rattle.p3_field_core.specs.CoeffsCoefficients
 pub use Rattle.p3_field_core.specs.CoefficientLaws

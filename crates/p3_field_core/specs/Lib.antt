@@ -5,5 +5,8 @@ pub mod Equality
 pub mod RemainderLaws
 pub mod ResidueLaws
 pub mod Residues
+pub mod RingLaws
+pub mod Rings
+pub mod Sizes
 pub mod UniformBoundLaws
 pub mod UniformBounds

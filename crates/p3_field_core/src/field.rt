@@ -1,6 +1,6 @@
 //! Fields, and prime fields whose elements are numbers of at most 64 bits or 32.
 ghost use Rattle.std.specs.Prelude.{◌≡◌, ℕ, ◌+◌, ◌*◌, ◌^◌, ◌<◌, ◌≤◌, Option, Some, None};
-ghost use Rattle.std.specs.Mem.{FitsInMemory};
+ghost use Rattle.p3_field_core.specs.Sizes.{IsSmall};
 
 use crate::PrimeCharacteristicRing;
 
@@ -20,8 +20,8 @@ pub trait Field: PrimeCharacteristicRing + Default {
 
     ghost bits_least: { 2 ^ bit_length ≤ 2 * Self.residues.order };
 
-    // An element is small, so that one can be lent as a slice.
-    ghost fits_in_memory: { FitsInMemory Self.row };
+    // An element takes little room, so that arrays of any usual length of them can be lent as slices.
+    ghost is_small: { IsSmall Self.row };
 
     // The default element is 0.
     ghost default_law: { (x : Self) → Self.is_default x → x ≡ Self.residues.of 0 };
@@ -88,6 +88,26 @@ pub trait PrimeField32: PrimeField64 {
     const ORDER_U32: u32;
 
     ghost ORDER_U32: { ℕ };
+
+    /// The element with this canonical number, which is below the order.
+    ///
+    /// [`PrimeField64`] has the short name, and takes 64 bits.
+    fn from_canonical_u32(value: u32) -> Self
+        requires { value < Self.residues.order }
+        ensures { result ≡ Self.residues.of value }
+    {
+        Self::from_canonical(u64::from(value))
+    }
+
+    /// The element with this canonical number, or `None` where the number is not below the order.
+    ///
+    /// [`PrimeField64`] has the short name, and takes 64 bits.
+    fn from_canonical_u32_checked(value: u32) -> Option<Self>
+        ensures canonical { value < Self.residues.order → result ≡ Some (Self.residues.of value) }
+        ensures other { Self.residues.order ≤ value → result ≡ None }
+    {
+        Self::from_canonical_checked(u64::from(value))
+    }
 
     /// The canonical number, which is below the order.
     fn as_canonical_u32(&self) -> u32

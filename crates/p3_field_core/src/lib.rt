@@ -14,6 +14,7 @@ mod field;
 mod log2;
 mod named;
 mod ring;
+mod scalar_field;
 mod uniform;
 
 pub use algebra::{Algebra, AlgebraIdentity, BasedVectorSpace, BinomiallyExtendable};
@@ -21,5 +22,6 @@ pub use coeffs::Coeffs;
 pub use field::{Field, PrimeField, PrimeField32, PrimeField64};
 pub use log2::log2_ceil_u64;
 pub use named::Named;
-pub use ring::PrimeCharacteristicRing;
+pub use ring::{PrimeCharacteristicRing, residues_are_a_ring};
+pub use scalar_field::ScalarField;
 pub use uniform::{UniformSamplingField, uniform_bounds_are_whole};

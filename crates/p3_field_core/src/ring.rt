@@ -2,6 +2,7 @@
 ghost use Rattle.std.specs.Prelude.{◌≡◌, ℕ, ◌-◌};
 ghost use Rattle.p3_field_core.specs.Equality.{IsExact};
 ghost use Rattle.p3_field_core.specs.Residues.{Residues, IsResidues, sum_of, difference_of, product_of, power_of};
+ghost use Rattle.p3_field_core.specs.Rings.{IsRing};
 
 use crate::exponentiation::power;
 use std::ops::{Add, Mul, Sub};
@@ -91,3 +92,13 @@ pub trait PrimeCharacteristicRing: Copy
 
     ghost mul_law: { (x y r : Self) → Self.mul_gives x y r → r ≡ product_of residues x y };
 }
+
+/// Elements add, subtract and multiply as numbers do, modulo the order: of sums and products the order and the grouping
+/// do not matter, 0 and 1 change nothing, products distribute over sums and differences, and what is added to both
+/// sides cancels.
+///
+/// A law: the body is empty, and a caller cites the clause.
+#[tactic(auto, using(crate::specs::RingLaws::residues_ring))]
+pub fn residues_are_a_ring<F: PrimeCharacteristicRing>()
+    ensures { IsRing F.residues }
+{}

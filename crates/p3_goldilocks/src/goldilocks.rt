@@ -5,9 +5,10 @@ mod folding;
 
 use folding::folded;
 use p3_field_core::{
-    AlgebraIdentity, Field, Named, PrimeCharacteristicRing, PrimeField, PrimeField64,
+    AlgebraIdentity, Field, Named, PrimeCharacteristicRing, PrimeField, PrimeField64, ScalarField,
     UniformSamplingField,
 };
+use std::hash::Hash;
 use std::ops::{Add, Mul, Sub};
 
 /// An element of the prime field of order 2^64 - 2^32 + 1, kept as its canonical number.
@@ -35,6 +36,23 @@ impl Goldilocks {
         let value = if value < ORDER { value } else { value - ORDER };
         Goldilocks { value }
     }
+}
+
+impl Goldilocks {
+    ghost use Rattle.std.specs.Prelude.{◌≡◌, Some};
+    ghost use Rattle.std.specs.Ordering.{nat_cmp};
+    ghost use Rattle.std.specs.Hash as fed;
+    ghost use Rattle.p3_goldilocks.specs.GoldilocksResidues.{number};
+
+    /// Elements are ordered as their canonical numbers are, and hashed as those.
+    ///
+    /// A law: the body is empty, and a caller cites the clauses.
+    pub fn ordered_and_hashed_by_numbers()
+        ensures order { (x y : Goldilocks) → ⟦<Goldilocks as Ord>⟧.cmp x y ≡ nat_cmp (number x) (number y) }
+        ensures partial { (x y : Goldilocks) →
+            ⟦<Goldilocks as PartialOrd>⟧.partial_cmp x y ≡ Some (nat_cmp (number x) (number y)) }
+        ensures hash { (x : Goldilocks) → ⟦<Goldilocks as Hash>⟧.hash_input x ≡ fed.u64 (number x) }
+    {}
 }
 
 impl Default for Goldilocks {
@@ -178,7 +196,7 @@ impl Field for Goldilocks {
 
     ghost bits_least = { lit≤ tt };
 
-    ghost fits_in_memory = { lit< tt };
+    ghost is_small = { lit≤ tt };
 
     ghost default_law = { λ _ given. given };
 
@@ -244,4 +262,12 @@ impl AlgebraIdentity<Goldilocks> for Goldilocks {
     fn algebra_id() -> &'static [u8] {
         b"prime:18446744069414584321"
     }
+}
+
+impl ScalarField for Goldilocks {
+    ghost use Rattle.std.specs.Prelude.{refl};
+
+    ghost one_coefficient = { refl };
+
+    ghost own_coefficient = { λ _. refl };
 }

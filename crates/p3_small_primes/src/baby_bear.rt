@@ -1,6 +1,6 @@
 //! The field of order 15 * 2^27 + 1.
 use crate::{SmallOrder, SmallPrime};
-use p3_field_core::{AlgebraIdentity, BinomiallyExtendable, Named, UniformSamplingField};
+use p3_field_core::{AlgebraIdentity, BinomiallyExtendable, Named, ScalarField, UniformSamplingField};
 
 /// An element of the prime field of order 2013265921 = 15 * 2^27 + 1.
 ///
@@ -55,6 +55,14 @@ impl AlgebraIdentity<BabyBear> for BabyBear {
     fn algebra_id() -> &'static [u8] {
         b"prime:2013265921"
     }
+}
+
+impl ScalarField for BabyBear {
+    ghost use Rattle.std.specs.Prelude.{refl};
+
+    ghost one_coefficient = { refl };
+
+    ghost own_coefficient = { λ _. refl };
 }
 
 impl BinomiallyExtendable<4> for BabyBear {

@@ -1,6 +1,6 @@
 //! The field of order 257, small enough for rows that are worked out by hand.
 use crate::{SmallOrder, SmallPrime};
-use p3_field_core::{AlgebraIdentity, Named, UniformSamplingField};
+use p3_field_core::{AlgebraIdentity, Named, ScalarField, UniformSamplingField};
 
 /// An element of the prime field of order 257.
 ///
@@ -55,4 +55,12 @@ impl AlgebraIdentity<F257> for F257 {
     fn algebra_id() -> &'static [u8] {
         b"prime:257"
     }
+}
+
+impl ScalarField for F257 {
+    ghost use Rattle.std.specs.Prelude.{refl};
+
+    ghost one_coefficient = { refl };
+
+    ghost own_coefficient = { λ _. refl };
 }

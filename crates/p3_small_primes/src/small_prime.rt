@@ -5,6 +5,7 @@ use p3_field_core::{
     Field, Named, PrimeCharacteristicRing, PrimeField, PrimeField32, PrimeField64,
 };
 use std::fmt;
+use std::hash::Hash;
 use std::ops::{Add, Mul, Sub};
 
 /// An element of the prime field of order `ORDER`, kept as its canonical number.
@@ -81,6 +82,24 @@ where
             value: value as u32,
         }
     }
+}
+
+impl<const ORDER: u32> SmallPrime<ORDER> {
+    ghost use Rattle.std.specs.Prelude.{◌≡◌, Some};
+    ghost use Rattle.std.specs.Ordering.{nat_cmp};
+    ghost use Rattle.std.specs.Hash as fed;
+    ghost use Rattle.p3_small_primes.specs.SmallPrimes.{number};
+
+    /// Elements are ordered as their canonical numbers are, and hashed as those.
+    ///
+    /// A law: the body is empty, and a caller cites the clauses.
+    pub fn ordered_and_hashed_by_numbers()
+        ensures order { (x y : SmallPrime ORDER) →
+            ⟦<SmallPrime<ORDER> as Ord>⟧.cmp x y ≡ nat_cmp (number x) (number y) }
+        ensures partial { (x y : SmallPrime ORDER) →
+            ⟦<SmallPrime<ORDER> as PartialOrd>⟧.partial_cmp x y ≡ Some (nat_cmp (number x) (number y)) }
+        ensures hash { (x : SmallPrime ORDER) → ⟦<SmallPrime<ORDER> as Hash>⟧.hash_input x ≡ fed.u32 (number x) }
+    {}
 }
 
 impl<const ORDER: u32> fmt::Debug for SmallPrime<ORDER>
@@ -240,7 +259,7 @@ impl<const ORDER: u32> Field for SmallPrime<ORDER>
 where
     Self: SmallOrder<ORDER>,
 {
-    ghost use Rattle.std.proofs.Common.{lit<};
+    ghost use Rattle.std.proofs.Common.{lit≤};
 
     ghost bit_length = { ⟦<Self as SmallOrder<ORDER>>⟧.bit_length };
 
@@ -248,7 +267,7 @@ where
 
     ghost bits_least = { ⟦<Self as SmallOrder<ORDER>>⟧.bits_least };
 
-    ghost fits_in_memory = { lit< tt };
+    ghost is_small = { lit≤ tt };
 
     ghost default_law = { λ _ given. given };
 

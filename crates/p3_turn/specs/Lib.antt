@@ -3,4 +3,5 @@ pub mod SeedLaws
 pub mod SeparatorLaws
 pub mod SeparatorParts
 pub mod SeparatorSeed
+pub mod SeparatorSeedLaws
 pub mod Separators

@@ -1,10 +1,12 @@
 ghost use Rattle.std.specs.Prelude.{◌≡◌, ◌↔◌, ◌+◌, ◌*◌, ◌-◌, ◌%◌, ◌^◌, ◌<◌, ◌≤◌, ◌∷◌, IsTrue, Some, None, replicate};
 ghost use Rattle.std.specs.Prelude.{sum_by};
+ghost use Rattle.p3_field.specs.GoldilocksResidues as goldilocks;
 ghost use Rattle.p3_field.specs.Residues.{plus};
 
 use p3_field::{
     Algebra, BabyBear, BasedVectorSpace, Coeffs, F257, Field, Goldilocks, PrimeCharacteristicRing,
-    PrimeField64, UniformSamplingField, uniform_bounds_are_whole,
+    PrimeField32, PrimeField64, ScalarField, UniformSamplingField, residues_are_a_ring,
+    uniform_bounds_are_whole,
 };
 use std::test::Fail;
 
@@ -54,6 +56,45 @@ fn round_trip<F: PrimeField64>(x: F) -> F
     ensures { result ≡ x }
 {
     F::from_canonical(x.as_canonical_u64())
+}
+
+fn short_round_trip<F: PrimeField32>(x: F) -> F
+    ensures { result ≡ x }
+{
+    F::from_canonical_u32(x.as_canonical_u32())
+}
+
+fn canonical<F: PrimeField32>(n: u32) -> Option<F>
+    ensures below { n < F.residues.order → result ≡ Some (F.residues.of n) }
+    ensures other { F.residues.order ≤ n → result ≡ None }
+{
+    F::from_canonical_u32_checked(n)
+}
+
+fn added_and_taken<R: PrimeCharacteristicRing>(x: R, y: R) -> R
+    ensures { result ≡ x }
+{
+    residues_are_a_ring::<R>();
+    x + y - y
+}
+
+fn coefficient_count<F: ScalarField>() -> usize
+    ensures { result ≡ 1 }
+{
+    F::DIMENSION
+}
+
+fn own_coefficient<F: ScalarField>(x: F) -> F
+    ensures { result ≡ x }
+{
+    x.as_basis_coefficients_slice()[0]
+}
+
+fn is_below(x: Goldilocks, y: Goldilocks) -> bool
+    ensures { IsTrue result ↔ goldilocks.number x < goldilocks.number y }
+{
+    Goldilocks::ordered_and_hashed_by_numbers();
+    x < y
 }
 
 fn default_of<F: Field>() -> F
@@ -123,6 +164,38 @@ fn through_bounds(rt: HostRuntime) {
     assert_eq!(rt; number(default_of::<F257>()), 0);
     assert_eq!(rt; number(default_of::<BabyBear>()), 0);
     assert_eq!(rt; number(default_of::<Goldilocks>()), 0);
+}
+
+#[test]
+fn canonical_numbers_of_32_bits(rt: HostRuntime) {
+    assert_eq!(rt; number(short_round_trip(BabyBear::NEG_ONE)), 2013265920);
+    assert_eq!(rt; canonical::<BabyBear>(2013265920), Some(BabyBear::NEG_ONE));
+    assert_eq!(rt; canonical::<BabyBear>(2013265921), None);
+    assert_eq!(rt; canonical::<F257>(256), Some(F257::NEG_ONE));
+    assert_eq!(rt; canonical::<F257>(u32::MAX), None);
+}
+
+#[test]
+fn a_field_is_one_coefficient(rt: HostRuntime) {
+    assert_eq!(rt; coefficient_count::<BabyBear>(), 1);
+    assert_eq!(rt; coefficient_count::<F257>(), 1);
+    assert_eq!(rt; coefficient_count::<Goldilocks>(), 1);
+    assert_eq!(rt;
+        number(own_coefficient(Goldilocks::NEG_ONE)),
+        18446744069414584320
+    );
+    assert_eq!(rt;
+        number(added_and_taken(F257::from_u64(3), F257::NEG_ONE)),
+        3
+    );
+}
+
+#[test]
+fn elements_are_ordered_as_their_numbers(rt: HostRuntime) {
+    assert!(rt; is_below(Goldilocks::ONE, Goldilocks::NEG_ONE));
+    assert!(rt; !is_below(Goldilocks::NEG_ONE, Goldilocks::ONE));
+    assert!(rt; !is_below(Goldilocks::ONE, Goldilocks::ONE));
+    assert!(rt; BabyBear::from_u64(2013265919) < BabyBear::NEG_ONE);
 }
 
 #[test]

@@ -10,24 +10,16 @@ ghost use Rattle.uses.specs.ExtraValue.{after_value};
 
 use p3_challenger::CanObserve;
 use p3_challenger::fs::{
-    Codec, Kind, Label, Length, ProverState, TranscriptBound, TranscriptError, TranscriptField,
-    VerifierState,
+    Codec, Kind, Label, Length, ProverState, TranscriptBound, TranscriptError, VerifierState,
 };
-use p3_field::{AlgebraIdentity, Named};
+use p3_field::ScalarField;
 use p3_symmetric::DigestHasher;
 
 /// Observes a value that no step carries, and sends a scalar: the step is played from the challenger that has observed
 /// the value, at the place of the pattern where the prover stood, and its bytes alone are added.
 ///
 /// The errors are those of the observation, with no step played, and those of the step.
-pub fn send_after<
-    F: TranscriptField + AlgebraIdentity<F> + Named,
-    T,
-    U,
-    C: CanObserve<T> + Drop,
-    D: DigestHasher,
-    Cdc: Codec<C, F>,
->(
+pub fn send_after<F: ScalarField, T, U, C: CanObserve<T> + Drop, D: DigestHasher, Cdc: Codec<C, F>>(
     prover: &mut ProverState<C, U, D>,
     extra: T,
     label: Label,
@@ -49,7 +41,7 @@ pub fn send_after<
 ///
 /// The errors are those of the observation, with no step played, and those of the step.
 pub fn receive_after<
-    F: TranscriptField + AlgebraIdentity<F> + Named,
+    F: ScalarField,
     T,
     U,
     C: CanObserve<T> + Drop,

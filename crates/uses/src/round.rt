@@ -13,10 +13,10 @@ ghost use Rattle.p3_challenger.specs.Dependence.{DrawsAfter};
 
 use p3_challenger::CanObserve;
 use p3_challenger::fs::{
-    Codec, DomainSeparator, ProverState, TranscriptBound, TranscriptError, TranscriptField, Unit,
-    VerifierState, bytes_feed_their_symbols, draws_feed_nothing, values_feed_their_symbols,
+    Codec, DomainSeparator, ProverState, TranscriptBound, TranscriptError, Unit, VerifierState,
+    bytes_feed_their_symbols, draws_feed_nothing, values_feed_their_symbols,
 };
-use p3_field::{AlgebraIdentity, Named};
+use p3_field::ScalarField;
 use p3_symmetric::DigestHasher;
 use std::alloc::Global;
 
@@ -28,7 +28,7 @@ use std::alloc::Global;
 /// Condition: the codec has at least [`MIN_CHALLENGE_SECURITY_BITS`](p3_challenger::fs::MIN_CHALLENGE_SECURITY_BITS) of
 /// security.
 pub fn send_and_draw<
-    F: TranscriptField + AlgebraIdentity<F> + Named,
+    F: ScalarField,
     U: Unit,
     C: CanObserve<U::Item> + Drop,
     D: DigestHasher,
@@ -68,7 +68,7 @@ pub struct Round<F> {
 /// Condition: the codec has at least [`MIN_CHALLENGE_SECURITY_BITS`](p3_challenger::fs::MIN_CHALLENGE_SECURITY_BITS) of
 /// security.
 pub fn receive_and_draw<
-    F: TranscriptField + AlgebraIdentity<F> + Named,
+    F: ScalarField,
     U: Unit,
     C: CanObserve<U::Item> + Drop,
     D: DigestHasher,
@@ -95,7 +95,7 @@ pub fn receive_and_draw<
 /// Conditions: `U` is an alphabet, and the codec has at least
 /// [`MIN_CHALLENGE_SECURITY_BITS`](p3_challenger::fs::MIN_CHALLENGE_SECURITY_BITS) of security.
 pub fn first_challenge<
-    F: TranscriptField + AlgebraIdentity<F> + Named,
+    F: ScalarField,
     U: Unit,
     C: CanObserve<U::Item> + Drop,
     D: DigestHasher,

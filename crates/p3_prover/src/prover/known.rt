@@ -12,7 +12,7 @@ use crate::ProverState;
 use p3_challenger_core::{CanObserve, CanSampleBits, Sponge};
 use p3_codecs::{Codec, ExtensionFieldCodec, ScalarCodec, Unit};
 use p3_driver_core::TranscriptBound;
-use p3_field_core::{AlgebraIdentity, Named};
+use p3_field_core::{AlgebraIdentity, Named, ScalarField};
 use p3_fs_core::{Hierarchy, Kind, Label, Length, TranscriptError, TranscriptField};
 use p3_symmetric::DigestHasher;
 
@@ -98,7 +98,7 @@ impl<C: Sponge + Drop, U, D: DigestHasher> ProverState<C, U, D> {
     }
 
     /// Observes a scalar that both sides know.
-    pub fn add_public_scalar<F: TranscriptField + AlgebraIdentity<F> + Named, Cdc: Codec<C, F>>(
+    pub fn add_public_scalar<F: ScalarField, Cdc: Codec<C, F>>(
         &mut self,
         label: Label,
         value: &F,
@@ -113,7 +113,7 @@ impl<C: Sponge + Drop, U, D: DigestHasher> ProverState<C, U, D> {
     }
 
     /// Observes so many scalars as the step says, which both sides know.
-    pub fn add_public_scalars<F: TranscriptField + AlgebraIdentity<F> + Named, Cdc: Codec<C, F>>(
+    pub fn add_public_scalars<F: ScalarField, Cdc: Codec<C, F>>(
         &mut self,
         label: Label,
         values: &[F],
@@ -191,7 +191,7 @@ impl<C: Sponge + Drop, U, D: DigestHasher> ProverState<C, U, D> {
     ///
     /// Condition: the codec has at least [`MIN_CHALLENGE_SECURITY_BITS`](p3_codecs::MIN_CHALLENGE_SECURITY_BITS) of
     /// security.
-    pub fn challenge_scalar<F: TranscriptField + AlgebraIdentity<F> + Named, Cdc: Codec<C, F>>(
+    pub fn challenge_scalar<F: ScalarField, Cdc: Codec<C, F>>(
         &mut self,
         label: Label,
     ) -> Result<TranscriptBound<F>, TranscriptError>
@@ -208,7 +208,7 @@ impl<C: Sponge + Drop, U, D: DigestHasher> ProverState<C, U, D> {
     ///
     /// Condition: the codec has at least [`MIN_CHALLENGE_SECURITY_BITS`](p3_codecs::MIN_CHALLENGE_SECURITY_BITS) of
     /// security.
-    pub fn challenge_scalars<F: TranscriptField + AlgebraIdentity<F> + Named, Cdc: Codec<C, F>>(
+    pub fn challenge_scalars<F: ScalarField, Cdc: Codec<C, F>>(
         &mut self,
         label: Label,
         n: usize,

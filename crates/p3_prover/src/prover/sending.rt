@@ -11,7 +11,7 @@ use crate::writing::{write_bytes, write_counted_bytes, write_counted_values, wri
 use p3_challenger_core::{CanObserve, Sponge};
 use p3_codecs::{Codec, ExtensionFieldCodec, ScalarCodec, Unit};
 use p3_driver_core::{TranscriptBound, bind, bind_all, observe_count, observe_values};
-use p3_field_core::{AlgebraIdentity, Named};
+use p3_field_core::{AlgebraIdentity, Named, ScalarField};
 use p3_fs_core::{Kind, Label, Length, TranscriptError, TranscriptField};
 use p3_symmetric::DigestHasher;
 
@@ -66,7 +66,7 @@ impl<U: Unit, C: CanObserve<U::Item> + Drop, D: DigestHasher> ProverState<C, U, 
     ///
     /// More are refused with [`PatternError::OverCap`](p3_fs_core::PatternError::OverCap), with nothing done.
     /// Condition: `U` is an alphabet.
-    pub fn add_scalars_bounded<F: TranscriptField + AlgebraIdentity<F> + Named, Cdc: Codec<C, F>>(
+    pub fn add_scalars_bounded<F: ScalarField, Cdc: Codec<C, F>>(
         &mut self,
         label: Label,
         values: &[F],
@@ -125,7 +125,7 @@ impl<U: Unit, C: CanObserve<U::Item> + Drop, D: DigestHasher> ProverState<C, U, 
 
     // Sends scalars after their count.
     #[tactic(auto, using(crate::proofs::Pieces::unwritten))]
-    fn send_counted<F: TranscriptField + AlgebraIdentity<F> + Named, Cdc: Codec<C, F>>(
+    fn send_counted<F: ScalarField, Cdc: Codec<C, F>>(
         &mut self,
         label: Label,
         values: &[F],
@@ -154,7 +154,7 @@ impl<U: Unit, C: CanObserve<U::Item> + Drop, D: DigestHasher> ProverState<C, U, 
 
 impl<C: Sponge + Drop, U, D: DigestHasher> ProverState<C, U, D> {
     /// Sends one scalar.
-    pub fn add_scalar<F: TranscriptField + AlgebraIdentity<F> + Named, Cdc: Codec<C, F>>(
+    pub fn add_scalar<F: ScalarField, Cdc: Codec<C, F>>(
         &mut self,
         label: Label,
         value: &F,
@@ -169,7 +169,7 @@ impl<C: Sponge + Drop, U, D: DigestHasher> ProverState<C, U, D> {
 
     /// Sends so many scalars as the step says.
     #[tactic(auto, using(crate::proofs::Pieces::unwritten))]
-    pub fn add_scalars<F: TranscriptField + AlgebraIdentity<F> + Named, Cdc: Codec<C, F>>(
+    pub fn add_scalars<F: ScalarField, Cdc: Codec<C, F>>(
         &mut self,
         label: Label,
         values: &[F],

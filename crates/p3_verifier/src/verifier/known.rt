@@ -12,7 +12,7 @@ use crate::VerifierState;
 use p3_challenger_core::{CanObserve, CanSampleBits, Sponge};
 use p3_codecs::{Codec, ExtensionFieldCodec, ScalarCodec, Unit};
 use p3_driver_core::TranscriptBound;
-use p3_field_core::{AlgebraIdentity, Named};
+use p3_field_core::{AlgebraIdentity, Named, ScalarField};
 use p3_fs_core::{Hierarchy, Kind, Label, Length, TranscriptError, TranscriptField};
 use p3_symmetric::DigestHasher;
 
@@ -99,7 +99,7 @@ impl<'a, C: Sponge + Drop, U, D: DigestHasher> VerifierState<'a, C, U, D> {
     }
 
     /// Observes a scalar that both sides know.
-    pub fn observe_public_scalar<F: TranscriptField + AlgebraIdentity<F> + Named, Cdc: Codec<C, F>>(
+    pub fn observe_public_scalar<F: ScalarField, Cdc: Codec<C, F>>(
         &mut self,
         label: Label,
         value: &F,
@@ -114,10 +114,11 @@ impl<'a, C: Sponge + Drop, U, D: DigestHasher> VerifierState<'a, C, U, D> {
     }
 
     /// Observes so many scalars as the step says, which both sides know.
-    pub fn observe_public_scalars<
-        F: TranscriptField + AlgebraIdentity<F> + Named,
-        Cdc: Codec<C, F>,
-    >(&mut self, label: Label, values: &[F]) -> Result<Vec<TranscriptBound<F>>, TranscriptError>
+    pub fn observe_public_scalars<F: ScalarField, Cdc: Codec<C, F>>(
+        &mut self,
+        label: Label,
+        values: &[F],
+    ) -> Result<Vec<TranscriptBound<F>>, TranscriptError>
         ensures { let step = algebra_step Kind.Public label.now F.residues.order F.DIMENSION (D.digest_of F.identity)
             F.name_bytes (Length.Fixed (length values.now)) in
             KeepsOrRefuses (meaning.observed_all step Cdc.observation values.now)
@@ -196,7 +197,7 @@ impl<'a, C: Sponge + Drop, U, D: DigestHasher> VerifierState<'a, C, U, D> {
     ///
     /// Condition: the codec has at least [`MIN_CHALLENGE_SECURITY_BITS`](p3_codecs::MIN_CHALLENGE_SECURITY_BITS) of
     /// security.
-    pub fn challenge_scalar<F: TranscriptField + AlgebraIdentity<F> + Named, Cdc: Codec<C, F>>(
+    pub fn challenge_scalar<F: ScalarField, Cdc: Codec<C, F>>(
         &mut self,
         label: Label,
     ) -> Result<TranscriptBound<F>, TranscriptError>
@@ -213,7 +214,7 @@ impl<'a, C: Sponge + Drop, U, D: DigestHasher> VerifierState<'a, C, U, D> {
     ///
     /// Condition: the codec has at least [`MIN_CHALLENGE_SECURITY_BITS`](p3_codecs::MIN_CHALLENGE_SECURITY_BITS) of
     /// security.
-    pub fn challenge_scalars<F: TranscriptField + AlgebraIdentity<F> + Named, Cdc: Codec<C, F>>(
+    pub fn challenge_scalars<F: ScalarField, Cdc: Codec<C, F>>(
         &mut self,
         label: Label,
         n: usize,

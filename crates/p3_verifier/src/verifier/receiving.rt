@@ -12,7 +12,7 @@ use crate::VerifierState;
 use p3_challenger_core::{CanObserve, Sponge};
 use p3_codecs::{Codec, ExtensionFieldCodec, ScalarCodec, Unit};
 use p3_driver_core::{TranscriptBound, bind, count_width, observe_count};
-use p3_field_core::{AlgebraIdentity, Named};
+use p3_field_core::{AlgebraIdentity, Named, ScalarField};
 use p3_fs_core::{Kind, Label, Length, TranscriptError, TranscriptField, decode_len_be};
 use p3_symmetric::DigestHasher;
 
@@ -77,7 +77,7 @@ impl<'a, U: Unit, C: CanObserve<U::Item> + Drop, D: DigestHasher> VerifierState<
     /// absorbed.
     ///
     /// Condition: `U` is an alphabet.
-    pub fn next_scalars_bounded<F: TranscriptField + AlgebraIdentity<F> + Named, Cdc: Codec<C, F>>(
+    pub fn next_scalars_bounded<F: ScalarField, Cdc: Codec<C, F>>(
         &mut self,
         label: Label,
         max: usize,
@@ -121,7 +121,7 @@ impl<'a, U: Unit, C: CanObserve<U::Item> + Drop, D: DigestHasher> VerifierState<
 
 impl<'a, C: Sponge + Drop, U, D: DigestHasher> VerifierState<'a, C, U, D> {
     /// Reads one scalar.
-    pub fn next_scalar<F: TranscriptField + AlgebraIdentity<F> + Named, Cdc: Codec<C, F>>(
+    pub fn next_scalar<F: ScalarField, Cdc: Codec<C, F>>(
         &mut self,
         label: Label,
     ) -> Result<TranscriptBound<F>, TranscriptError>
@@ -137,7 +137,7 @@ impl<'a, C: Sponge + Drop, U, D: DigestHasher> VerifierState<'a, C, U, D> {
     ///
     /// Where their spellings take more bytes than are left, they are refused before any is read. The scalars before one
     /// that is none are absorbed.
-    pub fn next_scalars<F: TranscriptField + AlgebraIdentity<F> + Named, Cdc: Codec<C, F>>(
+    pub fn next_scalars<F: ScalarField, Cdc: Codec<C, F>>(
         &mut self,
         label: Label,
         n: usize,
