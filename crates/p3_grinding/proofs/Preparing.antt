@@ -103,10 +103,10 @@ module _ {S Symbol W : Type 0} (before : Sampling S (Unit {0})) (o : Observation
         }
 
     pub prepared-refused : (copies_may_fail : Type 0) (bits : ℕ) (e : ChallengerError) (t : S) → (bits == 0) ≡ false
-        → RefusesSearch r (MayRunOut copies_may_fail (checked draws_nothing o test)) (checked draws_nothing o test) e ready
-        t
-        → RefusesSearch r (MayRunOut copies_may_fail (check_of before o test bits)) (check_of before o test bits) e start
-        start
+        → RefusesSearch r (MayRunOut copies_may_fail (checked draws_nothing o test)) (checked draws_nothing o test) e
+        ready t
+        → RefusesSearch r (MayRunOut copies_may_fail (check_of before o test bits)) (check_of before o test bits) e
+        start start
     prepared-refused copies_may_fail zero e t more h = absurd (not_both more)
     prepared-refused copies_may_fail (suc bits) OutOfMemory t more (inl copied, back) = (inl copied, refl)
     prepared-refused copies_may_fail (suc bits) OutOfMemory t more (inr left, back) =

@@ -1,6 +1,6 @@
 -- What methods are as calls on the inner challenger, and a check as calls of a list.
-use Rattle.std.proofs.Common.{◌≡◌, ℕ, zero, suc, ◌==◌, List, [], ◌∷◌, ◌++◌, Option, Some, None, IsSome, is_some, refl, ap, ◌∙◌}
-use Rattle.std.proofs.Common.{option_and_then, if◌then◌else◌, sym}
+use Rattle.std.proofs.Common.{◌≡◌, ℕ, zero, suc, ◌==◌, List, [], ◌∷◌, ◌++◌, Option, Some, None, IsSome, is_some, refl}
+use Rattle.std.proofs.Common.{ap, ◌∙◌, option_and_then, if◌then◌else◌, sym}
 use Rattle.std.specs.List.{flat_map}
 use Rattle.std.specs.Option.{option_map}
 use Rattle.p3_field_core.specs.Coefficients.{element_of_one}

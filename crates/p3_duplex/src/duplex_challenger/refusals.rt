@@ -1,4 +1,4 @@
-//! Laws: what is never refused, beside observes and draws of single values, and what is refused at the draw limit alone.
+//! Laws: what is never refused, beside observes and draws of single values.
 ghost use Rattle.std.specs.Prelude.{◌≡◌, ℕ, Bool, false, List};
 ghost use Rattle.p3_challenger_core.specs.Observation.{LeavesInCalls, RefusesObserve};
 ghost use Rattle.p3_challenger_core.specs.Sampling.{RefusesDraw};
