@@ -52,8 +52,8 @@ module _ {F : Type 0} (r : Residues F) (permute : List F → List F) (rate : ℕ
   opened-places : (cells pending : List F) (n : ℕ)
       → (run_draws r permute rate
       (record { cells = cells; pending = pending; outputs_left = outputs_after rate pending }) n).answers
-      ≡ map (λ k. output_at r permute rate (opened r permute rate cells pending (outputs_after rate pending)).after.cells k)
-      (range_with_len 0 n)
+      ≡ map (λ k. output_at r permute rate
+      (opened r permute rate cells pending (outputs_after rate pending)).after.cells k) (range_with_len 0 n)
   opened-places cells pending zero = refl
   opened-places cells [] (suc n) = all-places cells (suc n)
   opened-places cells (x ∷ xs) (suc n) = all-places (permute (overwritten r rate cells (x ∷ xs))) (suc n)

@@ -28,7 +28,8 @@ pub kept-fits : {F : Type 0} (width rate inputs outputs_left draw_limit : ℕ) (
     → length buffer ≡ rate → KeepsRate width rate inputs outputs_left draw_limit
     → Fits rate (record { cells = cells; pending = take inputs buffer; outputs_left = outputs_left })
 kept-fits width rate inputs outputs_left draw_limit cells buffer whole keeps =
-    let long : length (take inputs buffer) ≡ inputs = length-take-le inputs buffer (omega (arith, whole, keeps.short)) in
+    let long : length (take inputs buffer) ≡ inputs =
+    length-take-le inputs buffer (omega (arith, whole, keeps.short)) in
     record {
       short = omega (arith, long, keeps.short);
       left = keeps.left;

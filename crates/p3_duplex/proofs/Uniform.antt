@@ -1,5 +1,6 @@
 -- Elements below a bound, and bits in two halves.
-use Rattle.std.proofs.Common.{◌≡◌, ℕ, ◌<◌, ◌≤◌, ◌+◌, ◌-◌, ◌*◌, ◌/◌, ◌%◌, ◌^◌, true, false, nat_lt, arith, sym, ap, ◌∙◌, lit<}
+use Rattle.std.proofs.Common.{◌≡◌, ℕ, ◌<◌, ◌≤◌, ◌+◌, ◌-◌, ◌*◌, ◌/◌, ◌%◌, ◌^◌, true, false, nat_lt, arith, sym, ap}
+use Rattle.std.proofs.Common.{◌∙◌, lit<}
 use Rattle.std.proofs.Math.Nat.{mod-eq_of_lt, one-le-pow, mul_comm}
 use Rattle.std.proofs.lemmas.Nat.{pow-add, pow_below}
 use Rattle.std.proofs.lemmas.Bool.Decides.{nat_tests}

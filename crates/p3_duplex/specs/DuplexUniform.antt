@@ -1,11 +1,11 @@
 -- Uniform bits that are drawn from a duplex challenger.
-use Rattle.std.specs.Prelude.{◌≡◌, ◌↔◌, ℕ, zero, suc, ◌-◌, ◌/◌, List, Option, Some, None, Bool, true, false, nat_eq, nat_lt}
-use Rattle.std.specs.Prelude.{if◌then◌else◌}
+use Rattle.std.specs.Prelude.{◌≡◌, ◌↔◌, ℕ, zero, suc, ◌-◌, ◌/◌, List, Option, Some, None, Bool, true, false, nat_eq}
+use Rattle.std.specs.Prelude.{nat_lt, if◌then◌else◌}
 use Rattle.std.specs.List.{count_by, range_with_len}
 use Rattle.p3_field_core.specs.Residues.{Residues}
 use Rattle.p3_field_core.specs.UniformBounds.{uniform_bound}
 use Rattle.p3_challenger_core.specs.Sampling.{Sampling, unrefused_draw}
-use Rattle.p3_grinding.specs.Candidates.{first_accepted}
+use Rattle.p3_grinding.specs.Candidates.{first_accepted, MeetsLimitExactly}
 use Rattle.p3_grinding.specs.UniformDraws.{UniformDraw, no_bits, is_below, low_bits, bits_of_one, in_halves}
 use Rattle.p3_duplex.specs.DuplexState.{DuplexState, sampled, after_sampled}
 
@@ -59,3 +59,10 @@ module _ {F P : Type 0} (r : Residues F) (permute : P → List F → List F) (ra
   abbrev pub uniform_bits : ℕ → ℕ → UniformDraw (DuplexState F P)
   uniform_bits most_of_one zero = no_bits
   uniform_bits most_of_one (suc more) = in_parts (nat_lt most_of_one (suc more)) (suc more)
+
+-- A draw of so many bits gives nothing exactly where each of as many elements as the draw limit allows is drawn and is
+-- not below the bound; there it meets the limit, and leaves the challenger after just so many draws.
+abbrev pub MeetsElementLimit : {F P : Type 0} → Residues F → (P → List F → List F) → ℕ → ℕ
+    → UniformDraw (DuplexState F P) → Type 0
+MeetsElementLimit r permute rate bits u =
+    MeetsLimitExactly (base_draw r permute rate) (is_below r (uniform_bound r.order bits)) draws_allowed u.draw

@@ -12,7 +12,11 @@ use Rattle.p3_challenger_core.specs.BitLaws.{low_bits-below}
 use Rattle.p3_challenger_core.specs.Sampling.{IsSampling}
 use Rattle.p3_challenger_core.specs.SamplingLaws.{one_step, unrefused_draw-is_sampling}
 use Rattle.p3_challenger_core.specs.Observation.{unrefused_observe}
-use Rattle.p3_grinding.specs.CandidateLaws.{none_left_behind, accepted-is}
+use Rattle.p3_challenger_core.specs.Sampling.{RefusesDraw}
+use Rattle.p3_challenger_core.specs.declared.error.ChallengerError.{ChallengerError}
+use Rattle.p3_challenger_core.specs.declared.error.ChallengerError.TheVariants.{OutOfMemory, DrawLimit, NoWitness}
+use Rattle.p3_challenger_core.specs.declared.error.ChallengerError.TheVariants.{TooLong}
+use Rattle.p3_grinding.specs.CandidateLaws.{none_left_behind, accepted-is, limit-met_exactly}
 use Rattle.std.proofs.lemmas.Bool.Decides.{nat_tests}
 use Rattle.std.specs.Option.{option_map}
 use Rattle.p3_grinding.specs.Checks.{check_of, draws_nothing, zero_and_uniform}
@@ -21,7 +25,7 @@ use Rattle.p3_grinding.specs.UniformDrawLaws.{no_bits-is_uniform, bits_of_one-is
 use Rattle.p3_grinding.specs.UniformDrawLaws.{in_halves-is_uniform, both-below}
 use Rattle.p3_duplex.specs.DuplexState.{DuplexState, observed, sampled, after_sampled}
 use Rattle.p3_duplex.specs.DuplexUniform.{how_many_give, base_draw, draws_allowed, taken_element, single, in_parts}
-use Rattle.p3_duplex.specs.DuplexUniform.{uniform_bits, SameDraw, halved}
+use Rattle.p3_duplex.specs.DuplexUniform.{uniform_bits, SameDraw, halved, MeetsElementLimit}
 
 under : (n bound : ℕ) → nat_lt n bound ≡ true → n < bound
 under n bound h = grind (arith, nat_tests)
@@ -193,7 +197,8 @@ module _ {F P : Type 0} (r : Residues F) (permute : P → List F → List F) (ra
         → SameDraw (uniform_bits r permute rate resample most_of_one bits) (single r permute rate resample bits)
     uniform_bits-one most_of_one zero some few = absurd (omega (arith, some))
     uniform_bits-one most_of_one (suc more) some few =
-        subst (λ b. SameDraw (in_parts r permute rate resample b (suc more)) (single r permute rate resample (suc more)))
+        subst (λ b. SameDraw (in_parts r permute rate resample b (suc more))
+        (single r permute rate resample (suc more)))
         (sym (not_more most_of_one (suc more) few)) (same_draw (single r permute rate resample (suc more)))
 
     -- and more of them in halves
@@ -217,3 +222,37 @@ module _ {F P : Type 0} (r : Residues F) (permute : P → List F → List F) (ra
   uniform_bits-meet_no_limit most_of_one zero c h = h
   uniform_bits-meet_no_limit most_of_one (suc more) c h =
       in_parts-meets_no_limit (nat_lt most_of_one (suc more)) (suc more) c h
+
+  -- nor does a check of a witness by one
+  check-meets_no_limit : (most_of_one bits : ℕ) (witness : F) (c : DuplexState F P)
+      → ¬ ((check_of draws_nothing (unrefused_observe (λ x. x ∷ []) (observed r permute rate))
+      (zero_and_uniform (uniform_bits r permute rate false most_of_one bits)) bits witness).meets_limit c)
+  check-meets_no_limit most_of_one zero witness c h = h
+  check-meets_no_limit most_of_one (suc more) witness c (inl prepared) = prepared
+  check-meets_no_limit most_of_one (suc more) witness c (inr (is, tested)) =
+      uniform_bits-meet_no_limit most_of_one (suc more) (observed r permute rate c witness) tested
+
+  pub check-not_refused : (most_of_one bits : ℕ) (witness : F) (e : ChallengerError) (c d : DuplexState F P)
+      → ¬ (RefusesDraw (check_of draws_nothing (unrefused_observe (λ x. x ∷ []) (observed r permute rate))
+      (zero_and_uniform (uniform_bits r permute rate false most_of_one bits)) bits witness) e c d)
+  check-not_refused most_of_one bits witness OutOfMemory c d h =
+      check-takes_no_memory false most_of_one bits witness c d h
+  check-not_refused most_of_one bits witness DrawLimit c d h =
+      check-meets_no_limit most_of_one bits witness c h.0
+  check-not_refused most_of_one bits witness NoWitness c d h = h
+  check-not_refused most_of_one bits witness TooLong c d h = h
+
+  -- ---- the limit, exactly
+
+  -- bits of one element, where another one may be drawn in the place of a rejected one
+  pub single-limit : (bits : ℕ) → MeetsElementLimit r permute rate bits (single r permute rate true bits)
+  single-limit bits =
+      limit-met_exactly (base_draw r permute rate) (is_below r (uniform_bound r.order bits)) (λ s. refl) (λ s h. h)
+      (low_bits r bits) draws_allowed
+
+  pub uniform_bits-limit : (most_of_one bits : ℕ) → 0 < bits → bits ≤ most_of_one
+      → MeetsElementLimit r permute rate bits (uniform_bits r permute rate true most_of_one bits)
+  uniform_bits-limit most_of_one zero some few = absurd (omega (arith, some))
+  uniform_bits-limit most_of_one (suc more) some few =
+      subst (λ b. MeetsElementLimit r permute rate (suc more) (in_parts r permute rate true b (suc more)))
+      (sym (not_more most_of_one (suc more) few)) (single-limit (suc more))

@@ -27,6 +27,7 @@ mod bits;
 mod calls;
 mod digests;
 mod grinding;
+mod refusals;
 mod uniform;
 
 use p3_challenger_core::{
@@ -34,6 +35,7 @@ use p3_challenger_core::{
 };
 use p3_field_core::{BasedVectorSpace, PrimeCharacteristicRing, PrimeField64};
 use p3_symmetric::CryptographicPermutation;
+use std::fmt;
 use std::marker::Model;
 
 /// A challenger made of a permutation of `WIDTH` cells, of which the first `RATE` are the rate.
@@ -51,8 +53,9 @@ use std::marker::Model;
 /// that of an element below their bound, or is drawn in two such halves, the low one first, and of no bits is 0 with
 /// nothing drawn. The digest at the end is the `RATE` cells of the rate after one more permutation.
 ///
-/// The Rust crate's `DuplexChallenger`, with readers in place of public fields and of vectors.
-#[derive(Debug, Drop)]
+/// The Rust crate's `DuplexChallenger`, with readers in place of public fields and of vectors. It prints what is
+/// pending and the outputs left by the names that these have there, and shows nothing of what was absorbed.
+#[derive(Drop)]
 pub struct DuplexChallenger<F, P, const WIDTH: usize, const RATE: usize> {
     sponge_state: [F; WIDTH],
     // Its first `inputs` places are what is pending; the others are of no meaning.
@@ -81,6 +84,20 @@ impl<F, P, const WIDTH: usize, const RATE: usize> Model for DuplexChallenger<F, 
     } };
 
     ghost invariant = { λ c. KeepsRate WIDTH RATE c.inputs c.outputs_left c.draw_limit };
+}
+
+// By hand: the places of the buffer that mean nothing hold values that were absorbed long ago.
+impl<F: fmt::Debug, P: fmt::Debug, const WIDTH: usize, const RATE: usize> fmt::Debug
+    for DuplexChallenger<F, P, WIDTH, RATE> {
+    fn fmt<W: fmt::Write>(&self, f: &mut fmt::Formatter<W>) -> fmt::Result {
+        f.debug_struct("DuplexChallenger")
+            .field("sponge_state", &self.sponge_state)
+            .field("input_buffer", &&self.input_buffer[..self.inputs])
+            .field("output_buffer", &&self.sponge_state[..self.outputs_left])
+            .field("permutation", &self.permutation)
+            .field("draw_limit", &self.draw_limit)
+            .finish()
+    }
 }
 
 impl<

@@ -33,7 +33,8 @@ module _ {S Symbol W : Type 0} (before : Sampling S (Unit {0})) (o : Observation
       }
   no_bits-least laws (suc more) is = absurd (not_zero more is)
 
-  pub no_bits-after : (bits : ℕ) (witness : W) → (bits == 0) ≡ true → start ≡ (check_of before o test bits witness).after start
+  pub no_bits-after : (bits : ℕ) (witness : W) → (bits == 0) ≡ true
+      → start ≡ (check_of before o test bits witness).after start
   no_bits-after zero witness is = refl
   no_bits-after (suc more) witness is = absurd (not_zero more is)
 
@@ -44,7 +45,8 @@ module _ {S Symbol W : Type 0} (before : Sampling S (Unit {0})) (o : Observation
   -- no copy is made ready
   pub not_ready-refused : (copies_may_fail : Type 0) (bits : ℕ) (e : ChallengerError) → (bits == 0) ≡ false
       → RefusesReady copies_may_fail before e start
-      → RefusesSearch r (MayRunOut copies_may_fail (check_of before o test bits)) (check_of before o test bits) e start start
+      → RefusesSearch r (MayRunOut copies_may_fail (check_of before o test bits)) (check_of before o test bits) e start
+      start
   not_ready-refused copies_may_fail zero e more h = absurd (not_both more)
   not_ready-refused copies_may_fail (suc bits) OutOfMemory more (inl copied) = (inl copied, refl)
   not_ready-refused copies_may_fail (suc bits) OutOfMemory more (inr left) =
@@ -101,8 +103,10 @@ module _ {S Symbol W : Type 0} (before : Sampling S (Unit {0})) (o : Observation
         }
 
     pub prepared-refused : (copies_may_fail : Type 0) (bits : ℕ) (e : ChallengerError) (t : S) → (bits == 0) ≡ false
-        → RefusesSearch r (MayRunOut copies_may_fail (checked draws_nothing o test)) (checked draws_nothing o test) e ready t
-        → RefusesSearch r (MayRunOut copies_may_fail (check_of before o test bits)) (check_of before o test bits) e start start
+        → RefusesSearch r (MayRunOut copies_may_fail (checked draws_nothing o test)) (checked draws_nothing o test) e
+        ready t
+        → RefusesSearch r (MayRunOut copies_may_fail (check_of before o test bits)) (check_of before o test bits) e
+        start start
     prepared-refused copies_may_fail zero e t more h = absurd (not_both more)
     prepared-refused copies_may_fail (suc bits) OutOfMemory t more (inl copied, back) = (inl copied, refl)
     prepared-refused copies_may_fail (suc bits) OutOfMemory t more (inr left, back) =

@@ -38,7 +38,8 @@ below_least k h at_most = omega arith
 module _ {S W : Type 0} (r : Residues W) (check : W → Sampling S Bool) (start : S) where
   pub searched-start : (challenger trial : S) → challenger ≡ start → trial ≡ start
       → Searched r check start challenger trial 0
-  searched-start challenger trial kept ready = record { kept = kept; ready = ready; none = λ k h _. absurd (nothing_below k h) }
+  searched-start challenger trial kept ready =
+      record { kept = kept; ready = ready; none = λ k h _. absurd (nothing_below k h) }
 
   one_more_by : (n k : ℕ) → ((j : ℕ) → j < n → ¬ (Passes r check start j)) → ¬ (Passes r check start n) → k < n + 1
       → (k < n) ⊎ (n ≤ k) → ¬ (Passes r check start k)
@@ -107,7 +108,8 @@ module _ {S : Type 0} (check : ℕ → Sampling S Bool) (start trial : S) (n : �
   tried-next there back fails =
       record { ready = back; none = λ k h. tried_by k fails h (cases_lt k n) }
 
-  pub tried-failed : (there : S) → there ≡ start → (check n).sampled trial ≡ Some false → Tried check start there (n + 1)
+  pub tried-failed : (there : S) → there ≡ start → (check n).sampled trial ≡ Some false
+      → Tried check start there (n + 1)
   tried-failed there back is =
       tried-next there back (λ passes. false_not_true (sym is ∙ ap (check n).sampled so_far.ready ∙ passes))
 

@@ -1,14 +1,16 @@
 -- Laws of drawing candidates until one is accepted.
 use Rattle.std.proofs.Common.{◌≡◌, ℕ, zero, suc, ◌+◌, ◌-◌, ◌<◌, ◌≤◌, Bool, true, false, Option, Some, None}
 use Rattle.std.proofs.Common.{option_and_then, if◌then◌else◌, refl, sym, ap, ◌∙◌, inl, inr, subst, arith, rules}
+use Rattle.std.proofs.Common.{IsSome, ◌↔◌}
+use Rattle.std.specs.Option.{option_map}
 use Rattle.p3_challenger_core.specs.declared.error.ChallengerError.{ChallengerError}
 use Rattle.p3_challenger_core.specs.declared.error.ChallengerError.TheVariants.{OutOfMemory, DrawLimit, NoWitness}
 use Rattle.p3_challenger_core.specs.declared.error.ChallengerError.TheVariants.{TooLong}
-use Rattle.p3_challenger_core.specs.Sponge.{IsStepsOn}
-use Rattle.p3_challenger_core.specs.Sampling.{Sampling, IsSampling, RefusesDraw}
+use Rattle.p3_challenger_core.specs.Sponge.{IsStepsOn, after_steps}
+use Rattle.p3_challenger_core.specs.Sampling.{Sampling, IsSampling, RefusesDraw, made_of}
 use Rattle.p3_challenger_core.specs.SamplingLaws.{no_steps, steps-then}
 use Rattle.p3_grinding.specs.Candidates.{after_refused, first_accepted, after_first_accepted, MeetsLimit, MayLeave}
-use Rattle.p3_grinding.specs.Candidates.{accepted_of, accepted_within}
+use Rattle.p3_grinding.specs.Candidates.{accepted_of, accepted_within, EachRefused, MeetsLimitExactly}
 
 module _ {S T : Type 0} (d : Sampling S T) (accepts : T → Bool) where
   -- ---- such a draw is a draw
@@ -192,3 +194,93 @@ module _ {S T : Type 0} (d : Sampling S T) (accepts : T → Bool) where
         )
     seeks-refused next laws more so_far NoWitness t h = absurd h
     seeks-refused next laws more so_far TooLong t h = absurd h
+
+-- ---- when the limit is met, where each candidate is drawn
+
+none_is_not : false ≡ true → ⊥
+none_is_not is = search (rules, is)
+
+some_is_not : {T : Type 0} (x : T) → Some x ≡ None → ⊥
+some_is_not x e = search (rules, e)
+
+-- what is made of a drawn value is none where it is
+pub made_none : {T U : Type 0} (f : T → U) (o : Option T) → (option_map f o ≡ None ↔ o ≡ None)
+made_none f None = (λ h. refl, λ h. refl)
+made_none f (Some x) = (λ h. absurd (some_is_not (f x) h), λ h. absurd (some_is_not x h))
+
+module _ {S T : Type 0} (d : Sampling S T) (accepts : T → Bool) where
+  refused-of : (b : Bool) (more : ℕ) (t : S) (x : T)
+      → (if b then Some x else first_accepted d accepts more t) ≡ None
+      → (b ≡ false) × (first_accepted d accepts more t ≡ None)
+  refused-of true more t x h = absurd (some_is_not x h)
+  refused-of false more t x h = (refl, h)
+
+  met-one : (more : ℕ) (s : S) (o : Option T) → d.sampled s ≡ o → IsSome o
+      → ((t : S) → first_accepted d accepts more t ≡ None → MeetsLimit d accepts more t)
+      → option_and_then (λ x. if accepts x then Some x else first_accepted d accepts more (d.after s)) o ≡ None
+      → (x : T) × (d.sampled s ≡ Some x) × (accepts x ≡ false) × MeetsLimit d accepts more (d.after s)
+  met-one more s None is some later none = absurd (none_is_not some)
+  met-one more s (Some x) is some later none =
+      let refused = refused-of (accepts x) more (d.after s) x none in
+      (x, is, refused.0, later (d.after s) refused.1)
+
+  earlier : (k more : ℕ) → suc k < suc more → k < more
+  earlier k more below = omega (arith, below)
+
+  sooner : (k more : ℕ) → k < more → suc k < suc more
+  sooner k more below = omega (arith, below)
+
+  module _ (gives : (u : S) → IsSome (d.sampled u)) (unlimited : (u : S) → ¬ (d.meets_limit u)) where
+    met : (limit : ℕ) (s : S) → first_accepted d accepts limit s ≡ None → MeetsLimit d accepts limit s
+    unfolding first_accepted MeetsLimit
+    met zero s h = tt
+    met (suc more) s h = inr (met-one more s (d.sampled s) refl (gives s) (met more) h)
+
+    gives_none : (limit : ℕ) (s : S) → MeetsLimit d accepts limit s → first_accepted d accepts limit s ≡ None
+    unfolding first_accepted MeetsLimit
+    gives_none zero s h = refl
+    gives_none (suc more) s (inl here) = absurd (unlimited s here)
+    gives_none (suc more) s (inr later) =
+        ap (option_and_then (λ x. if accepts x then Some x else first_accepted d accepts more (d.after s))) later.1
+        ∙ ap (λ b. if b then Some later.0 else first_accepted d accepts more (d.after s)) later.2
+        ∙ gives_none more (d.after s) later.3
+
+    consumed : (limit : ℕ) (s : S) → MeetsLimit d accepts limit s
+        → after_first_accepted d accepts limit s ≡ after_steps d.after limit s
+    unfolding after_first_accepted MeetsLimit
+    consumed zero s h = refl
+    consumed (suc more) s (inl here) = absurd (unlimited s here)
+    consumed (suc more) s (inr later) =
+        ap (λ o. after_refused accepts (after_first_accepted d accepts more) o (d.after s)) later.1
+        ∙ ap (λ b. if b then d.after s else after_first_accepted d accepts more (d.after s)) later.2
+        ∙ consumed more (d.after s) later.3
+
+    each_refused : (limit : ℕ) (s : S) → MeetsLimit d accepts limit s → EachRefused d accepts limit s
+    unfolding MeetsLimit
+    each_refused zero s h k below = absurd (omega (arith, below))
+    each_refused (suc more) s (inl here) k below = absurd (unlimited s here)
+    each_refused (suc more) s (inr later) zero below = (later.0, later.1, later.2)
+    each_refused (suc more) s (inr later) (suc k) below =
+        each_refused more (d.after s) later.3 k (earlier k more below)
+
+    refused_each : (limit : ℕ) (s : S) → EachRefused d accepts limit s → MeetsLimit d accepts limit s
+    unfolding MeetsLimit
+    refused_each zero s h = tt
+    refused_each (suc more) s h =
+        let first = h 0 (omega arith) in
+        inr (first.0, first.1, first.2, refused_each more (d.after s) (λ k below. h (suc k) (sooner k more below)))
+
+    -- the first accepted one of so many candidates, and what is made of it
+    pub limit-met_exactly : {U : Type 0} (f : T → U) (limit : S → ℕ)
+        → MeetsLimitExactly d accepts limit (made_of f (accepted_within d accepts limit))
+    limit-met_exactly f limit =
+        record {
+          gives_none = λ s. (
+            λ none. each_refused (limit s) s
+                (met (limit s) s ((made_none f (first_accepted d accepts (limit s) s)).0 none)),
+            λ each. (made_none f (first_accepted d accepts (limit s) s)).1
+                (gives_none (limit s) s (refused_each (limit s) s each)),
+          );
+          meets = λ s. (each_refused (limit s) s, refused_each (limit s) s);
+          consumed = λ s each. consumed (limit s) s (refused_each (limit s) s each);
+        }

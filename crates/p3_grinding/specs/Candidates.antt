@@ -1,7 +1,8 @@
 -- Drawing candidates until one is accepted, so many at most.
-use Rattle.std.specs.Prelude.{◌≡◌, ℕ, zero, suc, Bool, false, ◌⊎◌, Option, Some, None, option_and_then}
+use Rattle.std.specs.Prelude.{◌≡◌, ◌↔◌, ◌<◌, ℕ, zero, suc, Bool, false, ◌⊎◌, Option, Some, None, option_and_then}
 use Rattle.std.specs.Prelude.{if◌then◌else◌}
 use Rattle.p3_challenger_core.specs.Sampling.{Sampling}
+use Rattle.p3_challenger_core.specs.Sponge.{after_steps}
 
 -- the state after a candidate, where it was drawn and refused: that after the candidates that follow it
 abbrev pub after_refused : {S T : Type 0} → (T → Bool) → (S → S) → Option T → S → S
@@ -52,3 +53,16 @@ module _ {S T : Type 0} (d : Sampling S T) (accepts : T → Bool) where
         meets_limit = λ s. MeetsLimit (limit s) s;
         may_leave = λ s t. MayLeave (limit s) s t;
       }
+
+  -- each of so many candidates, drawn one after another, is refused
+  abbrev pub EachRefused : ℕ → S → Type 0
+  EachRefused count s =
+      (k : ℕ) → k < count → (x : T) × (d.sampled (after_steps d.after k s) ≡ Some x) × (accepts x ≡ false)
+
+-- A draw gives nothing exactly where as many candidates as the limit allows are drawn and each is refused. There, and
+-- nowhere else, it meets its limit, and it leaves the state after just so many draws.
+pub record MeetsLimitExactly {S T U : Type 0} (d : Sampling S T) (accepts : T → Bool) (limit : S → ℕ)
+    (draw : Sampling S U) : Type 0 where
+  pub gives_none : (s : S) → (draw.sampled s ≡ None ↔ EachRefused d accepts (limit s) s)
+  pub meets : (s : S) → (draw.meets_limit s ↔ EachRefused d accepts (limit s) s)
+  pub consumed : (s : S) → EachRefused d accepts (limit s) s → draw.after s ≡ after_steps d.after (limit s) s

@@ -16,8 +16,9 @@ use Rattle.p3_challenger_core.specs.declared.error.ChallengerError.TheVariants.{
 use Rattle.p3_challenger_core.specs.SamplingLaws.{no_steps, steps-then, made_of-is_sampling, unrefused_draw-is_sampling}
 use Rattle.p3_grinding.specs.Candidates.{accepted_within}
 use Rattle.p3_grinding.specs.CandidateLaws.{accepted_within-is_sampling}
-use Rattle.p3_grinding.specs.UniformDraws.{UniformDraw, IsUniformDraw, never_rejects, no_bits, is_below, low_bits, rejected}
-use Rattle.p3_grinding.specs.UniformDraws.{bits_of_next, bits_of_first, bits_of_one, in_halves, RefusesUniform}
+use Rattle.p3_grinding.specs.UniformDraws.{UniformDraw, IsUniformDraw, never_rejects, no_bits, is_below, low_bits}
+use Rattle.p3_grinding.specs.UniformDraws.{rejected, bits_of_next, bits_of_first, bits_of_one, in_halves}
+use Rattle.p3_grinding.specs.UniformDraws.{RefusesUniform}
 use Rattle.p3_grinding.specs.declared.error.ResamplingError.{ResamplingError}
 use Rattle.p3_grinding.specs.declared.error.UniformBitsError.{UniformBitsError}
 use Rattle.p3_grinding.specs.declared.error.UniformBitsError.TheVariants.{Resampling, Challenger}

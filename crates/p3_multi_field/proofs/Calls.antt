@@ -2,7 +2,7 @@
 use Rattle.std.proofs.Common.{◌≡◌, ◌<◌, ℕ, zero, suc, ◌+◌, ◌-◌, List, [], ◌∷◌, ◌++◌, map, replicate, refl, sym, ap, ◌∙◌}
 use Rattle.std.proofs.Common.{add-one, append-nil, arith, subst}
 use Rattle.std.specs.List.{range_with_len}
-use Rattle.p3_challenger_core.specs.Segments.{Call, observe, draw, Segment, Run, run_calls, run_segments}
+use Rattle.p3_challenger_core.specs.Segments.{observe, draw, Segment, Run, run_calls, run_segments}
 use Rattle.p3_challenger_core.specs.Segments.{run_before}
 use Rattle.p3_challenger_core.specs.SegmentLaws.{cut-only, run_calls-segments}
 use Rattle.p3_multi_field.specs.MultiFieldCalls.{FieldPair, Symbol, scalar, digest, MultiFieldSponge, batch_of, row_of}
@@ -36,7 +36,8 @@ module _ {F PF P : Type 0} (pair : FieldPair F PF) (permute : P → List PF → 
 stretches-scalars : {F PF : Type 0} (xs : List F)
     → stretches {F = F} {PF = PF} (map scalar xs) ≡ record { scalars = xs; digests = [] }
 stretches-scalars [] = refl
-stretches-scalars (x ∷ xs) = ap (λ cut. record { scalars = x ∷ cut.scalars; digests = cut.digests }) (stretches-scalars xs)
+stretches-scalars (x ∷ xs) =
+    ap (λ cut. record { scalars = x ∷ cut.scalars; digests = cut.digests }) (stretches-scalars xs)
 
 module _ {F PF : Type 0} (pair : FieldPair F PF) (permute : List PF → List PF) (rate : ℕ) where
   -- the outputs from a place on are those at the places from there on
@@ -118,14 +119,16 @@ module _ {F PF : Type 0} (pair : FieldPair F PF) (permute : List PF → List PF)
         ∙ places
 
     pub scalars-places : (x : F) (xs : List F) (n : ℕ)
-        → (run_calls (multi_field_by_calls pair permute rate) s (map observe (map scalar (x ∷ xs)) ++ replicate n draw)).answers
+        → (run_calls (multi_field_by_calls pair permute rate) s
+        (map observe (map scalar (x ∷ xs)) ++ replicate n draw)).answers
         ≡ map (λ k. output_at pair permute rate (absorbed_cells pair permute rate s (map scalar (x ∷ xs))) k)
         (range_with_len 0 n)
     scalars-places x xs n =
         draws-after (map scalar (x ∷ xs)) n (scalars-silent s x xs) (scalars-after s x xs n)
 
     pub digest-places : (w : PF) (ws : List PF) (n : ℕ)
-        → (run_calls (multi_field_by_calls pair permute rate) s (map observe (digest (w ∷ ws) ∷ []) ++ replicate n draw)).answers
+        → (run_calls (multi_field_by_calls pair permute rate) s
+        (map observe (digest (w ∷ ws) ∷ []) ++ replicate n draw)).answers
         ≡ map (λ k. output_at pair permute rate (absorbed_cells pair permute rate s (digest (w ∷ ws) ∷ [])) k)
         (range_with_len 0 n)
     digest-places w ws n =

@@ -1,6 +1,7 @@
 pub mod Batches
 pub mod Calls
 pub mod Drawing
+pub mod ErrorEquality
 pub mod MultiFieldHanded
 pub mod MultiFieldSteps
 pub mod Numbers

@@ -15,3 +15,11 @@ Refuses order greater batch scalars_name cells_name (FieldOrderNotIncreasing inp
     (greater ≤ order) × (input_field.now ≡ scalars_name) × (sponge_field.now ≡ cells_name)
 Refuses order greater batch scalars_name cells_name (AbsorbLengthTagOverflow batch_len max) =
     (order < greater) × (255 < batch) × (batch_len ≡ min batch (2 ^ 64 - 1)) × (max ≡ 255)
+
+-- two errors say the same: that of one variant, with the same names and numbers, wherever the names lie
+abbrev pub SaySame : MultiField32ChallengerError → MultiField32ChallengerError → Type 0
+SaySame (FieldOrderNotIncreasing input_field sponge_field) (FieldOrderNotIncreasing other_input other_sponge) =
+    (input_field.now ≡ other_input.now) × (sponge_field.now ≡ other_sponge.now)
+SaySame (AbsorbLengthTagOverflow batch_len max) (AbsorbLengthTagOverflow other_len other_max) =
+    (batch_len ≡ other_len) × (max ≡ other_max)
+SaySame _ _ = ⊥

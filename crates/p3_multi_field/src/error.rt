@@ -1,4 +1,7 @@
 //! Why two fields make no challenger.
+ghost use Rattle.std.specs.Prelude.{◌≡◌, ◌↔◌, true};
+ghost use Rattle.p3_multi_field.specs.Refusals.{SaySame};
+
 use thiserror::Error;
 
 /// Why two fields do not make a multi-field challenger. No challenger stands after either.
@@ -24,4 +27,16 @@ pub enum MultiField32ChallengerError {
         /// The greatest tag: 255.
         max: usize,
     },
+}
+
+impl MultiField32ChallengerError {
+    /// Two errors compare equal exactly where they say the same: that of one variant, with the same names and numbers,
+    /// wherever the names lie.
+    ///
+    /// A law: the body is empty, and a caller cites the clause.
+    #[tactic(auto, using(crate::proofs::ErrorEquality::equal_errors))]
+    pub fn compared_by_parts()
+        ensures { (a b : MultiField32ChallengerError) →
+            (⟦<MultiField32ChallengerError as PartialEq>⟧.eq a b ≡ true ↔ SaySame a b) }
+    {}
 }

@@ -29,6 +29,7 @@ mod bits;
 mod calls;
 mod digests;
 mod grinding;
+mod refusals;
 
 use crate::{MultiField32ChallengerError, MultiFieldSymbol, Paired};
 use p3_challenger_core::{
@@ -37,6 +38,7 @@ use p3_challenger_core::{
 use p3_field_bridge::FieldBridge;
 use p3_field_core::{BasedVectorSpace, Named, PrimeField32, PrimeField64};
 use p3_symmetric::CryptographicPermutation;
+use std::fmt;
 use std::marker::Model;
 
 // The greatest tag of an absorb, and so the most scalars that may be pending.
@@ -62,8 +64,9 @@ const MOST_SCALARS: usize = 255;
 /// digest at the end is the `RATE` cells of the rate after one more permutation.
 ///
 /// The Rust crate's `MultiField32Challenger`, which wraps a duplex challenger. Here it is a sponge of its own, and its
-/// counts are those of a [`FieldBridge`].
-#[derive(Debug, Drop)]
+/// counts are those of a [`FieldBridge`]. It prints the cells, what is pending and how many outputs are left, and shows
+/// nothing of what was absorbed.
+#[derive(Drop)]
 pub struct MultiField32Challenger<
     F: PrimeField32,
     PF: PrimeField64 + FieldBridge<F, PF>,
@@ -104,6 +107,24 @@ impl<
 
     ghost invariant = { λ c. KeepsNumbers WIDTH RATE F.residues.order PF.residues.order PF.ABSORB_COUNT
         PF.SQUEEZE_COUNT c.scalars c.outputs_left };
+}
+
+// By hand: the places that mean nothing hold scalars that were absorbed long ago.
+impl<
+    F: PrimeField32 + fmt::Debug,
+    PF: PrimeField64 + FieldBridge<F, PF> + fmt::Debug,
+    P: fmt::Debug,
+    const WIDTH: usize,
+    const RATE: usize,
+> fmt::Debug for MultiField32Challenger<F, PF, P, WIDTH, RATE> {
+    fn fmt<W: fmt::Write>(&self, f: &mut fmt::Formatter<W>) -> fmt::Result {
+        f.debug_struct("MultiField32Challenger")
+            .field("sponge_state", &self.sponge_state)
+            .field("pending", &&self.pending[..self.scalars])
+            .field("outputs_left", &self.outputs_left)
+            .field("permutation", &self.permutation)
+            .finish()
+    }
 }
 
 impl<

@@ -9,7 +9,8 @@ use Rattle.p3_challenger_core.specs.Observation.{Observation, in_slice}
 use Rattle.p3_challenger_core.specs.Sampling.{Sampling, draws, after_draws}
 use Rattle.p3_grinding.specs.Candidates.{after_refused, first_accepted, after_first_accepted}
 use Rattle.p3_serializing.specs.SerializingState.{SerializingState, bits_of_order, group, low_bits_of_group}
-use Rattle.p3_serializing.specs.SerializingState.{byte_dropped, element_observed, element_drawn, bits_drawn, space_element_drawn}
+use Rattle.p3_serializing.specs.SerializingState.{byte_dropped, element_observed, element_drawn, bits_drawn}
+use Rattle.p3_serializing.specs.SerializingState.{space_element_drawn}
 use Rattle.p3_serializing.specs.SerializingGroups.{SerializingCall, observe, draw, draw_bits, draw_uniform, drop_byte}
 use Rattle.p3_serializing.specs.SerializingGroups.{element, bits}
 use Rattle.p3_serializing.specs.SerializingGroups.{CallByCall, by_calls, AreRead, ByteCall, read, Reads}
@@ -239,7 +240,8 @@ module _ {I Symbol F : Type 0} (o : Observation I Symbol ℕ) (slice_may_leave :
         words,
         record {
           reads = subst (λ (i : I). Reads slice_fed (group d n) d.after s.inner
-              (byte_calls r n limit (draw ∷ calls) words) words i) (sym (ap (λ t. (after_calls by calls t).inner) there)) read_off;
+              (byte_calls r n limit (draw ∷ calls) words) words i)
+              (sym (ap (λ t. (after_calls by calls t).inner) there)) read_off;
           answers = λ j. element (answer j) ∷ answers j;
           limit = ap (λ t. (after_calls by calls t).draw_limit) there ∙ later.1.limit;
         },

@@ -37,6 +37,10 @@ passed_on o =
       may_leave = λ s x t. o.may_leave s.inner x t.inner × (t.draw_limit ≡ s.draw_limit);
     }
 
+-- where the inner challenger observes bytes, one after another
+abbrev pub after_bytes : {I : Type 0} → (I → ℕ → I) → SerializingState I → List ℕ → SerializingState I
+after_bytes inner_observed s bytes = stepped (λ i. observation.observed_all inner_observed i bytes) s
+
 -- values in order, each observed as another value
 abbrev pub each_as : {S Symbol T U : Type 0} → (U → T) → Observation S Symbol T → Observation S Symbol (List U)
 each_as f o = observation.in_row (observed_as f o)
@@ -73,6 +77,10 @@ under_limit d =
 -- a byte that is drawn and dropped
 abbrev pub byte_dropped : {I : Type 0} → Sampling I ℕ → Sampling (SerializingState I) (Unit {0})
 byte_dropped d = under_limit (λ _. made_of (λ _. tt) d)
+
+-- how many groups are drawn at most, until one is an element
+abbrev pub groups_allowed : {I : Type 0} → SerializingState I → ℕ
+groups_allowed s = s.draw_limit
 
 -- the least number of bits whose power of two an order does not pass
 abbrev pub bits_of_order : ℕ → ℕ

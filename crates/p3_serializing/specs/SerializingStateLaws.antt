@@ -139,7 +139,7 @@ pub bits_drawn-below : {I : Type 0} (d : Sampling I ℕ) (n bits : ℕ) (s : Ser
 bits_drawn-below d n bits s x drawn = low_bits-below_all ((group d n).sampled s.inner) bits x drawn
 
 module _ {I : Type 0} (next : I → I) where
-  stepped-steps : (n : ℕ) (s : SerializingState I)
+  pub stepped-steps : (n : ℕ) (s : SerializingState I)
       → after_steps (stepped next) n s ≡ stepped (after_steps next n) s
   stepped-steps zero s = refl
   stepped-steps (suc n) s = stepped-steps n (stepped next s)

@@ -10,6 +10,7 @@ ghost use Rattle.std.specs.Prelude.{◌≡◌, ◌≤◌, OnOk, IfErr};
 ghost use Rattle.p3_challenger_core.specs.Observation.{RefusesObserve, in_row};
 ghost use Rattle.p3_hash_challenger.specs.HashCalls.{absorbing};
 
+mod calls;
 mod digests;
 mod draws;
 mod grinding;

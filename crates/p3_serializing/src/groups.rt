@@ -19,8 +19,9 @@ impl<
     /// and the inner challenger ends where these calls leave it. The draw limit stays. This holds where the inner
     /// challenger's draws meet no limit of their own.
     ///
-    /// So it is of a check of a witness too, which is a byte that is dropped, an observe and a draw of bits. Digests
-    /// and arrays are not among these calls: their observes are stated one by one.
+    /// A check of a witness is such a list too, as [`checks_are_calls`](SerializingChallenger::checks_are_calls) says:
+    /// a byte that is dropped, an observe and a draw of bits. Digests and arrays are not among these calls: their
+    /// observes are those of their bytes, by [`observes_are_calls`](SerializingChallenger::observes_are_calls).
     ///
     /// A law: the body is empty, and a caller cites the clause.
     pub fn follows_groups()

@@ -8,6 +8,8 @@ mod hash;
 #[cfg(test)]
 mod multi_field;
 #[cfg(test)]
+mod printed;
+#[cfg(test)]
 mod serializing;
 #[cfg(test)]
 mod support;

@@ -1,5 +1,6 @@
 //! What each method is as a list of calls: of the call-by-call definition that `follows_segments` speaks of.
-ghost use Rattle.std.specs.Prelude.{◌≡◌, ◌<◌, ◌≤◌, ◌^◌, ◌%◌, ◌==◌, ◌++◌, ℕ, suc, Bool, List, [], ◌∷◌, Some, map, replicate};
+ghost use Rattle.std.specs.Prelude.{◌≡◌, ◌<◌, ◌≤◌, ◌^◌, ◌%◌, ◌==◌, ◌++◌, ℕ, suc, Bool, List, [], ◌∷◌, Some};
+ghost use Rattle.std.specs.Prelude.{map, replicate};
 ghost use Rattle.std.specs.List.{flat_map, range_with_len};
 ghost use Rattle.p3_symmetric.specs.HashValues.{values_of};
 ghost use Rattle.p3_challenger_core.specs.Segments.{observe, draw, run_calls_to_digest};
@@ -95,9 +96,6 @@ impl<
             (check_of ⟦<Self as PrepareCheck>⟧.before_witness ⟦<Self as CanObserve<F>>⟧.observation
             (all_zero (⟦<Self as CanSampleBits<usize>>⟧.bits_sampling (suc more))) (suc more) witness).after c
             ≡ after_calls F.residues P.permutation RATE c (observe witness ∷ draw ∷ []) }
-        ensures memory { (bits : ℕ) (witness : F) (c d : DuplexState F P) →
-            ¬ ((check_of ⟦<Self as PrepareCheck>⟧.before_witness ⟦<Self as CanObserve<F>>⟧.observation
-            (all_zero (⟦<Self as CanSampleBits<usize>>⟧.bits_sampling bits)) bits witness).may_leave c d) }
     {}
 }
 

@@ -1,6 +1,6 @@
 //! Uniform bits, drawn from a duplex challenger: the low bits of elements that are below the bound of the field for so
 //! many bits. As few bits as one element serves for are drawn from one, and more of them in two halves.
-ghost use Rattle.std.specs.Prelude.{◌≡◌, ◌<◌, ◌≤◌, ◌^◌, ◌/◌, ℕ, Bool, false, Some, OnOk, IfOk, IfErr};
+ghost use Rattle.std.specs.Prelude.{◌≡◌, ◌<◌, ◌≤◌, ◌^◌, ◌/◌, ℕ, Bool, true, false, Some, OnOk, IfOk, IfErr};
 ghost use Rattle.p3_field_core.specs.UniformBounds.{uniform_bound};
 ghost use Rattle.p3_challenger_core.specs.Sampling.{RefusesDraw};
 ghost use Rattle.p3_grinding.specs.Candidates.{accepted_of, accepted_within};
@@ -20,7 +20,7 @@ impl<
 > DuplexChallenger<F, P, WIDTH, RATE> {
     ghost use Rattle.std.specs.Option.{option_map};
     ghost use Rattle.p3_duplex.specs.DuplexUniform.{base_draw, draws_allowed, taken_element, single, halved};
-    ghost use Rattle.p3_duplex.specs.DuplexUniform.{how_many_give};
+    ghost use Rattle.p3_duplex.specs.DuplexUniform.{how_many_give, MeetsElementLimit};
     ghost use Rattle.p3_duplex.specs.DuplexState.{DuplexState};
 
     /// Bits that are drawn from one element have no bias: they are the low bits of the element that is taken, which is
@@ -57,6 +57,21 @@ impl<
     {
         let _ = &self.outputs_left;
     }
+
+    /// Where another value may be drawn in the place of a rejected one, a draw gives nothing exactly where each of as
+    /// many elements as the draw limit allows is drawn and is not below the bound. There, and nowhere else, it meets
+    /// the limit, and the challenger stands after just so many draws. So it is of as many bits as one element serves
+    /// for, at least one, and of each half of more of them, which are drawn as
+    /// [`uniform_draws_have_parts`](DuplexChallenger::uniform_draws_have_parts) says.
+    ///
+    /// A law: the body is empty, and a caller cites the clauses.
+    pub fn limits_are_met_exactly()
+        ensures one { (bits : ℕ) → 0 < bits → bits ≤ F.MAX_SINGLE_SAMPLE_BITS →
+            MeetsElementLimit F.residues P.permutation RATE bits
+            (⟦<Self as CanSampleUniformBits<F>>⟧.uniform true bits) }
+        ensures half { (bits : ℕ) → MeetsElementLimit F.residues P.permutation RATE bits
+            (single F.residues P.permutation RATE true bits) }
+    {}
 
     // The first element below a bound, of as many as the draw limit allows. Mostly it is the next one: fewer than half
     // of all elements are not below their bound.

@@ -111,8 +111,5 @@ impl<
             (check_of ⟦<Self as PrepareCheck>⟧.before_witness ⟦<Self as CanObserve<F>>⟧.observation
             (all_zero (⟦<Self as CanSampleBits<usize>>⟧.bits_sampling (suc more))) (suc more) witness).after c
             ≡ after_calls ⟦<PF as Paired<F>>⟧.pair P.permutation RATE c (observe (scalar witness) ∷ draw ∷ []) }
-        ensures memory { (bits : ℕ) (witness : F) (c d : MultiFieldState F PF P) →
-            ¬ ((check_of ⟦<Self as PrepareCheck>⟧.before_witness ⟦<Self as CanObserve<F>>⟧.observation
-            (all_zero (⟦<Self as CanSampleBits<usize>>⟧.bits_sampling bits)) bits witness).may_leave c d) }
     {}
 }

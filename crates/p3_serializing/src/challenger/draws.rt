@@ -10,6 +10,7 @@ use p3_challenger_core::{
     sample_array,
 };
 use p3_field_core::{BasedVectorSpace, PrimeField64, log2_ceil_u64};
+use p3_grinding::CanSampleUniformBits;
 
 impl<F: SerializedIn<BYTES>, Inner: CanSample<u8>, const BYTES: usize> SerializingChallenger<
     F,
@@ -39,6 +40,37 @@ impl<F: SerializedIn<BYTES>, Inner: CanSample<u8>, const BYTES: usize> Serializi
     {
         draw_element::<F, Inner, BYTES>(&mut self.inner, self.draw_limit)
     }
+}
+
+impl<F: SerializedIn<BYTES>, Inner: CanSample<u8>, const BYTES: usize> SerializingChallenger<
+    F,
+    Inner,
+    BYTES,
+> {
+    ghost use Rattle.std.specs.Prelude.{IsSome, Bool, nat_lt};
+    ghost use Rattle.p3_grinding.specs.Candidates.{MeetsLimitExactly};
+    ghost use Rattle.p3_serializing.specs.SerializingState.{SerializingState, groups_allowed};
+
+    /// A draw of an element of the field gives nothing exactly where each of as many groups as the draw limit allows is
+    /// drawn and, cut to the bits of the order, is not below the order. There, and nowhere else, it meets the limit,
+    /// and the challenger stands after just so many groups. A draw of bits, uniform or not, meets no limit, and gives a
+    /// number. All this holds where the inner challenger's draws meet no limit of their own.
+    ///
+    /// A law: the body is empty, and a caller cites the clauses.
+    pub fn limits_are_met_exactly()
+        ensures element { ((i : Inner.State) → IsSome (Inner.sampling.sampled i)) →
+            MeetsLimitExactly
+            (⟦<Self as CanSampleBits<usize>>⟧.bits_sampling (bits_of_order F.residues.order))
+            (λ x. nat_lt x F.residues.order) groups_allowed ⟦<Self as CanSample<F>>⟧.sampling }
+        ensures bits { ((i : Inner.State) → IsSome (Inner.sampling.sampled i)) →
+            (bits : ℕ) (s : SerializingState Inner.State) →
+            IsSome ((⟦<Self as CanSampleBits<usize>>⟧.bits_sampling bits).sampled s)
+            × ¬ ((⟦<Self as CanSampleBits<usize>>⟧.bits_sampling bits).meets_limit s) }
+        ensures uniform { ((i : Inner.State) → IsSome (Inner.sampling.sampled i)) →
+            (resample : Bool) (bits : ℕ) (s : SerializingState Inner.State) →
+            IsSome ((⟦<Self as CanSampleUniformBits<F>>⟧.uniform resample bits).draw.sampled s)
+            × ¬ ((⟦<Self as CanSampleUniformBits<F>>⟧.uniform resample bits).draw.meets_limit s) }
+    {}
 }
 
 impl<

@@ -39,7 +39,8 @@ returns-else-as_canonical_u64-bound-clause-drawn g c =
     let r = g.F.PrimeCharacteristicRing.residues in
     let start = c.args.self.now in
     let some : 0 < start.draw_limit = search (rules, c.self) in
-    let after_one = seeks-next (base_draw r g.P.CryptographicPermutation.permutation g.row.RATE) (is_below r c.args.bound)
+    let after_one =
+    seeks-next (base_draw r g.P.CryptographicPermutation.permutation g.row.RATE) (is_below r c.args.bound)
     start.draw_limit start 0 start c.draw-first.new.self c.draw-first.result some
     (ap Some (sym c.draw-first.ensures.value)) c.draw-first.ensures.after
     (seeks-start (base_draw r g.P.CryptographicPermutation.permutation g.row.RATE) (is_below r c.args.bound)
@@ -60,7 +61,8 @@ returns-else-as_canonical_u64-bound-clause-after g c =
     let r = g.F.PrimeCharacteristicRing.residues in
     let start = c.args.self.now in
     let some : 0 < start.draw_limit = search (rules, c.self) in
-    let after_one = seeks-next (base_draw r g.P.CryptographicPermutation.permutation g.row.RATE) (is_below r c.args.bound)
+    let after_one =
+    seeks-next (base_draw r g.P.CryptographicPermutation.permutation g.row.RATE) (is_below r c.args.bound)
     start.draw_limit start 0 start c.draw-first.new.self c.draw-first.result some
     (ap Some (sym c.draw-first.ensures.value)) c.draw-first.ensures.after
     (seeks-start (base_draw r g.P.CryptographicPermutation.permutation g.row.RATE) (is_below r c.args.bound)
@@ -81,7 +83,8 @@ returns-else-as_canonical_u64-bound-clause-err g c =
     let r = g.F.PrimeCharacteristicRing.residues in
     let start = c.args.self.now in
     let some : 0 < start.draw_limit = search (rules, c.self) in
-    let after_one = seeks-next (base_draw r g.P.CryptographicPermutation.permutation g.row.RATE) (is_below r c.args.bound)
+    let after_one =
+    seeks-next (base_draw r g.P.CryptographicPermutation.permutation g.row.RATE) (is_below r c.args.bound)
     start.draw_limit start 0 start c.draw-first.new.self c.draw-first.result some
     (ap Some (sym c.draw-first.ensures.value)) c.draw-first.ensures.after
     (seeks-start (base_draw r g.P.CryptographicPermutation.permutation g.row.RATE) (is_below r c.args.bound)

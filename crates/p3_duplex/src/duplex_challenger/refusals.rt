@@ -1,0 +1,73 @@
+//! Laws: what is never refused, beside observes and draws of single values.
+ghost use Rattle.std.specs.Prelude.{◌≡◌, ℕ, Bool, false, List};
+ghost use Rattle.p3_challenger_core.specs.Observation.{LeavesInCalls, RefusesObserve};
+ghost use Rattle.p3_challenger_core.specs.Sampling.{RefusesDraw};
+ghost use Rattle.p3_challenger_core.specs.declared.error.ChallengerError.{ChallengerError};
+ghost use Rattle.p3_grinding.specs.Checks.{all_zero, check_of, zero_and_uniform};
+ghost use Rattle.p3_duplex.specs.DuplexState.{DuplexState};
+
+use crate::DuplexChallenger;
+use p3_challenger_core::{CanObserve, CanSampleBits};
+use p3_field_core::{PrimeField64, UniformSamplingField};
+use p3_grinding::{CanSampleUniformBits, PrepareCheck};
+use p3_symmetric::{CryptographicPermutation, Hash, MerkleCap};
+
+impl<
+    F: PrimeField64,
+    P: CryptographicPermutation<[F; WIDTH]>,
+    const WIDTH: usize,
+    const RATE: usize,
+> DuplexChallenger<F, P, WIDTH, RATE> {
+    /// Observations of arrays, digests, caps and lists of lists are never refused: no list of them leaves any
+    /// challenger with an error. A slice of them leaves, by the law `slice_leaves` of [`CanObserve`], what such a list
+    /// leaves.
+    ///
+    /// A law: the body is empty, and a caller cites the clauses.
+    pub fn observes_of_lists_are_not_refused<M, const N: usize>()
+        ensures arrays { (values : _) (e : ChallengerError) (s t : DuplexState F P) →
+            ¬ (RefusesObserve (LeavesInCalls ⟦<Self as CanObserve<[F; N]>>⟧.observation.observed
+            ⟦<Self as CanObserve<[F; N]>>⟧.observation.may_leave s values) e t) }
+        ensures digests { (values : _) (e : ChallengerError) (s t : DuplexState F P) →
+            ¬ (RefusesObserve (LeavesInCalls ⟦<Self as CanObserve<Hash<M, F, N>>>⟧.observation.observed
+            ⟦<Self as CanObserve<Hash<M, F, N>>>⟧.observation.may_leave s values) e t) }
+        ensures caps { (values : _) (e : ChallengerError) (s t : DuplexState F P) →
+            ¬ (RefusesObserve (LeavesInCalls ⟦<Self as CanObserve<MerkleCap<M, [F; N]>>>⟧.observation.observed
+            ⟦<Self as CanObserve<MerkleCap<M, [F; N]>>>⟧.observation.may_leave s values) e t) }
+        ensures lists { (values : _) (e : ChallengerError) (s t : DuplexState F P) →
+            ¬ (RefusesObserve (LeavesInCalls ⟦<Self as CanObserve<Vec<Vec<F>>>>⟧.observation.observed
+            ⟦<Self as CanObserve<Vec<Vec<F>>>>⟧.observation.may_leave s values) e t) }
+    {}
+
+    /// Checks of witnesses are never refused, whatever number of bits they test: they take no memory, and meet no
+    /// limit.
+    ///
+    /// A law: the body is empty, and a caller cites the clause.
+    pub fn checks_are_not_refused()
+        ensures { (bits : ℕ) (witness : F) (e : ChallengerError) (c d : DuplexState F P) →
+            ¬ (RefusesDraw (check_of ⟦<Self as PrepareCheck>⟧.before_witness
+            ⟦<Self as CanObserve<F>>⟧.observation
+            (all_zero (⟦<Self as CanSampleBits<usize>>⟧.bits_sampling bits)) bits witness) e c d) }
+    {}
+}
+
+impl<
+    F: UniformSamplingField,
+    P: CryptographicPermutation<[F; WIDTH]>,
+    const WIDTH: usize,
+    const RATE: usize,
+> DuplexChallenger<F, P, WIDTH, RATE> {
+    /// Checks of witnesses by uniform bits take no memory, and those that draw no other value in the place of a
+    /// rejected one are never refused.
+    ///
+    /// A law: the body is empty, and a caller cites the clauses.
+    pub fn uniform_checks_take_no_memory()
+        ensures memory { (resample : Bool) (bits : ℕ) (witness : F) (c d : DuplexState F P) →
+            ¬ ((check_of ⟦<Self as PrepareCheck>⟧.before_witness ⟦<Self as CanObserve<F>>⟧.observation
+            (zero_and_uniform (⟦<Self as CanSampleUniformBits<F>>⟧.uniform resample bits)) bits witness).may_leave
+            c d) }
+        ensures unrefused { (bits : ℕ) (witness : F) (e : ChallengerError) (c d : DuplexState F P) →
+            ¬ (RefusesDraw (check_of ⟦<Self as PrepareCheck>⟧.before_witness
+            ⟦<Self as CanObserve<F>>⟧.observation
+            (zero_and_uniform (⟦<Self as CanSampleUniformBits<F>>⟧.uniform false bits)) bits witness) e c d) }
+    {}
+}

@@ -1,0 +1,53 @@
+//! Laws: what is never refused, beside observes and draws of single scalars.
+ghost use Rattle.std.specs.Prelude.{◌≡◌, ℕ};
+ghost use Rattle.p3_challenger_core.specs.Observation.{LeavesInCalls, RefusesObserve};
+ghost use Rattle.p3_challenger_core.specs.Sampling.{RefusesDraw};
+ghost use Rattle.p3_challenger_core.specs.declared.error.ChallengerError.{ChallengerError};
+ghost use Rattle.p3_grinding.specs.Checks.{all_zero, check_of};
+ghost use Rattle.p3_multi_field.specs.MultiFieldState.{MultiFieldState};
+
+use crate::MultiField32Challenger;
+use p3_challenger_core::{CanObserve, CanSampleBits};
+use p3_field_bridge::FieldBridge;
+use p3_field_core::{PrimeField32, PrimeField64};
+use p3_grinding::PrepareCheck;
+use p3_symmetric::{CryptographicPermutation, Hash, MerkleCap};
+
+impl<
+    F: PrimeField32,
+    PF: PrimeField64 + FieldBridge<F, PF>,
+    P: CryptographicPermutation<[PF; WIDTH]>,
+    const WIDTH: usize,
+    const RATE: usize,
+> MultiField32Challenger<F, PF, P, WIDTH, RATE> {
+    /// Observations of arrays and lists of lists of scalars, of digests and of caps are never refused: no list of them
+    /// leaves any challenger with an error. A slice of them leaves, by the law `slice_leaves` of [`CanObserve`], what
+    /// such a list leaves.
+    ///
+    /// A law: the body is empty, and a caller cites the clauses.
+    pub fn observes_of_lists_are_not_refused<const N: usize>()
+        ensures arrays { (values : _) (e : ChallengerError) (s t : MultiFieldState F PF P) →
+            ¬ (RefusesObserve (LeavesInCalls ⟦<Self as CanObserve<[F; N]>>⟧.observation.observed
+            ⟦<Self as CanObserve<[F; N]>>⟧.observation.may_leave s values) e t) }
+        ensures digests { (values : _) (e : ChallengerError) (s t : MultiFieldState F PF P) →
+            ¬ (RefusesObserve (LeavesInCalls ⟦<Self as CanObserve<Hash<F, PF, N>>>⟧.observation.observed
+            ⟦<Self as CanObserve<Hash<F, PF, N>>>⟧.observation.may_leave s values) e t) }
+        ensures caps { (values : _) (e : ChallengerError) (s t : MultiFieldState F PF P) →
+            ¬ (RefusesObserve (LeavesInCalls ⟦<Self as CanObserve<MerkleCap<F, [PF; N]>>>⟧.observation.observed
+            ⟦<Self as CanObserve<MerkleCap<F, [PF; N]>>>⟧.observation.may_leave s values) e t) }
+        ensures lists { (values : _) (e : ChallengerError) (s t : MultiFieldState F PF P) →
+            ¬ (RefusesObserve (LeavesInCalls ⟦<Self as CanObserve<Vec<Vec<F>>>>⟧.observation.observed
+            ⟦<Self as CanObserve<Vec<Vec<F>>>>⟧.observation.may_leave s values) e t) }
+    {}
+
+    /// Checks of witnesses are never refused, whatever number of bits they test: they take no memory, and meet no
+    /// limit.
+    ///
+    /// A law: the body is empty, and a caller cites the clause.
+    pub fn checks_are_not_refused()
+        ensures { (bits : ℕ) (witness : F) (e : ChallengerError) (c d : MultiFieldState F PF P) →
+            ¬ (RefusesDraw (check_of ⟦<Self as PrepareCheck>⟧.before_witness
+            ⟦<Self as CanObserve<F>>⟧.observation
+            (all_zero (⟦<Self as CanSampleBits<usize>>⟧.bits_sampling bits)) bits witness) e c d) }
+    {}
+}

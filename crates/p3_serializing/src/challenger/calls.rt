@@ -1,0 +1,123 @@
+//! Laws: what each method is as calls on the inner challenger, or as calls of the list that `follows_groups` speaks of.
+ghost use Rattle.std.specs.Prelude.{◌≡◌, ◌==◌, ℕ, zero, suc, Bool, List, [], ◌∷◌, Some, None, IsSome};
+ghost use Rattle.std.specs.List.{flat_map};
+ghost use Rattle.std.specs.Option.{option_map};
+ghost use Rattle.p3_symmetric.specs.HashValues.{values_of};
+ghost use Rattle.p3_challenger_core.specs.Sampling.{draws, after_draws};
+ghost use Rattle.p3_grinding.specs.Checks.{all_zero, check_of};
+ghost use Rattle.p3_serializing.specs.Bytes.{bytes_of};
+ghost use Rattle.p3_serializing.specs.SerializingState.{SerializingState, after_bytes};
+ghost use Rattle.p3_serializing.specs.SerializingGroups.{observe, draw_bits, drop_byte, bits, by_calls};
+ghost use Rattle.p3_serializing.specs.SerializingGroups.{answers_by_calls, after_calls};
+
+use crate::{SerializedIn, SerializingChallenger};
+use p3_challenger_core::{CanFinalizeDigest, CanObserve, CanSample, CanSampleBits};
+use p3_field_core::BasedVectorSpace;
+use p3_grinding::{CanSampleUniformBits, PrepareCheck};
+use p3_symmetric::{Hash, MerkleCap};
+
+impl<F: SerializedIn<BYTES>, Inner: CanObserve<u8>, const BYTES: usize> SerializingChallenger<
+    F,
+    Inner,
+    BYTES,
+> {
+    /// Whatever is observed, the inner challenger observes its bytes, in order: of an element the `BYTES` bytes of its
+    /// number, the lowest first; of an array those of its elements; of a digest of bytes these bytes, and of one of
+    /// words 8 bytes for each; of a cap those of its roots one after another.
+    ///
+    /// A law: the body is empty, and a caller cites the clauses.
+    pub fn observes_are_calls<const N: usize>()
+        ensures value { (s : SerializingState Inner.State) (x : F) →
+            ⟦<Self as CanObserve<F>>⟧.observation.observed s x
+            ≡ after_bytes Inner.observation.observed s (bytes_of BYTES (F.residues.number x)) }
+        ensures array { (s : SerializingState Inner.State) (xs : List F) →
+            ⟦<Self as CanObserve<[F; N]>>⟧.observation.observed s xs
+            ≡ after_bytes Inner.observation.observed s (flat_map (λ x. bytes_of BYTES (F.residues.number x)) xs) }
+        ensures digest { (s : SerializingState Inner.State) (digest : _) →
+            ⟦<Self as CanObserve<Hash<F, u8, N>>>⟧.observation.observed s digest
+            ≡ after_bytes Inner.observation.observed s (values_of digest) }
+        ensures cap { (s : SerializingState Inner.State) (cap : List (List ℕ)) →
+            ⟦<Self as CanObserve<MerkleCap<F, [u8; N]>>>⟧.observation.observed s cap
+            ≡ after_bytes Inner.observation.observed s (flat_map (λ root. root) cap) }
+        ensures digest_of_words { (s : SerializingState Inner.State) (digest : _) →
+            ⟦<Self as CanObserve<Hash<F, u64, N>>>⟧.observation.observed s digest
+            ≡ after_bytes Inner.observation.observed s (flat_map (bytes_of 8) (values_of digest)) }
+        ensures cap_of_words { (s : SerializingState Inner.State) (cap : List (List ℕ)) →
+            ⟦<Self as CanObserve<MerkleCap<F, [u64; N]>>>⟧.observation.observed s cap
+            ≡ after_bytes Inner.observation.observed s (flat_map (λ root. flat_map (bytes_of 8) root) cap) }
+    {}
+}
+
+impl<F: SerializedIn<BYTES>, Inner: CanSample<u8>, const BYTES: usize> SerializingChallenger<
+    F,
+    Inner,
+    BYTES,
+> {
+    /// An element of a space of some dimension is as many draws of elements of the field, which are its coefficients,
+    /// coefficient 0 first; it stops at the first that meets the draw limit. Uniform bits are bits, and no value is
+    /// rejected.
+    ///
+    /// A law: the body is empty, and a caller cites the clauses.
+    pub fn draws_are_calls<A: BasedVectorSpace<F>>()
+        ensures element { (s : SerializingState Inner.State) →
+            ⟦<Self as CanSample<A>>⟧.sampling.sampled s
+            ≡ option_map A.element (draws ⟦<Self as CanSample<F>>⟧.sampling A.DIMENSION s) }
+        ensures after { (s : SerializingState Inner.State) →
+            ⟦<Self as CanSample<A>>⟧.sampling.after s
+            ≡ after_draws ⟦<Self as CanSample<F>>⟧.sampling A.DIMENSION s }
+        ensures uniform { (resample : Bool) (bits : ℕ) (s : SerializingState Inner.State) →
+            (⟦<Self as CanSampleUniformBits<F>>⟧.uniform resample bits).draw.sampled s
+            ≡ (⟦<Self as CanSampleBits<usize>>⟧.bits_sampling bits).sampled s }
+        ensures after_uniform { (resample : Bool) (bits : ℕ) (s : SerializingState Inner.State) →
+            (⟦<Self as CanSampleUniformBits<F>>⟧.uniform resample bits).draw.after s
+            ≡ (⟦<Self as CanSampleBits<usize>>⟧.bits_sampling bits).after s }
+        ensures rejects { (resample : Bool) (bits : ℕ) (s : SerializingState Inner.State) →
+            (⟦<Self as CanSampleUniformBits<F>>⟧.uniform resample bits).rejects s ≡ None }
+    {}
+
+    /// The digest at the end is that of the inner challenger.
+    ///
+    /// A law: the body is empty, and a caller cites the clause.
+    pub fn digest_is_inner()
+    where
+        Inner: CanFinalizeDigest,
+        ensures { (s : SerializingState Inner.State) →
+            ⟦<Self as CanFinalizeDigest>⟧.digest_of s ≡ Inner.CanFinalizeDigest.digest_of s.inner }
+    {}
+}
+
+impl<
+    F: SerializedIn<BYTES>,
+    Inner: CanObserve<u8> + CanSample<u8>,
+    const BYTES: usize,
+> SerializingChallenger<F, Inner, BYTES> {
+    /// A check of a witness by at least one bit drops a byte, observes the witness and draws so many bits, and passes
+    /// where they are 0: as these calls of a list that `follows_groups` speaks of. A check by no bits passes and does
+    /// nothing. The byte that is dropped has to be there: the inner challenger meets no limit of its own in it.
+    ///
+    /// A law: the body is empty, and a caller cites the clauses.
+    pub fn checks_are_calls()
+        ensures none { (witness : F) (s : SerializingState Inner.State) →
+            (check_of ⟦<Self as PrepareCheck>⟧.before_witness ⟦<Self as CanObserve<F>>⟧.observation
+            (all_zero (⟦<Self as CanSampleBits<usize>>⟧.bits_sampling 0)) 0 witness).sampled s ≡ Some Bool.true }
+        ensures sampled { (more n : ℕ) (witness : F) (s : SerializingState Inner.State) →
+            IsSome (Inner.CanSample.sampling.sampled s.inner) →
+            answers_by_calls (by_calls ⟦<Self as CanObserve<F>>⟧.observation.observed
+            ⟦<Self as CanSample<F>>⟧.sampling ⟦<Self as CanSampleBits<usize>>⟧.bits_sampling
+            (λ resample count. (⟦<Self as CanSampleUniformBits<F>>⟧.uniform resample count).draw)
+            ⟦<Self as PrepareCheck>⟧.before_witness.after)
+            (drop_byte ∷ observe witness ∷ draw_bits (suc more) ∷ []) s ≡ bits (Some n) ∷ [] →
+            (check_of ⟦<Self as PrepareCheck>⟧.before_witness ⟦<Self as CanObserve<F>>⟧.observation
+            (all_zero (⟦<Self as CanSampleBits<usize>>⟧.bits_sampling (suc more))) (suc more) witness).sampled s
+            ≡ Some (n == 0) }
+        ensures after { (more : ℕ) (witness : F) (s : SerializingState Inner.State) →
+            IsSome (Inner.CanSample.sampling.sampled s.inner) →
+            (check_of ⟦<Self as PrepareCheck>⟧.before_witness ⟦<Self as CanObserve<F>>⟧.observation
+            (all_zero (⟦<Self as CanSampleBits<usize>>⟧.bits_sampling (suc more))) (suc more) witness).after s
+            ≡ after_calls (by_calls ⟦<Self as CanObserve<F>>⟧.observation.observed
+            ⟦<Self as CanSample<F>>⟧.sampling ⟦<Self as CanSampleBits<usize>>⟧.bits_sampling
+            (λ resample count. (⟦<Self as CanSampleUniformBits<F>>⟧.uniform resample count).draw)
+            ⟦<Self as PrepareCheck>⟧.before_witness.after)
+            (drop_byte ∷ observe witness ∷ draw_bits (suc more) ∷ []) s }
+    {}
+}
