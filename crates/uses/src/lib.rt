@@ -6,7 +6,7 @@
 //! - `round`: generic code over any challenger, codec and alphabet: [`send_and_draw`], [`receive_and_draw`] and
 //!   [`first_challenge`]. Further ones are `bound_values`, `three_calls` and `extra_value`: which symbols calls fed,
 //!   also where one of them is refused, and that those symbols bind the values; and what a step is played from, after
-//!   a call on the challenger that a driver lends.
+//!   a call on the challenger that a driver lends. `lists` reads two scalars by their places, and halts a verifier.
 //! - [`own_permutation`], [`own_rounds`] and [`own_hasher`]: what to hand in for a permutation, one of rounds with a
 //!   table of constants, and a hasher of one's own.
 //!
@@ -17,6 +17,7 @@
 mod bound_values;
 pub mod commit_phase;
 mod extra_value;
+mod lists;
 pub mod opening;
 pub mod own_hasher;
 pub mod own_permutation;
@@ -27,5 +28,6 @@ mod three_calls;
 
 pub use bound_values::{absorb_values, symbols_bind_values};
 pub use extra_value::{receive_after, send_after};
+pub use lists::{receive_list, receive_pair};
 pub use round::{Round, first_challenge, receive_and_draw, send_and_draw};
 pub use three_calls::observe_and_draw;
