@@ -97,6 +97,8 @@ pub use Rattle.p3_driver_core.specs.FeedingLaws
 pub use Rattle.p3_driver_core.specs.Meanings
 pub use Rattle.p3_driver_core.specs.Opened
 pub use Rattle.p3_driver_core.specs.Rejecting
+pub use Rattle.p3_driver_core.specs.RejectingLaws
+pub use Rattle.p3_driver_core.specs.TurnLaws
 pub use Rattle.p3_driver_core.specs.Turns
 pub use Rattle.p3_driver_core.specs.Working
 pub use Rattle.p3_driver_core.specs.WorkingLaws

@@ -15,8 +15,10 @@ pub use p3_codecs::{
 pub use p3_driver_core::{
     SymmetricSteps, TranscriptBound, bit_draws_feed_nothing, bytes_feed_their_symbols,
     counted_values_feed_their_symbols, counts_are_told, counts_take_the_least_width,
-    draws_feed_nothing, markers_and_hints_feed_nothing, opaque_values_feed_their_symbols,
-    uniform_draws_feed_nothing, values_feed_their_symbols, work_feeds_its_witness,
+    draws_feed_nothing, finished_players_refuse, listed_steps_are_next,
+    markers_and_hints_feed_nothing, next_steps_are_not_wrong, opaque_values_feed_their_symbols,
+    rejecting_draws_keep_the_first_accepted, rejecting_uniform_draws_keep_the_first_accepted,
+    slices_are_bytes, uniform_draws_feed_nothing, values_feed_their_symbols, work_feeds_its_witness,
 };
 pub use p3_driver_laws::{
     bit_draws_are_refused_for_one_reason, bit_draws_tell_limits, bytes_are_refused_for_one_reason,
@@ -52,7 +54,8 @@ pub use p3_turn::{
 };
 pub use p3_verifier::{
     VerifierState, carried_lists_are_let_through, carried_work_agrees, counted_hint_is_received,
-    drawn_bits_agree, drawn_uniform_bits_agree, drawn_values_agree, hint_is_received,
+    drawn_bits_agree, drawn_uniform_bits_agree, drawn_values_agree,
+    ended_verifiers_are_not_refused, hint_is_received,
     markers_agree, observed_counted_values_agree, observed_values_agree, opaque_values_agree,
     sent_bytes_are_received, sent_counted_bytes_are_received, sent_counted_values_are_received,
     sent_value_is_received, sent_values_are_received, sent_work_is_received,

@@ -8,6 +8,8 @@ pub mod FeedingLaws
 pub mod Meanings
 pub mod Opened
 pub mod Rejecting
+pub mod RejectingLaws
+pub mod TurnLaws
 pub mod Turns
 pub mod Working
 pub mod WorkingLaws

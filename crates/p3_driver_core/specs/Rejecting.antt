@@ -1,10 +1,10 @@
 -- Drawing until a rule has taken so many of the candidates.
-use Rattle.std.specs.Prelude.{◌≡◌, ℕ, zero, suc, Bool, false, List, [], ◌∷◌, ◌++◌, ◌⊎◌, Option, Some, None, Result}
-use Rattle.std.specs.Prelude.{MatchResult, if◌then◌else◌}
+use Rattle.std.specs.Prelude.{◌≡◌, ℕ, zero, suc, ◌<◌, Bool, true, false, List, [], ◌∷◌, ◌++◌, length, ◌⊎◌, Option, Some}
+use Rattle.std.specs.Prelude.{None, Result, MatchResult, if◌then◌else◌}
 use Rattle.std.specs.Fn.{Shared}
 use denote.Ref.{Bor}
 use Rattle.p3_challenger_core.specs.Observation.{RefusesObserve}
-use Rattle.p3_challenger_core.specs.Sampling.{Sampling, RefusesDraw}
+use Rattle.p3_challenger_core.specs.Sampling.{Sampling, RefusesDraw, draws, after_draws}
 use Rattle.p3_challenger_core.specs.declared.error.ChallengerError.{ChallengerError}
 use Rattle.p3_challenger_core.specs.declared.error.ChallengerError.TheVariants.{DrawLimit}
 use Rattle.p3_fs_core.specs.Steps.{Step}
@@ -98,3 +98,27 @@ abbrev pub TakesAll : {S T R : Type 0} → Sampling S T → Rule T → ℕ → �
 TakesAll d rule limit n values s result t =
     MatchResult result (λ r. keeps d rule limit n [] s ≡ given (values r) t)
     (λ e. RefusesObserve (λ u. u ≡ s) e t ⊎ RefusesKeeps d rule limit n [] e s t)
+
+-- ---- what is kept, said of the candidates
+
+-- the rule refuses each of these candidates beside those kept
+abbrev pub AreRefused : {T : Type 0} → Rule T → List T → List T → Type 0
+AreRefused rule kept [] = Unit {0}
+AreRefused rule kept (x ∷ xs) = (rule x kept ≡ false) × AreRefused rule kept xs
+
+-- Of candidates in a row just these are kept, in order, beside those kept before: before each of them fewer than so
+-- many are refused, each asked of beside those kept before it, and none comes after the last one.
+abbrev pub AreKept : {T : Type 0} → Rule T → ℕ → List T → List T → List T → Type 0
+AreKept rule limit kept [] candidates = candidates ≡ []
+AreKept {T} rule limit kept (x ∷ xs) candidates =
+    (refused : List T) × (rest : List T) × (candidates ≡ refused ++ (x ∷ rest)) × (length refused < limit)
+    × AreRefused rule kept refused × (rule x kept ≡ true) × AreKept rule limit (kept ++ (x ∷ [])) xs rest
+
+-- Candidates are drawn in a row from one state to another, and of them just these are kept, which are so many.
+pub record KeepsFirst {S T : Type 0} (d : Sampling S T) (rule : Rule T) (limit n : ℕ) (s : S) (xs : List T)
+    (t : S) : Type 0 where
+  pub candidates : List T
+  pub drawn : draws d (length candidates) s ≡ Some candidates
+  pub after : after_draws d (length candidates) s ≡ t
+  pub kept : AreKept rule limit [] xs candidates
+  pub count : length xs ≡ n

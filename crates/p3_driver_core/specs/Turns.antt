@@ -1,5 +1,5 @@
 -- Steps as drivers play them, whichever driver it is.
-use Rattle.std.specs.Prelude.{◌≡◌, ℕ, ◌+◌, ◌⊎◌, ◌<◌, true, false, List, [], ◌++◌, Option, Some, None, take, codes}
+use Rattle.std.specs.Prelude.{◌≡◌, ℕ, ◌+◌, ◌⊎◌, ◌<◌, true, false, List, [], ◌∷◌, ◌++◌, Option, Some, None, take, codes}
 use Rattle.std.specs.Prelude.{Result, MatchResult}
 use Rattle.p3_challenger_core.specs.declared.error.ChallengerError.TheVariants as challenger
 use Rattle.p3_fs_core.specs.Steps.{Step, step_with}
@@ -63,6 +63,24 @@ IsNext playing s = (playing.finished ≡ false) × (next_step playing ≡ Some s
 -- the player after a step more
 abbrev pub step_on : Playing → Playing
 step_on playing = record { pattern = playing.pattern; position = playing.position + 1; finished = false }
+
+-- these steps are the next ones, in this order
+abbrev pub AreNext : List Step → Playing → Type 0
+AreNext [] playing = Unit {0}
+AreNext (s ∷ steps) playing = IsNext playing s × AreNext steps (step_on playing)
+
+-- the player after as many steps more
+abbrev pub steps_on : List Step → Playing → Playing
+steps_on [] playing = playing
+steps_on (s ∷ steps) playing = steps_on steps (step_on playing)
+
+-- the player once no step may follow: its pattern stays, and its place in it
+abbrev pub halted_player : Playing → Playing
+halted_player playing = record { pattern = playing.pattern; position = playing.position; finished = true }
+
+-- the same of a driver: its challenger stays too
+abbrev pub halted : {S : Type 0} → Turn S → Turn S
+halted turn = record { challenger = turn.challenger; playing = halted_player turn.playing }
 
 -- the step is played: it was the next one, this comes of it, and the challenger took part in it
 pub record Plays {S Symbol A : Type 0} (m : Meaning S Symbol A) (before : Turn S) (x : A) (after : Turn S) : Type 0
@@ -131,6 +149,13 @@ abbrev pub PlaysOrRefuses : {S Symbol A R : Type 0} → Meaning S Symbol A → T
     Turn S → Type 0
 PlaysOrRefuses m before value result after =
     MatchResult result (λ r. Plays m before (value r) after) (λ e. Refuses m before e after)
+
+-- Whatever comes of the step: an answer only where it was the next one, and it is passed then; else a refusal, with
+-- nothing done where it was not the next one, and no step may follow.
+abbrev pub KeepsOrder : {S R : Type 0} → Step → Turn S → Result R TranscriptError → Turn S → Type 0
+KeepsOrder s before result after =
+    MatchResult result (λ _. IsNext before.playing s × (after.playing ≡ step_on before.playing))
+    (λ e. RefusesTurn s before e after ⊎ (IsNext before.playing s × (after.playing.finished ≡ true)))
 
 -- what a refused step leaves of the bytes written so far: with want of memory a beginning of its own is added
 abbrev pub LeavesWire : List ℕ → TranscriptError → List ℕ → List ℕ → Type 0

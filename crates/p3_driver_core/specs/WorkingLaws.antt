@@ -1,6 +1,6 @@
 -- Laws of proof of work in a step.
-use Rattle.std.proofs.Common.{◌≡◌, ℕ, zero, suc, Bool, true, false, List, [], ◌++◌, length, Option, Some, None, IsSome, is_some}
-use Rattle.std.proofs.Common.{option_and_then, if◌then◌else◌, refl, sym, inl, inr, subst, rules}
+use Rattle.std.proofs.Common.{◌≡◌, ℕ, zero, suc, Bool, true, false, List, [], ◌++◌, length, Option, Some, None}
+use Rattle.std.proofs.Common.{IsSome, is_some, option_and_then, if◌then◌else◌, refl, sym, inl, inr, subst, rules}
 use Rattle.std.proofs.Math.Seq.{take-length}
 use Rattle.p3_field_core.specs.Residues.{Residues}
 use Rattle.p3_challenger_core.specs.Sponge.{IsFed, IsStepsOn}

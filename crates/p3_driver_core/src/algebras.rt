@@ -1,4 +1,4 @@
-//! The algebras that steps were of: each identity is hashed once.
+//! The algebras that steps were of: the identities of the first four are hashed once each.
 ghost use Rattle.std.specs.Prelude.{◌≡◌, IsTrue, IfSome};
 ghost use Rattle.p3_fs_core.specs.Interactions.{step_of};
 ghost use Rattle.p3_fs_core.specs.Steps.{step_with};
@@ -7,14 +7,14 @@ ghost use Rattle.p3_fs_core.specs.declared.step.TypeTag.TheVariants.{Algebra};
 use p3_field_core::{AlgebraIdentity, Named};
 use p3_fs_core::{Hierarchy, Interaction, Kind, Label, Length, TranscriptField};
 use p3_symmetric::DigestHasher;
-use std::alloc::Global;
 use std::marker::PhantomData;
 
-// The algebras that steps were of, with the digests of their identities.
+// The first four algebras that steps were of, with the digests of their identities. They lie in the value itself, so
+// that no memory is asked for.
 #[derive(Drop)]
 #[derive_where(Debug)]
 pub(crate) struct Algebras<D: DigestHasher> {
-    known: Vec<KnownAlgebra<D>>,
+    known: [Option<KnownAlgebra<D>>; 4],
 }
 
 // An algebra with a step of it, from which others of the same type are made.
@@ -30,14 +30,14 @@ struct KnownAlgebra<D: DigestHasher> {
 }
 
 impl<D: DigestHasher> Algebras<D> {
-    pub(crate) fn new(alloc: Global) -> Self {
+    pub(crate) fn new() -> Self {
         Algebras {
-            known: Vec::new(alloc),
+            known: [None, None, None, None],
         }
     }
 
     // A step that carries elements of an algebra. An identity is hashed where no step before was of this algebra, or
-    // no memory was given to keep its digest.
+    // four others were known before it.
     pub(crate) fn step<F: TranscriptField, A: AlgebraIdentity<F> + Named>(
         &mut self,
         kind: Kind,
@@ -47,15 +47,17 @@ impl<D: DigestHasher> Algebras<D> {
         ensures { step_of result ≡ step_with Hierarchy.Atomic kind label.now
             (Algebra F.residues.order A.DIMENSION (D.digest_of A.identity)) A.name_bytes length }
     {
-        for known in &self.known {
-            if known.is_of::<F, A>() {
+        for place in &self.known {
+            if let Some(known) = place
+                && known.is_of::<F, A>()
+            {
                 return known
                     .step
                     .of_same_type(Hierarchy::Atomic, kind, label, length);
             }
         }
         let step = Interaction::algebra::<F, A, D>(Hierarchy::Atomic, kind, label, length);
-        let _ = self.known.push(KnownAlgebra {
+        self.keep(KnownAlgebra {
             identity: A::algebra_id(),
             modulus: F::ORDER_U64,
             degree: A::DIMENSION,
@@ -63,6 +65,16 @@ impl<D: DigestHasher> Algebras<D> {
             hasher: PhantomData,
         });
         step
+    }
+
+    // Keeps an algebra where a place is free.
+    fn keep(&mut self, known: KnownAlgebra<D>) {
+        for place in &mut self.known {
+            if place.is_none() {
+                *place = Some(known);
+                return;
+            }
+        }
     }
 }
 

@@ -4,7 +4,7 @@ ghost use Rattle.p3_driver_core.specs.Bound.{value_of};
 
 /// A value that went through the transcript: it was absorbed, or drawn.
 ///
-/// Drivers alone make one.
+/// The drivers answer one, and a user is shown no other way to make it: [`bind`] is for drivers.
 ///
 /// The Rust crate's `TranscriptBound`.
 #[derive(Clone, Copy, Debug, PartialEq, Eq, PartialOrd, Ord, Hash)]
@@ -24,6 +24,19 @@ impl<T> TranscriptBound<T> {
     {
         self.0
     }
+}
+
+impl<T: PartialEq> TranscriptBound<T> {
+    ghost use Rattle.p3_field_core.specs.Equality.{IsExact};
+
+    /// Two compare as their values do. So they compare equal exactly where they are one, if values compare so.
+    ///
+    /// A law: the body is empty, and a caller cites the clause.
+    pub fn compared_by_values()
+        ensures value { (x y : _) → ⟦<TranscriptBound<T> as PartialEq>⟧.eq x y
+            ≡ T.eq (value_of x) (value_of y) }
+        ensures exact { IsExact T.eq → IsExact ⟦<TranscriptBound<T> as PartialEq>⟧.eq }
+    {}
 }
 
 /// The value as one that went through the transcript. For drivers. In the Rust crate it is private.

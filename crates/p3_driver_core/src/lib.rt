@@ -6,9 +6,11 @@
 
 mod algebras;
 mod bound;
+mod bytes;
 mod counts;
 mod feeding;
 mod lists;
+mod order;
 mod rejecting;
 mod steps;
 mod symmetric;
@@ -17,6 +19,7 @@ mod uniform;
 mod work;
 
 pub use bound::{TranscriptBound, bind};
+pub use bytes::slices_are_bytes;
 pub use counts::{
     count_width, counted, counts_are_told, counts_take_the_least_width, observe_count,
 };
@@ -26,9 +29,12 @@ pub use feeding::{
     uniform_draws_feed_nothing, values_feed_their_symbols, work_feeds_its_witness,
 };
 pub use lists::{bind_all, draw_numbers, draw_values, observe_values};
-pub use rejecting::draw_accepted;
+pub use order::{finished_players_refuse, listed_steps_are_next, next_steps_are_not_wrong};
+pub use rejecting::{draw_accepted, rejecting_draws_keep_the_first_accepted};
 pub use steps::Steps;
 pub use symmetric::{Driver, SymmetricSteps};
 pub use turn::DriverTurn;
-pub use uniform::{draw_accepted_numbers, draw_uniform_numbers};
+pub use uniform::{
+    draw_accepted_numbers, draw_uniform_numbers, rejecting_uniform_draws_keep_the_first_accepted,
+};
 pub use work::check_work;

@@ -1,6 +1,6 @@
 //! Values in a list: observed one after another, drawn one after another, and handed out as ones that went through the
 //! transcript.
-ghost use Rattle.std.specs.Prelude.{◌≡◌, ◌≤◌, Some, OnOk, IfOk, IfErr};
+ghost use Rattle.std.specs.Prelude.{◌≡◌, ◌≤◌, Some, OnOk, IfOk, IfErr, length, vec_len};
 ghost use Rattle.p3_challenger_core.specs.Observation.{observed_all, LeavesInCalls, RefusesObserve};
 ghost use Rattle.p3_challenger_core.specs.Sampling.{draws, after_draws, RefusesDrawVec};
 ghost use Rattle.p3_driver_core.specs.Bound.{values_of};
@@ -33,7 +33,8 @@ pub fn observe_values<T, C: Sponge, Cdc: Codec<C, T>>(
 ///
 /// The one error is that memory was refused. Not in the Rust crate.
 pub fn bind_all<T: Copy>(alloc: Global, values: &[T]) -> Result<Vec<TranscriptBound<T>>, AllocError>
-    ensures { IfOk result (λ bounds. values_of bounds ≡ values.now) }
+    ensures values { IfOk result (λ bounds. values_of bounds ≡ values.now) }
+    ensures count { IfOk result (λ bounds. vec_len bounds ≡ length values.now) }
 {
     let mut bounds = Vec::with_capacity(alloc, values.len())?;
     for value in values {
@@ -59,6 +60,7 @@ pub fn draw_values<T: Copy, C: Sponge, Cdc: Codec<C, T>>(
         C.state challenger.new ≡ after_draws Cdc.sampling n (C.state challenger.old)) }
     ensures err { IfErr result (λ e.
         RefusesDrawVec Cdc.sampling n e (C.state challenger.old) (C.state challenger.new)) }
+    ensures count { IfOk result (λ bounds. vec_len bounds ≡ n) }
 {
     let mut bounds = Vec::with_capacity(alloc, n)?;
     for _ in 0..n {
@@ -85,6 +87,7 @@ pub fn draw_numbers<C: CanSampleBits<usize>>(
         C.state challenger.new ≡ after_draws (C.bits_sampling width) n (C.state challenger.old)) }
     ensures err { IfErr result (λ e.
         RefusesDrawVec (C.bits_sampling width) n e (C.state challenger.old) (C.state challenger.new)) }
+    ensures count { IfOk result (λ bounds. vec_len bounds ≡ n) }
 {
     let mut bounds = Vec::with_capacity(alloc, n)?;
     for _ in 0..n {

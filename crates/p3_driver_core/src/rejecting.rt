@@ -1,9 +1,10 @@
 //! Draws until a rule has taken so many of the candidates.
-ghost use Rattle.std.specs.Prelude.{◌≡◌, ◌≤◌, true, IfErr};
+ghost use Rattle.std.specs.Prelude.{◌≡◌, ◌≤◌, ◌↔◌, ℕ, true, List, [], IfOk, IfErr, vec_len};
 ghost use Rattle.p3_driver_core.specs.Bound.{values_of};
 ghost use Rattle.p3_driver_core.specs.Opened.{playing_of, turn_of};
 ghost use Rattle.p3_driver_core.specs.Rejecting.{Rule, Computes, Takes, TakesAll, drawn_rejecting};
-ghost use Rattle.p3_driver_core.specs.Turns.{PlaysOrRefuses, algebra_step};
+ghost use Rattle.p3_driver_core.specs.Rejecting.{given, keeps, KeepsFirst};
+ghost use Rattle.p3_driver_core.specs.Turns.{PlaysOrRefuses, KeepsOrder, algebra_step};
 
 use crate::{DriverTurn, TranscriptBound, bind};
 use p3_challenger_core::{ChallengerError, Sponge};
@@ -53,8 +54,9 @@ pub fn draw_accepted<T: Copy, C: Sponge, Cdc: Codec<C, T>, R: Fn(&T, &[T]) -> bo
 ) -> Result<Vec<TranscriptBound<T>>, ChallengerError>
     requires secure { 128 ≤ Cdc.SECURITY_BITS }
     requires callable { R.IsAlwaysCallable accept.now }
-    ensures { (rule : Rule T) → Computes R.Fn accept.now rule →
+    ensures kept { (rule : Rule T) → Computes R.Fn accept.now rule →
         TakesAll Cdc.sampling rule limit n values_of (C.state challenger.old) result (C.state challenger.new) }
+    ensures count { IfOk result (λ bounds. vec_len bounds ≡ n) }
 {
     let mut bounds = Vec::with_capacity(alloc, n)?;
     let mut kept = Vec::with_capacity(alloc, n)?;
@@ -66,11 +68,21 @@ pub fn draw_accepted<T: Copy, C: Sponge, Cdc: Codec<C, T>, R: Fn(&T, &[T]) -> bo
     Ok(bounds)
 }
 
+/// A rejecting draw keeps just the first accepted candidates: candidates are drawn in a row, the kept ones are those
+/// that the rule accepts, each asked of beside those kept before it, and before each of them fewer than `limit` are
+/// refused. The draw ends with the last one that is kept.
+///
+/// A law: the body is empty, and a caller cites the clause.
+pub fn rejecting_draws_keep_the_first_accepted<A, C: Sponge, Cdc: Codec<C, A>>()
+    ensures { (rule : Rule A) (limit n : ℕ) (s t : C.State) (xs : List A) →
+        (keeps Cdc.sampling rule limit n [] s ≡ given xs t ↔ KeepsFirst Cdc.sampling rule limit n s xs t) }
+{}
+
 impl<D: DigestHasher> DriverTurn<D> {
     /// Draws elements of an algebra until the rule `accept` has taken `n`, which refuses fewer than `limit` in a row.
     ///
-    /// The rule, the errors and the conditions are as in [`draw_accepted`]; a refused step leaves it finished, whatever
-    /// the rule.
+    /// The rule, the errors and the conditions are as in [`draw_accepted`]. Whatever the rule: `n` values are answered,
+    /// and only where the step is the next one; else nothing is drawn; and a refused step leaves it finished.
     pub fn draw_rejecting<
         F: TranscriptField,
         A: AlgebraIdentity<F> + Named,
@@ -92,7 +104,12 @@ impl<D: DigestHasher> DriverTurn<D> {
             (D.digest_of A.identity) A.name_bytes (Length.Fixed n) in
             PlaysOrRefuses (drawn_rejecting {Symbol = C.Symbol} step Cdc.sampling rule limit n)
             (turn_of (C.state challenger.old) self.old) values_of result (turn_of (C.state challenger.new) self.new) }
+        ensures order { let step = algebra_step Kind.Challenge label.now F.residues.order A.DIMENSION
+            (D.digest_of A.identity) A.name_bytes (Length.Fixed n) in
+            KeepsOrder step (turn_of (C.state challenger.old) self.old) result
+            (turn_of (C.state challenger.new) self.new) }
         ensures spent { IfErr result (λ _. (playing_of self.new.steps).finished ≡ true) }
+        ensures count { IfOk result (λ bounds. vec_len bounds ≡ n) }
     {
         self.steps
             .take_algebra::<F, A>(Kind::Challenge, label, Length::Fixed(n))?;

@@ -6,7 +6,7 @@ ghost use Rattle.p3_fs_core.specs.Interactions.{step_of};
 ghost use Rattle.p3_fs_core.specs.Steps.{step_with};
 ghost use Rattle.p3_patterns.specs.Playing.{RefusesToPlay, FaultOfPlayEnd, IsPatternError, IsPlayed, next_step};
 ghost use Rattle.p3_driver_core.specs.Opened.{playing_of, Opens};
-ghost use Rattle.p3_driver_core.specs.Turns.{algebra_step, bytes_step, uniform_bits_step};
+ghost use Rattle.p3_driver_core.specs.Turns.{algebra_step, bytes_step, uniform_bits_step, halted_player};
 ghost use Rattle.p3_driver_core.specs.Turns.{RefusesLength, RefusesCarried};
 ghost use Rattle.p3_driver_core.specs.Turns.{IsOtherLength, longer_list, another_length};
 
@@ -17,7 +17,6 @@ use p3_fs_core::{
 };
 use p3_patterns::{InteractionPattern, Pattern, PatternPlayer};
 use p3_symmetric::DigestHasher;
-use std::alloc::Global;
 use std::rc::Rc;
 
 /// The pattern as a driver plays it.
@@ -37,13 +36,13 @@ pub struct Steps<D: DigestHasher> {
 
 impl<D: DigestHasher> Steps<D> {
     /// The steps of a pattern, of which none was taken yet.
-    pub fn new(alloc: Global, pattern: Rc<InteractionPattern>) -> Self
+    pub fn new(pattern: Rc<InteractionPattern>) -> Self
         ensures { playing_of result ≡ record { pattern = pattern.value; position = 0; finished = false } }
     {
         Steps {
             player: PatternPlayer::new(pattern),
             closed: false,
-            algebras: Algebras::new(alloc),
+            algebras: Algebras::new(),
         }
     }
 
@@ -214,6 +213,13 @@ impl<D: DigestHasher> Steps<D> {
             return Err(TranscriptError::Pattern(PatternError::Finished));
         }
         player.finalize()
+    }
+
+    /// Takes no step any more, as once one was refused. Pattern and position stay.
+    pub fn halt(&mut self)
+        ensures { playing_of self.new ≡ halted_player (playing_of self.old) }
+    {
+        self.closed = true;
     }
 
     /// Gives up, and spends it. What was played so far is not checked.

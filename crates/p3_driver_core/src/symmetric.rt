@@ -1,11 +1,11 @@
 //! The steps that a prover and a verifier play alike, for code that plays either side.
-ghost use Rattle.std.specs.Prelude.{◌≡◌, ◌≤◌, ℕ, true, List, IsOk};
+ghost use Rattle.std.specs.Prelude.{◌≡◌, ◌≤◌, ℕ, true, List, IsOk, IfOk, IfErr, vec_len};
 ghost use Rattle.p3_fs_core.specs.Steps.{marker_of};
 ghost use Rattle.p3_driver_core.specs.Bound.{value_of, values_of};
 ghost use Rattle.p3_driver_core.specs.Meanings as meaning;
 ghost use Rattle.p3_driver_core.specs.Rejecting.{Rule, Computes, drawn_rejecting};
-ghost use Rattle.p3_driver_core.specs.Turns.{Turn, PlaysOrRefuses, IsNext, algebra_step, opaque_step};
-ghost use Rattle.p3_driver_core.specs.Turns.{uniform_bits_step};
+ghost use Rattle.p3_driver_core.specs.Turns.{Turn, PlaysOrRefuses, KeepsOrder, IsNext, halted, algebra_step};
+ghost use Rattle.p3_driver_core.specs.Turns.{opaque_step, uniform_bits_step};
 
 use crate::TranscriptBound;
 use p3_challenger_core::{CanObserve, Sponge};
@@ -37,6 +37,13 @@ pub trait SymmetricSteps: Driver {
 
     // The bytes of the proof that were written, or that are left to read.
     ghost bytes: { Self → List ℕ };
+
+    /// Plays no step any more, as once one was refused. Challenger and bytes stay as they are.
+    ///
+    /// Not in the Rust crate.
+    fn halt(&mut self)
+        ensures turn { turn self.new ≡ halted (turn self.old) }
+        ensures bytes { bytes self.new ≡ bytes self.old };
 
     /// Opens a container that may hold steps of any kind. It takes no memory.
     fn begin_protocol<T: Named>(&mut self, label: Label) -> Result<(), TranscriptError>
@@ -110,8 +117,9 @@ pub trait SymmetricSteps: Driver {
     /// Conditions: the rule may be asked at any time, and the codec has at least
     /// [`MIN_CHALLENGE_SECURITY_BITS`](p3_codecs::MIN_CHALLENGE_SECURITY_BITS) of security.
     ///
-    /// What is drawn, kept and answered is said of a rule that is a function of its arguments: of one that answers
-    /// otherwise when it is asked the same again, only that the bytes of the proof are as they were.
+    /// What is drawn, kept and answered is said of a rule that is a function of its arguments. Of one that answers
+    /// otherwise when it is asked the same again, this is said: `n` values are answered, and only where the step is the
+    /// next one; else nothing is drawn; a refused step is the last one; and the bytes of the proof are as they were.
     fn challenge_extensions_rejecting<
         F: TranscriptField,
         EF: AlgebraIdentity<F> + Named,
@@ -132,7 +140,12 @@ pub trait SymmetricSteps: Driver {
             PlaysOrRefuses (drawn_rejecting {Symbol = Self.Challenger.Symbol} step
             ⟦<ExtensionFieldCodec<F, EF, Cdc> as Codec<Self::Challenger, EF>>⟧.sampling rule limit n)
             (turn self.old) values_of result (turn self.new) }
-        ensures bytes { bytes self.new ≡ bytes self.old };
+        ensures order { let step = algebra_step Kind.Challenge label.now F.residues.order EF.DIMENSION
+            (Self.Digest.digest_of EF.identity) EF.name_bytes (Length.Fixed n) in
+            KeepsOrder step (turn self.old) result (turn self.new) }
+        ensures count { IfOk result (λ bounds. vec_len bounds ≡ n) }
+        ensures bytes { bytes self.new ≡ bytes self.old }
+        ensures spent { IfErr result (λ _. (turn self.new).playing.finished ≡ true) };
 
     /// Draws `n` numbers of `width` uniform bits: another value is drawn in the place of one that is rejected.
     ///
@@ -150,5 +163,6 @@ pub trait SymmetricSteps: Driver {
             (meaning.drawn_all {Symbol = Self.Challenger.Symbol} (uniform_bits_step label.now width (Length.Fixed n))
             (Self.Challenger.uniform true width).draw n)
             (turn self.old) values_of result (turn self.new) }
+        ensures count { IfOk result (λ bounds. vec_len bounds ≡ n) }
         ensures bytes { bytes self.new ≡ bytes self.old };
 }

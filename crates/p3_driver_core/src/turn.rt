@@ -1,6 +1,6 @@
 //! What both drivers have beside a challenger, and the steps that both play alike: those that take no part in the
 //! proof.
-ghost use Rattle.std.specs.Prelude.{◌≡◌, ◌≤◌, length, IfErr, IsOk, OnOk};
+ghost use Rattle.std.specs.Prelude.{◌≡◌, ◌≤◌, length, IfErr, IsOk, OnOk, IfOk, vec_len};
 ghost use Rattle.p3_fs_core.specs.Steps.{marker_of};
 ghost use Rattle.p3_driver_core.specs.Bound.{value_of, values_of};
 ghost use Rattle.p3_driver_core.specs.Effects.{alphabet_of};
@@ -91,10 +91,11 @@ impl<D: DigestHasher> DriverTurn<D> {
         label: Label,
         values: &[A],
     ) -> Result<Vec<TranscriptBound<A>>, TranscriptError>
-        ensures { let step = algebra_step kind label.now F.residues.order A.DIMENSION (D.digest_of A.identity)
+        ensures exact { let step = algebra_step kind label.now F.residues.order A.DIMENSION (D.digest_of A.identity)
             A.name_bytes (Length.Fixed (length values.now)) in
             PlaysOrRefuses (meaning.observed_all step Cdc.observation values.now)
             (turn_of (C.state challenger.old) self.old) values_of result (turn_of (C.state challenger.new) self.new) }
+        ensures count { IfOk result (λ bounds. vec_len bounds ≡ length values.now) }
     {
         self.steps
             .take_algebra::<F, A>(kind, label, Length::Fixed(values.len()))?;
@@ -123,11 +124,12 @@ impl<D: DigestHasher> DriverTurn<D> {
     ) -> Result<Vec<TranscriptBound<A>>, TranscriptError>
         requires alphabet { U.is_alphabet }
         requires within { length values.now ≤ max }
-        ensures { let step = algebra_step kind label.now F.residues.order A.DIMENSION (D.digest_of A.identity)
+        ensures exact { let step = algebra_step kind label.now F.residues.order A.DIMENSION (D.digest_of A.identity)
             A.name_bytes (Length.Bounded max) in
             PlaysOrRefuses (meaning.observed_bounded step
             (alphabet_of U.items U.is_too_long C.observation C.slice_may_leave) max Cdc.observation values.now)
             (turn_of (C.state challenger.old) self.old) values_of result (turn_of (C.state challenger.new) self.new) }
+        ensures count { IfOk result (λ bounds. vec_len bounds ≡ length values.now) }
     {
         self.steps
             .take_algebra::<F, A>(kind, label, Length::Bounded(max))?;
@@ -202,10 +204,11 @@ impl<D: DigestHasher> DriverTurn<D> {
         n: usize,
     ) -> Result<Vec<TranscriptBound<A>>, TranscriptError>
         requires { 128 ≤ Cdc.SECURITY_BITS }
-        ensures { let step = algebra_step Kind.Challenge label.now F.residues.order A.DIMENSION
+        ensures exact { let step = algebra_step Kind.Challenge label.now F.residues.order A.DIMENSION
             (D.digest_of A.identity) A.name_bytes (Length.Fixed n) in
             PlaysOrRefuses (meaning.drawn_all {Symbol = C.Symbol} step Cdc.sampling n)
             (turn_of (C.state challenger.old) self.old) values_of result (turn_of (C.state challenger.new) self.new) }
+        ensures count { IfOk result (λ bounds. vec_len bounds ≡ n) }
     {
         self.steps
             .take_algebra::<F, A>(Kind::Challenge, label, Length::Fixed(n))?;
@@ -225,10 +228,11 @@ impl<D: DigestHasher> DriverTurn<D> {
         n: usize,
     ) -> Result<Vec<TranscriptBound<usize>>, TranscriptError>
         requires { width ≤ C.most_bits }
-        ensures { PlaysOrRefuses
+        ensures exact { PlaysOrRefuses
             (meaning.drawn_all {Symbol = C.Symbol} (bits_step label.now width (Length.Fixed n))
             (C.bits_sampling width) n)
             (turn_of (C.state challenger.old) self.old) values_of result (turn_of (C.state challenger.new) self.new) }
+        ensures count { IfOk result (λ bounds. vec_len bounds ≡ n) }
     {
         self.steps.take(Interaction::bits(
             Hierarchy::Atomic,

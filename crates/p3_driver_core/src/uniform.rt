@@ -1,11 +1,12 @@
 //! Numbers of uniform bits, drawn one after another, and until a rule has taken so many.
-ghost use Rattle.std.specs.Prelude.{◌≡◌, ◌≤◌, ℕ, true, Some, OnOk, IfOk, IfErr};
+ghost use Rattle.std.specs.Prelude.{◌≡◌, ◌≤◌, ◌↔◌, ℕ, true, List, [], Some, OnOk, IfOk, IfErr, vec_len};
 ghost use Rattle.p3_challenger_core.specs.Sampling.{draws, after_draws, RefusesDraw, RefusesDrawVec};
 ghost use Rattle.p3_driver_core.specs.Bound.{values_of};
 ghost use Rattle.p3_driver_core.specs.Meanings as meaning;
 ghost use Rattle.p3_driver_core.specs.Opened.{playing_of, turn_of};
 ghost use Rattle.p3_driver_core.specs.Rejecting.{Rule, ComputesOfValues, Takes, TakesAll, drawn_rejecting};
-ghost use Rattle.p3_driver_core.specs.Turns.{PlaysOrRefuses, uniform_bits_step};
+ghost use Rattle.p3_driver_core.specs.Rejecting.{given, keeps, KeepsFirst};
+ghost use Rattle.p3_driver_core.specs.Turns.{PlaysOrRefuses, KeepsOrder, uniform_bits_step};
 
 use crate::{DriverTurn, TranscriptBound, bind};
 use p3_challenger_core::ChallengerError;
@@ -51,6 +52,7 @@ pub fn draw_uniform_numbers<F, C: CanSampleUniformBits<F>>(
         C.state challenger.new ≡ after_draws (C.uniform true width).draw n (C.state challenger.old)) }
     ensures err { IfErr result (λ e.
         RefusesDrawVec (C.uniform true width).draw n e (C.state challenger.old) (C.state challenger.new)) }
+    ensures count { IfOk result (λ bounds. vec_len bounds ≡ n) }
 {
     let mut bounds = Vec::with_capacity(alloc, n)?;
     for _ in 0..n {
@@ -98,8 +100,9 @@ pub fn draw_accepted_numbers<F, C: CanSampleUniformBits<F>, R: Fn(usize, &[usize
 ) -> Result<Vec<TranscriptBound<usize>>, ChallengerError>
     requires within { width ≤ C.most_bits }
     requires callable { R.IsAlwaysCallable accept.now }
-    ensures { (rule : Rule ℕ) → ComputesOfValues R.Fn accept.now rule → TakesAll (C.uniform true width).draw rule limit
-        n values_of (C.state challenger.old) result (C.state challenger.new) }
+    ensures kept { (rule : Rule ℕ) → ComputesOfValues R.Fn accept.now rule → TakesAll (C.uniform true width).draw rule
+        limit n values_of (C.state challenger.old) result (C.state challenger.new) }
+    ensures count { IfOk result (λ bounds. vec_len bounds ≡ n) }
 {
     let mut bounds = Vec::with_capacity(alloc, n)?;
     let mut kept = Vec::with_capacity(alloc, n)?;
@@ -110,6 +113,16 @@ pub fn draw_accepted_numbers<F, C: CanSampleUniformBits<F>, R: Fn(usize, &[usize
     }
     Ok(bounds)
 }
+
+/// A rejecting draw of uniform bits keeps just the first accepted numbers, as
+/// [`rejecting_draws_keep_the_first_accepted`](crate::rejecting_draws_keep_the_first_accepted) says it of values.
+///
+/// A law: the body is empty, and a caller cites the clause.
+pub fn rejecting_uniform_draws_keep_the_first_accepted<F, C: CanSampleUniformBits<F>>()
+    ensures { (width : ℕ) (rule : Rule ℕ) (limit n : ℕ) (s t : C.State) (xs : List ℕ) →
+        (keeps (C.uniform true width).draw rule limit n [] s ≡ given xs t
+        ↔ KeepsFirst (C.uniform true width).draw rule limit n s xs t) }
+{}
 
 impl<D: DigestHasher> DriverTurn<D> {
     /// Draws so many numbers of `width` uniform bits.
@@ -123,10 +136,11 @@ impl<D: DigestHasher> DriverTurn<D> {
         n: usize,
     ) -> Result<Vec<TranscriptBound<usize>>, TranscriptError>
         requires { width ≤ C.most_bits }
-        ensures { PlaysOrRefuses
+        ensures exact { PlaysOrRefuses
             (meaning.drawn_all {Symbol = C.Symbol} (uniform_bits_step label.now width (Length.Fixed n))
             (C.uniform true width).draw n)
             (turn_of (C.state challenger.old) self.old) values_of result (turn_of (C.state challenger.new) self.new) }
+        ensures count { IfOk result (λ bounds. vec_len bounds ≡ n) }
     {
         self.steps
             .take_uniform_bits(label, width, Length::Fixed(n))?;
@@ -138,8 +152,8 @@ impl<D: DigestHasher> DriverTurn<D> {
     /// Draws numbers of `width` uniform bits until the rule `accept` has taken `n`, which refuses fewer than
     /// `limit` in a row.
     ///
-    /// The rule, the errors and the conditions are as in [`draw_accepted_numbers`]; a refused step leaves it finished,
-    /// whatever the rule.
+    /// The rule, the errors and the conditions are as in [`draw_accepted_numbers`]. Whatever the rule: `n` numbers are
+    /// answered, and only where the step is the next one; else nothing is drawn; and a refused step leaves it finished.
     pub fn draw_uniform_bits_rejecting<
         F,
         C: CanSampleUniformBits<F>,
@@ -159,7 +173,10 @@ impl<D: DigestHasher> DriverTurn<D> {
             (drawn_rejecting {Symbol = C.Symbol} (uniform_bits_step label.now width (Length.Fixed n))
             (C.uniform true width).draw rule limit n)
             (turn_of (C.state challenger.old) self.old) values_of result (turn_of (C.state challenger.new) self.new) }
+        ensures order { KeepsOrder (uniform_bits_step label.now width (Length.Fixed n))
+            (turn_of (C.state challenger.old) self.old) result (turn_of (C.state challenger.new) self.new) }
         ensures spent { IfErr result (λ _. (playing_of self.new.steps).finished ≡ true) }
+        ensures count { IfOk result (λ bounds. vec_len bounds ≡ n) }
     {
         self.steps
             .take_uniform_bits(label, width, Length::Fixed(n))?;

@@ -13,6 +13,8 @@
 ghost use Rattle.std.specs.Borrow.{sem};
 ghost use Rattle.std.specs.Prelude.{◌≡◌, [], false, length, OnOk, IfOk, IfErr, IsOk};
 ghost use Rattle.p3_challenger_core.specs.Observation.{observed_all};
+ghost use Rattle.p3_challenger_core.specs.Reading.{AreBytes};
+ghost use Rattle.p3_driver_core.specs.Turns.{halted};
 ghost use Rattle.p3_fs_core.specs.Errors.{misfit_of};
 ghost use Rattle.p3_patterns.specs.Playing.{FaultOfPlayEnd, IsPatternError, IsPlayed};
 ghost use Rattle.p3_turn.specs.SeparatorSeed.{seed_of_separator, pattern_of};
@@ -26,7 +28,7 @@ mod work;
 
 use p3_challenger_core::{CanObserve, Sponge};
 use p3_codecs::Unit;
-use p3_driver_core::{DriverTurn, Steps};
+use p3_driver_core::{DriverTurn, Steps, slices_are_bytes};
 use p3_fs_core::TranscriptError;
 use p3_symmetric::DigestHasher;
 use p3_turn::DomainSeparator;
@@ -88,7 +90,7 @@ impl<U: Unit, C: CanObserve<U::Item> + Drop, D: DigestHasher> ProverState<C, U, 
             IfErr result (RefusesStart (U.is_too_long (length seed))) }
     {
         separator.seed(&mut challenger)?;
-        let steps = Steps::new(alloc, separator.pattern().clone()?);
+        let steps = Steps::new(separator.pattern().clone()?);
         Ok(ProverState {
             challenger,
             turn: DriverTurn { steps, alloc },
@@ -120,9 +122,12 @@ impl<C: Sponge + Drop, U, D: DigestHasher> ProverState<C, U, D> {
 
     /// The bytes of the proof so far.
     pub fn narg(&self) -> &[u8]
-        ensures { result.now ≡ (proving_of C.state self.now).narg }
+        ensures narg { result.now ≡ (proving_of C.state self.now).narg }
+        ensures bytes { AreBytes result.now }
     {
-        &self.narg
+        let narg = &self.narg[..];
+        slices_are_bytes(narg);
+        narg
     }
 
     /// Spends the prover, for the bytes of the proof. It answers `Ok` exactly where no step was refused and none is
@@ -169,6 +174,18 @@ impl<C: Sponge + Drop, U, D: DigestHasher> ProverState<C, U, D> {
         let DriverTurn { steps, alloc: _ } = turn;
         steps.finalize()?;
         Ok((narg, challenger))
+    }
+
+    /// Plays no step any more, as once one was refused: for a caller who needs something of its own between two steps,
+    /// memory say, and is refused it.
+    ///
+    /// Each step, and the end, is refused with [`PatternError::Finished`](p3_fs_core::PatternError::Finished) from then
+    /// on. The challenger stays as it is, and the bytes of the proof. Not in the Rust crate.
+    pub fn halt(&mut self)
+        ensures turn { (proving_of C.state self.new).turn ≡ halted (proving_of C.state self.old).turn }
+        ensures narg { (proving_of C.state self.new).narg ≡ (proving_of C.state self.old).narg }
+    {
+        self.turn.steps.halt();
     }
 
     /// Gives up, and spends the prover. What was played so far is not checked. The Rust crate takes it by reference.

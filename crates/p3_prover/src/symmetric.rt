@@ -22,6 +22,10 @@ impl<C: Sponge + Drop, U, D: DigestHasher> SymmetricSteps for ProverState<C, U, 
 
     ghost bytes = { λ driver. (proving_of C.state driver).narg };
 
+    fn halt(&mut self) {
+        ProverState::halt(self)
+    }
+
     fn begin_protocol<T: Named>(&mut self, label: Label) -> Result<(), TranscriptError> {
         ProverState::begin_protocol::<T>(self, label)
     }

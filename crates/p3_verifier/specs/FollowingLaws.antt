@@ -1,42 +1,19 @@
 -- Laws of what a verifier does at a step that a prover has played.
-use Rattle.std.proofs.Common.{◌≡◌, ℕ, List, ◌++◌, Bool, true, false, Some, Option, Ok, Err, inl, inr}
+use Rattle.std.proofs.Common.{◌≡◌, ℕ, List, ◌++◌, true, Some, Ok, Err}
 use Rattle.std.proofs.Common.{sym, ap, ◌∙◌, subst}
-use Rattle.p3_fs_core.specs.Errors.{misfit_of}
+use Rattle.p3_challenger_core.specs.declared.error.ChallengerError.TheVariants as challenger
 use Rattle.p3_fs_core.specs.Steps.{Step}
-use Rattle.p3_fs_core.specs.declared.interaction.Interaction.{Interaction}
-use Rattle.p3_fs_core.specs.declared.error.PatternError.{PatternError}
-use Rattle.p3_fs_core.specs.declared.error.PatternError.TheVariants.{Finished, NoMoreSteps, WrongStep, Unplayed}
-use Rattle.p3_fs_core.specs.declared.error.PatternError.TheVariants.{OverCap}
 use Rattle.p3_fs_core.specs.declared.error.TranscriptError.{TranscriptError}
 use Rattle.p3_fs_core.specs.declared.error.TranscriptError.TheVariants.{MissingBegin, InvalidKind, MismatchedBeginEnd}
 use Rattle.p3_fs_core.specs.declared.error.TranscriptError.TheVariants.{MissingEnd, BadProofShape, Pattern}
 use Rattle.p3_fs_core.specs.declared.error.TranscriptError.TheVariants.{Challenger, LabelTooLong, OutOfMemory}
-use Rattle.p3_patterns.specs.Playing.{Playing, RefusesToPlay, IsNotNext, next_step}
+use Rattle.p3_patterns.specs.Playing.{Playing}
+use Rattle.p3_driver_core.specs.TurnLaws.{next-not_refused, played-ends}
 use Rattle.p3_driver_core.specs.Turns.{Meaning, Turn, Plays, Refuses, IsNext, step_on}
 use Rattle.p3_verifier.specs.Following.{IsOwnRefusal, Follows, Agrees}
 use Rattle.p3_verifier.specs.Mirrors.{Mirrors}
 use Rattle.p3_verifier.specs.Reads.{Reading}
-use Rattle.p3_verifier.specs.Verifying.{Verifying, Receives, RefusesToRead}
-
--- ---- a step that is next is not refused as one that is not
-
-not_both : {b : Bool} → b ≡ true → b ≡ false → ⊥
-not_both on off = absurd (cc)
-
-next-is_next : (next : Option Step) (s : Step) (e : PatternError Step) → next ≡ Some s → IsNotNext next s e → ⊥
-next-is_next next s Finished is fault = fault
-next-is_next next s (NoMoreSteps received) is fault = absurd (cc)
-next-is_next next s (WrongStep received expected) is fault =
-    let same : expected ≡ s = cc in fault.2 same
-next-is_next next s (Unplayed expected) is fault = fault
-next-is_next next s (OverCap len max) is fault = fault
-
-next-not_refused : (before after : Playing) (s : Step) (e : PatternError Interaction) → IsNext before s →
-    RefusesToPlay before s (Pattern e) after → ⊥
-next-not_refused before after s e is_next refuses = elim refuses.fault [
-  | inl late ↦ not_both late.0 is_next.0
-  | inr other ↦ next-is_next (next_step before) s (misfit_of e) is_next.1 other.1
-]
+use Rattle.p3_verifier.specs.Verifying.{Verifying, Receives, RefusesToRead, EndsReading, RefusesEnd}
 
 -- ---- a step that is mirrored
 
@@ -75,7 +52,7 @@ module _ {S Symbol A : Type 0} (m : Meaning S Symbol A) (r : Reading S Symbol A)
   mirror-refuses before after rest start end (Pattern e) plays at refuses =
       let here : IsNext start.turn.playing m.interaction
       = subst (λ (v : Verifying S). IsNext v.turn.playing m.interaction) (sym at) plays.is_next in
-      next-not_refused start.turn.playing end.turn.playing r.interaction e
+      next-not_refused start.turn.playing end.turn.playing r.interaction (Pattern e)
       (subst (λ (s : Step). IsNext start.turn.playing s) (sym mirrors.interaction) here) refuses.0.playing
   mirror-refuses before after rest start end (Challenger e) plays at refuses = tt
   mirror-refuses before after rest start end LabelTooLong plays at refuses = refuses
@@ -84,6 +61,22 @@ module _ {S Symbol A : Type 0} (m : Meaning S Symbol A) (r : Reading S Symbol A)
   -- what is mirrored follows
   pub mirror-follows : Follows m r x
   mirror-follows = record { receives = mirror-receives; refuses = mirror-refuses }
+
+-- a step that reads and is refused is the last one
+pub unread-last : {S Symbol A : Type 0} (r : Reading S Symbol A) (before after : Verifying S) (e : TranscriptError) →
+    RefusesToRead r before e after → after.turn.playing.finished ≡ true
+unread-last r before after (MissingBegin info) refuses = absurd refuses
+unread-last r before after (InvalidKind info) refuses = absurd refuses
+unread-last r before after (MismatchedBeginEnd info) refuses = absurd refuses
+unread-last r before after (MissingEnd info) refuses = absurd refuses
+unread-last r before after (BadProofShape reason) refuses = refuses.finished
+unread-last r before after (Pattern e) refuses = ap (λ (p : Playing). p.finished) refuses.0.playing.finished
+unread-last r before after (Challenger challenger.OutOfMemory) refuses = absurd refuses
+unread-last r before after (Challenger challenger.DrawLimit) refuses = refuses.gives_up.finished
+unread-last r before after (Challenger challenger.NoWitness) refuses = refuses.gives_up.finished
+unread-last r before after (Challenger challenger.TooLong) refuses = refuses.gives_up.finished
+unread-last r before after LabelTooLong refuses = absurd refuses
+unread-last r before after OutOfMemory refuses = refuses.finished
 
 -- ---- a step that both play alike
 
@@ -101,20 +94,40 @@ module _ {S Symbol A : Type 0} (m : Meaning S Symbol A) where
       = second.playing ∙ ap (λ (t : Turn S). step_on t.playing) at ∙ sym first.playing in
       (value, λ i. record { challenger = challenger i; playing = playing i })
 
+  -- a step that is next is refused for the sake of the challenger or of memory alone
+  pub next-own_refusal : (before after : Turn S) (e : TranscriptError) → IsNext before.playing m.interaction →
+      Refuses m before e after → IsOwnRefusal e
+  next-own_refusal before after (MissingBegin info) next refuses = refuses
+  next-own_refusal before after (InvalidKind info) next refuses = refuses
+  next-own_refusal before after (MismatchedBeginEnd info) next refuses = refuses
+  next-own_refusal before after (MissingEnd info) next refuses = refuses
+  next-own_refusal before after (BadProofShape reason) next refuses = refuses
+  next-own_refusal before after (Pattern e) next refuses =
+      next-not_refused before.playing after.playing m.interaction (Pattern e) next refuses.playing
+  next-own_refusal before after (Challenger e) next refuses = tt
+  next-own_refusal before after LabelTooLong next refuses = refuses
+  next-own_refusal before after OutOfMemory next refuses = tt
+
   alike-refuses : (before after start end : Turn S) (x : A) (e : TranscriptError) → Plays m before x after →
       start ≡ before → Refuses m start e end → IsOwnRefusal e
-  alike-refuses before after start end x (MissingBegin info) first at refuses = refuses
-  alike-refuses before after start end x (InvalidKind info) first at refuses = refuses
-  alike-refuses before after start end x (MismatchedBeginEnd info) first at refuses = refuses
-  alike-refuses before after start end x (MissingEnd info) first at refuses = refuses
-  alike-refuses before after start end x (BadProofShape reason) first at refuses = refuses
-  alike-refuses before after start end x (Pattern e) first at refuses =
-      next-not_refused start.playing end.playing m.interaction e
-      (subst (λ (t : Turn S). IsNext t.playing m.interaction) (sym at) first.is_next) refuses.playing
-  alike-refuses before after start end x (Challenger e) first at refuses = tt
-  alike-refuses before after start end x LabelTooLong first at refuses = refuses
-  alike-refuses before after start end x OutOfMemory first at refuses = tt
+  alike-refuses before after start end x e first at refuses =
+      next-own_refusal start end e (subst (λ (t : Turn S). IsNext t.playing m.interaction) (sym at) first.is_next)
+      refuses
 
   -- whatever the step means
   pub meaning-agrees : Agrees m
   meaning-agrees = record { plays = alike-plays; refuses = alike-refuses }
+
+-- ---- the end
+
+-- a verifier that has played all steps and has read all bytes is not refused the end
+pub reading-ends : {S : Type 0} (v : Verifying S) (e : TranscriptError) → EndsReading v → RefusesEnd v e → ⊥
+reading-ends v (MissingBegin info) ends refuses = refuses
+reading-ends v (InvalidKind info) ends refuses = refuses
+reading-ends v (MismatchedBeginEnd info) ends refuses = refuses
+reading-ends v (MissingEnd info) ends refuses = refuses
+reading-ends v (BadProofShape reason) ends refuses = refuses.1 ends.whole
+reading-ends v (Pattern e) ends refuses = played-ends v.turn.playing (Pattern e) ends.played refuses
+reading-ends v (Challenger e) ends refuses = refuses
+reading-ends v LabelTooLong ends refuses = refuses
+reading-ends v OutOfMemory ends refuses = refuses

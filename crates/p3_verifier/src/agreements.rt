@@ -13,7 +13,7 @@ ghost use Rattle.p3_driver_core.specs.Rejecting.{Rule, drawn_rejecting};
 ghost use Rattle.p3_driver_core.specs.Turns.{IsNext, IsOtherLength, longer_list, another_length};
 ghost use Rattle.p3_driver_core.specs.Working.{work_of};
 ghost use Rattle.p3_verifier.specs.Following.{Agrees, AgreesOnWork};
-ghost use Rattle.p3_verifier.specs.Verifying.{Verifying, RefusesList};
+ghost use Rattle.p3_verifier.specs.Verifying.{Verifying, RefusesList, EndsReading, RefusesEnd};
 
 use p3_challenger_core::{CanObserve, CanSampleBits, Sponge};
 use p3_codecs::{Codec, Unit};
@@ -97,4 +97,11 @@ pub fn carried_lists_are_let_through<C: Sponge>()
     ensures recorded { (len : ℕ) (step : Step) (start end : Verifying C.State) (e : TranscriptError) →
         IsNext start.turn.playing step → step.length ≡ Length.Fixed len →
         RefusesList (IsOtherLength len (next_step start.turn.playing)) another_length start e end → ⊥ }
+{}
+
+/// A verifier that has played all steps and has read all bytes is not refused the end.
+///
+/// A law: the body is empty, and a caller cites the clause.
+pub fn ended_verifiers_are_not_refused<C: Sponge>()
+    ensures { (v : Verifying C.State) (e : TranscriptError) → EndsReading v → RefusesEnd v e → ⊥ }
 {}

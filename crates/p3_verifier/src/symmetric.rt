@@ -22,6 +22,10 @@ impl<C: Sponge + Drop, U, D: DigestHasher> SymmetricSteps for VerifierState<'_, 
 
     ghost bytes = { λ driver. (verifying_of C.state driver).unread };
 
+    fn halt(&mut self) {
+        VerifierState::halt(self)
+    }
+
     fn begin_protocol<T: Named>(&mut self, label: Label) -> Result<(), TranscriptError> {
         VerifierState::begin_protocol::<T>(self, label)
     }

@@ -13,6 +13,8 @@
 ghost use Rattle.std.specs.Borrow.{sem};
 ghost use Rattle.std.specs.Prelude.{◌≡◌, [], false, length, OnOk, IfOk, IfErr, IsOk};
 ghost use Rattle.p3_challenger_core.specs.Observation.{observed_all};
+ghost use Rattle.p3_challenger_core.specs.Reading.{AreBytes};
+ghost use Rattle.p3_driver_core.specs.Turns.{halted};
 ghost use Rattle.p3_fs_core.specs.Errors.{IsBadShape};
 ghost use Rattle.p3_turn.specs.SeparatorSeed.{seed_of_separator, pattern_of};
 ghost use Rattle.p3_verifier.specs.Reads.{trailing_bytes};
@@ -26,7 +28,7 @@ mod work;
 
 use p3_challenger_core::{CanObserve, Sponge};
 use p3_codecs::Unit;
-use p3_driver_core::{DriverTurn, Steps};
+use p3_driver_core::{DriverTurn, Steps, slices_are_bytes};
 use p3_fs_core::TranscriptError;
 use p3_patterns::InteractionPattern;
 use p3_symmetric::DigestHasher;
@@ -103,7 +105,7 @@ impl<'a, U: Unit, C: CanObserve<U::Item> + Drop, D: DigestHasher> VerifierState<
     {
         separator.seed(&mut challenger)?;
         let pattern = separator.pattern().clone()?;
-        let steps = Steps::new(alloc, pattern.clone()?);
+        let steps = Steps::new(pattern.clone()?);
         Ok(VerifierState {
             challenger,
             turn: DriverTurn { steps, alloc },
@@ -144,8 +146,10 @@ impl<'a, C: Sponge + Drop, U, D: DigestHasher> VerifierState<'a, C, U, D> {
 
     /// The bytes of the proof that are left to read. Not in the Rust crate.
     pub fn unread(&self) -> &'a [u8]
-        ensures { result.now ≡ (verifying_of C.state self.now).unread }
+        ensures unread { result.now ≡ (verifying_of C.state self.now).unread }
+        ensures bytes { AreBytes result.now }
     {
+        slices_are_bytes(self.unread);
         self.unread
     }
 
@@ -185,6 +189,18 @@ impl<'a, C: Sponge + Drop, U, D: DigestHasher> VerifierState<'a, C, U, D> {
         steps.finalize()?;
         check_end(unread)?;
         Ok(challenger)
+    }
+
+    /// Plays no step any more, as once one was refused: for a caller who needs something of its own between two steps,
+    /// memory say, and is refused it.
+    ///
+    /// Each step, and the end, is refused with [`PatternError::Finished`](p3_fs_core::PatternError::Finished) from then
+    /// on. The challenger stays as it is, and the bytes that are left to read. Not in the Rust crate.
+    pub fn halt(&mut self)
+        ensures turn { (verifying_of C.state self.new).turn ≡ halted (verifying_of C.state self.old).turn }
+        ensures unread { (verifying_of C.state self.new).unread ≡ (verifying_of C.state self.old).unread }
+    {
+        self.turn.steps.halt();
     }
 
     /// Gives up, and spends the verifier. What was played so far is not checked. The Rust crate takes it by

@@ -1,7 +1,9 @@
 // How a prover ends where steps are left.
+use p3_driver_core::SymmetricSteps;
+use p3_field::F257;
 use p3_fs_core::{Interaction, PatternError, TranscriptError};
 use p3_prover::ProverState;
-use p3_test_steps::{Message, Prover, World, challenge, send, separator, world};
+use p3_test_steps::{Message, Prover, Scalars, World, challenge, send, separator, world};
 use p3_test_support::element;
 use std::alloc::Global;
 use std::test::Fail;
@@ -28,5 +30,32 @@ fn an_end_before_the_last_step_names_the_next(rt: HostRuntime) -> Result<(), Fai
     let finished = halfway(rt.alloc())?.finish();
     assert_eq!(rt; finalized.err(), unplayed(challenge()));
     assert_eq!(rt; finished.err(), unplayed(challenge()));
+    Ok(())
+}
+
+// Halts a driver, whichever it is.
+fn halt<S: SymmetricSteps>(driver: &mut S) {
+    driver.halt();
+}
+
+// The step that is next is refused, and so is the end; what was written stays.
+#[test]
+fn a_halted_prover_plays_no_step(rt: HostRuntime) -> Result<(), Fail> {
+    for generic in [false, true] {
+        let mut prover = halfway(rt.alloc())?;
+        if generic {
+            halt(&mut prover);
+        } else {
+            prover.halt();
+        }
+        let next = prover.challenge_scalar::<F257, Scalars>("c");
+        let written = prover.narg().len();
+        let end = prover.finalize();
+        let finished = TranscriptError::Pattern(PatternError::Finished);
+        assert_eq!(rt; next.err(), Some(finished), "{generic}");
+        assert_eq!(rt; written, 2, "{generic}");
+        let finished = TranscriptError::Pattern(PatternError::Finished);
+        assert_eq!(rt; end.err(), Some(finished), "{generic}");
+    }
     Ok(())
 }

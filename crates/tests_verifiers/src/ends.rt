@@ -1,6 +1,8 @@
 // How a verifier ends where steps or bytes are left.
+use p3_driver_core::SymmetricSteps;
+use p3_field::F257;
 use p3_fs_core::{Interaction, Kind, Length, PatternError, TranscriptError};
-use p3_test_steps::{Verifier, World, bytes, challenge, separator, world};
+use p3_test_steps::{Scalars, Verifier, World, bytes, challenge, separator, world};
 use p3_verifier::VerifierState;
 use std::alloc::Global;
 use std::test::Fail;
@@ -60,5 +62,33 @@ fn what_was_read_outlives_the_verifier(rt: HostRuntime) -> Result<(), Fail> {
     let read = verifier.next_bytes("x", 1);
     verifier.finalize()?;
     assert_eq!(rt; read?, b"a".as_slice());
+    Ok(())
+}
+
+// Halts a driver, whichever it is.
+fn halt<S: SymmetricSteps>(driver: &mut S) {
+    driver.halt();
+}
+
+// The step that is next is refused, and so is the end; what is left to read stays.
+#[test]
+fn a_halted_verifier_plays_no_step(rt: HostRuntime) -> Result<(), Fail> {
+    for generic in [false, true] {
+        let steps = vec![in rt.alloc(); one_byte(), challenge()]?;
+        let mut verifier = after_one_byte(rt.alloc(), steps, b"abc")?;
+        if generic {
+            halt(&mut verifier);
+        } else {
+            verifier.halt();
+        }
+        let next = verifier.challenge_scalar::<F257, Scalars>("c");
+        let left = verifier.remaining_narg();
+        let end = verifier.finalize();
+        let finished = TranscriptError::Pattern(PatternError::Finished);
+        assert_eq!(rt; next.err(), Some(finished), "{generic}");
+        assert_eq!(rt; left, 2, "{generic}");
+        let finished = TranscriptError::Pattern(PatternError::Finished);
+        assert_eq!(rt; end.err(), Some(finished), "{generic}");
+    }
     Ok(())
 }

@@ -6,7 +6,8 @@
 //! - `round`: generic code over any challenger, codec and alphabet: [`send_and_draw`], [`receive_and_draw`] and
 //!   [`first_challenge`]. Further ones are `bound_values`, `three_calls` and `extra_value`: which symbols calls fed,
 //!   also where one of them is refused, and that those symbols bind the values; and what a step is played from, after
-//!   a call on the challenger that a driver lends. `pair` sends two scalars of any field in one step.
+//!   a call on the challenger that a driver lends. `pair` sends two scalars of any field in one step; `lists` reads two
+//!   by their places, and halts a verifier.
 //! - [`own_permutation`], [`own_rounds`] and [`own_hasher`]: what to hand in for a permutation, one of rounds with a
 //!   table of constants, and a hasher of one's own; [`own_algebra`]: the same of an extension of a field.
 //!
@@ -17,6 +18,7 @@
 mod bound_values;
 pub mod commit_phase;
 mod extra_value;
+mod lists;
 pub mod opening;
 pub mod own_algebra;
 pub mod own_hasher;
@@ -29,6 +31,7 @@ mod three_calls;
 
 pub use bound_values::{absorb_values, symbols_bind_values};
 pub use extra_value::{receive_after, send_after};
+pub use lists::{receive_list, receive_pair};
 pub use pair::send_pair;
 pub use round::{Round, first_challenge, receive_and_draw, send_and_draw};
 pub use three_calls::observe_and_draw;

@@ -1,11 +1,12 @@
 //! The steps of a prover that leave the proof as it is: containers, values that it does not carry, and draws.
-ghost use Rattle.std.specs.Prelude.{◌≡◌, ◌≤◌, true, length, IfErr, IsOk};
+ghost use Rattle.std.specs.Prelude.{◌≡◌, ◌≤◌, true, length, IfErr, IsOk, IfOk, vec_len};
 ghost use Rattle.p3_fs_core.specs.Steps.{marker_of};
 ghost use Rattle.p3_driver_core.specs.Bound.{value_of, values_of};
 ghost use Rattle.p3_driver_core.specs.Effects.{alphabet_of};
 ghost use Rattle.p3_driver_core.specs.Meanings as meaning;
 ghost use Rattle.p3_driver_core.specs.Rejecting.{Rule, Computes, drawn_rejecting};
-ghost use Rattle.p3_driver_core.specs.Turns.{PlaysOrRefuses, IsNext, algebra_step, opaque_step, bits_step};
+ghost use Rattle.p3_driver_core.specs.Turns.{PlaysOrRefuses, KeepsOrder, IsNext, algebra_step};
+ghost use Rattle.p3_driver_core.specs.Turns.{opaque_step, bits_step};
 ghost use Rattle.p3_prover.specs.Proving.{proving_of, KeepsOrRefuses, KeepsWithin};
 
 use crate::ProverState;
@@ -32,12 +33,13 @@ impl<U: Unit, C: CanObserve<U::Item> + Drop, D: DigestHasher> ProverState<C, U, 
         max: usize,
     ) -> Result<Vec<TranscriptBound<EF>>, TranscriptError>
         requires { U.is_alphabet }
-        ensures { let step = algebra_step Kind.Message label.now F.residues.order EF.DIMENSION (D.digest_of EF.identity)
-            EF.name_bytes (Length.Bounded max) in
+        ensures exact { let step = algebra_step Kind.Message label.now F.residues.order EF.DIMENSION
+            (D.digest_of EF.identity) EF.name_bytes (Length.Bounded max) in
             KeepsWithin (length values.now) max (meaning.observed_bounded step
             (alphabet_of U.items U.is_too_long C.observation C.slice_may_leave) max
             ⟦<ExtensionFieldCodec<F, EF, Cdc> as Codec<C, EF>>⟧.observation values.now)
             (proving_of C.state self.old) values_of result (proving_of C.state self.new) }
+        ensures count { IfOk result (λ bounds. vec_len bounds ≡ length values.now) }
     {
         self.turn.steps.within(values.len(), max)?;
         self.turn
@@ -118,10 +120,11 @@ impl<C: Sponge + Drop, U, D: DigestHasher> ProverState<C, U, D> {
         label: Label,
         values: &[F],
     ) -> Result<Vec<TranscriptBound<F>>, TranscriptError>
-        ensures { let step = algebra_step Kind.Public label.now F.residues.order F.DIMENSION (D.digest_of F.identity)
-            F.name_bytes (Length.Fixed (length values.now)) in
+        ensures exact { let step = algebra_step Kind.Public label.now F.residues.order F.DIMENSION
+            (D.digest_of F.identity) F.name_bytes (Length.Fixed (length values.now)) in
             KeepsOrRefuses (meaning.observed_all step Cdc.observation values.now)
             (proving_of C.state self.old) values_of result (proving_of C.state self.new) }
+        ensures count { IfOk result (λ bounds. vec_len bounds ≡ length values.now) }
     {
         self.turn
             .observe_list::<F, F, C, Cdc>(&mut self.challenger, Kind::Public, label, values)
@@ -154,11 +157,12 @@ impl<C: Sponge + Drop, U, D: DigestHasher> ProverState<C, U, D> {
         EF: AlgebraIdentity<F> + Named,
         Cdc: ScalarCodec<C, F>,
     >(&mut self, label: Label, values: &[EF]) -> Result<Vec<TranscriptBound<EF>>, TranscriptError>
-        ensures { let step = algebra_step Kind.Message label.now F.residues.order EF.DIMENSION (D.digest_of EF.identity)
-            EF.name_bytes (Length.Fixed (length values.now)) in
+        ensures exact { let step = algebra_step Kind.Message label.now F.residues.order EF.DIMENSION
+            (D.digest_of EF.identity) EF.name_bytes (Length.Fixed (length values.now)) in
             KeepsOrRefuses (meaning.observed_all step ⟦<ExtensionFieldCodec<F, EF, Cdc> as Codec<C, EF>>⟧.observation
             values.now)
             (proving_of C.state self.old) values_of result (proving_of C.state self.new) }
+        ensures count { IfOk result (λ bounds. vec_len bounds ≡ length values.now) }
     {
         self.turn
             .observe_list::<F, EF, C, ExtensionFieldCodec<F, EF, Cdc>>(
@@ -214,10 +218,11 @@ impl<C: Sponge + Drop, U, D: DigestHasher> ProverState<C, U, D> {
         n: usize,
     ) -> Result<Vec<TranscriptBound<F>>, TranscriptError>
         requires { 128 ≤ Cdc.SECURITY_BITS }
-        ensures { let step = algebra_step Kind.Challenge label.now F.residues.order F.DIMENSION (D.digest_of F.identity)
-            F.name_bytes (Length.Fixed n) in
+        ensures exact { let step = algebra_step Kind.Challenge label.now F.residues.order F.DIMENSION
+            (D.digest_of F.identity) F.name_bytes (Length.Fixed n) in
             KeepsOrRefuses (meaning.drawn_all {Symbol = C.Symbol} step Cdc.sampling n)
             (proving_of C.state self.old) values_of result (proving_of C.state self.new) }
+        ensures count { IfOk result (λ bounds. vec_len bounds ≡ n) }
     {
         self.turn
             .draw_list::<F, F, C, Cdc>(&mut self.challenger, label, n)
@@ -253,11 +258,12 @@ impl<C: Sponge + Drop, U, D: DigestHasher> ProverState<C, U, D> {
         Cdc: ScalarCodec<C, F>,
     >(&mut self, label: Label, n: usize) -> Result<Vec<TranscriptBound<EF>>, TranscriptError>
         requires { 128 ≤ Cdc.SECURITY_BITS }
-        ensures { let step = algebra_step Kind.Challenge label.now F.residues.order EF.DIMENSION
+        ensures exact { let step = algebra_step Kind.Challenge label.now F.residues.order EF.DIMENSION
             (D.digest_of EF.identity) EF.name_bytes (Length.Fixed n) in
             KeepsOrRefuses (meaning.drawn_all {Symbol = C.Symbol} step
             ⟦<ExtensionFieldCodec<F, EF, Cdc> as Codec<C, EF>>⟧.sampling n)
             (proving_of C.state self.old) values_of result (proving_of C.state self.new) }
+        ensures count { IfOk result (λ bounds. vec_len bounds ≡ n) }
     {
         self.turn
             .draw_list::<F, EF, C, ExtensionFieldCodec<F, EF, Cdc>>(&mut self.challenger, label, n)
@@ -275,9 +281,10 @@ impl<C: Sponge + Drop, U, D: DigestHasher> ProverState<C, U, D> {
     where
         C: CanSampleBits<usize>,
         requires { width ≤ C.most_bits }
-        ensures { KeepsOrRefuses (meaning.drawn_all {Symbol = C.Symbol}
+        ensures exact { KeepsOrRefuses (meaning.drawn_all {Symbol = C.Symbol}
             (bits_step label.now width (Length.Fixed n)) (C.bits_sampling width) n)
             (proving_of C.state self.old) values_of result (proving_of C.state self.new) }
+        ensures count { IfOk result (λ bounds. vec_len bounds ≡ n) }
     {
         self.turn.draw_bits(&mut self.challenger, label, width, n)
     }
@@ -296,8 +303,9 @@ impl<C: Sponge, U, D: DigestHasher> ProverState<C, U, D> {
     /// [`MIN_CHALLENGE_SECURITY_BITS`](p3_codecs::MIN_CHALLENGE_SECURITY_BITS) of security.
     ///
     /// What is drawn, kept and answered is said of a rule that is a function of its arguments. Of one that answers
-    /// otherwise when it is asked the same again, only this is said: the bytes of the proof stay as they are, and a
-    /// refused step is the last one.
+    /// otherwise when it is asked the same again, this is said: the bytes of the proof stay as they are, `n` values are
+    /// answered, and only where the step is the next one, nothing is drawn where it is not, and a refused step is the
+    /// last one.
     pub fn challenge_extensions_rejecting<
         F: TranscriptField,
         EF: AlgebraIdentity<F> + Named,
@@ -319,7 +327,11 @@ impl<C: Sponge, U, D: DigestHasher> ProverState<C, U, D> {
             ⟦<ExtensionFieldCodec<F, EF, Cdc> as Codec<C, EF>>⟧.sampling rule limit n)
             (proving_of C.state self.old).turn values_of result (proving_of C.state self.new).turn }
         ensures narg { (proving_of C.state self.new).narg ≡ (proving_of C.state self.old).narg }
+        ensures order { let step = algebra_step Kind.Challenge label.now F.residues.order EF.DIMENSION
+            (D.digest_of EF.identity) EF.name_bytes (Length.Fixed n) in
+            KeepsOrder step (proving_of C.state self.old).turn result (proving_of C.state self.new).turn }
         ensures spent { IfErr result (λ _. (proving_of C.state self.new).turn.playing.finished ≡ true) }
+        ensures count { IfOk result (λ bounds. vec_len bounds ≡ n) }
     {
         self.turn
             .draw_rejecting::<F, EF, C, ExtensionFieldCodec<F, EF, Cdc>, R>(

@@ -1,5 +1,5 @@
 //! The steps of a prover that write into the proof.
-ghost use Rattle.std.specs.Prelude.{◌≤◌, length};
+ghost use Rattle.std.specs.Prelude.{◌≡◌, ◌≤◌, length, IfOk, vec_len};
 ghost use Rattle.p3_driver_core.specs.Bound.{value_of, values_of};
 ghost use Rattle.p3_driver_core.specs.Effects.{alphabet_of};
 ghost use Rattle.p3_driver_core.specs.Meanings as meaning;
@@ -73,18 +73,20 @@ impl<U: Unit, C: CanObserve<U::Item> + Drop, D: DigestHasher> ProverState<C, U, 
         max: usize,
     ) -> Result<Vec<TranscriptBound<F>>, TranscriptError>
         requires { U.is_alphabet }
-        ensures { let step = algebra_step Kind.Message label.now F.residues.order F.DIMENSION (D.digest_of F.identity)
-            F.name_bytes (Length.Bounded max) in
+        ensures exact { let step = algebra_step Kind.Message label.now F.residues.order F.DIMENSION
+            (D.digest_of F.identity) F.name_bytes (Length.Bounded max) in
             WritesWithin (length values.now) max (meaning.sent_bounded step
             (alphabet_of U.items U.is_too_long C.observation C.slice_may_leave) max Cdc.observation Cdc.encoding
             values.now)
             (proving_of C.state self.old) values_of result (proving_of C.state self.new) }
+        ensures count { IfOk result (λ bounds. vec_len bounds ≡ length values.now) }
     {
         self.turn.steps.within(values.len(), max)?;
         self.send_counted::<F, Cdc>(label, values, max)
     }
 
     // Sends bytes in a step of the kind.
+    #[tactic(auto, using(crate::proofs::Pieces::unwritten))]
     fn send_bytes(&mut self, kind: Kind, label: Label, bytes: &[u8]) -> Result<(), TranscriptError>
         requires { U.is_alphabet }
         ensures { WritesOrRefuses (meaning.sent_bytes kind label.now
@@ -101,6 +103,7 @@ impl<U: Unit, C: CanObserve<U::Item> + Drop, D: DigestHasher> ProverState<C, U, 
     }
 
     // Sends bytes after their count.
+    #[tactic(auto, using(crate::proofs::Pieces::unwritten))]
     fn send_counted_bytes(
         &mut self,
         label: Label,
@@ -133,12 +136,13 @@ impl<U: Unit, C: CanObserve<U::Item> + Drop, D: DigestHasher> ProverState<C, U, 
     ) -> Result<Vec<TranscriptBound<F>>, TranscriptError>
         requires alphabet { U.is_alphabet }
         requires within { length values.now ≤ max }
-        ensures { let step = algebra_step Kind.Message label.now F.residues.order F.DIMENSION (D.digest_of F.identity)
-            F.name_bytes (Length.Bounded max) in
+        ensures exact { let step = algebra_step Kind.Message label.now F.residues.order F.DIMENSION
+            (D.digest_of F.identity) F.name_bytes (Length.Bounded max) in
             WritesOrRefuses (meaning.sent_bounded step
             (alphabet_of U.items U.is_too_long C.observation C.slice_may_leave) max Cdc.observation Cdc.encoding
             values.now)
             (proving_of C.state self.old) values_of result (proving_of C.state self.new) }
+        ensures count { IfOk result (λ bounds. vec_len bounds ≡ length values.now) }
     {
         self.turn
             .steps
@@ -174,10 +178,11 @@ impl<C: Sponge + Drop, U, D: DigestHasher> ProverState<C, U, D> {
         label: Label,
         values: &[F],
     ) -> Result<Vec<TranscriptBound<F>>, TranscriptError>
-        ensures { let step = algebra_step Kind.Message label.now F.residues.order F.DIMENSION (D.digest_of F.identity)
-            F.name_bytes (Length.Fixed (length values.now)) in
+        ensures exact { let step = algebra_step Kind.Message label.now F.residues.order F.DIMENSION
+            (D.digest_of F.identity) F.name_bytes (Length.Fixed (length values.now)) in
             WritesOrRefuses (meaning.sent_all step Cdc.observation Cdc.encoding values.now)
             (proving_of C.state self.old) values_of result (proving_of C.state self.new) }
+        ensures count { IfOk result (λ bounds. vec_len bounds ≡ length values.now) }
     {
         self.turn
             .steps
@@ -240,6 +245,7 @@ impl<C: Sponge + Drop, U, D: DigestHasher> ProverState<C, U, D> {
     }
 
     // Sends one element of an algebra.
+    #[tactic(auto, using(crate::proofs::Pieces::unwritten))]
     fn send<F: TranscriptField, A: AlgebraIdentity<F> + Named, Cdc: Codec<C, A>>(
         &mut self,
         label: Label,

@@ -1,11 +1,12 @@
 //! The steps of a verifier that read nothing: containers, values that the proof does not carry, and draws.
-ghost use Rattle.std.specs.Prelude.{◌≡◌, ◌≤◌, true, length, IfErr, IsOk};
+ghost use Rattle.std.specs.Prelude.{◌≡◌, ◌≤◌, true, length, IfErr, IsOk, IfOk, vec_len};
 ghost use Rattle.p3_fs_core.specs.Steps.{marker_of};
 ghost use Rattle.p3_driver_core.specs.Bound.{value_of, values_of};
 ghost use Rattle.p3_driver_core.specs.Effects.{alphabet_of};
 ghost use Rattle.p3_driver_core.specs.Meanings as meaning;
 ghost use Rattle.p3_driver_core.specs.Rejecting.{Rule, Computes, drawn_rejecting};
-ghost use Rattle.p3_driver_core.specs.Turns.{PlaysOrRefuses, IsNext, algebra_step, opaque_step, bits_step};
+ghost use Rattle.p3_driver_core.specs.Turns.{PlaysOrRefuses, KeepsOrder, IsNext, algebra_step};
+ghost use Rattle.p3_driver_core.specs.Turns.{opaque_step, bits_step};
 ghost use Rattle.p3_verifier.specs.Verifying.{verifying_of, KeepsOrRefuses, KeepsWithin, KeepsAsRecorded};
 
 use crate::VerifierState;
@@ -33,12 +34,13 @@ impl<'a, U: Unit, C: CanObserve<U::Item> + Drop, D: DigestHasher> VerifierState<
         max: usize,
     ) -> Result<Vec<TranscriptBound<EF>>, TranscriptError>
         requires { U.is_alphabet }
-        ensures { let step = algebra_step Kind.Message label.now F.residues.order EF.DIMENSION (D.digest_of EF.identity)
-            EF.name_bytes (Length.Bounded max) in
+        ensures exact { let step = algebra_step Kind.Message label.now F.residues.order EF.DIMENSION
+            (D.digest_of EF.identity) EF.name_bytes (Length.Bounded max) in
             KeepsWithin (length values.now) max (meaning.observed_bounded step
             (alphabet_of U.items U.is_too_long C.observation C.slice_may_leave) max
             ⟦<ExtensionFieldCodec<F, EF, Cdc> as Codec<C, EF>>⟧.observation values.now)
             (verifying_of C.state self.old) values_of result (verifying_of C.state self.new) }
+        ensures count { IfOk result (λ bounds. vec_len bounds ≡ length values.now) }
     {
         self.turn.steps.carried_within(values.len(), max)?;
         self.turn
@@ -119,10 +121,11 @@ impl<'a, C: Sponge + Drop, U, D: DigestHasher> VerifierState<'a, C, U, D> {
         label: Label,
         values: &[F],
     ) -> Result<Vec<TranscriptBound<F>>, TranscriptError>
-        ensures { let step = algebra_step Kind.Public label.now F.residues.order F.DIMENSION (D.digest_of F.identity)
-            F.name_bytes (Length.Fixed (length values.now)) in
+        ensures exact { let step = algebra_step Kind.Public label.now F.residues.order F.DIMENSION
+            (D.digest_of F.identity) F.name_bytes (Length.Fixed (length values.now)) in
             KeepsOrRefuses (meaning.observed_all step Cdc.observation values.now)
             (verifying_of C.state self.old) values_of result (verifying_of C.state self.new) }
+        ensures count { IfOk result (λ bounds. vec_len bounds ≡ length values.now) }
     {
         self.turn
             .observe_list::<F, F, C, Cdc>(&mut self.challenger, Kind::Public, label, values)
@@ -159,11 +162,12 @@ impl<'a, C: Sponge + Drop, U, D: DigestHasher> VerifierState<'a, C, U, D> {
         EF: AlgebraIdentity<F> + Named,
         Cdc: ScalarCodec<C, F>,
     >(&mut self, label: Label, values: &[EF]) -> Result<Vec<TranscriptBound<EF>>, TranscriptError>
-        ensures { let step = algebra_step Kind.Message label.now F.residues.order EF.DIMENSION (D.digest_of EF.identity)
-            EF.name_bytes (Length.Fixed (length values.now)) in
+        ensures exact { let step = algebra_step Kind.Message label.now F.residues.order EF.DIMENSION
+            (D.digest_of EF.identity) EF.name_bytes (Length.Fixed (length values.now)) in
             KeepsAsRecorded (length values.now) (meaning.observed_all step
             ⟦<ExtensionFieldCodec<F, EF, Cdc> as Codec<C, EF>>⟧.observation values.now)
             (verifying_of C.state self.old) values_of result (verifying_of C.state self.new) }
+        ensures count { IfOk result (λ bounds. vec_len bounds ≡ length values.now) }
     {
         self.turn.steps.carried_as_recorded(values.len())?;
         self.turn
@@ -220,10 +224,11 @@ impl<'a, C: Sponge + Drop, U, D: DigestHasher> VerifierState<'a, C, U, D> {
         n: usize,
     ) -> Result<Vec<TranscriptBound<F>>, TranscriptError>
         requires { 128 ≤ Cdc.SECURITY_BITS }
-        ensures { let step = algebra_step Kind.Challenge label.now F.residues.order F.DIMENSION (D.digest_of F.identity)
-            F.name_bytes (Length.Fixed n) in
+        ensures exact { let step = algebra_step Kind.Challenge label.now F.residues.order F.DIMENSION
+            (D.digest_of F.identity) F.name_bytes (Length.Fixed n) in
             KeepsOrRefuses (meaning.drawn_all {Symbol = C.Symbol} step Cdc.sampling n)
             (verifying_of C.state self.old) values_of result (verifying_of C.state self.new) }
+        ensures count { IfOk result (λ bounds. vec_len bounds ≡ n) }
     {
         self.turn
             .draw_list::<F, F, C, Cdc>(&mut self.challenger, label, n)
@@ -259,11 +264,12 @@ impl<'a, C: Sponge + Drop, U, D: DigestHasher> VerifierState<'a, C, U, D> {
         Cdc: ScalarCodec<C, F>,
     >(&mut self, label: Label, n: usize) -> Result<Vec<TranscriptBound<EF>>, TranscriptError>
         requires { 128 ≤ Cdc.SECURITY_BITS }
-        ensures { let step = algebra_step Kind.Challenge label.now F.residues.order EF.DIMENSION
+        ensures exact { let step = algebra_step Kind.Challenge label.now F.residues.order EF.DIMENSION
             (D.digest_of EF.identity) EF.name_bytes (Length.Fixed n) in
             KeepsOrRefuses (meaning.drawn_all {Symbol = C.Symbol} step
             ⟦<ExtensionFieldCodec<F, EF, Cdc> as Codec<C, EF>>⟧.sampling n)
             (verifying_of C.state self.old) values_of result (verifying_of C.state self.new) }
+        ensures count { IfOk result (λ bounds. vec_len bounds ≡ n) }
     {
         self.turn
             .draw_list::<F, EF, C, ExtensionFieldCodec<F, EF, Cdc>>(&mut self.challenger, label, n)
@@ -281,9 +287,10 @@ impl<'a, C: Sponge + Drop, U, D: DigestHasher> VerifierState<'a, C, U, D> {
     where
         C: CanSampleBits<usize>,
         requires { width ≤ C.most_bits }
-        ensures { KeepsOrRefuses (meaning.drawn_all {Symbol = C.Symbol}
+        ensures exact { KeepsOrRefuses (meaning.drawn_all {Symbol = C.Symbol}
             (bits_step label.now width (Length.Fixed n)) (C.bits_sampling width) n)
             (verifying_of C.state self.old) values_of result (verifying_of C.state self.new) }
+        ensures count { IfOk result (λ bounds. vec_len bounds ≡ n) }
     {
         self.turn.draw_bits(&mut self.challenger, label, width, n)
     }
@@ -302,8 +309,8 @@ impl<C: Sponge, U, D: DigestHasher> VerifierState<'_, C, U, D> {
     /// [`MIN_CHALLENGE_SECURITY_BITS`](p3_codecs::MIN_CHALLENGE_SECURITY_BITS) of security.
     ///
     /// What is drawn, kept and answered is said of a rule that is a function of its arguments. Of one that answers
-    /// otherwise when it is asked the same again, only this is said: no byte is read, and a refused step is the last
-    /// one.
+    /// otherwise when it is asked the same again, this is said: no byte is read, `n` values are answered, and only
+    /// where the step is the next one, nothing is drawn where it is not, and a refused step is the last one.
     pub fn challenge_extensions_rejecting<
         F: TranscriptField,
         EF: AlgebraIdentity<F> + Named,
@@ -325,7 +332,11 @@ impl<C: Sponge, U, D: DigestHasher> VerifierState<'_, C, U, D> {
             ⟦<ExtensionFieldCodec<F, EF, Cdc> as Codec<C, EF>>⟧.sampling rule limit n)
             (verifying_of C.state self.old).turn values_of result (verifying_of C.state self.new).turn }
         ensures unread { (verifying_of C.state self.new).unread ≡ (verifying_of C.state self.old).unread }
+        ensures order { let step = algebra_step Kind.Challenge label.now F.residues.order EF.DIMENSION
+            (D.digest_of EF.identity) EF.name_bytes (Length.Fixed n) in
+            KeepsOrder step (verifying_of C.state self.old).turn result (verifying_of C.state self.new).turn }
         ensures spent { IfErr result (λ _. (verifying_of C.state self.new).turn.playing.finished ≡ true) }
+        ensures count { IfOk result (λ bounds. vec_len bounds ≡ n) }
     {
         self.turn
             .draw_rejecting::<F, EF, C, ExtensionFieldCodec<F, EF, Cdc>, R>(

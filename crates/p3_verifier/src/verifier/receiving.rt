@@ -1,5 +1,5 @@
 //! The steps of a verifier that read the proof.
-ghost use Rattle.std.specs.Prelude.{◌≡◌, ◌≤◌, ◌↔◌, ◌*◌, IsTrue, length, IfOk, IfErr};
+ghost use Rattle.std.specs.Prelude.{◌≡◌, ◌≤◌, ◌↔◌, ◌*◌, IsTrue, length, IfOk, IfErr, vec_len};
 ghost use Rattle.p3_challenger_core.specs.Observation.{observed_all};
 ghost use Rattle.p3_driver_core.specs.Bound.{value_of, values_of};
 ghost use Rattle.p3_driver_core.specs.Effects.{alphabet_of};
@@ -23,9 +23,10 @@ impl<'a, U: Unit, C: CanObserve<U::Item> + Drop, D: DigestHasher> VerifierState<
     /// [`ChallengerError::TooLong`](p3_challenger_core::ChallengerError::TooLong), and nothing of them is absorbed.
     pub fn next_salt(&mut self, label: Label, len: usize) -> Result<&'a [u8], TranscriptError>
         requires { U.is_alphabet }
-        ensures { ReceivesOrRefuses (reads.received_bytes Kind.Salt label.now
+        ensures exact { ReceivesOrRefuses (reads.received_bytes Kind.Salt label.now
             (alphabet_of U.items U.is_too_long C.observation C.slice_may_leave) len)
             (verifying_of C.state self.old) (λ bytes. bytes.now) result (verifying_of C.state self.new) }
+        ensures count { IfOk result (λ bytes. length bytes.now ≡ len) }
     {
         self.receive_bytes(Kind::Salt, label, len)
     }
@@ -36,9 +37,10 @@ impl<'a, U: Unit, C: CanObserve<U::Item> + Drop, D: DigestHasher> VerifierState<
     /// [`ChallengerError::TooLong`](p3_challenger_core::ChallengerError::TooLong), and nothing of them is absorbed.
     pub fn next_bytes(&mut self, label: Label, len: usize) -> Result<&'a [u8], TranscriptError>
         requires { U.is_alphabet }
-        ensures { ReceivesOrRefuses (reads.received_bytes Kind.Message label.now
+        ensures exact { ReceivesOrRefuses (reads.received_bytes Kind.Message label.now
             (alphabet_of U.items U.is_too_long C.observation C.slice_may_leave) len)
             (verifying_of C.state self.old) (λ bytes. bytes.now) result (verifying_of C.state self.new) }
+        ensures count { IfOk result (λ bytes. length bytes.now ≡ len) }
     {
         self.receive_bytes(Kind::Message, label, len)
     }
@@ -56,9 +58,10 @@ impl<'a, U: Unit, C: CanObserve<U::Item> + Drop, D: DigestHasher> VerifierState<
         max: usize,
     ) -> Result<&'a [u8], TranscriptError>
         requires { U.is_alphabet }
-        ensures { ReceivesOrRefuses (reads.received_bytes_bounded label.now
+        ensures exact { ReceivesOrRefuses (reads.received_bytes_bounded label.now
             (alphabet_of U.items U.is_too_long C.observation C.slice_may_leave) max)
             (verifying_of C.state self.old) (λ bytes. bytes.now) result (verifying_of C.state self.new) }
+        ensures count { IfOk result (λ bytes. length bytes.now ≤ max) }
     {
         self.turn
             .steps
@@ -83,11 +86,12 @@ impl<'a, U: Unit, C: CanObserve<U::Item> + Drop, D: DigestHasher> VerifierState<
         max: usize,
     ) -> Result<Vec<TranscriptBound<F>>, TranscriptError>
         requires { U.is_alphabet }
-        ensures { let step = algebra_step Kind.Message label.now F.residues.order F.DIMENSION (D.digest_of F.identity)
-            F.name_bytes (Length.Bounded max) in
+        ensures exact { let step = algebra_step Kind.Message label.now F.residues.order F.DIMENSION
+            (D.digest_of F.identity) F.name_bytes (Length.Bounded max) in
             ReceivesOrRefuses (reads.received_bounded step
             (alphabet_of U.items U.is_too_long C.observation C.slice_may_leave) max Cdc.observation Cdc.encoding)
             (verifying_of C.state self.old) values_of result (verifying_of C.state self.new) }
+        ensures count { IfOk result (λ bounds. vec_len bounds ≤ max) }
     {
         self.turn
             .steps
@@ -107,9 +111,10 @@ impl<'a, U: Unit, C: CanObserve<U::Item> + Drop, D: DigestHasher> VerifierState<
         len: usize,
     ) -> Result<&'a [u8], TranscriptError>
         requires { U.is_alphabet }
-        ensures { ReceivesOrRefuses (reads.received_bytes kind label.now
+        ensures exact { ReceivesOrRefuses (reads.received_bytes kind label.now
             (alphabet_of U.items U.is_too_long C.observation C.slice_may_leave) len)
             (verifying_of C.state self.old) (λ bytes. bytes.now) result (verifying_of C.state self.new) }
+        ensures count { IfOk result (λ bytes. length bytes.now ≡ len) }
     {
         self.turn.steps.take_bytes(kind, label, Length::Fixed(len))?;
         let bytes = self.read_bytes(len)?;
@@ -142,10 +147,11 @@ impl<'a, C: Sponge + Drop, U, D: DigestHasher> VerifierState<'a, C, U, D> {
         label: Label,
         n: usize,
     ) -> Result<Vec<TranscriptBound<F>>, TranscriptError>
-        ensures { let step = algebra_step Kind.Message label.now F.residues.order F.DIMENSION (D.digest_of F.identity)
-            F.name_bytes (Length.Fixed n) in
+        ensures exact { let step = algebra_step Kind.Message label.now F.residues.order F.DIMENSION
+            (D.digest_of F.identity) F.name_bytes (Length.Fixed n) in
             ReceivesOrRefuses (reads.received_all step Cdc.observation Cdc.encoding n)
             (verifying_of C.state self.old) values_of result (verifying_of C.state self.new) }
+        ensures count { IfOk result (λ bounds. vec_len bounds ≡ n) }
     {
         self.turn
             .steps
@@ -175,6 +181,7 @@ impl<'a, C: Sponge + Drop, U, D: DigestHasher> VerifierState<'a, C, U, D> {
         ensures exact { ReceivesOrRefuses (reads.hint_received {Symbol = C.Symbol} label.now len)
             (verifying_of C.state self.old) (λ bytes. bytes.now) result (verifying_of C.state self.new) }
         ensures no_memory { IfErr result (λ e. e ≡ TranscriptError.OutOfMemory → ⊥) }
+        ensures count { IfOk result (λ bytes. length bytes.now ≡ len) }
     {
         self.turn
             .steps
@@ -196,6 +203,7 @@ impl<'a, C: Sponge + Drop, U, D: DigestHasher> VerifierState<'a, C, U, D> {
         ensures exact { ReceivesOrRefuses (reads.hint_received_bounded {Symbol = C.Symbol} label.now max)
             (verifying_of C.state self.old) (λ bytes. bytes.now) result (verifying_of C.state self.new) }
         ensures no_memory { IfErr result (λ e. e ≡ TranscriptError.OutOfMemory → ⊥) }
+        ensures count { IfOk result (λ bytes. length bytes.now ≤ max) }
     {
         self.turn
             .steps
@@ -235,6 +243,7 @@ impl<'a, C: Sponge + Drop, U, D: DigestHasher> VerifierState<'a, C, U, D> {
             (reads.LeavesValues Cdc.encoding Cdc.observation n self.old.unread.now) values_of
             (C.state self.old.challenger) result self.new.unread.now (C.state self.new.challenger) }
         ensures steps { self.new.turn.steps ≡ self.old.turn.steps }
+        ensures count { IfOk result (λ bounds. vec_len bounds ≡ n) }
     {
         if !holds(self.unread.len(), n, Cdc::wire_len()) {
             return Err(TranscriptError::BadProofShape {
@@ -256,6 +265,7 @@ impl<'a, C: Sponge + Drop, U, D: DigestHasher> VerifierState<'a, C, U, D> {
             self.new.unread.now }
         ensures turn { self.new.turn ≡ self.old.turn }
         ensures challenger { self.new.challenger ≡ self.old.challenger }
+        ensures count { IfOk result (λ bytes. length bytes.now ≡ len) }
     {
         let unread = self.unread;
         if unread.len() < len {
@@ -282,6 +292,7 @@ impl<'a, C: Sponge + Drop, U, D: DigestHasher> VerifierState<'a, C, U, D> {
     fn read_count(&mut self, max: usize, over: &'static str) -> Result<usize, TranscriptError>
         ensures read { TellsRead (reads.read_count {S = C.State} over.now max self.old.unread.now) (λ n. n) result
             self.new.unread.now }
+        ensures within { IfOk result (λ n. n ≤ max) }
         ensures turn { self.new.turn ≡ self.old.turn }
         ensures challenger { self.new.challenger ≡ self.old.challenger }
     {

@@ -1,9 +1,9 @@
 //! The steps of a verifier that draw uniform bits.
-ghost use Rattle.std.specs.Prelude.{◌≡◌, ◌≤◌, ℕ, true, IfErr};
+ghost use Rattle.std.specs.Prelude.{◌≡◌, ◌≤◌, ℕ, true, IfErr, IfOk, vec_len};
 ghost use Rattle.p3_driver_core.specs.Bound.{values_of};
 ghost use Rattle.p3_driver_core.specs.Meanings as meaning;
 ghost use Rattle.p3_driver_core.specs.Rejecting.{Rule, ComputesOfValues, drawn_rejecting};
-ghost use Rattle.p3_driver_core.specs.Turns.{PlaysOrRefuses, uniform_bits_step};
+ghost use Rattle.p3_driver_core.specs.Turns.{PlaysOrRefuses, KeepsOrder, uniform_bits_step};
 ghost use Rattle.p3_verifier.specs.Verifying.{verifying_of, KeepsOrRefuses};
 
 use crate::VerifierState;
@@ -26,9 +26,10 @@ impl<C: Sponge, U, D: DigestHasher> VerifierState<'_, C, U, D> {
     where
         C: CanSampleUniformBits<F>,
         requires { width ≤ C.most_bits }
-        ensures { KeepsOrRefuses (meaning.drawn_all {Symbol = C.Symbol}
+        ensures exact { KeepsOrRefuses (meaning.drawn_all {Symbol = C.Symbol}
             (uniform_bits_step label.now width (Length.Fixed n)) (C.uniform true width).draw n)
             (verifying_of C.state self.old) values_of result (verifying_of C.state self.new) }
+        ensures count { IfOk result (λ bounds. vec_len bounds ≡ n) }
     {
         self.turn
             .draw_uniform_bits::<F, C>(&mut self.challenger, label, width, n)
@@ -47,8 +48,8 @@ impl<C: Sponge, U, D: DigestHasher> VerifierState<'_, C, U, D> {
     /// [`max_bits`](p3_challenger_core::CanSampleBits::max_bits).
     ///
     /// What is drawn, kept and answered is said of a rule that is a function of its arguments. Of one that answers
-    /// otherwise when it is asked the same again, only this is said: no byte is read, and a refused step is the last
-    /// one.
+    /// otherwise when it is asked the same again, this is said: no byte is read, `n` values are answered, and only
+    /// where the step is the next one, nothing is drawn where it is not, and a refused step is the last one.
     pub fn challenge_uniform_bits_rejecting<F, R: Fn(usize, &[usize]) -> bool>(
         &mut self,
         label: Label,
@@ -66,7 +67,10 @@ impl<C: Sponge, U, D: DigestHasher> VerifierState<'_, C, U, D> {
             (C.uniform true width).draw rule limit n)
             (verifying_of C.state self.old).turn values_of result (verifying_of C.state self.new).turn }
         ensures unread { (verifying_of C.state self.new).unread ≡ (verifying_of C.state self.old).unread }
+        ensures order { KeepsOrder (uniform_bits_step label.now width (Length.Fixed n))
+            (verifying_of C.state self.old).turn result (verifying_of C.state self.new).turn }
         ensures spent { IfErr result (λ _. (verifying_of C.state self.new).turn.playing.finished ≡ true) }
+        ensures count { IfOk result (λ bounds. vec_len bounds ≡ n) }
     {
         self.turn
             .draw_uniform_bits_rejecting::<F, C, R>(

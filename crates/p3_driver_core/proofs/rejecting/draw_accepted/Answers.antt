@@ -4,8 +4,8 @@ use Rattle.p3_driver_core.specs.BoundLaws.{values-more}
 use Rattle.p3_driver_core.proofs.Rejections.{keeps-more, keeps-refused, keeps-all}
 use Rattle.p3_driver_core.proofs.rejecting.draw_accepted.Goals as goal
 
-pub returns-in_err-value : goal.returns-in_err-value
-returns-in_err-value g c =
+pub returns-in_err-value-clause-kept : goal.returns-in_err-value-clause-kept
+returns-in_err-value-clause-kept g c =
     λ rule computes.
     let stops = keeps-refused g.Cdc.Codec.sampling rule c.args.limit c.args.n (g.C.Sponge.state c.args.challenger.now)
     c.loop.counter c.loop.kept.items c.deref.result.now (g.C.Sponge.state c.loop.challenger) c.loop-test.true
@@ -31,8 +31,8 @@ loop-preserved g c =
       kept_room = c.push_reserved.ensures.capacity ∙ c.loop.invariant.kept_room;
     }
 
-pub returns : goal.returns
-returns g c =
+pub returns-clause-kept : goal.returns-clause-kept
+returns-clause-kept g c =
     λ rule computes. keeps-all g.Cdc.Codec.sampling rule c.args.limit c.args.n
     (g.C.Sponge.state c.args.challenger.now) c.loop.counter c.loop.kept.items (map value_of c.loop.bounds.items)
     (g.C.Sponge.state c.loop.challenger) c.loop-test.false c.loop.invariant.bound

@@ -4,8 +4,8 @@ use Rattle.p3_driver_core.specs.BoundLaws.{values-more}
 use Rattle.p3_driver_core.proofs.Rejections.{keeps-more, keeps-refused, keeps-all}
 use Rattle.p3_driver_core.proofs.uniform.draw_accepted_numbers.Goals as goal
 
-pub returns-in_err-number : goal.returns-in_err-number
-returns-in_err-number g c =
+pub returns-in_err-number-clause-kept : goal.returns-in_err-number-clause-kept
+returns-in_err-number-clause-kept g c =
     λ rule computes.
     let stops = keeps-refused (g.C.CanSampleUniformBits.uniform true c.args.width).draw rule c.args.limit c.args.n
     (g.C.Sponge.state c.args.challenger.now)
@@ -34,8 +34,8 @@ loop-preserved g c =
       kept_room = c.push_reserved.ensures.capacity ∙ c.loop.invariant.kept_room;
     }
 
-pub returns : goal.returns
-returns g c =
+pub returns-clause-kept : goal.returns-clause-kept
+returns-clause-kept g c =
     λ rule computes. keeps-all (g.C.CanSampleUniformBits.uniform true c.args.width).draw rule c.args.limit c.args.n
     (g.C.Sponge.state c.args.challenger.now) c.loop.counter c.loop.kept.items (map value_of c.loop.bounds.items)
     (g.C.Sponge.state c.loop.challenger) c.loop-test.false c.loop.invariant.bound

@@ -10,8 +10,8 @@ use Rattle.p3_verifier.specs.Reads as reads
 use Rattle.p3_verifier.specs.Verifying.{verifying_of}
 use Rattle.p3_verifier.proofs.verifier.VerifierState.next_bytes_bounded.Goals as goal
 
-pub returns-in_err-bytes : goal.returns-in_err-bytes
-returns-in_err-bytes g c =
+pub returns-in_err-bytes-clause-exact : goal.returns-in_err-bytes-clause-exact
+returns-in_err-bytes-clause-exact g c =
     let p = err_from_is_err_and c.from_residual-in_err-bytes.result c.from_residual-in_err-bytes.ensures.1 in
     let state = g.C.Sponge.state in
     let opened = c.in_ok-take_bytes.ensures.ok in
@@ -26,8 +26,8 @@ returns-in_err-bytes g c =
     (ap (λ t. t.steps.closed || t.steps.player.finished) same ∙ ap (λ b. b || c.take_bytes.new.self.player.finished)
     opened.closed))
 
-pub returns-in_err-observe_count : goal.returns-in_err-observe_count
-returns-in_err-observe_count g c =
+pub returns-in_err-observe_count-clause-exact : goal.returns-in_err-observe_count-clause-exact
+returns-in_err-observe_count-clause-exact g c =
     let p = err_from_is_err_and c.from_residual-in_err-observe_count.result
     c.from_residual-in_err-observe_count.ensures.1 in
     let state = g.C.Sponge.state in
@@ -49,8 +49,8 @@ returns-in_err-observe_count g c =
     (ap (λ t. t.steps.closed || t.steps.player.finished) same
     ∙ ap (λ b. b || c.take_bytes.new.self.player.finished) opened.closed))
 
-pub returns-in_err-observe_bytes : goal.returns-in_err-observe_bytes
-returns-in_err-observe_bytes g c =
+pub returns-in_err-observe_bytes-clause-exact : goal.returns-in_err-observe_bytes-clause-exact
+returns-in_err-observe_bytes-clause-exact g c =
     let p = err_from_is_err_and c.from_residual-in_err-observe_bytes.result
     c.from_residual-in_err-observe_bytes.ensures.1 in
     let state = g.C.Sponge.state in

@@ -7,8 +7,8 @@ use Rattle.p3_verifier.proofs.Refusals.{list-refused}
 use Rattle.p3_verifier.specs.Verifying.{verifying_of}
 use Rattle.p3_verifier.proofs.verifier.VerifierState.next_scalars.Goals as goal
 
-pub returns-in_err-bounds : goal.returns-in_err-bounds
-returns-in_err-bounds g c =
+pub returns-in_err-bounds-clause-exact : goal.returns-in_err-bounds-clause-exact
+returns-in_err-bounds-clause-exact g c =
     let p = err_from_is_err_and c.from_residual-in_err-bounds.result c.from_residual-in_err-bounds.ensures.1 in
     let state = g.C.Sponge.state in
     let opened = c.in_ok-take_algebra.ensures.ok in

@@ -12,8 +12,8 @@ use Rattle.p3_verifier.specs.Reads as reads
 use Rattle.p3_verifier.specs.Verifying.{verifying_of}
 use Rattle.p3_verifier.proofs.verifier.VerifierState.next_scalars_bounded.Goals as goal
 
-pub returns-in_err-count : goal.returns-in_err-count
-returns-in_err-count g c =
+pub returns-in_err-count-clause-exact : goal.returns-in_err-count-clause-exact
+returns-in_err-count-clause-exact g c =
     let p = err_from_is_err_and c.from_residual-in_err-count.result c.from_residual-in_err-count.ensures.1 in
     let state = g.C.Sponge.state in
     let opened = c.in_ok-take_algebra.ensures.ok in
@@ -36,8 +36,8 @@ returns-in_err-count g c =
     after.unread e
     c.in_err-count.ensures.read) (ap state kept) finished)
 
-pub returns-in_err-observe_count : goal.returns-in_err-observe_count
-returns-in_err-observe_count g c =
+pub returns-in_err-observe_count-clause-exact : goal.returns-in_err-observe_count-clause-exact
+returns-in_err-observe_count-clause-exact g c =
     let p = err_from_is_err_and c.from_residual-in_err-observe_count.result
     c.from_residual-in_err-observe_count.ensures.1 in
     let state = g.C.Sponge.state in
@@ -62,8 +62,8 @@ returns-in_err-observe_count g c =
     (subst (λ s. (observing_bytes alphabet (count_bytes c.args.max n)).refuses e s end)
     (ap state kept) c.in_err-observe_count.ensures.does))
 
-pub returns-in_err-bounds : goal.returns-in_err-bounds
-returns-in_err-bounds g c =
+pub returns-in_err-bounds-clause-exact : goal.returns-in_err-bounds-clause-exact
+returns-in_err-bounds-clause-exact g c =
     let p = err_from_is_err_and c.from_residual-in_err-bounds.result c.from_residual-in_err-bounds.ensures.1 in
     let state = g.C.Sponge.state in
     let opened = c.in_ok-take_algebra.ensures.ok in
@@ -89,8 +89,8 @@ returns-in_err-bounds g c =
     ∙ ap (λ d. (observing_bytes alphabet (count_bytes c.args.max n)).after (state d)) kept)
     c.in_err-bounds.ensures.read)
 
-pub returns : goal.returns
-returns g c =
+pub returns-clause-exact : goal.returns-clause-exact
+returns-clause-exact g c =
     let state = g.C.Sponge.state in
     let opened = c.in_ok-take_algebra.ensures.ok in
     let alphabet = alphabet_of g.U.Unit.items g.U.Unit.is_too_long g.C.CanObserve.observation

@@ -6,8 +6,8 @@ use Rattle.p3_verifier.specs.Reads as reads
 use Rattle.p3_verifier.specs.Verifying.{verifying_of}
 use Rattle.p3_verifier.proofs.verifier.VerifierState.receive_bytes.Goals as goal
 
-pub returns-in_err-bytes : goal.returns-in_err-bytes
-returns-in_err-bytes g c =
+pub returns-in_err-bytes-clause-exact : goal.returns-in_err-bytes-clause-exact
+returns-in_err-bytes-clause-exact g c =
     let p = err_from_is_err_and c.from_residual-in_err-bytes.result c.from_residual-in_err-bytes.ensures.1 in
     let state = g.C.Sponge.state in
     let opened = c.in_ok-take_bytes.ensures.ok in

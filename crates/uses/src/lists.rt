@@ -1,0 +1,81 @@
+//! Lists that a verifier reads: two scalars by their places, and so many in a list of the caller's own.
+ghost use Rattle.std.specs.Prelude.{◌≡◌, [], ◌∷◌, true, map, IfOk, IfErr};
+ghost use Rattle.p3_challenger.specs.Bound.{value_of};
+ghost use Rattle.p3_challenger.specs.Reads as reads;
+ghost use Rattle.p3_challenger.specs.Turns.{algebra_step};
+ghost use Rattle.p3_challenger.specs.Verifying.{Receives, ReceivesOrRefuses, verifying_of};
+
+use p3_challenger::Sponge;
+use p3_challenger::fs::{
+    Codec, Kind, Label, Length, TranscriptBound, TranscriptError, TranscriptField, VerifierState,
+};
+use p3_field::{AlgebraIdentity, Named};
+use p3_symmetric::DigestHasher;
+use std::alloc::{AllocError, Global};
+
+/// Reads two scalars, and answers them in order.
+///
+/// The errors are those of the step. How many scalars come back is a clause of the step, so that both may be asked for
+/// by their places.
+pub fn receive_pair<
+    F: TranscriptField + AlgebraIdentity<F> + Named,
+    U,
+    C: Sponge + Drop,
+    D: DigestHasher,
+    Cdc: Codec<C, F>,
+>(
+    verifier: &mut VerifierState<'_, C, U, D>,
+    label: Label,
+) -> Result<(F, F), TranscriptError>
+    ensures { let step = algebra_step Kind.Message label.now F.residues.order F.DIMENSION (D.digest_of F.identity)
+        F.name_bytes (Length.Fixed 2) in
+        ReceivesOrRefuses (reads.received_all step Cdc.observation Cdc.encoding 2)
+        (verifying_of C.state verifier.old) (λ pair. pair.0 ∷ pair.1 ∷ []) result
+        (verifying_of C.state verifier.new) }
+{
+    let pair = verifier.next_scalars::<F, Cdc>(label, 2)?;
+    Ok((pair[0].into_inner(), pair[1].into_inner()))
+}
+
+/// Reads `n` scalars into a list of the caller's own, without their bounds.
+///
+/// Where memory for that list is refused, the verifier is halted, so that it plays no step after an error, whichever it
+/// is. The errors are those of the step, and [`TranscriptError::OutOfMemory`].
+pub fn receive_list<
+    F: TranscriptField + AlgebraIdentity<F> + Named,
+    U,
+    C: Sponge + Drop,
+    D: DigestHasher,
+    Cdc: Codec<C, F>,
+>(
+    alloc: Global,
+    verifier: &mut VerifierState<'_, C, U, D>,
+    label: Label,
+    n: usize,
+) -> Result<Vec<F>, TranscriptError>
+    ensures read { let step = algebra_step Kind.Message label.now F.residues.order F.DIMENSION (D.digest_of F.identity)
+        F.name_bytes (Length.Fixed n) in
+        IfOk result (λ values. Receives (reads.received_all step Cdc.observation Cdc.encoding n)
+        (verifying_of C.state verifier.old) values.items (verifying_of C.state verifier.new)) }
+    ensures last { IfErr result (λ _. (verifying_of C.state verifier.new).turn.playing.finished ≡ true) }
+{
+    let bounds = verifier.next_scalars::<F, Cdc>(label, n)?;
+    match values_alone(alloc, &bounds) {
+        Ok(values) => Ok(values),
+        Err(error) => {
+            verifier.halt();
+            Err(error.into())
+        }
+    }
+}
+
+// The values of a list without their bounds.
+fn values_alone<T: Copy>(alloc: Global, bounds: &[TranscriptBound<T>]) -> Result<Vec<T>, AllocError>
+    ensures { IfOk result (λ values. values.items ≡ map value_of bounds.now) }
+{
+    let mut values = Vec::with_capacity(alloc, bounds.len())?;
+    for bound in bounds {
+        values.push_reserved(bound.into_inner());
+    }
+    Ok(values)
+}
