@@ -8,55 +8,118 @@
 //!
 //! `CALLING.md` of this crate lists the steps: what each is called on either side, and how it is recorded.
 
-pub use p3_codecs::{
-    BytesToFieldCodec, Codec, EXTRA_BYTES, ExtensionFieldCodec, FieldToFieldCodec, FieldUnit,
-    MIN_CHALLENGE_SECURITY_BITS, ScalarCodec, Unit, symbols_begin,
-};
-pub use p3_driver_core::{
-    SymmetricSteps, TranscriptBound, bit_draws_feed_nothing, bytes_feed_their_symbols,
-    counted_values_feed_their_symbols, counts_are_told, counts_take_the_least_width,
-    draws_feed_nothing, finished_players_refuse, listed_steps_are_next,
-    markers_and_hints_feed_nothing, next_steps_are_not_wrong, opaque_values_feed_their_symbols,
-    rejecting_draws_keep_the_first_accepted, rejecting_uniform_draws_keep_the_first_accepted,
-    slices_are_bytes, uniform_draws_feed_nothing, values_feed_their_symbols, work_feeds_its_witness,
-};
-pub use p3_driver_laws::{
-    bit_draws_are_refused_for_one_reason, bit_draws_tell_limits, bytes_are_refused_for_one_reason,
-    bytes_are_unread_for_one_reason, bytes_tell_limits, carried_lists_are_refused_for_one_reason,
-    draws_are_refused_for_one_reason, draws_tell_limits, extensions_are_refused_for_one_reason,
-    hints_are_refused_for_one_reason, hints_are_unread_for_one_reason,
-    markers_and_hints_tell_limits, markers_are_refused_for_one_reason,
-    only_memory_refuses_drawn_bits, only_memory_refuses_drawn_uniform_bits,
-    only_memory_refuses_drawn_values, only_memory_refuses_hints, only_memory_refuses_markers,
-    only_memory_refuses_observed_values, only_memory_refuses_opaque_values,
-    only_memory_refuses_sent_bytes, only_memory_refuses_sent_values,
-    opaque_values_are_refused_for_one_reason, opaque_values_tell_limits, read_bytes_are_spelled,
-    read_hints_are_spelled, read_values_are_spelled, read_work_is_spelled,
-    uniform_draws_are_refused_for_one_reason, uniform_draws_tell_limits,
-    values_are_refused_for_one_reason, values_are_unread_for_one_reason, values_tell_limits,
-    work_is_refused_for_one_reason, work_tells_limits,
-};
+pub use p3_codecs::BytesToFieldCodec;
+pub use p3_codecs::Codec;
+pub use p3_codecs::EXTRA_BYTES;
+pub use p3_codecs::ExtensionFieldCodec;
+pub use p3_codecs::FieldToFieldCodec;
+pub use p3_codecs::FieldUnit;
+pub use p3_codecs::MIN_CHALLENGE_SECURITY_BITS;
+pub use p3_codecs::ScalarCodec;
+pub use p3_codecs::Unit;
+pub use p3_codecs::symbols_begin;
+pub use p3_driver_core::SymmetricSteps;
+pub use p3_driver_core::TranscriptBound;
+pub use p3_driver_core::bit_draws_feed_nothing;
+pub use p3_driver_core::bytes_feed_their_symbols;
+pub use p3_driver_core::counted_values_feed_their_symbols;
+pub use p3_driver_core::counts_are_told;
+pub use p3_driver_core::counts_take_the_least_width;
+pub use p3_driver_core::draws_feed_nothing;
+pub use p3_driver_core::finished_players_refuse;
+pub use p3_driver_core::listed_steps_are_next;
+pub use p3_driver_core::markers_and_hints_feed_nothing;
+pub use p3_driver_core::next_steps_are_not_wrong;
+pub use p3_driver_core::opaque_values_feed_their_symbols;
+pub use p3_driver_core::rejecting_draws_keep_the_first_accepted;
+pub use p3_driver_core::rejecting_uniform_draws_keep_the_first_accepted;
+pub use p3_driver_core::slices_are_bytes;
+pub use p3_driver_core::uniform_draws_feed_nothing;
+pub use p3_driver_core::values_feed_their_symbols;
+pub use p3_driver_core::work_feeds_its_witness;
+pub use p3_driver_laws::bit_draws_are_refused_for_one_reason;
+pub use p3_driver_laws::bit_draws_tell_limits;
+pub use p3_driver_laws::bytes_are_refused_for_one_reason;
+pub use p3_driver_laws::bytes_are_unread_for_one_reason;
+pub use p3_driver_laws::bytes_tell_limits;
+pub use p3_driver_laws::carried_lists_are_refused_for_one_reason;
+pub use p3_driver_laws::draws_are_refused_for_one_reason;
+pub use p3_driver_laws::draws_tell_limits;
+pub use p3_driver_laws::extensions_are_refused_for_one_reason;
+pub use p3_driver_laws::hints_are_refused_for_one_reason;
+pub use p3_driver_laws::hints_are_unread_for_one_reason;
+pub use p3_driver_laws::markers_and_hints_tell_limits;
+pub use p3_driver_laws::markers_are_refused_for_one_reason;
+pub use p3_driver_laws::only_memory_refuses_drawn_bits;
+pub use p3_driver_laws::only_memory_refuses_drawn_uniform_bits;
+pub use p3_driver_laws::only_memory_refuses_drawn_values;
+pub use p3_driver_laws::only_memory_refuses_hints;
+pub use p3_driver_laws::only_memory_refuses_markers;
+pub use p3_driver_laws::only_memory_refuses_observed_values;
+pub use p3_driver_laws::only_memory_refuses_opaque_values;
+pub use p3_driver_laws::only_memory_refuses_sent_bytes;
+pub use p3_driver_laws::only_memory_refuses_sent_values;
+pub use p3_driver_laws::opaque_values_are_refused_for_one_reason;
+pub use p3_driver_laws::opaque_values_tell_limits;
+pub use p3_driver_laws::read_bytes_are_spelled;
+pub use p3_driver_laws::read_hints_are_spelled;
+pub use p3_driver_laws::read_values_are_spelled;
+pub use p3_driver_laws::read_work_is_spelled;
+pub use p3_driver_laws::uniform_draws_are_refused_for_one_reason;
+pub use p3_driver_laws::uniform_draws_tell_limits;
+pub use p3_driver_laws::values_are_refused_for_one_reason;
+pub use p3_driver_laws::values_are_unread_for_one_reason;
+pub use p3_driver_laws::values_tell_limits;
+pub use p3_driver_laws::work_is_refused_for_one_reason;
+pub use p3_driver_laws::work_tells_limits;
 pub use p3_duplex::duplex_elements_are_prefix_code;
-pub use p3_fs_core::{
-    Alternate, Hierarchy, Interaction, InvalidKindInfo, Kind, Label, Length,
-    MismatchedBeginEndInfo, MissingBeginInfo, MissingEndInfo, PatternError, TranscriptError,
-    TranscriptField, TypeTag, bound_byte_width, counts_are_prefix_code, decode_len_be,
-    encode_len_be,
-};
+pub use p3_fs_core::Alternate;
+pub use p3_fs_core::Hierarchy;
+pub use p3_fs_core::Interaction;
+pub use p3_fs_core::InvalidKindInfo;
+pub use p3_fs_core::Kind;
+pub use p3_fs_core::Label;
+pub use p3_fs_core::Length;
+pub use p3_fs_core::MismatchedBeginEndInfo;
+pub use p3_fs_core::MissingBeginInfo;
+pub use p3_fs_core::MissingEndInfo;
+pub use p3_fs_core::PatternError;
+pub use p3_fs_core::TranscriptError;
+pub use p3_fs_core::TranscriptField;
+pub use p3_fs_core::TypeTag;
+pub use p3_fs_core::bound_byte_width;
+pub use p3_fs_core::counts_are_prefix_code;
+pub use p3_fs_core::decode_len_be;
+pub use p3_fs_core::encode_len_be;
 pub use p3_hash_challenger::hash_values_are_prefix_code;
-pub use p3_patterns::{
-    InteractionPattern, Pattern, PatternPlayer, PatternState, equal_renderings_are_equal_patterns,
-};
+pub use p3_patterns::InteractionPattern;
+pub use p3_patterns::Pattern;
+pub use p3_patterns::PatternPlayer;
+pub use p3_patterns::PatternState;
+pub use p3_patterns::equal_renderings_are_equal_patterns;
 pub use p3_prover::ProverState;
-pub use p3_turn::{
-    DomainSeparator, PROTOCOL_ID_LEN, identifiers_are_injective, labels_are_injective,
-    seeds_are_prefix_code, separators_have_seeds,
-};
-pub use p3_verifier::{
-    VerifierState, carried_lists_are_let_through, carried_work_agrees, counted_hint_is_received,
-    drawn_bits_agree, drawn_uniform_bits_agree, drawn_values_agree,
-    ended_verifiers_are_not_refused, hint_is_received,
-    markers_agree, observed_counted_values_agree, observed_values_agree, opaque_values_agree,
-    sent_bytes_are_received, sent_counted_bytes_are_received, sent_counted_values_are_received,
-    sent_value_is_received, sent_values_are_received, sent_work_is_received,
-};
+pub use p3_turn::DomainSeparator;
+pub use p3_turn::PROTOCOL_ID_LEN;
+pub use p3_turn::identifiers_are_injective;
+pub use p3_turn::labels_are_injective;
+pub use p3_turn::seeds_are_prefix_code;
+pub use p3_turn::separators_have_seeds;
+pub use p3_verifier::VerifierState;
+pub use p3_verifier::carried_lists_are_let_through;
+pub use p3_verifier::carried_work_agrees;
+pub use p3_verifier::counted_hint_is_received;
+pub use p3_verifier::drawn_bits_agree;
+pub use p3_verifier::drawn_uniform_bits_agree;
+pub use p3_verifier::drawn_values_agree;
+pub use p3_verifier::ended_verifiers_are_not_refused;
+pub use p3_verifier::hint_is_received;
+pub use p3_verifier::markers_agree;
+pub use p3_verifier::observed_counted_values_agree;
+pub use p3_verifier::observed_values_agree;
+pub use p3_verifier::opaque_values_agree;
+pub use p3_verifier::sent_bytes_are_received;
+pub use p3_verifier::sent_counted_bytes_are_received;
+pub use p3_verifier::sent_counted_values_are_received;
+pub use p3_verifier::sent_value_is_received;
+pub use p3_verifier::sent_values_are_received;
+pub use p3_verifier::sent_work_is_received;

@@ -7,9 +7,9 @@ ghost use Rattle.p3_challenger.specs.Verifying.{Receives, ReceivesOrRefuses, ver
 
 use p3_challenger::Sponge;
 use p3_challenger::fs::{
-    Codec, Kind, Label, Length, TranscriptBound, TranscriptError, TranscriptField, VerifierState,
+    Codec, Kind, Label, Length, TranscriptBound, TranscriptError, VerifierState,
 };
-use p3_field::{AlgebraIdentity, Named};
+use p3_field::ScalarField;
 use p3_symmetric::DigestHasher;
 use std::alloc::{AllocError, Global};
 
@@ -17,13 +17,7 @@ use std::alloc::{AllocError, Global};
 ///
 /// The errors are those of the step. How many scalars come back is a clause of the step, so that both may be asked for
 /// by their places.
-pub fn receive_pair<
-    F: TranscriptField + AlgebraIdentity<F> + Named,
-    U,
-    C: Sponge + Drop,
-    D: DigestHasher,
-    Cdc: Codec<C, F>,
->(
+pub fn receive_pair<F: ScalarField, U, C: Sponge + Drop, D: DigestHasher, Cdc: Codec<C, F>>(
     verifier: &mut VerifierState<'_, C, U, D>,
     label: Label,
 ) -> Result<(F, F), TranscriptError>
@@ -41,13 +35,7 @@ pub fn receive_pair<
 ///
 /// Where memory for that list is refused, the verifier is halted, so that it plays no step after an error, whichever it
 /// is. The errors are those of the step, and [`TranscriptError::OutOfMemory`].
-pub fn receive_list<
-    F: TranscriptField + AlgebraIdentity<F> + Named,
-    U,
-    C: Sponge + Drop,
-    D: DigestHasher,
-    Cdc: Codec<C, F>,
->(
+pub fn receive_list<F: ScalarField, U, C: Sponge + Drop, D: DigestHasher, Cdc: Codec<C, F>>(
     alloc: Global,
     verifier: &mut VerifierState<'_, C, U, D>,
     label: Label,
