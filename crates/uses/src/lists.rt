@@ -23,10 +23,7 @@ pub fn receive_pair<
     C: Sponge + Drop,
     D: DigestHasher,
     Cdc: Codec<C, F>,
->(
-    verifier: &mut VerifierState<'_, C, U, D>,
-    label: Label,
-) -> Result<(F, F), TranscriptError>
+>(verifier: &mut VerifierState<'_, C, U, D>, label: Label) -> Result<(F, F), TranscriptError>
     ensures { let step = algebra_step Kind.Message label.now F.residues.order F.DIMENSION (D.digest_of F.identity)
         F.name_bytes (Length.Fixed 2) in
         ReceivesOrRefuses (reads.received_all step Cdc.observation Cdc.encoding 2)
