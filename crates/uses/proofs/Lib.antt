@@ -5,7 +5,6 @@ pub mod CommitPhase
 pub mod Either
 pub mod MerkleOpening
 pub mod OwnHasher
-pub mod Pairs
 pub mod ReadBytes
 pub mod Rejecting
 pub mod Runs
