@@ -10,8 +10,8 @@ pub use p3_field_bridge::{
 };
 pub use p3_field_core::{
     Algebra, AlgebraIdentity, BasedVectorSpace, BinomiallyExtendable, Coeffs, Field, Named,
-    PrimeCharacteristicRing, PrimeField, PrimeField32, PrimeField64, ScalarField, UniformSamplingField,
-    log2_ceil_u64, residues_are_a_ring, uniform_bounds_are_whole,
+    PrimeCharacteristicRing, PrimeField, PrimeField32, PrimeField64, ScalarField,
+    UniformSamplingField, log2_ceil_u64, residues_are_a_ring, uniform_bounds_are_whole,
 };
 pub use p3_goldilocks::Goldilocks;
 pub use p3_small_primes::{BabyBear, F257, SmallOrder, SmallPrime};

@@ -1,6 +1,8 @@
 //! The field of order 15 * 2^27 + 1.
 use crate::{SmallOrder, SmallPrime};
-use p3_field_core::{AlgebraIdentity, BinomiallyExtendable, Named, ScalarField, UniformSamplingField};
+use p3_field_core::{
+    AlgebraIdentity, BinomiallyExtendable, Named, ScalarField, UniformSamplingField,
+};
 
 /// An element of the prime field of order 2013265921 = 15 * 2^27 + 1.
 ///
