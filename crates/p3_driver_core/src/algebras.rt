@@ -7,14 +7,18 @@ ghost use Rattle.p3_fs_core.specs.declared.step.TypeTag.TheVariants.{Algebra};
 use p3_field_core::{AlgebraIdentity, Named};
 use p3_fs_core::{Hierarchy, Interaction, Kind, Label, Length, TranscriptField};
 use p3_symmetric::DigestHasher;
+use std::alloc::{AllocError, Global};
 use std::marker::PhantomData;
 
-// The first four algebras that steps were of, with the digests of their identities. They lie in the value itself, so
-// that no memory is asked for.
+// Most protocols have two or three.
+const MOST_KNOWN: usize = 4;
+
+// The first four algebras that steps were of, with the digests of their identities. Room for them is asked for at once,
+// so that no step asks for any.
 #[derive(Drop)]
 #[derive_where(Debug)]
 pub(crate) struct Algebras<D: DigestHasher> {
-    known: [Option<KnownAlgebra<D>>; 4],
+    known: Vec<KnownAlgebra<D>>,
 }
 
 // An algebra with a step of it, from which others of the same type are made.
@@ -30,10 +34,10 @@ struct KnownAlgebra<D: DigestHasher> {
 }
 
 impl<D: DigestHasher> Algebras<D> {
-    pub(crate) fn new() -> Self {
-        Algebras {
-            known: [None, None, None, None],
-        }
+    pub(crate) fn new(alloc: Global) -> Result<Self, AllocError> {
+        Ok(Algebras {
+            known: Vec::with_capacity(alloc, MOST_KNOWN)?,
+        })
     }
 
     // A step that carries elements of an algebra. An identity is hashed where no step before was of this algebra, or
@@ -47,10 +51,8 @@ impl<D: DigestHasher> Algebras<D> {
         ensures { step_of result ≡ step_with Hierarchy.Atomic kind label.now
             (Algebra F.residues.order A.DIMENSION (D.digest_of A.identity)) A.name_bytes length }
     {
-        for place in &self.known {
-            if let Some(known) = place
-                && known.is_of::<F, A>()
-            {
+        for known in &self.known {
+            if known.is_of::<F, A>() {
                 return known
                     .step
                     .of_same_type(Hierarchy::Atomic, kind, label, length);
@@ -67,13 +69,10 @@ impl<D: DigestHasher> Algebras<D> {
         step
     }
 
-    // Keeps an algebra where a place is free.
+    // Keeps an algebra where there is room.
     fn keep(&mut self, known: KnownAlgebra<D>) {
-        for place in &mut self.known {
-            if place.is_none() {
-                *place = Some(known);
-                return;
-            }
+        if self.known.len() < self.known.capacity() {
+            self.known.push_reserved(known);
         }
     }
 }

@@ -1,5 +1,5 @@
 //! The pattern as a driver plays it: each step is held against the next one before anything else is done.
-ghost use Rattle.std.specs.Prelude.{◌≡◌, ◌≤◌, ◌<◌, ◌↔◌, false, IfErr, OnOk, IsOk, IsTrue};
+ghost use Rattle.std.specs.Prelude.{◌≡◌, ◌≤◌, ◌<◌, ◌↔◌, false, IfErr, IfOk, OnOk, IsOk, IsTrue};
 ghost use Rattle.std.specs.Option.{option_map};
 ghost use Rattle.p3_fs_core.specs.Errors.{misfit_of};
 ghost use Rattle.p3_fs_core.specs.Interactions.{step_of};
@@ -17,6 +17,7 @@ use p3_fs_core::{
 };
 use p3_patterns::{InteractionPattern, Pattern, PatternPlayer};
 use p3_symmetric::DigestHasher;
+use std::alloc::{AllocError, Global};
 use std::rc::Rc;
 
 /// The pattern as a driver plays it.
@@ -35,15 +36,18 @@ pub struct Steps<D: DigestHasher> {
 }
 
 impl<D: DigestHasher> Steps<D> {
-    /// The steps of a pattern, of which none was taken yet.
-    pub fn new(pattern: Rc<InteractionPattern>) -> Self
-        ensures { playing_of result ≡ record { pattern = pattern.value; position = 0; finished = false } }
+    /// The steps of a pattern, of which none was taken yet. Room is asked for here, so that no step asks for any to
+    /// keep what it knows of its algebra.
+    pub fn new(alloc: Global, pattern: Rc<InteractionPattern>) -> Result<Self, AllocError>
+        ensures { IfOk result (λ steps.
+            playing_of steps ≡ record { pattern = pattern.value; position = 0; finished = false }) }
     {
-        Steps {
+        let algebras = Algebras::new(alloc)?;
+        Ok(Steps {
             player: PatternPlayer::new(pattern),
             closed: false,
-            algebras: Algebras::new(),
-        }
+            algebras,
+        })
     }
 
     /// Opens a step, which must be the next one of the pattern.

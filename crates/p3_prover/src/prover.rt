@@ -90,7 +90,7 @@ impl<U: Unit, C: CanObserve<U::Item> + Drop, D: DigestHasher> ProverState<C, U, 
             IfErr result (RefusesStart (U.is_too_long (length seed))) }
     {
         separator.seed(&mut challenger)?;
-        let steps = Steps::new(separator.pattern().clone()?);
+        let steps = Steps::new(alloc, separator.pattern().clone()?)?;
         Ok(ProverState {
             challenger,
             turn: DriverTurn { steps, alloc },

@@ -105,7 +105,7 @@ impl<'a, U: Unit, C: CanObserve<U::Item> + Drop, D: DigestHasher> VerifierState<
     {
         separator.seed(&mut challenger)?;
         let pattern = separator.pattern().clone()?;
-        let steps = Steps::new(pattern.clone()?);
+        let steps = Steps::new(alloc, pattern.clone()?)?;
         Ok(VerifierState {
             challenger,
             turn: DriverTurn { steps, alloc },
