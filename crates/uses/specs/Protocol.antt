@@ -78,8 +78,8 @@ pub record IsSent {S Symbol : Type 0} (o : Observation S Symbol BabyBear) (place
   pub run : IsRun o places divisors e s claim bytes
   pub quotient : claim.quotient ≡ quotient_of claim
 
--- A verifier stands before the protocol: its steps are the pattern, and none was played. The bytes that it has left begin
--- with those of a run, and these follow.
+-- A verifier stands before the protocol: its steps are the pattern, and none was played. The bytes that it has left
+-- begin with those of a run, and these follow.
 pub record IsAhead {S Symbol : Type 0} (o : Observation S Symbol BabyBear) (places divisors : Sampling S BabyBear)
     (e : Encoding BabyBear) (digest : List ℕ) (v : Verifying S) (claim : Claim) (rest : List ℕ) : Type 0 where
   pub steps : v.turn.playing.pattern.steps ≡ steps_of_line digest

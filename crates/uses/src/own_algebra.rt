@@ -5,9 +5,7 @@
 //! seeds. How elements are added and multiplied no transcript asks.
 ghost use Rattle.std.specs.Prelude.{◌≡◌};
 
-use p3_field::{
-    Algebra, AlgebraIdentity, BabyBear, BasedVectorSpace, Coeffs, Named, PrimeCharacteristicRing,
-};
+use p3_field::{Algebra, AlgebraIdentity, BabyBear, BasedVectorSpace, Coeffs, Named};
 
 /// A polynomial modulo X^4 - 176 over the field: its coefficients on 1, X, X^2 and X^3.
 #[derive(Clone, Copy, Debug, PartialEq, Eq)]
@@ -32,6 +30,7 @@ impl BasedVectorSpace<BabyBear> for Quartic {
     ghost use Rattle.std.proofs.Common.{lit<, lit≤};
     ghost use Rattle.p3_challenger.specs.BabyBearResidues.{residues};
     ghost use Rattle.p3_challenger.specs.CoefficientLaws as laws;
+    ghost use Rattle.p3_challenger.specs.SmallPrimeLaws.{compared-by-numbers};
     ghost use Rattle.uses.specs.OwnAlgebra.{coefficients_of, element_of};
     ghost use Rattle.uses.specs.OwnAlgebraLaws.{coefficients-injective, compared-by-coefficients};
 
@@ -51,7 +50,7 @@ impl BasedVectorSpace<BabyBear> for Quartic {
 
     ghost same_coefficients = { coefficients-injective };
 
-    ghost eq_law = { compared-by-coefficients ⟦<BabyBear as PrimeCharacteristicRing>⟧.eq_law };
+    ghost eq_law = { compared-by-coefficients compared-by-numbers };
 
     ghost coefficients_element = { laws.coefficients-element_of (residues.of 0) };
 

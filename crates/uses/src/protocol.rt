@@ -218,7 +218,8 @@ fn challenger(alloc: Global) -> Challenger
 ///
 /// The one error in fact is that memory is out.
 pub fn separator(alloc: Global) -> Result<Separator, TranscriptError>
-    ensures { let digest = ⟦<Sha256Hasher as DigestHasher>⟧.digest_of ⟦<BabyBear as AlgebraIdentity<BabyBear>>⟧.identity in
+    ensures { let identity = ⟦<BabyBear as AlgebraIdentity<BabyBear>>⟧.identity in
+        let digest = ⟦<Sha256Hasher as DigestHasher>⟧.digest_of identity in
         IfOk result (λ separator. (pattern_of separator).steps ≡ steps_of_line digest) }
 {
     let mut recorder = PatternState::<u8>::new(alloc);
@@ -229,7 +230,8 @@ pub fn separator(alloc: Global) -> Result<Separator, TranscriptError>
 
 // The steps in order. Each names its value's type, so that a proof of one type is not read as another.
 fn record(recorder: &mut PatternState<u8>) -> Result<(), TranscriptError>
-    ensures { let digest = ⟦<Sha256Hasher as DigestHasher>⟧.digest_of ⟦<BabyBear as AlgebraIdentity<BabyBear>>⟧.identity in
+    ensures { let identity = ⟦<BabyBear as AlgebraIdentity<BabyBear>>⟧.identity in
+        let digest = ⟦<Sha256Hasher as DigestHasher>⟧.digest_of identity in
         OnOk result (recorder.new.steps ≡ recorder.old.steps ++ steps_of_line digest) }
 {
     let leaf = Hierarchy::Atomic;
