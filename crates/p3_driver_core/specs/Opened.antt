@@ -5,7 +5,6 @@ use Rattle.p3_patterns.specs.Playing.{Playing}
 use Rattle.p3_symmetric.specs.declared.digest_hasher.DigestHasher.{Ghosts}
 use Rattle.p3_driver_core.specs.Turns.{Turn, IsNext, step_on}
 use Rattle.p3_driver_core.specs.declared.steps.Steps.{Steps}
-use Rattle.p3_driver_core.specs.declared.turn.DriverTurn.{DriverTurn}
 
 -- a driver's pattern as it is played: nothing may follow while a step is open, or after one was given up
 abbrev pub playing_of : {D : Type 0} {hasher : Ghosts D} → Steps D hasher → Playing
@@ -23,6 +22,6 @@ pub record Opens {D : Type 0} {hasher : Ghosts D} (before : Steps D hasher) (s :
   pub player : after.player ≡ step_on (playing_of before)
   pub closed : after.closed ≡ true
 
--- what both drivers have, as contracts see it: the state of a challenger, and the pattern as it is played
-abbrev pub turn_of : {D S : Type 0} {hasher : Ghosts D} → S → DriverTurn D hasher → Turn S
-turn_of challenger t = record { challenger = challenger; playing = playing_of t.steps }
+-- a driver between two steps: the state of its challenger, and its pattern as it is played
+abbrev pub turn_of : {D S : Type 0} {hasher : Ghosts D} → S → Steps D hasher → Turn S
+turn_of challenger steps = record { challenger = challenger; playing = playing_of steps }

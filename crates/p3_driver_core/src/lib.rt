@@ -14,7 +14,6 @@ mod order;
 mod rejecting;
 mod steps;
 mod symmetric;
-mod turn;
 mod uniform;
 mod work;
 
@@ -33,7 +32,6 @@ pub use order::{finished_players_refuse, listed_steps_are_next, next_steps_are_n
 pub use rejecting::{draw_accepted, rejecting_draws_keep_the_first_accepted};
 pub use steps::Steps;
 pub use symmetric::{Driver, SymmetricSteps};
-pub use turn::DriverTurn;
 pub use uniform::{
     draw_accepted_numbers, draw_uniform_numbers, rejecting_uniform_draws_keep_the_first_accepted,
 };

@@ -1,17 +1,12 @@
 //! Draws until a rule has taken so many of the candidates.
-ghost use Rattle.std.specs.Prelude.{◌≡◌, ◌≤◌, ◌↔◌, ℕ, true, List, [], IfOk, IfErr, vec_len};
+ghost use Rattle.std.specs.Prelude.{◌≡◌, ◌≤◌, ◌↔◌, ℕ, List, [], IfOk, vec_len};
 ghost use Rattle.p3_driver_core.specs.Bound.{values_of};
-ghost use Rattle.p3_driver_core.specs.Opened.{playing_of, turn_of};
-ghost use Rattle.p3_driver_core.specs.Rejecting.{Rule, Computes, Takes, TakesAll, drawn_rejecting};
+ghost use Rattle.p3_driver_core.specs.Rejecting.{Rule, Computes, Takes, TakesAll};
 ghost use Rattle.p3_driver_core.specs.Rejecting.{given, keeps, KeepsFirst};
-ghost use Rattle.p3_driver_core.specs.Turns.{PlaysOrRefuses, KeepsOrder, algebra_step};
 
-use crate::{DriverTurn, TranscriptBound, bind};
+use crate::{TranscriptBound, bind};
 use p3_challenger_core::{ChallengerError, Sponge};
 use p3_codecs::Codec;
-use p3_field_core::{AlgebraIdentity, Named};
-use p3_fs_core::{Kind, Label, Length, TranscriptError, TranscriptField};
-use p3_symmetric::DigestHasher;
 use std::alloc::Global;
 
 // Draws until the rule takes a candidate, beside those kept before. The limit is met where it refuses so many.
@@ -77,44 +72,3 @@ pub fn rejecting_draws_keep_the_first_accepted<A, C: Sponge, Cdc: Codec<C, A>>()
     ensures { (rule : Rule A) (limit n : ℕ) (s t : C.State) (xs : List A) →
         (keeps Cdc.sampling rule limit n [] s ≡ given xs t ↔ KeepsFirst Cdc.sampling rule limit n s xs t) }
 {}
-
-impl<D: DigestHasher> DriverTurn<D> {
-    /// Draws elements of an algebra until the rule `accept` has taken `n`, which refuses fewer than `limit` in a row.
-    ///
-    /// The rule, the errors and the conditions are as in [`draw_accepted`]. Whatever the rule: `n` values are answered,
-    /// and only where the step is the next one; else nothing is drawn; and a refused step leaves it finished.
-    pub fn draw_rejecting<
-        F: TranscriptField,
-        A: AlgebraIdentity<F> + Named,
-        C: Sponge,
-        Cdc: Codec<C, A>,
-        R: Fn(&A, &[A]) -> bool,
-    >(
-        &mut self,
-        challenger: &mut C,
-        label: Label,
-        n: usize,
-        accept: &R,
-        limit: u64,
-    ) -> Result<Vec<TranscriptBound<A>>, TranscriptError>
-        requires secure { 128 ≤ Cdc.SECURITY_BITS }
-        requires callable { R.IsAlwaysCallable accept.now }
-        ensures played { (rule : Rule A) → Computes R.Fn accept.now rule →
-            let step = algebra_step Kind.Challenge label.now F.residues.order A.DIMENSION
-            (D.digest_of A.identity) A.name_bytes (Length.Fixed n) in
-            PlaysOrRefuses (drawn_rejecting {Symbol = C.Symbol} step Cdc.sampling rule limit n)
-            (turn_of (C.state challenger.old) self.old) values_of result (turn_of (C.state challenger.new) self.new) }
-        ensures order { let step = algebra_step Kind.Challenge label.now F.residues.order A.DIMENSION
-            (D.digest_of A.identity) A.name_bytes (Length.Fixed n) in
-            KeepsOrder step (turn_of (C.state challenger.old) self.old) result
-            (turn_of (C.state challenger.new) self.new) }
-        ensures spent { IfErr result (λ _. (playing_of self.new.steps).finished ≡ true) }
-        ensures count { IfOk result (λ bounds. vec_len bounds ≡ n) }
-    {
-        self.steps
-            .take_algebra::<F, A>(Kind::Challenge, label, Length::Fixed(n))?;
-        let bounds = draw_accepted::<A, C, Cdc, R>(challenger, self.alloc, n, accept, limit)?;
-        self.steps.done();
-        Ok(bounds)
-    }
-}

@@ -2,17 +2,12 @@
 ghost use Rattle.std.specs.Prelude.{◌≡◌, ◌≤◌, ◌↔◌, ℕ, true, List, [], Some, OnOk, IfOk, IfErr, vec_len};
 ghost use Rattle.p3_challenger_core.specs.Sampling.{draws, after_draws, RefusesDraw, RefusesDrawVec};
 ghost use Rattle.p3_driver_core.specs.Bound.{values_of};
-ghost use Rattle.p3_driver_core.specs.Meanings as meaning;
-ghost use Rattle.p3_driver_core.specs.Opened.{playing_of, turn_of};
-ghost use Rattle.p3_driver_core.specs.Rejecting.{Rule, ComputesOfValues, Takes, TakesAll, drawn_rejecting};
+ghost use Rattle.p3_driver_core.specs.Rejecting.{Rule, ComputesOfValues, Takes, TakesAll};
 ghost use Rattle.p3_driver_core.specs.Rejecting.{given, keeps, KeepsFirst};
-ghost use Rattle.p3_driver_core.specs.Turns.{PlaysOrRefuses, KeepsOrder, uniform_bits_step};
 
-use crate::{DriverTurn, TranscriptBound, bind};
+use crate::{TranscriptBound, bind};
 use p3_challenger_core::ChallengerError;
-use p3_fs_core::{Label, Length, TranscriptError};
 use p3_grinding::{CanSampleUniformBits, UniformBitsError};
-use p3_symmetric::DigestHasher;
 use std::alloc::Global;
 
 // Draws a number of `width` uniform bits. Another value is drawn in the place of one that is rejected.
@@ -123,67 +118,3 @@ pub fn rejecting_uniform_draws_keep_the_first_accepted<F, C: CanSampleUniformBit
         (keeps (C.uniform true width).draw rule limit n [] s ≡ given xs t
         ↔ KeepsFirst (C.uniform true width).draw rule limit n s xs t) }
 {}
-
-impl<D: DigestHasher> DriverTurn<D> {
-    /// Draws so many numbers of `width` uniform bits.
-    ///
-    /// Condition: `width` is at most [`max_bits`](p3_challenger_core::CanSampleBits::max_bits).
-    pub fn draw_uniform_bits<F, C: CanSampleUniformBits<F>>(
-        &mut self,
-        challenger: &mut C,
-        label: Label,
-        width: usize,
-        n: usize,
-    ) -> Result<Vec<TranscriptBound<usize>>, TranscriptError>
-        requires { width ≤ C.most_bits }
-        ensures exact { PlaysOrRefuses
-            (meaning.drawn_all {Symbol = C.Symbol} (uniform_bits_step label.now width (Length.Fixed n))
-            (C.uniform true width).draw n)
-            (turn_of (C.state challenger.old) self.old) values_of result (turn_of (C.state challenger.new) self.new) }
-        ensures count { IfOk result (λ bounds. vec_len bounds ≡ n) }
-    {
-        self.steps
-            .take_uniform_bits(label, width, Length::Fixed(n))?;
-        let bounds = draw_uniform_numbers::<F, C>(challenger, self.alloc, width, n)?;
-        self.steps.done();
-        Ok(bounds)
-    }
-
-    /// Draws numbers of `width` uniform bits until the rule `accept` has taken `n`, which refuses fewer than
-    /// `limit` in a row.
-    ///
-    /// The rule, the errors and the conditions are as in [`draw_accepted_numbers`]. Whatever the rule: `n` numbers are
-    /// answered, and only where the step is the next one; else nothing is drawn; and a refused step leaves it finished.
-    pub fn draw_uniform_bits_rejecting<
-        F,
-        C: CanSampleUniformBits<F>,
-        R: Fn(usize, &[usize]) -> bool,
-    >(
-        &mut self,
-        challenger: &mut C,
-        label: Label,
-        width: usize,
-        n: usize,
-        accept: &R,
-        limit: u64,
-    ) -> Result<Vec<TranscriptBound<usize>>, TranscriptError>
-        requires within { width ≤ C.most_bits }
-        requires callable { R.IsAlwaysCallable accept.now }
-        ensures played { (rule : Rule ℕ) → ComputesOfValues R.Fn accept.now rule → PlaysOrRefuses
-            (drawn_rejecting {Symbol = C.Symbol} (uniform_bits_step label.now width (Length.Fixed n))
-            (C.uniform true width).draw rule limit n)
-            (turn_of (C.state challenger.old) self.old) values_of result (turn_of (C.state challenger.new) self.new) }
-        ensures order { KeepsOrder (uniform_bits_step label.now width (Length.Fixed n))
-            (turn_of (C.state challenger.old) self.old) result (turn_of (C.state challenger.new) self.new) }
-        ensures spent { IfErr result (λ _. (playing_of self.new.steps).finished ≡ true) }
-        ensures count { IfOk result (λ bounds. vec_len bounds ≡ n) }
-    {
-        self.steps
-            .take_uniform_bits(label, width, Length::Fixed(n))?;
-        let bounds = draw_accepted_numbers::<F, C, R>(
-            challenger, self.alloc, width, n, accept, limit,
-        )?;
-        self.steps.done();
-        Ok(bounds)
-    }
-}

@@ -6,7 +6,7 @@ use p3_field::{BabyBear, BasedVectorSpace, Coeffs, PrimeCharacteristicRing, Prim
 use p3_fs_core::{Hierarchy, Interaction, Kind, Label, Length, TranscriptError};
 use p3_patterns::InteractionPattern;
 use p3_symmetric::{Sha256Hasher, Turn};
-use p3_turn::DomainSeparator;
+use p3_domain_separator::DomainSeparator;
 use std::alloc::{AllocError, Global};
 
 /// An element of the extension.

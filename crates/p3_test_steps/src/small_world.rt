@@ -6,11 +6,11 @@ use p3_duplex::DuplexChallenger;
 use p3_field::{F257, PrimeField64};
 use p3_fs_core::{Hierarchy, Interaction, Kind, Label, Length, TranscriptError};
 use p3_patterns::InteractionPattern;
-use p3_prover::ProverState;
+use p3_drivers::ProverState;
 use p3_symmetric::{Sha256Hasher, Turn};
 use p3_test_support::element;
-use p3_turn::DomainSeparator;
-use p3_verifier::VerifierState;
+use p3_domain_separator::DomainSeparator;
+use p3_drivers::VerifierState;
 use std::alloc::{AllocError, Global};
 
 /// The challenger: three cells, of which two are the rate.

@@ -1,5 +1,5 @@
 // Each step as it is to be: the bytes of the proof, and the symbols that the challenger is fed.
-use p3_prover::ProverState;
+use p3_drivers::ProverState;
 use p3_test_steps::{
     after, alike_steps, containers, draw_rows, drawn, known_rows, message_rows, noted,
     noting_prover, play_alike, prover_draws, prover_marks, prover_observes, prover_of, send,

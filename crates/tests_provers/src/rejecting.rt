@@ -5,11 +5,11 @@ use p3_driver_core::TranscriptBound;
 use p3_field::{BabyBear, F257, PrimeField64};
 use p3_fs_core::{Hierarchy, Interaction, Kind, Length, TranscriptError};
 use p3_patterns::InteractionPattern;
-use p3_prover::ProverState;
+use p3_drivers::ProverState;
 use p3_symmetric::Sha256Hasher;
 use p3_test_steps::{Draw, Prover, Scalars, World, drawn, prover_draws, prover_of};
 use p3_test_support::Supply;
-use p3_turn::DomainSeparator;
+use p3_domain_separator::DomainSeparator;
 use std::test::Fail;
 
 type Bytes = BytesToFieldCodec<BabyBear>;

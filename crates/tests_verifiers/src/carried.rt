@@ -5,7 +5,7 @@ use p3_test_steps::{
     verifier_of, world,
 };
 use p3_test_support::element;
-use p3_verifier::VerifierState;
+use p3_drivers::VerifierState;
 use std::process::Abort;
 use std::test::Fail;
 

@@ -3,7 +3,7 @@ use p3_driver_core::SymmetricSteps;
 use p3_field::F257;
 use p3_fs_core::{Interaction, Kind, Length, PatternError, TranscriptError};
 use p3_test_steps::{Scalars, Verifier, World, bytes, challenge, separator, world};
-use p3_verifier::VerifierState;
+use p3_drivers::VerifierState;
 use std::alloc::Global;
 use std::test::Fail;
 

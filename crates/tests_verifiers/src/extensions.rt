@@ -8,7 +8,7 @@ use p3_test_steps::{
     Coefficients, Wide, WideAlphabet, push_numbers, wide, wide_draws, wide_observed,
     wide_separator, wide_world,
 };
-use p3_verifier::VerifierState;
+use p3_drivers::VerifierState;
 use std::alloc::Global;
 use std::test::Fail;
 

@@ -7,8 +7,8 @@ use p3_patterns::InteractionPattern;
 use p3_symmetric::Sha256Hasher;
 use p3_test_steps::{Draw, Scalars, drawn, verifier_draws, verifier_of};
 use p3_test_support::Supply;
-use p3_turn::DomainSeparator;
-use p3_verifier::VerifierState;
+use p3_domain_separator::DomainSeparator;
+use p3_drivers::VerifierState;
 use std::test::Fail;
 
 type Bytes = BytesToFieldCodec<BabyBear>;

@@ -2,7 +2,7 @@
 use p3_challenger_core::ChallengerError;
 use p3_fs_core::TranscriptError;
 use p3_test_steps::{Message, challenge, noted, noting_verifier, receive, separator, world};
-use p3_verifier::VerifierState;
+use p3_drivers::VerifierState;
 use std::test::Fail;
 
 fn too_long<T>() -> Result<T, TranscriptError> {

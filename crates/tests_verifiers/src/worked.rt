@@ -11,8 +11,8 @@ use p3_test_steps::{
     Message, Scalars, Verifier, challenge, drawn, receive, separator, worked_rows, world,
 };
 use p3_test_support::element;
-use p3_turn::DomainSeparator;
-use p3_verifier::VerifierState;
+use p3_domain_separator::DomainSeparator;
+use p3_drivers::VerifierState;
 use std::alloc::Global;
 use std::test::Fail;
 

@@ -20,7 +20,8 @@ use Rattle.p3_challenger.specs.Steps.{Step}
 use Rattle.p3_challenger.specs.TranscriptError.{TranscriptError}
 use Rattle.p3_challenger.specs.TranscriptError.TheVariants.{OutOfMemory}
 use Rattle.p3_challenger.specs.Turns.{IsNext, Meaning, Plays, Refuses, Turn, algebra_step, bytes_step, step_on}
-use Rattle.p3_challenger.specs.Verifying.{EndsReading, Receives, RefusesToRead, Verifying}
+use Rattle.p3_challenger.specs.Driving.{Driving}
+use Rattle.p3_challenger.specs.Verifying.{EndsReading, Receives, RefusesToRead}
 use Rattle.uses.specs.Protocol.{IsAhead, IsDivisor, IsPast, IsRun, after_line, bytes_of, element_step, may_divide}
 use Rattle.uses.specs.Protocol.{steps_of_line}
 use Rattle.uses.specs.declared.protocol.Claim.{Claim}
@@ -30,28 +31,28 @@ use Rattle.uses.specs.declared.protocol.Claim.{Claim}
 -- A step that a verifier reads, where it is next, with its bytes, and would be played: it is, or memory is refused.
 module _ {S Symbol A : Type 0} (m : Meaning S Symbol A) (r : Reading S Symbol A) (x : A) (follows : Follows m r x)
     (memory : OnlyMemoryRefusesToRead m r x) (turn after : Turn S) (plays : Plays m turn x after) (rest : List ℕ)
-    (before : Verifying S) (at : before ≡ record { turn = turn; unread = m.wire ++ rest }) where
-  pub reads : (y : A) (end : Verifying S) → Receives r before y end →
-      (y ≡ x) × (end ≡ record { turn = after; unread = rest })
+    (before : Driving S) (at : before ≡ record { turn = turn; bytes = m.wire ++ rest }) where
+  pub reads : (y : A) (end : Driving S) → Receives r before y end →
+      (y ≡ x) × (end ≡ record { turn = after; bytes = rest })
   reads y end receives = follows.receives turn after rest before end y plays at receives
 
-  pub reads-or_memory : (e : TranscriptError) (end : Verifying S) → RefusesToRead r before e end → e ≡ OutOfMemory
+  pub reads-or_memory : (e : TranscriptError) (end : Driving S) → RefusesToRead r before e end → e ≡ OutOfMemory
   reads-or_memory e end refuses = memory turn after rest before end e plays at refuses
 
 -- the same of one that leaves the bytes as they are
 module _ {S Symbol A : Type 0} (m : Meaning S Symbol A) (x : A) (memory : OnlyMemoryRefuses m) (turn after : Turn S)
-    (plays : Plays m turn x after) (rest : List ℕ) (before : Verifying S)
-    (at : before ≡ record { turn = turn; unread = rest }) where
+    (plays : Plays m turn x after) (rest : List ℕ) (before : Driving S)
+    (at : before ≡ record { turn = turn; bytes = rest }) where
   start : before.turn ≡ turn
-  start = ap (λ (v : Verifying S). v.turn) at
+  start = ap (λ (v : Driving S). v.turn) at
 
-  pub plays-on : (y : A) (end : Verifying S) → Plays m before.turn y end.turn → end.unread ≡ before.unread →
-      (y ≡ x) × (end ≡ record { turn = after; unread = rest })
+  pub plays-on : (y : A) (end : Driving S) → Plays m before.turn y end.turn → end.bytes ≡ before.bytes →
+      (y ≡ x) × (end ≡ record { turn = after; bytes = rest })
   plays-on y end second keeps =
       let alike = (meaning-agrees m).plays turn after before.turn end.turn x y plays start second in
       let then = alike.1 in
-      let left : end.unread ≡ rest = keeps ∙ ap (λ (v : Verifying S). v.unread) at in
-      (alike.0, λ i. record { turn = then i; unread = left i })
+      let left : end.bytes ≡ rest = keeps ∙ ap (λ (v : Driving S). v.bytes) at in
+      (alike.0, λ i. record { turn = then i; bytes = left i })
 
   pub plays-or_memory : (e : TranscriptError) (end : Turn S) → Refuses m before.turn e end → e ≡ OutOfMemory
   plays-or_memory e end refuses = memory turn after before.turn end x e plays start refuses
@@ -86,7 +87,7 @@ next-at : (p : Playing) (steps : List Step) (k : ℕ) (s : Step) → p.pattern.s
 next-at p steps k s is position going at = (going, (λ i. slice_get (is i) (position i)) ∙ at)
 
 module _ {S Symbol : Type 0} (o : Observation S Symbol BabyBear) (places divisors : Sampling S BabyBear)
-    (e : Encoding BabyBear) (digest : List ℕ) (v : Verifying S) (claim : Claim) (rest : List ℕ)
+    (e : Encoding BabyBear) (digest : List ℕ) (v : Driving S) (claim : Claim) (rest : List ℕ)
     (ahead : IsAhead o places divisors e digest v claim rest) where
   -- the turns after slope, offset and place
   abbrev pub after_slope : Turn S
@@ -108,12 +109,12 @@ module _ {S Symbol : Type 0} (o : Observation S Symbol BabyBear) (places divisor
   abbrev pub offset_on : List ℕ
   offset_on = e.wire claim.offset ++ quotient_on
 
-  pub begins : v ≡ record { turn = v.turn; unread = e.wire claim.slope ++ offset_on }
+  pub begins : v ≡ record { turn = v.turn; bytes = e.wire claim.slope ++ offset_on }
   begins =
       let spelled = ahead.unread
       ∙ append_assoc (e.wire claim.slope) (e.wire claim.offset ++ e.wire claim.quotient) rest
       ∙ ap (λ l. e.wire claim.slope ++ l) (append_assoc (e.wire claim.offset) (e.wire claim.quotient) rest) in
-      λ i. record { turn = v.turn; unread = spelled i }
+      λ i. record { turn = v.turn; bytes = spelled i }
 
   line_at : (k : ℕ) (p : Playing) → p.pattern ≡ v.turn.playing.pattern → p.position ≡ k → p.finished ≡ false → (s : Step) →
       slice_get (steps_of_line digest) k ≡ Some s → IsNext p s
@@ -182,18 +183,18 @@ module _ {S Symbol : Type 0} (o : Observation S Symbol BabyBear) (places divisor
         playing = refl;
       }
 
-  pub ends-past : (turn : Turn S) (end : Verifying S) → turn.playing ≡ step_on after_place.playing →
+  pub ends-past : (turn : Turn S) (end : Driving S) → turn.playing ≡ step_on after_place.playing →
       end ≡ record {
         turn = record { challenger = turn.challenger; playing = step_on turn.playing };
-        unread = rest;
+        bytes = rest;
       } → IsPast v rest end
   ends-past turn end at is =
-      let playing = ap (λ (w : Verifying S). w.turn.playing) is ∙ ap step_on at in
+      let playing = ap (λ (w : Driving S). w.turn.playing) is ∙ ap step_on at in
       record {
         pattern = ap (λ (p : Playing). p.pattern) playing;
         position = ap (λ (p : Playing). p.position) playing ∙ ap (λ k. k + 1 + 1 + 1 + 1 + 1) ahead.position;
         going = ap (λ (p : Playing). p.finished) playing;
-        unread = ap (λ (w : Verifying S). w.unread) is;
+        unread = ap (λ (w : Driving S). w.bytes) is;
       }
 
 -- ---- the pattern
@@ -253,23 +254,23 @@ same-claim a b slope offset place divisor quotient =
 module _ {S Symbol : Type 0} (o : Observation S Symbol BabyBear) (places divisors : Sampling S BabyBear)
     (e : Encoding BabyBear) (digest : List ℕ) where
   -- a verifier that has just begun stands before the protocol, where its bytes are those of a run
-  pub ahead-of : (v start : Verifying S) (p : PatternSteps) (s : S) (proof : List ℕ) (claim : Claim) → v ≡ start →
-      start.turn.playing ≡ record { pattern = p; position = 0; finished = false } → start.unread ≡ proof →
+  pub ahead-of : (v start : Driving S) (p : PatternSteps) (s : S) (proof : List ℕ) (claim : Claim) → v ≡ start →
+      start.turn.playing ≡ record { pattern = p; position = 0; finished = false } → start.bytes ≡ proof →
       p.steps ≡ steps_of_line digest → v.turn.challenger ≡ s → IsRun o places divisors e s claim proof →
       IsAhead o places divisors e digest v claim []
   ahead-of v start p s proof claim is playing unread steps at run =
-      let here = ap (λ (w : Verifying S). w.turn.playing) is ∙ playing in
+      let here = ap (λ (w : Driving S). w.turn.playing) is ∙ playing in
       record {
         steps = ap (λ (q : Playing). q.pattern.steps) here ∙ steps;
         position = ap (λ (q : Playing). q.position) here;
         going = ap (λ (q : Playing). q.finished) here;
         run = subst (λ u. IsRun o places divisors e u claim (bytes_of e claim)) (sym at)
             (record { place = run.place; divisor = run.divisor; spelled = refl });
-        unread = ap (λ (w : Verifying S). w.unread) is ∙ unread ∙ run.spelled ∙ sym (append-nil (bytes_of e claim));
+        unread = ap (λ (w : Driving S). w.bytes) is ∙ unread ∙ run.spelled ∙ sym (append-nil (bytes_of e claim));
       }
 
   -- one that has played it all ends
-  pub ends-reading : (v after : Verifying S) (claim : Claim) → IsAhead o places divisors e digest v claim [] →
+  pub ends-reading : (v after : Driving S) (claim : Claim) → IsAhead o places divisors e digest v claim [] →
       IsPast v [] after → EndsReading after
   ends-reading v after claim ahead past =
       let steps = ap (λ (p : PatternSteps). p.steps) past.pattern ∙ ahead.steps in

@@ -6,7 +6,8 @@ use Rattle.std.specs.Result.{result_and}
 use Rattle.p3_challenger.specs.BabyBearResidues.{BabyBear}
 use Rattle.p3_challenger.specs.Encoding.{Encoding}
 use Rattle.p3_challenger.specs.Observation.{Observation}
-use Rattle.p3_challenger.specs.Proving.{Proving, Writes, WritesOrRefuses}
+use Rattle.p3_challenger.specs.Driving.{Driving}
+use Rattle.p3_challenger.specs.Proving.{Writes, WritesOrRefuses}
 use Rattle.p3_challenger.specs.Sampling.{Sampling}
 use Rattle.p3_challenger.specs.TranscriptError.{TranscriptError}
 use Rattle.p3_challenger.specs.Turns.{Meaning}
@@ -14,7 +15,7 @@ use Rattle.uses.specs.Protocol.{IsAnswer, IsDivisor, IsQuotient, IsRun, IsSent, 
 use Rattle.uses.specs.declared.protocol.Claim.{Claim}
 
 -- what follows of the last step's being played
-pub once-written : {S Symbol A R : Type 0} (m : Meaning S Symbol A) (before after : Proving S) (value : R → A)
+pub once-written : {S Symbol A R : Type 0} (m : Meaning S Symbol A) (before after : Driving S) (value : R → A)
     (P : Type 0) (r : Result R TranscriptError) → WritesOrRefuses m before value r after →
     ((x : A) → Writes m before x after → P) → OnOk r P
 once-written m before after value P (Ok y) writes then = then (value y) writes

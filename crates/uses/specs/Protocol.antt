@@ -12,7 +12,7 @@ use Rattle.p3_challenger.specs.Residues.{sum_of, product_of, power_of}
 use Rattle.p3_challenger.specs.Sampling.{Sampling}
 use Rattle.p3_challenger.specs.Steps.{Step}
 use Rattle.p3_challenger.specs.Turns.{algebra_step, bytes_step}
-use Rattle.p3_challenger.specs.Verifying.{Verifying}
+use Rattle.p3_challenger.specs.Driving.{Driving}
 use Rattle.uses.specs.declared.protocol.Claim.{Claim}
 
 -- the step of an element of the field, or of a list of some, where the field's identity has this digest
@@ -81,16 +81,16 @@ pub record IsSent {S Symbol : Type 0} (o : Observation S Symbol BabyBear) (place
 -- A verifier stands before the protocol: its steps are the pattern, and none was played. The bytes that it has left
 -- begin with those of a run, and these follow.
 pub record IsAhead {S Symbol : Type 0} (o : Observation S Symbol BabyBear) (places divisors : Sampling S BabyBear)
-    (e : Encoding BabyBear) (digest : List ℕ) (v : Verifying S) (claim : Claim) (rest : List ℕ) : Type 0 where
+    (e : Encoding BabyBear) (digest : List ℕ) (v : Driving S) (claim : Claim) (rest : List ℕ) : Type 0 where
   pub steps : v.turn.playing.pattern.steps ≡ steps_of_line digest
   pub position : v.turn.playing.position ≡ 0
   pub going : v.turn.playing.finished ≡ false
   pub run : IsRun o places divisors e v.turn.challenger claim (bytes_of e claim)
-  pub unread : v.unread ≡ bytes_of e claim ++ rest
+  pub unread : v.bytes ≡ bytes_of e claim ++ rest
 
 -- it has played all of the protocol, and has these bytes left
-pub record IsPast {S : Type 0} (before : Verifying S) (rest : List ℕ) (after : Verifying S) : Type 0 where
+pub record IsPast {S : Type 0} (before : Driving S) (rest : List ℕ) (after : Driving S) : Type 0 where
   pub pattern : after.turn.playing.pattern ≡ before.turn.playing.pattern
   pub position : after.turn.playing.position ≡ 5
   pub going : after.turn.playing.finished ≡ false
-  pub unread : after.unread ≡ rest
+  pub unread : after.bytes ≡ rest

@@ -3,7 +3,8 @@ ghost use Rattle.std.specs.Prelude.{◌≡◌, [], ◌∷◌, true, map, IfOk, I
 ghost use Rattle.p3_challenger.specs.Bound.{value_of};
 ghost use Rattle.p3_challenger.specs.Reads as reads;
 ghost use Rattle.p3_challenger.specs.Turns.{algebra_step};
-ghost use Rattle.p3_challenger.specs.Verifying.{Receives, ReceivesOrRefuses, verifying_of};
+ghost use Rattle.p3_challenger.specs.Drivers.{verifying_of};
+ghost use Rattle.p3_challenger.specs.Verifying.{Receives, ReceivesOrRefuses};
 
 use p3_challenger::Sponge;
 use p3_challenger::fs::{

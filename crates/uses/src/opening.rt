@@ -10,7 +10,7 @@ ghost use Rattle.p3_challenger.specs.HashCalls.{absorbing};
 ghost use Rattle.p3_challenger.specs.HashState.{observed};
 ghost use Rattle.p3_challenger.specs.Observation.{observed_all};
 ghost use Rattle.p3_challenger.specs.SeparatorSeed.{seed_of_separator};
-ghost use Rattle.p3_challenger.specs.Verifying.{verifying_of};
+ghost use Rattle.p3_challenger.specs.Drivers.{verifying_of};
 ghost use Rattle.uses.specs.MerkleOpening.{IsClimb, IsDrawnPlace, IsOpened, above, leaf_node_of, parent_of};
 
 use p3_challenger::fs::{
@@ -165,8 +165,8 @@ fn receive<'a>(verifier: &mut Verifier<'a>, alloc: Global) -> Result<Read<'a>, T
     ensures { let before = verifying_of ⟦<Challenger as Sponge>⟧.state verifier.old in
         let after = verifying_of ⟦<Challenger as Sponge>⟧.state verifier.new in
         IfOk result (λ leaf. IsTrue leaf.in_tree → IsOpened ⟦<Sha256Hasher as DigestHasher>⟧.digest_of
-        ⟦<Coefficient as Codec<Challenger, BabyBear>>⟧.sampling (observed_all observed) before.unread
-        before.turn.challenger leaf.place leaf.bytes.now after.unread after.turn.challenger) }
+        ⟦<Coefficient as Codec<Challenger, BabyBear>>⟧.sampling (observed_all observed) before.bytes
+        before.turn.challenger leaf.place leaf.bytes.now after.bytes after.turn.challenger) }
 {
     let root = verifier.next_bytes("root", 32)?;
     let place = draw_place(verifier)?;
@@ -190,8 +190,8 @@ fn climb(
     leaf: Node,
 ) -> Result<Node, TranscriptError>
     ensures climbed { IfOk result (λ top. IsClimb ⟦<Sha256Hasher as DigestHasher>⟧.digest_of place leaf
-        (verifying_of ⟦<Challenger as Sponge>⟧.state verifier.old).unread top
-        (verifying_of ⟦<Challenger as Sponge>⟧.state verifier.new).unread) }
+        (verifying_of ⟦<Challenger as Sponge>⟧.state verifier.old).bytes top
+        (verifying_of ⟦<Challenger as Sponge>⟧.state verifier.new).bytes) }
     ensures untouched { OnOk result ((verifying_of ⟦<Challenger as Sponge>⟧.state verifier.new).turn.challenger
         ≡ (verifying_of ⟦<Challenger as Sponge>⟧.state verifier.old).turn.challenger) }
 {

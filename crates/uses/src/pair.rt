@@ -5,7 +5,8 @@
 ghost use Rattle.std.specs.Prelude.{[], ◌∷◌};
 ghost use Rattle.p3_challenger.specs.Bound.{values_of};
 ghost use Rattle.p3_challenger.specs.Meanings as meaning;
-ghost use Rattle.p3_challenger.specs.Proving.{WritesOrRefuses, proving_of};
+ghost use Rattle.p3_challenger.specs.Drivers.{proving_of};
+ghost use Rattle.p3_challenger.specs.Proving.{WritesOrRefuses};
 ghost use Rattle.p3_challenger.specs.Turns.{algebra_step};
 
 use p3_challenger::Sponge;

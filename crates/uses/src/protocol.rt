@@ -7,11 +7,11 @@
 ghost use Rattle.std.specs.Prelude.{◌≡◌, ◌+◌, ◌++◌, ℕ, List, [], Some, codes, length, IfOk, OnOk, MatchResult};
 ghost use Rattle.p3_challenger.specs.BabyBearResidues as baby_bear;
 ghost use Rattle.p3_challenger.specs.HashCalls.{absorbing};
-ghost use Rattle.p3_challenger.specs.Proving.{proving_of};
+ghost use Rattle.p3_challenger.specs.Drivers.{proving_of};
 ghost use Rattle.p3_challenger.specs.Reading.{AreBytes};
 ghost use Rattle.p3_challenger.specs.SeparatorSeed.{pattern_of, seed_of_separator};
 ghost use Rattle.p3_challenger.specs.Turns.{IsNext, step_on};
-ghost use Rattle.p3_challenger.specs.Verifying.{verifying_of};
+ghost use Rattle.p3_challenger.specs.Drivers.{verifying_of};
 ghost use Rattle.uses.specs.Protocol.{IsAhead, IsAnswer, IsDivisor, IsPast, IsRun, IsSent, after_line, bytes_of};
 ghost use Rattle.uses.specs.Protocol.{element_step, may_divide, steps_of_line};
 
@@ -83,7 +83,7 @@ fn send(
 ) -> Result<(), TranscriptError>
     ensures { let before = proving_of ⟦<Challenger as Sponge>⟧.state prover.old in
         let after = proving_of ⟦<Challenger as Sponge>⟧.state prover.new in
-        OnOk result ((bytes : List ℕ) × (after.narg ≡ before.narg ++ bytes)
+        OnOk result ((bytes : List ℕ) × (after.bytes ≡ before.bytes ++ bytes)
         × IsSent ⟦<Scalars as Codec<Challenger, BabyBear>>⟧.observation
         ⟦<Scalars as Codec<Challenger, BabyBear>>⟧.sampling ⟦<Coefficient as Codec<Challenger, BabyBear>>⟧.sampling
         ⟦<Scalars as Codec<Challenger, BabyBear>>⟧.encoding before.turn.challenger slope offset bytes) }
@@ -147,11 +147,11 @@ fn receive(verifier: &mut Verifier<'_>) -> Result<Claim, TranscriptError>
         claim.divisor) }
     ensures read { let before = verifying_of ⟦<Challenger as Sponge>⟧.state verifier.old in
         let after = verifying_of ⟦<Challenger as Sponge>⟧.state verifier.new in
-        IfOk result (λ claim. AreBytes before.unread →
-        before.unread ≡ bytes_of ⟦<Scalars as Codec<Challenger, BabyBear>>⟧.encoding claim ++ after.unread) }
+        IfOk result (λ claim. AreBytes before.bytes →
+        before.bytes ≡ bytes_of ⟦<Scalars as Codec<Challenger, BabyBear>>⟧.encoding claim ++ after.bytes) }
     ensures length { let before = verifying_of ⟦<Challenger as Sponge>⟧.state verifier.old in
         let after = verifying_of ⟦<Challenger as Sponge>⟧.state verifier.new in
-        OnOk result (length before.unread ≡ 12 + length after.unread) }
+        OnOk result (length before.bytes ≡ 12 + length after.bytes) }
     ensures accepted { let before = verifying_of ⟦<Challenger as Sponge>⟧.state verifier.old in
         let after = verifying_of ⟦<Challenger as Sponge>⟧.state verifier.new in
         let digest = ⟦<Sha256Hasher as DigestHasher>⟧.digest_of ⟦<BabyBear as AlgebraIdentity<BabyBear>>⟧.identity in

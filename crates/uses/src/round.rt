@@ -5,9 +5,9 @@
 //! the codec; the contracts of the drivers' steps and three laws say it, each called in a body for its clause.
 ghost use Rattle.std.specs.Prelude.{◌≡◌, ◌≤◌, ◌++◌, Some, flat_map, IfOk, OnErr};
 ghost use Rattle.p3_challenger.specs.Bound.{value_of};
-ghost use Rattle.p3_challenger.specs.Proving.{proving_of};
+ghost use Rattle.p3_challenger.specs.Drivers.{proving_of};
 ghost use Rattle.p3_challenger.specs.SeparatorSeed.{seed_of_separator};
-ghost use Rattle.p3_challenger.specs.Verifying.{verifying_of};
+ghost use Rattle.p3_challenger.specs.Drivers.{verifying_of};
 ghost use Rattle.uses.specs.SentAndDrawn.{DrawnAfter, LeavesRound};
 ghost use Rattle.p3_challenger.specs.Dependence.{DrawsAfter};
 

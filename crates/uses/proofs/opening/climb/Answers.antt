@@ -1,5 +1,5 @@
 use Rattle.std.proofs.Common.{arith, refl, ◌∙◌}
-use Rattle.p3_challenger.specs.Verifying.{verifying_of}
+use Rattle.p3_challenger.specs.Drivers.{verifying_of}
 use Rattle.p3_symmetric.specs.contracts.sha256.Sha256HasherDigestHasher.TheImpl as digests
 use Rattle.uses.proofs.ReadBytes.{bytes-read}
 use Rattle.uses.proofs.MerkleOpening.{climbed-none, climbed-more, climbed-end}
@@ -7,7 +7,7 @@ use Rattle.uses.proofs.opening.climb.Goals as goal
 
 pub loop-init : goal.loop-init
 loop-init c =
-    (climbed-none digests.ghosts.digest_of c.args.place c.args.leaf (verifying_of (λ s. s) c.args.verifier.now).unread, refl)
+    (climbed-none digests.ghosts.digest_of c.args.place c.args.leaf (verifying_of (λ s. s) c.args.verifier.now).bytes, refl)
 
 pub loop-preserved : goal.loop-preserved
 loop-preserved c =

@@ -1,5 +1,5 @@
 use Rattle.std.proofs.Common.{◌≡◌}
-use Rattle.p3_challenger.specs.Verifying.{verifying_of}
+use Rattle.p3_challenger.specs.Drivers.{verifying_of}
 use Rattle.p3_symmetric.specs.contracts.sha256.Sha256HasherDigestHasher.TheImpl as digests
 use Rattle.uses.proofs.MerkleOpening.{IsClimbed}
 use Rattle.uses.proofs.opening.climb.Given as goal
@@ -9,5 +9,5 @@ abbrev pub invariant-loop : goal.invariant-loop
 invariant-loop l =
     let before = verifying_of (λ s. s) l.initial.verifier in
     let here = verifying_of (λ s. s) l.verifier in
-    IsClimbed digests.ghosts.digest_of l.fn.place l.fn.leaf before.unread l.counter l.place l.node here.unread
+    IsClimbed digests.ghosts.digest_of l.fn.place l.fn.leaf before.bytes l.counter l.place l.node here.bytes
     × (here.turn.challenger ≡ before.turn.challenger)

@@ -2,7 +2,7 @@ use Rattle.std.proofs.Common.{rules, IsTrue, ap, sym}
 use Rattle.p3_challenger.specs.HashState.{observed}
 use Rattle.p3_challenger.specs.Observation.{observed_all}
 use Rattle.p3_challenger.specs.SeparatorSeed.{seed_of_separator}
-use Rattle.p3_challenger.specs.Verifying.{verifying_of}
+use Rattle.p3_challenger.specs.Drivers.{verifying_of}
 use Rattle.p3_symmetric.specs.contracts.sha256.Sha256HasherDigestHasher.TheImpl as digests
 use Rattle.uses.proofs.Begun.{begun-as}
 use Rattle.uses.proofs.MerkleOpening.{opened-as}
@@ -13,7 +13,7 @@ returns c =
     let verifier = verifying_of (λ s. s) c.in_ok-verifier.verifier in
     let in_tree : IsTrue c.in_ok-leaf.leaf.in_tree = search (rules, c.if-not-leaf.false) in
     opened-as digests.ghosts.digest_of _ (observed_all observed) _ _ _ _ _ _ _ _ _ _
-    (ap (λ v. v.unread) c.in_ok-verifier.ensures.ok)
+    (ap (λ v. v.bytes) c.in_ok-verifier.ensures.ok)
     (begun-as c.challenger.result verifier.turn.challenger
     (seed_of_separator digests.ghosts.digest_of c.args.separator.now)
     (ap (λ v. v.turn.challenger) c.in_ok-verifier.ensures.ok) c.challenger.ensures)

@@ -1,5 +1,5 @@
 use Rattle.std.proofs.Common.{ap}
-use Rattle.p3_challenger.specs.Proving.{proving_of}
+use Rattle.p3_challenger.specs.Drivers.{proving_of}
 use Rattle.p3_challenger.specs.SeparatorSeed.{seed_of_separator}
 use Rattle.p3_symmetric.specs.contracts.sha256.Sha256HasherDigestHasher.TheImpl as digests
 use Rattle.uses.proofs.Begun.{begun-as}
@@ -15,4 +15,4 @@ returns c =
     (begun-as c.challenger.result prover.turn.challenger
     (seed_of_separator digests.ghosts.digest_of c.args.separator.now)
     (ap (λ p. p.turn.challenger) c.in_ok-prover.ensures.ok) c.challenger.ensures)
-    (sent-alone _ _ _ _ (ap (λ p. p.narg) c.in_ok-prover.ensures.ok) ends.1 sent.1) sent.2)
+    (sent-alone _ _ _ _ (ap (λ p. p.bytes) c.in_ok-prover.ensures.ok) ends.1 sent.1) sent.2)

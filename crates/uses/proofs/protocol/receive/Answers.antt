@@ -8,7 +8,8 @@ use Rattle.p3_challenger.specs.Scalar.{encoding}
 use Rattle.p3_challenger.specs.ScalarLaws.{is_encoding}
 use Rattle.p3_challenger.specs.SmallPrimeLaws.{laws}
 use Rattle.p3_challenger.specs.Turns.{step_on}
-use Rattle.p3_challenger.specs.Verifying.{Verifying, verifying_of}
+use Rattle.p3_challenger.specs.Drivers.{verifying_of}
+use Rattle.p3_challenger.specs.Driving.{Driving}
 use Rattle.uses.proofs.Accepting.{begins, divisor-drawn, divisor-next, draws-place, ends-past, following-of, memory-of}
 use Rattle.uses.proofs.Accepting.{plays-on, plays-or_memory, reads, reads-or_memory, same-claim}
 use Rattle.uses.proofs.Accepting.{sends-offset, sends-quotient, sends-slope}
@@ -33,7 +34,7 @@ returns-clause-read c are =
     rw (c.into_inner.ensures, c.into_inner-2.ensures)
     (read _ _ _ _ _ _ (elements.wire (value_of c.in_ok-slope.slope)) (elements.wire (value_of c.in_ok-offset.offset))
     (elements.wire c.in_ok-quotient.quotient) of_slope.0 of_offset.0 c.in_ok-place.ensures.1 c.in_ok-divisor.ensures.bytes
-    (of_hint.0 ∙ ap (λ l. l ++ c.next_hint.new.self.unread.now) quotient))
+    (of_hint.0 ∙ ap (λ l. l ++ c.next_hint.new.self.tape.bytes.now) quotient))
 
 pub returns-clause-length : goal.returns-clause-length
 unfolding elements
@@ -111,14 +112,14 @@ returns-in_err-next_hint-clause-accepted c claim rest ahead =
     let drawn = divisor-drawn _ _ _ _ _ _ _ _ ahead _ here in
     let divisor = c.in_ok-divisor.ensures.accepted claim.divisor next drawn in
     let played = divisor.1 ∙ ap (λ t. step_on t.playing) here in
-    let left = c.in_ok-divisor.ensures.bytes ∙ ap (λ w. w.unread) place.1 in
+    let left = c.in_ok-divisor.ensures.bytes ∙ ap (λ w. w.bytes) place.1 in
     let wide : length (elements.wire claim.quotient) ≡ 4 = are_spelled.fixed_width claim.quotient in
     let turn = (verifying_of (λ s. s) c.draw_divisor.new.side).turn in
     let p = err_from_is_err_and c.from_residual-in_err-next_hint.result c.from_residual-in_err-next_hint.ensures.1 in
     rw (p.1, p.2)
     (reads-or_memory _ _ _ (following-of _ _ 4 wide (c.hint_is_received.ensures.follows _ _))
     (memory-of _ _ 4 wide (c.only_memory_refuses_hints.ensures.fixed _ _)) _ _
-    (sends-quotient _ _ _ _ _ _ _ _ ahead turn played wide) _ _ (λ i. record { turn = turn; unread = left i }) _ _
+    (sends-quotient _ _ _ _ _ _ _ _ ahead turn played wide) _ _ (λ i. record { turn = turn; bytes = left i }) _ _
     c.in_err-next_hint.ensures.exact)
 
 pub returns-in_err-quotient-clause-accepted : goal.returns-in_err-quotient-clause-accepted
@@ -137,12 +138,12 @@ returns-in_err-quotient-clause-accepted c claim rest ahead =
     let drawn = divisor-drawn _ _ _ _ _ _ _ _ ahead _ here in
     let divisor = c.in_ok-divisor.ensures.accepted claim.divisor next drawn in
     let played = divisor.1 ∙ ap (λ t. step_on t.playing) here in
-    let left = c.in_ok-divisor.ensures.bytes ∙ ap (λ w. w.unread) place.1 in
+    let left = c.in_ok-divisor.ensures.bytes ∙ ap (λ w. w.bytes) place.1 in
     let wide : length (elements.wire claim.quotient) ≡ 4 = are_spelled.fixed_width claim.quotient in
     let turn = (verifying_of (λ s. s) c.draw_divisor.new.side).turn in
     let hint = reads _ _ _ (following-of _ _ 4 wide (c.hint_is_received.ensures.follows _ _))
     (memory-of _ _ 4 wide (c.only_memory_refuses_hints.ensures.fixed _ _)) _ _
-    (sends-quotient _ _ _ _ _ _ _ _ ahead turn played wide) _ _ (λ i. record { turn = turn; unread = left i }) _ _
+    (sends-quotient _ _ _ _ _ _ _ _ ahead turn played wide) _ _ (λ i. record { turn = turn; bytes = left i }) _ _
     c.in_ok-next_hint.ensures.exact in
     let p = err_from_is_err_and c.from_residual-in_err-quotient.result c.from_residual-in_err-quotient.ensures.1 in
     rw (p.1, p.2)
@@ -164,12 +165,12 @@ returns-clause-accepted c claim rest ahead =
     let drawn = divisor-drawn _ _ _ _ _ _ _ _ ahead _ here in
     let divisor = c.in_ok-divisor.ensures.accepted claim.divisor next drawn in
     let played = divisor.1 ∙ ap (λ t. step_on t.playing) here in
-    let left = c.in_ok-divisor.ensures.bytes ∙ ap (λ w. w.unread) place.1 in
+    let left = c.in_ok-divisor.ensures.bytes ∙ ap (λ w. w.bytes) place.1 in
     let wide : length (elements.wire claim.quotient) ≡ 4 = are_spelled.fixed_width claim.quotient in
     let turn = (verifying_of (λ s. s) c.draw_divisor.new.side).turn in
     let hint = reads _ _ _ (following-of _ _ 4 wide (c.hint_is_received.ensures.follows _ _))
     (memory-of _ _ 4 wide (c.only_memory_refuses_hints.ensures.fixed _ _)) _ _
-    (sends-quotient _ _ _ _ _ _ _ _ ahead turn played wide) _ _ (λ i. record { turn = turn; unread = left i }) _ _
+    (sends-quotient _ _ _ _ _ _ _ _ ahead turn played wide) _ _ (λ i. record { turn = turn; bytes = left i }) _ _
     c.in_ok-next_hint.ensures.exact in
     let quotient : c.in_ok-quotient.quotient ≡ claim.quotient
     = let same = c.in_ok-quotient.ensures.only claim.quotient [] (hint.0 ∙ sym (append-nil _)) in cc in (

@@ -6,7 +6,7 @@ use Rattle.p3_challenger.specs.Residues.{sum_of}
 use Rattle.p3_challenger.specs.SmallPrimeLaws.{compared-by-numbers}
 use Rattle.p3_challenger.specs.SeparatorSeed.{pattern_of, seed_of_separator}
 use Rattle.p3_symmetric.specs.contracts.sha256.Sha256HasherDigestHasher.TheImpl as digests
-use Rattle.p3_challenger.specs.Verifying.{verifying_of}
+use Rattle.p3_challenger.specs.Drivers.{verifying_of}
 use Rattle.uses.specs.Protocol.{IsAnswer}
 use Rattle.uses.proofs.Accepting.{ahead-of, ends-reading}
 use Rattle.uses.proofs.Begun.{begun-as}
@@ -19,7 +19,7 @@ returns-clause-run c =
     let start = begun-as c.challenger.result verifier.turn.challenger
     (seed_of_separator digests.ghosts.digest_of c.args.separator.now) (ap (λ v. v.turn.challenger) c.in_ok-verifier.ensures.ok)
     c.challenger.ensures in
-    let are : AreBytes verifier.unread = subst AreBytes (sym (ap (λ v. v.unread) c.in_ok-verifier.ensures.ok))
+    let are : AreBytes verifier.bytes = subst AreBytes (sym (ap (λ v. v.bytes) c.in_ok-verifier.ensures.ok))
     (λ i. omega (arith, c.type_inv.proof i)) in
     let exact = compared-by-numbers c.mul-2.result c.add-value.result in
     let value = c.add-value.ensures ∙ ap (λ x. sum_of residues x c.in_ok-claim.claim.offset) c.mul.ensures in (
@@ -29,7 +29,7 @@ returns-clause-run c =
         λ quotient. c.eq.ensures ∙ exact.1 (c.mul-2.ensures ∙ quotient ∙ sym value),
       ),
       run-as _ _ _ _ _ _ _ _ _ start
-          (received-alone _ _ _ _ (ap (λ v. v.unread) c.in_ok-verifier.ensures.ok) c.in_ok-end.ensures.ok.whole
+          (received-alone _ _ _ _ (ap (λ v. v.bytes) c.in_ok-verifier.ensures.ok) c.in_ok-end.ensures.ok.whole
           (c.in_ok-claim.ensures.read are))
           (record {
             place = c.in_ok-claim.ensures.place;

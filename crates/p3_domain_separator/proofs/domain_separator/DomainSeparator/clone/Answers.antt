@@ -1,0 +1,11 @@
+use Rattle.std.proofs.Common.{rules}
+use Rattle.std.specs.List.{each_same}
+use Rattle.p3_domain_separator.proofs.SeparatorContents.{same_contents}
+use Rattle.p3_domain_separator.proofs.domain_separator.DomainSeparator.clone.Goals as goal
+
+pub returns : goal.returns
+returns g c =
+    let labels = each_same c.args.self.now.instance_label.items c.in_ok-clone.field-0.items
+    c.in_ok-clone.ensures.cases.0 in
+    let patterns = c.in_ok-clone-2.ensures.cases in
+    search (rules, same_contents)

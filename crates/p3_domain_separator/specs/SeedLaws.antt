@@ -1,0 +1,101 @@
+-- Laws of what binds a transcript.
+use Rattle.std.proofs.Common.{◌≡◌, ℕ, zero, suc, ◌≤◌, ◌<◌, ◌-◌, List, [], ◌∷◌, ◌++◌, length, drop, replicate, refl}
+use Rattle.std.proofs.Common.{sym, ap, ◌∙◌, append_assoc, arith}
+use Rattle.std.specs.List.{All}
+use Rattle.std.proofs.lemmas.List.{append-nil, length-append, length-replicate}
+use Rattle.std.proofs.lemmas.Grind.{flat_map-append}
+use Rattle.p3_challenger_core.specs.Reading.{IsPrefixCodeOn}
+use Rattle.p3_fs_core.specs.BigEndian.{big_endian, in_bytes}
+use Rattle.p3_fs_core.specs.BigEndianLaws.{length-in_bytes, drop-front, front-prefix_code, big_endian-in_bytes}
+use Rattle.p3_domain_separator.specs.Seed.{identifier, counted, label_of, FitsCount, SeedParts, AreSeedParts, seed_of_parts}
+
+-- ---- counted byte strings
+
+-- length-prefixed byte strings are a prefix code
+pub counted_prefix_code : IsPrefixCodeOn FitsCount counted
+counted_prefix_code x y a b x_fits y_fits e =
+    let count = λ (bytes : List ℕ). in_bytes 4 (length bytes) in
+    let counts = front-prefix_code (count x) (count y) (x ++ a) (y ++ b) (length-in_bytes 4 (length x)
+    ∙ sym (length-in_bytes 4 (length y))) (sym (append_assoc (count x) x a) ∙ e ∙ append_assoc (count y) y b) in
+    let as_long : length x ≡ length y =
+    sym (big_endian-in_bytes 4 (length x) x_fits) ∙ ap big_endian counts.0 ∙ big_endian-in_bytes 4 (length y) y_fits in
+    front-prefix_code x y a b as_long counts.1
+
+-- ---- labels
+
+next_below : (k n : ℕ) → k < n → suc k < suc n
+next_below k n less = omega (arith, less)
+
+first_below : (n : ℕ) → zero < suc n
+first_below n = omega arith
+
+-- a label comes from one list of chunks
+pub label_injective : (x y : List (List ℕ)) → All FitsCount x → All FitsCount y → label_of x ≡ label_of y → x ≡ y
+label_injective [] [] x_fit y_fit e = refl
+label_injective [] (y ∷ ys) x_fit y_fit e = cc
+label_injective (x ∷ xs) [] x_fit y_fit e = cc
+label_injective (x ∷ xs) (y ∷ ys) x_fit y_fit e =
+    let first = counted_prefix_code x y (label_of xs) (label_of ys) (x_fit zero x (first_below (length xs)))
+    (y_fit zero y (first_below (length ys))) e in
+    let others = label_injective xs ys (λ k d less. x_fit (suc k) d (next_below k (length xs) less))
+    (λ k d less. y_fit (suc k) d (next_below k (length ys) less)) first.1 in
+    ap (λ z. z ∷ xs) first.0 ∙ ap (λ zs. y ∷ zs) others
+
+-- a chunk more stands at the end of the label
+pub label_more : (chunks : List (List ℕ)) (chunk : List ℕ) →
+    label_of (chunks ++ (chunk ∷ [])) ≡ label_of chunks ++ counted chunk
+label_more chunks chunk =
+    flat_map-append counted chunks (chunk ∷ []) ∙ ap (λ end. label_of chunks ++ end) (append-nil (counted chunk))
+
+pub chunk_added : (chunk label grown : List ℕ) → grown ≡ label ++ counted chunk → (chunks : List (List ℕ)) →
+    label ≡ label_of chunks → grown ≡ label_of (chunks ++ (chunk ∷ []))
+chunk_added chunk label grown is chunks spelled =
+    is ∙ ap (λ front. front ++ counted chunk) spelled ∙ sym (label_more chunks chunk)
+
+-- ---- seeds
+
+regroup : (i d c t a : List ℕ) → (i ++ (d ++ (c ++ t))) ++ a ≡ i ++ (d ++ (c ++ (t ++ a)))
+regroup i d c t a = simp append_assoc
+
+same_parts : (x y : SeedParts) → x.protocol_id ≡ y.protocol_id → x.digest ≡ y.digest → x.label ≡ y.label → x ≡ y
+same_parts x y ids digests labels =
+    let parts : List ℕ → List ℕ → List ℕ → SeedParts = λ i d l. record { protocol_id = i; digest = d; label = l } in
+    ap (λ i. parts i x.digest x.label) ids
+    ∙ ap (λ d. parts y.protocol_id d x.label) digests
+    ∙ ap (λ l. parts y.protocol_id y.digest l) labels
+
+-- seeds are a prefix code
+pub seed_prefix_code : IsPrefixCodeOn AreSeedParts seed_of_parts
+seed_prefix_code x y a b x_are y_are e =
+    let end : List ℕ = 0x80 ∷ [] in
+    let whole = sym (regroup x.protocol_id x.digest (counted x.label) end a) ∙ e
+    ∙ regroup y.protocol_id y.digest (counted y.label) end b in
+    let ids = front-prefix_code x.protocol_id y.protocol_id (x.digest ++ (counted x.label ++ (end ++ a)))
+    (y.digest ++ (counted y.label ++ (end ++ b))) (x_are.0 ∙ sym y_are.0) whole in
+    let digests = front-prefix_code x.digest y.digest (counted x.label ++ (end ++ a)) (counted y.label ++ (end ++ b))
+    (x_are.1 ∙ sym y_are.1) ids.1 in
+    let labels = counted_prefix_code x.label y.label (end ++ a) (end ++ b) x_are.2 y_are.2 digests.1 in
+    (same_parts x y ids.0 digests.0 labels.0, ap (drop 1) labels.1)
+
+-- ---- identifiers
+
+-- the length of a name stands in the last place
+last_of : (name : List ℕ) → length name ≤ 62 → drop 62 (name ++ (replicate (62 - length name) 0 ++ (length name ∷ [])))
+    ≡ length name ∷ []
+last_of name short =
+    let zeros : List ℕ = replicate (62 - length name) 0 in
+    let as_long : length (name ++ zeros) ≡ 62 =
+    omega (arith, short, length-append name zeros, length-replicate {A = ℕ} (62 - length name) 0) in
+    ap (drop 62) (sym (append_assoc name zeros (length name ∷ [])))
+    ∙ drop-front 62 (name ++ zeros) (length name ∷ []) as_long
+
+-- an identifier comes from one version and one name
+pub identifier_injective : (v w : ℕ) (a b : List ℕ) → length a ≤ 62 → length b ≤ 62 → identifier v a ≡ identifier w b →
+    (v ≡ w) × (a ≡ b)
+identifier_injective v w a b a_short b_short e =
+    let rest = ap (drop 1) e in
+    let lasts : length a ∷ [] ≡ length b ∷ [] = sym (last_of a a_short) ∙ ap (drop 62) rest ∙ last_of b b_short in
+    let as_long : length a ≡ length b = cc in
+    let version : v ≡ w = cc in
+    let following = λ (name : List ℕ). replicate (62 - length name) 0 ++ (length name ∷ []) in
+    (version, (front-prefix_code a b (following a) (following b) as_long rest).0)

@@ -1,0 +1,13 @@
+-- What a separator gives a driver: its seed, and its pattern.
+use Rattle.std.specs.Prelude.{ℕ, List}
+use Rattle.p3_patterns.specs.PatternSteps.{PatternSteps}
+use Rattle.p3_domain_separator.specs.declared.domain_separator.DomainSeparator.{DomainSeparator}
+use Rattle.p3_domain_separator.specs.Seed.{seed_of}
+
+-- the bytes that its seed is, where the digest of bytes is this
+abbrev pub seed_of_separator : {U D : Type 0} → (List ℕ → List ℕ) → DomainSeparator U D → List ℕ
+seed_of_separator digest_of s = seed_of digest_of s.protocol_id s.pattern.value s.instance_label.items
+
+-- the pattern that is played under it
+abbrev pub pattern_of : {U D : Type 0} → DomainSeparator U D → PatternSteps
+pattern_of s = s.pattern.value

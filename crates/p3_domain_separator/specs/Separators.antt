@@ -1,0 +1,30 @@
+-- What a separator is made of.
+use Rattle.std.specs.Prelude.{◌≡◌, ℕ, ◌≤◌, ◌<◌, List, length}
+use Rattle.std.specs.List.{All}
+use Rattle.p3_challenger_core.specs.Reading.{AreBytes}
+use Rattle.p3_patterns.specs.PatternSteps.{PatternSteps}
+use Rattle.p3_domain_separator.specs.Seed.{identifier, label_of, FitsCount}
+
+-- the bytes are the identifier of a protocol: of a version, and a name of 1 to 62 bytes
+pub record IsIdentifier (protocol_id : List ℕ) : Type 0 where
+  pub version : ℕ
+  pub name : List ℕ
+  pub spelled : protocol_id ≡ identifier version name
+  pub version_fits : version < 256
+  pub named : 1 ≤ length name
+  pub short : length name ≤ 62
+  pub bytes : AreBytes name
+
+-- the bytes are the label of an instance: that of chunks whose lengths fit in four bytes
+pub record IsLabel (label : List ℕ) : Type 0 where
+  pub chunks : List (List ℕ)
+  pub spelled : label ≡ label_of chunks
+  pub counted : All FitsCount chunks
+  pub bytes : All AreBytes chunks
+
+-- what a separator is: the version and the name of a protocol, the chunks of an instance's label, and a pattern
+pub record Separator : Type 0 where
+  pub version : ℕ
+  pub name : List ℕ
+  pub chunks : List (List ℕ)
+  pub pattern : PatternSteps

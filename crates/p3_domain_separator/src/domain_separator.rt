@@ -1,0 +1,281 @@
+//! What binds a transcript to a protocol, its pattern and the instance.
+//!
+//! ```text
+//! version and name of the protocol  ->  identifier -+
+//! steps  ->  text  ->  digest                      -+->  seed  ->  what a driver's challenger observes first
+//! instances, in order  ->  label                   -+
+//! ```
+ghost use Rattle.std.specs.Prelude.{◌≡◌, ◌↔◌, ℕ, true, ◌+◌, ◌<◌, ◌≤◌, ◌^◌, List, [], ◌∷◌, ◌++◌, length, OnOk, OnErr};
+ghost use Rattle.std.specs.Prelude.{IfOk, IfErr};
+ghost use Rattle.std.specs.List.{All, flat_map};
+ghost use Rattle.p3_challenger_core.specs.Observation.{observed_all};
+ghost use Rattle.p3_challenger_core.specs.Sponge.{IsFed};
+ghost use Rattle.p3_fs_core.specs.Alphabet.{LeavesItems};
+ghost use Rattle.p3_patterns.specs.PatternSteps.{steps_of};
+ghost use Rattle.p3_challenger_core.specs.Reading.{IsPrefixCodeOn};
+ghost use Rattle.p3_domain_separator.specs.SeparatorLaws.{IsIdentifier-prop, IsLabel-prop};
+ghost use Rattle.p3_domain_separator.specs.Separators.{IsIdentifier, IsLabel};
+ghost use Rattle.p3_domain_separator.specs.Seed.{identifier, counted, label_of, FitsCount, RefusesChunk, seed_of, RefusesSeed};
+ghost use Rattle.p3_domain_separator.specs.Seed.{AreSeedParts, parts_of, seed_of_parts};
+
+use p3_challenger_core::CanObserve;
+use p3_codecs::Unit;
+use p3_fs_core::TranscriptError;
+use p3_patterns::InteractionPattern;
+use p3_symmetric::DigestHasher;
+use std::alloc::{AllocError, Global};
+use std::marker::PhantomData;
+use std::rc::Rc;
+
+/// How many bytes the identifier of a protocol has: 64, as section 3 of the IETF draft on Fiat-Shamir has it. The
+/// Rust crate's constant of this name.
+pub const PROTOCOL_ID_LEN: usize = 64;
+
+// The last byte of a seed.
+const CLOSING_BYTE: u8 = 0x80;
+
+// How many bytes a length is written in.
+const COUNT_LEN: usize = 4;
+
+// The greatest length of a label: the greatest that fits in so many bytes.
+const MAX_LABEL_LEN: usize = u32::MAX as usize;
+
+/// What binds a transcript to a protocol, its pattern and the instance.
+///
+/// `U` is the alphabet of the sponge, and `D` the hash function that the pattern's digest is made with.
+///
+/// Contracts see what it is made of: the version and the name of the protocol, a name of 1 to 62 bytes; the chunks of
+/// the instance's label; and the pattern. The label is that of the chunks, and stays shorter than 2^32 bytes, so that
+/// its length can be written in four.
+///
+/// The Rust crate's `DomainSeparator`, which holds an `Arc`. Here the hash function of the pattern's digest is a
+/// parameter, and a separator is compared, and neither ordered nor hashed.
+#[derive(Drop)]
+#[derive_where(Debug, PartialEq, Eq)]
+pub struct DomainSeparator<U, D> {
+    protocol_id: [u8; PROTOCOL_ID_LEN],
+    instance_label: Vec<u8>,
+    pattern: Rc<InteractionPattern>,
+    alphabet: PhantomData<U>,
+    hasher: PhantomData<D>,
+    /// It is the identifier of a version and a name.
+    pub ghost is_identifier: { IsIdentifier protocol_id } by { IsIdentifier-prop protocol_id },
+    /// It is the label of chunks.
+    pub ghost is_label: { IsLabel instance_label.items } by { IsLabel-prop instance_label.items },
+    ghost label_fits: { length instance_label.items < 2 ^ 32 },
+}
+
+impl<U, D> DomainSeparator<U, D> {
+    ghost use Rattle.p3_domain_separator.specs.SeparatorParts.{separator_of};
+
+    /// A separator of the protocol with this version, name and pattern, for an instance with no label yet.
+    ///
+    /// The identifier is the version, the name, zeros, and in the last place the length of the name.
+    ///
+    /// Conditions: the name has 1 to 62 bytes. The one error is that memory was refused: the pattern is gone then.
+    /// The Rust crate panics on another name, and answers no error.
+    pub fn new(
+        alloc: Global,
+        version: u8,
+        name: &[u8],
+        pattern: InteractionPattern,
+    ) -> Result<Self, AllocError>
+        requires named { 1 ≤ length name.now }
+        requires short { length name.now ≤ 62 }
+        ensures { IfOk result (λ separator. separator_of separator
+            ≡ record { version = version; name = name.now; chunks = []; pattern = pattern }) }
+    {
+        Ok(DomainSeparator {
+            protocol_id: protocol_identifier(version, name),
+            instance_label: Vec::new(alloc),
+            pattern: Rc::new(alloc, pattern)?,
+            alphabet: PhantomData,
+            hasher: PhantomData,
+        })
+    }
+
+    /// The identifier of the protocol, 64 bytes: its version, its name, zeros, and in the last place the length of
+    /// the name.
+    pub fn protocol_id(&self) -> &[u8; PROTOCOL_ID_LEN]
+        ensures { result.now ≡ self.now.protocol_id }
+    {
+        &self.protocol_id
+    }
+
+    /// The label of the instance: each of its chunks after its length in four bytes, the highest first.
+    pub fn instance_label(&self) -> &[u8]
+        ensures { result.now ≡ self.now.instance_label.items }
+    {
+        self.instance_label.as_slice()
+    }
+
+    /// The pattern of the protocol.
+    pub fn pattern(&self) -> &Rc<InteractionPattern>
+        ensures { result.now ≡ self.now.pattern }
+    {
+        &self.pattern
+    }
+
+    /// Adds a chunk at the end of the instance's label, after its length in four bytes, the highest first.
+    /// So no two lists of chunks make one label.
+    ///
+    /// The errors are [`TranscriptError::LabelTooLong`], where the label would have 2^32 bytes or more, and
+    /// [`TranscriptError::OutOfMemory`]. Both leave the separator as it is. The Rust crate chains calls, panics on a
+    /// chunk of 2^32 bytes, and lets a label grow beyond that.
+    pub fn instance(&mut self, chunk: &[u8]) -> Result<(), TranscriptError>
+        ensures ok { OnOk result (self.new.instance_label.items ≡ self.old.instance_label.items ++ counted chunk.now) }
+        ensures err { IfErr result (λ e. RefusesChunk (length self.old.instance_label.items + 4 + length chunk.now) e
+            × (self.new.instance_label.items ≡ self.old.instance_label.items)) }
+        ensures rest { (self.new.protocol_id ≡ self.old.protocol_id) × (self.new.pattern ≡ self.old.pattern) }
+        // The length of a chunk that is taken fits in its four bytes, and so does that of the label.
+        ensures fits { OnOk result (FitsCount chunk.now × (length self.new.instance_label.items < 2 ^ 32)) }
+        // The separator has this chunk more, or is the same.
+        ensures chunks { OnOk result (separator_of self.new ≡ record (separator_of self.old) {
+          chunks = (separator_of self.old).chunks ++ (chunk.now ∷ []);
+        }) }
+        ensures same { OnErr result (separator_of self.new ≡ separator_of self.old) }
+    {
+        let added = COUNT_LEN.saturating_add(chunk.len());
+        if added > MAX_LABEL_LEN - self.instance_label.len() {
+            return Err(TranscriptError::LabelTooLong);
+        }
+        push_counted(&mut self.instance_label, chunk)?;
+        Ok(())
+    }
+
+    /// Two separators compare equal exactly where they are made of the same: one version, one name, the same chunks
+    /// and one pattern; that is, where they have one identifier, one label and the same steps.
+    ///
+    /// A law: the body does nothing, and a caller cites the clause.
+    pub fn compared_by_parts(&self, other: &Self)
+        ensures exact { ⟦<DomainSeparator<U, D> as PartialEq>⟧.eq self.now other.now ≡ true
+            ↔ separator_of self.now ≡ separator_of other.now }
+        ensures parts { ⟦<DomainSeparator<U, D> as PartialEq>⟧.eq self.now other.now ≡ true ↔ (
+            (self.now.protocol_id ≡ other.now.protocol_id)
+            × (self.now.instance_label.items ≡ other.now.instance_label.items)
+            × (steps_of self.now.pattern.value ≡ steps_of other.now.pattern.value)) }
+    {
+        InteractionPattern::compared_by_steps();
+    }
+
+    /// An equal separator, which shares the pattern. The one error is that memory was refused. The Rust crate's
+    /// `Clone`, which answers no error.
+    pub fn clone(&self) -> Result<Self, AllocError>
+        ensures { IfOk result (λ copy. separator_of copy ≡ separator_of self.now) }
+    {
+        Ok(DomainSeparator {
+            protocol_id: self.protocol_id,
+            instance_label: self.instance_label.clone()?,
+            pattern: self.pattern.clone()?,
+            alphabet: PhantomData,
+            hasher: PhantomData,
+        })
+    }
+}
+
+impl<U: Unit, D: DigestHasher> DomainSeparator<U, D> {
+    /// Observes the seed in one byte string: the identifier, the digest of the pattern, the label after its
+    /// length in four bytes, the highest first, and a byte 0x80.
+    ///
+    /// Conditions: `U` is an alphabet, as [`Unit::observe_bytes`] has it.
+    ///
+    /// The errors are [`ChallengerError::TooLong`](p3_challenger_core::ChallengerError::TooLong) in
+    /// [`TranscriptError::Challenger`], with nothing absorbed, and [`TranscriptError::OutOfMemory`], which leaves the
+    /// challenger as it is, or as [`Unit::observe_bytes`] leaves it. It answers no error in the Rust crate.
+    pub fn seed<C: CanObserve<U::Item>>(&self, challenger: &mut C) -> Result<(), TranscriptError>
+        requires { U.is_alphabet }
+        ensures ok { let seed = seed_of D.digest_of self.now.protocol_id self.now.pattern.value
+            self.now.instance_label.items in
+            OnOk result ((U.is_too_long (length seed) → ⊥)
+            × (C.state challenger.new ≡ observed_all C.observation.observed (C.state challenger.old) (U.items seed))) }
+        ensures err { let seed = seed_of D.digest_of self.now.protocol_id self.now.pattern.value
+            self.now.instance_label.items in
+            IfErr result (λ e. RefusesSeed (U.is_too_long (length seed))
+            (LeavesItems C.observation C.slice_may_leave (C.state challenger.old) (U.items seed))
+            (C.state challenger.old) e (C.state challenger.new)) }
+        // What is observed is what the items feed; exactly so, where the challenger feeds them as a prefix code.
+        ensures fed { let seed = seed_of D.digest_of self.now.protocol_id self.now.pattern.value
+            self.now.instance_label.items in
+            OnOk result (IsFed C.fed (C.state challenger.old)
+            (flat_map C.observation.symbols (U.items seed)) (C.state challenger.new)) }
+        ensures fed_exactly { let seed = seed_of D.digest_of self.now.protocol_id self.now.pattern.value
+            self.now.instance_label.items in
+            IsPrefixCodeOn U.is_item C.observation.symbols → OnOk result (C.state challenger.new
+            ≡ C.fed (C.state challenger.old) (flat_map C.observation.symbols (U.items seed))) }
+        // The seed is that of an identifier, a digest and a label.
+        ensures parts { OnOk result (AreSeedParts
+            (parts_of D.digest_of self.now.protocol_id self.now.pattern.value self.now.instance_label.items)) }
+    {
+        let seed = self.seed_bytes()?;
+        U::observe_bytes(challenger, &seed)?;
+        Ok(())
+    }
+
+    // The bytes of the seed.
+    fn seed_bytes(&self) -> Result<Vec<u8>, AllocError>
+        ensures bytes { IfOk result (λ seed. seed.items
+            ≡ seed_of D.digest_of self.now.protocol_id self.now.pattern.value self.now.instance_label.items) }
+        ensures parts { OnOk result (AreSeedParts
+            (parts_of D.digest_of self.now.protocol_id self.now.pattern.value self.now.instance_label.items)) }
+    {
+        let digest = self.pattern.pattern_hash::<D>()?;
+        let len = PROTOCOL_ID_LEN + digest.len() + COUNT_LEN + self.instance_label.len() + 1;
+        let mut seed = Vec::with_capacity(*self.instance_label.allocator(), len)?;
+        seed.extend_from_slice(self.protocol_id())?;
+        seed.extend_from_slice(&digest)?;
+        push_counted(&mut seed, self.instance_label())?;
+        seed.push(CLOSING_BYTE)?;
+        Ok(seed)
+    }
+}
+
+// Adds a byte string after its length in four bytes. Where memory is refused, nothing is added.
+fn push_counted(bytes: &mut Vec<u8>, added: &[u8]) -> Result<(), AllocError>
+    requires { FitsCount added.now }
+    ensures ok { OnOk result (bytes.new.items ≡ bytes.old.items ++ counted added.now) }
+    ensures err { OnErr result (bytes.new.items ≡ bytes.old.items) }
+{
+    // Room for both parts is asked for first: where it is refused, neither is added.
+    bytes.reserve(COUNT_LEN + added.len())?;
+    let count = added.len() as u32;
+    bytes.extend_from_slice(&count.to_be_bytes())?;
+    bytes.extend_from_slice(added)?;
+    Ok(())
+}
+
+// The identifier of a protocol.
+fn protocol_identifier(version: u8, name: &[u8]) -> [u8; PROTOCOL_ID_LEN]
+    requires { length name.now ≤ 62 }
+    ensures { result ≡ identifier version name.now }
+{
+    let mut protocol_id = [0; PROTOCOL_ID_LEN];
+    protocol_id[0] = version;
+    protocol_id[1..=name.len()].copy_from_slice(name);
+    protocol_id[PROTOCOL_ID_LEN - 1] = name.len() as u8;
+    protocol_id
+}
+
+/// An identifier of a protocol comes from one version and one name.
+///
+/// A law: the body is empty, and a caller cites the clause.
+#[tactic(auto, using(crate::specs::SeedLaws::identifier_injective))]
+pub fn identifiers_are_injective()
+    ensures { (v w : ℕ) (a b : List ℕ) → length a ≤ 62 → length b ≤ 62 →
+        identifier v a ≡ identifier w b → (v ≡ w) × (a ≡ b) }
+{}
+
+/// A label of an instance comes from one list of chunks.
+///
+/// A law: the body is empty, and a caller cites the clause.
+#[tactic(auto, using(crate::specs::SeedLaws::label_injective))]
+pub fn labels_are_injective()
+    ensures { (x y : List (List ℕ)) → All FitsCount x → All FitsCount y → label_of x ≡ label_of y → x ≡ y }
+{}
+
+/// Whatever follows, a seed comes from one identifier, one digest and one label.
+///
+/// A law: the body is empty, and a caller cites the clause.
+#[tactic(auto, using(crate::specs::SeedLaws::seed_prefix_code))]
+pub fn seeds_are_prefix_code()
+    ensures { IsPrefixCodeOn AreSeedParts seed_of_parts }
+{}

@@ -1,8 +1,0 @@
-mod ExtensionReasons
-mod LimitLaws
-mod ListReasons
-mod OneReason
-mod OnlyMemory
-mod ReadOnly
-mod SpelledLaws
-mod WorkReasons

@@ -1,4 +1,0 @@
-pub mod Limits
-pub mod Memory
-pub mod OneReason
-pub mod Spelled

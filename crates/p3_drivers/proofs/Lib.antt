@@ -1,0 +1,5 @@
+pub mod Pieces
+pub mod ProverRows
+pub mod Refusals
+pub mod ValuesInTurn
+pub mod VerifierRows

@@ -1,0 +1,2 @@
+pub mod DriverLends
+pub mod Drivers

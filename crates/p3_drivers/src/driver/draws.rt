@@ -1,0 +1,332 @@
+//! The steps that draw challenges. They leave the proof as it is.
+ghost use Rattle.std.specs.Prelude.{◌≡◌, ◌≤◌, ℕ, true, IfErr, IfOk, vec_len};
+ghost use Rattle.p3_driver_core.specs.Bound.{value_of, values_of};
+ghost use Rattle.p3_driver_core.specs.Driving.{KeepsOrRefuses};
+ghost use Rattle.p3_driver_core.specs.Meanings as meaning;
+ghost use Rattle.p3_driver_core.specs.Rejecting.{Rule, Computes, ComputesOfValues, drawn_rejecting};
+ghost use Rattle.p3_driver_core.specs.Turns.{PlaysOrRefuses, KeepsOrder, algebra_step, bits_step, uniform_bits_step};
+ghost use Rattle.p3_drivers.specs.Drivers.{driving_of};
+
+use crate::DriverState;
+use crate::tape::Tape;
+use p3_challenger_core::{CanSampleBits, Sponge};
+use p3_codecs::{Codec, ExtensionFieldCodec, ScalarCodec};
+use p3_driver_core::{
+    TranscriptBound, bind, draw_accepted, draw_accepted_numbers, draw_numbers,
+    draw_uniform_numbers, draw_values,
+};
+use p3_field_core::{AlgebraIdentity, Named, ScalarField};
+use p3_fs_core::{Hierarchy, Interaction, Kind, Label, Length, TranscriptError, TranscriptField};
+use p3_grinding::CanSampleUniformBits;
+use p3_symmetric::DigestHasher;
+
+impl<C: Sponge, U, D: DigestHasher, P: Tape> DriverState<C, U, D, P> {
+    /// Draws one scalar.
+    ///
+    /// Condition: the codec has at least [`MIN_CHALLENGE_SECURITY_BITS`](p3_codecs::MIN_CHALLENGE_SECURITY_BITS) of
+    /// security.
+    pub fn challenge_scalar<F: ScalarField, Cdc: Codec<C, F>>(
+        &mut self,
+        label: Label,
+    ) -> Result<TranscriptBound<F>, TranscriptError>
+        requires { 128 ≤ Cdc.SECURITY_BITS }
+        ensures { let step = algebra_step Kind.Challenge label.now F.residues.order F.DIMENSION (D.digest_of F.identity)
+            F.name_bytes Length.Scalar in
+            KeepsOrRefuses (meaning.drawn {Symbol = C.Symbol} step Cdc.sampling)
+            (driving_of C.state P.bytes self.old) value_of result (driving_of C.state P.bytes self.new) }
+    {
+        self.draw::<F, F, Cdc>(label)
+    }
+
+    /// Draws `n` scalars.
+    ///
+    /// Condition: the codec has at least [`MIN_CHALLENGE_SECURITY_BITS`](p3_codecs::MIN_CHALLENGE_SECURITY_BITS) of
+    /// security.
+    pub fn challenge_scalars<F: ScalarField, Cdc: Codec<C, F>>(
+        &mut self,
+        label: Label,
+        n: usize,
+    ) -> Result<Vec<TranscriptBound<F>>, TranscriptError>
+        requires { 128 ≤ Cdc.SECURITY_BITS }
+        ensures exact { let step = algebra_step Kind.Challenge label.now F.residues.order F.DIMENSION
+            (D.digest_of F.identity) F.name_bytes (Length.Fixed n) in
+            KeepsOrRefuses (meaning.drawn_all {Symbol = C.Symbol} step Cdc.sampling n)
+            (driving_of C.state P.bytes self.old) values_of result (driving_of C.state P.bytes self.new) }
+        ensures count { IfOk result (λ bounds. vec_len bounds ≡ n) }
+    {
+        self.draw_list::<F, F, Cdc>(label, n)
+    }
+
+    /// Draws one element of an extension, coefficient 0 first.
+    ///
+    /// Condition: the codec has at least [`MIN_CHALLENGE_SECURITY_BITS`](p3_codecs::MIN_CHALLENGE_SECURITY_BITS) of
+    /// security.
+    pub fn challenge_extension<
+        F: TranscriptField,
+        EF: AlgebraIdentity<F> + Named,
+        Cdc: ScalarCodec<C, F>,
+    >(&mut self, label: Label) -> Result<TranscriptBound<EF>, TranscriptError>
+        requires { 128 ≤ Cdc.SECURITY_BITS }
+        ensures { let step = algebra_step Kind.Challenge label.now F.residues.order EF.DIMENSION
+            (D.digest_of EF.identity) EF.name_bytes Length.Scalar in
+            KeepsOrRefuses (meaning.drawn {Symbol = C.Symbol} step
+            ⟦<ExtensionFieldCodec<F, EF, Cdc> as Codec<C, EF>>⟧.sampling)
+            (driving_of C.state P.bytes self.old) value_of result (driving_of C.state P.bytes self.new) }
+    {
+        self.draw::<F, EF, ExtensionFieldCodec<F, EF, Cdc>>(label)
+    }
+
+    /// Draws `n` elements of an extension.
+    ///
+    /// Condition: the codec has at least [`MIN_CHALLENGE_SECURITY_BITS`](p3_codecs::MIN_CHALLENGE_SECURITY_BITS) of
+    /// security.
+    pub fn challenge_extensions<
+        F: TranscriptField,
+        EF: AlgebraIdentity<F> + Named,
+        Cdc: ScalarCodec<C, F>,
+    >(&mut self, label: Label, n: usize) -> Result<Vec<TranscriptBound<EF>>, TranscriptError>
+        requires { 128 ≤ Cdc.SECURITY_BITS }
+        ensures exact { let step = algebra_step Kind.Challenge label.now F.residues.order EF.DIMENSION
+            (D.digest_of EF.identity) EF.name_bytes (Length.Fixed n) in
+            KeepsOrRefuses (meaning.drawn_all {Symbol = C.Symbol} step
+            ⟦<ExtensionFieldCodec<F, EF, Cdc> as Codec<C, EF>>⟧.sampling n)
+            (driving_of C.state P.bytes self.old) values_of result (driving_of C.state P.bytes self.new) }
+        ensures count { IfOk result (λ bounds. vec_len bounds ≡ n) }
+    {
+        self.draw_list::<F, EF, ExtensionFieldCodec<F, EF, Cdc>>(label, n)
+    }
+
+    /// Draws elements of an extension until the rule `accept` has taken `n`, and answers these in order.
+    ///
+    /// The rule is asked of each candidate beside those kept before it. Right after it has refused `limit` candidates
+    /// in a row, counted from the last kept one or the start, the step is refused with
+    /// [`ChallengerError::DrawLimit`](p3_challenger_core::ChallengerError::DrawLimit), as it is where the challenger
+    /// meets its own draw limit: what was drawn is consumed. To keep none, nothing is drawn. The Rust crate
+    /// has no limit.
+    ///
+    /// Conditions: the rule may be asked at any time, and the codec has at least
+    /// [`MIN_CHALLENGE_SECURITY_BITS`](p3_codecs::MIN_CHALLENGE_SECURITY_BITS) of security.
+    ///
+    /// What is drawn, kept and answered is said of a rule that is a function of its arguments. Of one that answers
+    /// otherwise when it is asked the same again, this is said: the bytes of the proof stay as they are, `n` values are
+    /// answered, and only where the step is the next one, nothing is drawn where it is not, and a refused step is the
+    /// last one.
+    pub fn challenge_extensions_rejecting<
+        F: TranscriptField,
+        EF: AlgebraIdentity<F> + Named,
+        Cdc: ScalarCodec<C, F>,
+        R: Fn(&EF, &[EF]) -> bool,
+    >(
+        &mut self,
+        label: Label,
+        n: usize,
+        accept: &R,
+        limit: u64,
+    ) -> Result<Vec<TranscriptBound<EF>>, TranscriptError>
+        requires secure { 128 ≤ Cdc.SECURITY_BITS }
+        requires callable { R.IsAlwaysCallable accept.now }
+        ensures played { (rule : Rule EF) → Computes R.Fn accept.now rule →
+            let step = algebra_step Kind.Challenge label.now F.residues.order EF.DIMENSION (D.digest_of EF.identity)
+            EF.name_bytes (Length.Fixed n) in
+            PlaysOrRefuses (drawn_rejecting {Symbol = C.Symbol} step
+            ⟦<ExtensionFieldCodec<F, EF, Cdc> as Codec<C, EF>>⟧.sampling rule limit n)
+            (driving_of C.state P.bytes self.old).turn values_of result (driving_of C.state P.bytes self.new).turn }
+        ensures bytes { (driving_of C.state P.bytes self.new).bytes ≡ (driving_of C.state P.bytes self.old).bytes }
+        ensures order { let step = algebra_step Kind.Challenge label.now F.residues.order EF.DIMENSION
+            (D.digest_of EF.identity) EF.name_bytes (Length.Fixed n) in
+            KeepsOrder step (driving_of C.state P.bytes self.old).turn result (driving_of C.state P.bytes self.new).turn }
+        ensures spent { IfErr result (λ _. (driving_of C.state P.bytes self.new).turn.playing.finished ≡ true) }
+        ensures count { IfOk result (λ bounds. vec_len bounds ≡ n) }
+    {
+        self.draw_rejecting::<F, EF, ExtensionFieldCodec<F, EF, Cdc>, R>(label, n, accept, limit)
+    }
+
+    /// Draws `n` numbers of `width` bits.
+    ///
+    /// Condition: `width` is at most [`max_bits`](CanSampleBits::max_bits).
+    pub fn challenge_bits(
+        &mut self,
+        label: Label,
+        width: usize,
+        n: usize,
+    ) -> Result<Vec<TranscriptBound<usize>>, TranscriptError>
+    where
+        C: CanSampleBits<usize>,
+        requires { width ≤ C.most_bits }
+        ensures exact { KeepsOrRefuses (meaning.drawn_all {Symbol = C.Symbol}
+            (bits_step label.now width (Length.Fixed n)) (C.bits_sampling width) n)
+            (driving_of C.state P.bytes self.old) values_of result (driving_of C.state P.bytes self.new) }
+        ensures count { IfOk result (λ bounds. vec_len bounds ≡ n) }
+    {
+        self.steps.take(Interaction::bits(
+            Hierarchy::Atomic,
+            Kind::Challenge,
+            label,
+            width,
+            Length::Fixed(n),
+        ))?;
+        let bounds = draw_numbers(&mut self.challenger, self.alloc, width, n)?;
+        self.steps.done();
+        Ok(bounds)
+    }
+
+    /// Draws `n` numbers of `width` uniform bits: another value is drawn in the place of one that is rejected.
+    ///
+    /// Condition: `width` is at most [`max_bits`](p3_challenger_core::CanSampleBits::max_bits).
+    pub fn challenge_uniform_bits<F>(
+        &mut self,
+        label: Label,
+        width: usize,
+        n: usize,
+    ) -> Result<Vec<TranscriptBound<usize>>, TranscriptError>
+    where
+        C: CanSampleUniformBits<F>,
+        requires { width ≤ C.most_bits }
+        ensures exact { KeepsOrRefuses (meaning.drawn_all {Symbol = C.Symbol}
+            (uniform_bits_step label.now width (Length.Fixed n)) (C.uniform true width).draw n)
+            (driving_of C.state P.bytes self.old) values_of result (driving_of C.state P.bytes self.new) }
+        ensures count { IfOk result (λ bounds. vec_len bounds ≡ n) }
+    {
+        self.steps
+            .take_uniform_bits(label, width, Length::Fixed(n))?;
+        let bounds = draw_uniform_numbers::<F, C>(&mut self.challenger, self.alloc, width, n)?;
+        self.steps.done();
+        Ok(bounds)
+    }
+
+    /// Draws numbers of `width` uniform bits until the rule `accept` has taken `n`, and answers these in order. Another
+    /// value is drawn in the place of one that is rejected before the rule is asked.
+    ///
+    /// The rule is asked of each number beside those kept before it. Right after it has refused `limit` numbers in a
+    /// row, counted from the last kept one or the start, the step is refused with
+    /// [`ChallengerError::DrawLimit`](p3_challenger_core::ChallengerError::DrawLimit), as it is where the challenger
+    /// meets its own draw limit: what was drawn is consumed. To keep none, nothing is drawn. The Rust crate
+    /// has no limit.
+    ///
+    /// Conditions: the rule may be asked at any time, and `width` is at most
+    /// [`max_bits`](p3_challenger_core::CanSampleBits::max_bits).
+    ///
+    /// What is drawn, kept and answered is said of a rule that is a function of its arguments. Of one that answers
+    /// otherwise when it is asked the same again, this is said: the bytes of the proof stay as they are, `n` values are
+    /// answered, and only where the step is the next one, nothing is drawn where it is not, and a refused step is the
+    /// last one.
+    pub fn challenge_uniform_bits_rejecting<F, R: Fn(usize, &[usize]) -> bool>(
+        &mut self,
+        label: Label,
+        width: usize,
+        n: usize,
+        accept: &R,
+        limit: u64,
+    ) -> Result<Vec<TranscriptBound<usize>>, TranscriptError>
+    where
+        C: CanSampleUniformBits<F>,
+        requires within { width ≤ C.most_bits }
+        requires callable { R.IsAlwaysCallable accept.now }
+        ensures played { (rule : Rule ℕ) → ComputesOfValues R.Fn accept.now rule → PlaysOrRefuses
+            (drawn_rejecting {Symbol = C.Symbol} (uniform_bits_step label.now width (Length.Fixed n))
+            (C.uniform true width).draw rule limit n)
+            (driving_of C.state P.bytes self.old).turn values_of result (driving_of C.state P.bytes self.new).turn }
+        ensures bytes { (driving_of C.state P.bytes self.new).bytes ≡ (driving_of C.state P.bytes self.old).bytes }
+        ensures order { KeepsOrder (uniform_bits_step label.now width (Length.Fixed n))
+            (driving_of C.state P.bytes self.old).turn result (driving_of C.state P.bytes self.new).turn }
+        ensures spent { IfErr result (λ _. (driving_of C.state P.bytes self.new).turn.playing.finished ≡ true) }
+        ensures count { IfOk result (λ bounds. vec_len bounds ≡ n) }
+    {
+        self.steps
+            .take_uniform_bits(label, width, Length::Fixed(n))?;
+        let bounds = draw_accepted_numbers::<F, C, R>(
+            &mut self.challenger,
+            self.alloc,
+            width,
+            n,
+            accept,
+            limit,
+        )?;
+        self.steps.done();
+        Ok(bounds)
+    }
+
+    // Draws one element of an algebra.
+    //
+    // Condition: the codec has at least [`MIN_CHALLENGE_SECURITY_BITS`](p3_codecs::MIN_CHALLENGE_SECURITY_BITS) of
+    // security.
+    fn draw<F: TranscriptField, A: AlgebraIdentity<F> + Named, Cdc: Codec<C, A>>(
+        &mut self,
+        label: Label,
+    ) -> Result<TranscriptBound<A>, TranscriptError>
+        requires { 128 ≤ Cdc.SECURITY_BITS }
+        ensures { let step = algebra_step Kind.Challenge label.now F.residues.order A.DIMENSION
+            (D.digest_of A.identity) A.name_bytes Length.Scalar in
+            KeepsOrRefuses (meaning.drawn {Symbol = C.Symbol} step Cdc.sampling)
+            (driving_of C.state P.bytes self.old) value_of result (driving_of C.state P.bytes self.new) }
+    {
+        self.steps
+            .take_algebra::<F, A>(Kind::Challenge, label, Length::Scalar)?;
+        let value = Cdc::sample(&mut self.challenger)?;
+        self.steps.done();
+        Ok(bind(value))
+    }
+
+    // Draws so many elements of an algebra.
+    //
+    // Condition: the codec has at least [`MIN_CHALLENGE_SECURITY_BITS`](p3_codecs::MIN_CHALLENGE_SECURITY_BITS) of
+    // security.
+    fn draw_list<F: TranscriptField, A: AlgebraIdentity<F> + Named, Cdc: Codec<C, A>>(
+        &mut self,
+        label: Label,
+        n: usize,
+    ) -> Result<Vec<TranscriptBound<A>>, TranscriptError>
+        requires { 128 ≤ Cdc.SECURITY_BITS }
+        ensures exact { let step = algebra_step Kind.Challenge label.now F.residues.order A.DIMENSION
+            (D.digest_of A.identity) A.name_bytes (Length.Fixed n) in
+            KeepsOrRefuses (meaning.drawn_all {Symbol = C.Symbol} step Cdc.sampling n)
+            (driving_of C.state P.bytes self.old) values_of result (driving_of C.state P.bytes self.new) }
+        ensures count { IfOk result (λ bounds. vec_len bounds ≡ n) }
+    {
+        self.steps
+            .take_algebra::<F, A>(Kind::Challenge, label, Length::Fixed(n))?;
+        let bounds = draw_values::<A, C, Cdc>(&mut self.challenger, self.alloc, n)?;
+        self.steps.done();
+        Ok(bounds)
+    }
+
+    // Draws elements of an algebra until the rule `accept` has taken `n`, which refuses fewer than `limit` in a row.
+    fn draw_rejecting<
+        F: TranscriptField,
+        A: AlgebraIdentity<F> + Named,
+        Cdc: Codec<C, A>,
+        R: Fn(&A, &[A]) -> bool,
+    >(
+        &mut self,
+        label: Label,
+        n: usize,
+        accept: &R,
+        limit: u64,
+    ) -> Result<Vec<TranscriptBound<A>>, TranscriptError>
+        requires secure { 128 ≤ Cdc.SECURITY_BITS }
+        requires callable { R.IsAlwaysCallable accept.now }
+        ensures played { (rule : Rule A) → Computes R.Fn accept.now rule →
+            let step = algebra_step Kind.Challenge label.now F.residues.order A.DIMENSION
+            (D.digest_of A.identity) A.name_bytes (Length.Fixed n) in
+            PlaysOrRefuses (drawn_rejecting {Symbol = C.Symbol} step Cdc.sampling rule limit n)
+            (driving_of C.state P.bytes self.old).turn values_of result (driving_of C.state P.bytes self.new).turn }
+        ensures bytes { (driving_of C.state P.bytes self.new).bytes ≡ (driving_of C.state P.bytes self.old).bytes }
+        ensures order { let step = algebra_step Kind.Challenge label.now F.residues.order A.DIMENSION
+            (D.digest_of A.identity) A.name_bytes (Length.Fixed n) in
+            KeepsOrder step (driving_of C.state P.bytes self.old).turn result (driving_of C.state P.bytes self.new).turn }
+        ensures spent { IfErr result (λ _. (driving_of C.state P.bytes self.new).turn.playing.finished ≡ true) }
+        ensures count { IfOk result (λ bounds. vec_len bounds ≡ n) }
+    {
+        self.steps
+            .take_algebra::<F, A>(Kind::Challenge, label, Length::Fixed(n))?;
+        let bounds = draw_accepted::<A, C, Cdc, R>(
+            &mut self.challenger,
+            self.alloc,
+            n,
+            accept,
+            limit,
+        )?;
+        self.steps.done();
+        Ok(bounds)
+    }
+}

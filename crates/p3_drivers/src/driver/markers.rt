@@ -1,0 +1,78 @@
+//! The steps that open and close containers. They take no part in the challenger and in the proof.
+ghost use Rattle.std.specs.Prelude.{◌≡◌, IsOk};
+ghost use Rattle.p3_fs_core.specs.Steps.{marker_of};
+ghost use Rattle.p3_driver_core.specs.Driving.{KeepsOrRefuses};
+ghost use Rattle.p3_driver_core.specs.Meanings as meaning;
+ghost use Rattle.p3_driver_core.specs.Turns.{IsNext};
+ghost use Rattle.p3_drivers.specs.Drivers.{driving_of};
+
+use crate::DriverState;
+use crate::tape::Tape;
+use p3_challenger_core::Sponge;
+use p3_field_core::Named;
+use p3_fs_core::{Hierarchy, Interaction, Kind, Label, TranscriptError};
+use p3_symmetric::DigestHasher;
+
+impl<C: Sponge, U, D: DigestHasher, P: Tape> DriverState<C, U, D, P> {
+    /// Opens a container of the kind. `T` names the container for those who read its steps. It takes no memory.
+    pub fn begin<T: Named>(&mut self, label: Label, kind: Kind) -> Result<(), TranscriptError>
+        ensures exact { KeepsOrRefuses (meaning.marked {Symbol = C.Symbol}
+            (marker_of Hierarchy.Begin kind label.now T.name_bytes))
+            (driving_of C.state P.bytes self.old) (λ _. tt {0}) result (driving_of C.state P.bytes self.new) }
+        ensures only { IsNext (driving_of C.state P.bytes self.old).turn.playing
+            (marker_of Hierarchy.Begin kind label.now T.name_bytes) → IsOk result }
+    {
+        self.mark::<T>(Hierarchy::Begin, kind, label)
+    }
+
+    /// Closes a container of the kind, with the label and the `T` of its opener. It takes no memory.
+    pub fn end<T: Named>(&mut self, label: Label, kind: Kind) -> Result<(), TranscriptError>
+        ensures exact { KeepsOrRefuses (meaning.marked {Symbol = C.Symbol}
+            (marker_of Hierarchy.End kind label.now T.name_bytes))
+            (driving_of C.state P.bytes self.old) (λ _. tt {0}) result (driving_of C.state P.bytes self.new) }
+        ensures only { IsNext (driving_of C.state P.bytes self.old).turn.playing
+            (marker_of Hierarchy.End kind label.now T.name_bytes) → IsOk result }
+    {
+        self.mark::<T>(Hierarchy::End, kind, label)
+    }
+
+    /// Opens a container that may hold steps of any kind. It takes no memory.
+    pub fn begin_protocol<T: Named>(&mut self, label: Label) -> Result<(), TranscriptError>
+        ensures exact { KeepsOrRefuses (meaning.marked {Symbol = C.Symbol}
+            (marker_of Hierarchy.Begin Kind.Protocol label.now T.name_bytes))
+            (driving_of C.state P.bytes self.old) (λ _. tt {0}) result (driving_of C.state P.bytes self.new) }
+        ensures only { IsNext (driving_of C.state P.bytes self.old).turn.playing
+            (marker_of Hierarchy.Begin Kind.Protocol label.now T.name_bytes) → IsOk result }
+    {
+        self.mark::<T>(Hierarchy::Begin, Kind::Protocol, label)
+    }
+
+    /// Closes a container that may hold steps of any kind. It takes no memory.
+    pub fn end_protocol<T: Named>(&mut self, label: Label) -> Result<(), TranscriptError>
+        ensures exact { KeepsOrRefuses (meaning.marked {Symbol = C.Symbol}
+            (marker_of Hierarchy.End Kind.Protocol label.now T.name_bytes))
+            (driving_of C.state P.bytes self.old) (λ _. tt {0}) result (driving_of C.state P.bytes self.new) }
+        ensures only { IsNext (driving_of C.state P.bytes self.old).turn.playing
+            (marker_of Hierarchy.End Kind.Protocol label.now T.name_bytes) → IsOk result }
+    {
+        self.mark::<T>(Hierarchy::End, Kind::Protocol, label)
+    }
+
+    // Opens or closes a container.
+    fn mark<T: Named>(
+        &mut self,
+        hierarchy: Hierarchy,
+        kind: Kind,
+        label: Label,
+    ) -> Result<(), TranscriptError>
+        ensures exact { KeepsOrRefuses (meaning.marked {Symbol = C.Symbol} (marker_of hierarchy kind label.now T.name_bytes))
+            (driving_of C.state P.bytes self.old) (λ _. tt {0}) result (driving_of C.state P.bytes self.new) }
+        ensures only { IsNext (driving_of C.state P.bytes self.old).turn.playing
+            (marker_of hierarchy kind label.now T.name_bytes) → IsOk result }
+    {
+        self.steps
+            .take(Interaction::marker::<T>(hierarchy, kind, label))?;
+        self.steps.done();
+        Ok(())
+    }
+}

@@ -1,0 +1,134 @@
+//! The steps that observe values which the proof does not carry, as both sides play them.
+ghost use Rattle.std.specs.Prelude.{◌≡◌, ◌≤◌, length, IfOk, vec_len};
+ghost use Rattle.p3_driver_core.specs.Bound.{value_of, values_of};
+ghost use Rattle.p3_driver_core.specs.Driving.{KeepsOrRefuses};
+ghost use Rattle.p3_driver_core.specs.Effects.{alphabet_of};
+ghost use Rattle.p3_driver_core.specs.Meanings as meaning;
+ghost use Rattle.p3_driver_core.specs.Turns.{algebra_step, opaque_step};
+ghost use Rattle.p3_drivers.specs.Drivers.{driving_of};
+
+use crate::DriverState;
+use crate::tape::Tape;
+use p3_challenger_core::{CanObserve, Sponge};
+use p3_codecs::{Codec, ExtensionFieldCodec, ScalarCodec, Unit};
+use p3_driver_core::{TranscriptBound, bind, bind_all, observe_count, observe_values};
+use p3_field_core::{AlgebraIdentity, Named};
+use p3_fs_core::{Hierarchy, Interaction, Kind, Label, Length, TranscriptError, TranscriptField};
+use p3_symmetric::DigestHasher;
+
+impl<C: Sponge, U, D: DigestHasher, P: Tape> DriverState<C, U, D, P> {
+    /// Observes one element of an extension that the proof does not carry.
+    pub fn observe_extension<
+        F: TranscriptField,
+        EF: AlgebraIdentity<F> + Named,
+        Cdc: ScalarCodec<C, F>,
+    >(&mut self, label: Label, value: &EF) -> Result<TranscriptBound<EF>, TranscriptError>
+        ensures { let step = algebra_step Kind.Message label.now F.residues.order EF.DIMENSION (D.digest_of EF.identity)
+            EF.name_bytes Length.Scalar in
+            KeepsOrRefuses (meaning.observed step ⟦<ExtensionFieldCodec<F, EF, Cdc> as Codec<C, EF>>⟧.observation
+            value.now)
+            (driving_of C.state P.bytes self.old) value_of result (driving_of C.state P.bytes self.new) }
+    {
+        self.observe_element::<F, EF, ExtensionFieldCodec<F, EF, Cdc>>(Kind::Message, label, value)
+    }
+
+    /// Observes a value as the challenger itself knows how, which the proof does not carry.
+    ///
+    /// Condition: clones of the value equal it, which the Rust crate does not ask.
+    pub fn observe_opaque<T: Clone>(
+        &mut self,
+        label: Label,
+        value: T,
+    ) -> Result<TranscriptBound<T>, TranscriptError>
+    where
+        C: CanObserve<T>,
+        requires { (copy : T) → T.is_clone value copy → copy ≡ value }
+        ensures { KeepsOrRefuses (meaning.observed (opaque_step Kind.Message label.now Length.Scalar)
+            C.observation value)
+            (driving_of C.state P.bytes self.old) value_of result (driving_of C.state P.bytes self.new) }
+    {
+        self.steps.take(Interaction::opaque(
+            Hierarchy::Atomic,
+            Kind::Message,
+            label,
+            Length::Scalar,
+        ))?;
+        let copy = value.clone()?;
+        self.challenger.observe(copy)?;
+        self.steps.done();
+        Ok(bind(value))
+    }
+
+    // Observes one element of an algebra.
+    pub(super) fn observe_element<
+        F: TranscriptField,
+        A: AlgebraIdentity<F> + Named,
+        Cdc: Codec<C, A>,
+    >(&mut self, kind: Kind, label: Label, value: &A) -> Result<TranscriptBound<A>, TranscriptError>
+        ensures { let step = algebra_step kind label.now F.residues.order A.DIMENSION (D.digest_of A.identity)
+            A.name_bytes Length.Scalar in
+            KeepsOrRefuses (meaning.observed step Cdc.observation value.now)
+            (driving_of C.state P.bytes self.old) value_of result (driving_of C.state P.bytes self.new) }
+    {
+        self.steps
+            .take_algebra::<F, A>(kind, label, Length::Scalar)?;
+        Cdc::observe(&mut self.challenger, value)?;
+        self.steps.done();
+        Ok(bind(*value))
+    }
+
+    // Observes a list of so many elements of an algebra as the step says.
+    pub(super) fn observe_list<F: TranscriptField, A: AlgebraIdentity<F> + Named, Cdc: Codec<C, A>>(
+        &mut self,
+        kind: Kind,
+        label: Label,
+        values: &[A],
+    ) -> Result<Vec<TranscriptBound<A>>, TranscriptError>
+        ensures exact { let step = algebra_step kind label.now F.residues.order A.DIMENSION (D.digest_of A.identity)
+            A.name_bytes (Length.Fixed (length values.now)) in
+            KeepsOrRefuses (meaning.observed_all step Cdc.observation values.now)
+            (driving_of C.state P.bytes self.old) values_of result (driving_of C.state P.bytes self.new) }
+        ensures count { IfOk result (λ bounds. vec_len bounds ≡ length values.now) }
+    {
+        self.steps
+            .take_algebra::<F, A>(kind, label, Length::Fixed(values.len()))?;
+        let bounds = bind_all(self.alloc, values)?;
+        observe_values::<A, C, Cdc>(&mut self.challenger, values)?;
+        self.steps.done();
+        Ok(bounds)
+    }
+}
+
+impl<U: Unit, C: CanObserve<U::Item>, D: DigestHasher, P: Tape> DriverState<C, U, D, P> {
+    // Observes a list of at most `max` elements of an algebra, after its count.
+    //
+    // Conditions: `U` is an alphabet, and there are at most `max` values.
+    pub(super) fn observe_counted<
+        F: TranscriptField,
+        A: AlgebraIdentity<F> + Named,
+        Cdc: Codec<C, A>,
+    >(
+        &mut self,
+        kind: Kind,
+        label: Label,
+        values: &[A],
+        max: usize,
+    ) -> Result<Vec<TranscriptBound<A>>, TranscriptError>
+        requires alphabet { U.is_alphabet }
+        requires within { length values.now ≤ max }
+        ensures exact { let step = algebra_step kind label.now F.residues.order A.DIMENSION (D.digest_of A.identity)
+            A.name_bytes (Length.Bounded max) in
+            KeepsOrRefuses (meaning.observed_bounded step
+            (alphabet_of U.items U.is_too_long C.observation C.slice_may_leave) max Cdc.observation values.now)
+            (driving_of C.state P.bytes self.old) values_of result (driving_of C.state P.bytes self.new) }
+        ensures count { IfOk result (λ bounds. vec_len bounds ≡ length values.now) }
+    {
+        self.steps
+            .take_algebra::<F, A>(kind, label, Length::Bounded(max))?;
+        let bounds = bind_all(self.alloc, values)?;
+        observe_count::<U, C>(&mut self.challenger, values.len(), max)?;
+        observe_values::<A, C, Cdc>(&mut self.challenger, values)?;
+        self.steps.done();
+        Ok(bounds)
+    }
+}

@@ -1,0 +1,409 @@
+//! The steps of a verifier that read the proof, and those that observe what both sides know.
+ghost use Rattle.std.specs.Prelude.{◌≡◌, ◌≤◌, ◌↔◌, ◌*◌, IsTrue, length, IfOk, IfErr, vec_len};
+ghost use Rattle.p3_challenger_core.specs.Observation.{observed_all};
+ghost use Rattle.p3_driver_core.specs.Bound.{value_of, values_of};
+ghost use Rattle.p3_driver_core.specs.Effects.{alphabet_of};
+ghost use Rattle.p3_driver_core.specs.Turns.{algebra_step};
+ghost use Rattle.p3_driver_core.specs.Reads as reads;
+ghost use Rattle.p3_driver_core.specs.Reads.{TellsRead, TellsList};
+ghost use Rattle.p3_driver_core.specs.Driving.{KeepsOrRefuses};
+ghost use Rattle.p3_driver_core.specs.Meanings as meaning;
+ghost use Rattle.p3_driver_core.specs.Verifying.{ReceivesOrRefuses, CarriesWithin, CarriesAsRecorded};
+ghost use Rattle.p3_drivers.specs.Drivers.{verifying_of};
+
+use crate::VerifierState;
+use p3_challenger_core::{CanObserve, Sponge};
+use p3_codecs::{Codec, ExtensionFieldCodec, ScalarCodec, Unit};
+use p3_driver_core::{TranscriptBound, bind, count_width, observe_count};
+use p3_field_core::{AlgebraIdentity, Named, ScalarField};
+use p3_fs_core::{Kind, Label, Length, TranscriptError, TranscriptField, decode_len_be};
+use p3_symmetric::DigestHasher;
+
+impl<'a, U: Unit, C: CanObserve<U::Item>, D: DigestHasher> VerifierState<'a, C, U, D> {
+    /// Observes at most `max` elements of an extension, after their count, which the proof does not carry.
+    ///
+    /// More are refused with [`TranscriptError::BadProofShape`] and `list length exceeds the recorded maximum`,
+    /// whatever the next step is, unless a step was refused before. Nothing is absorbed then. Condition: `U` is an
+    /// alphabet.
+    pub fn observe_extensions_bounded<
+        F: TranscriptField,
+        EF: AlgebraIdentity<F> + Named,
+        Cdc: ScalarCodec<C, F>,
+    >(
+        &mut self,
+        label: Label,
+        values: &[EF],
+        max: usize,
+    ) -> Result<Vec<TranscriptBound<EF>>, TranscriptError>
+        requires { U.is_alphabet }
+        ensures exact { let step = algebra_step Kind.Message label.now F.residues.order EF.DIMENSION
+            (D.digest_of EF.identity) EF.name_bytes (Length.Bounded max) in
+            CarriesWithin (length values.now) max (meaning.observed_bounded step
+            (alphabet_of U.items U.is_too_long C.observation C.slice_may_leave) max
+            ⟦<ExtensionFieldCodec<F, EF, Cdc> as Codec<C, EF>>⟧.observation values.now)
+            (verifying_of C.state self.old) values_of result (verifying_of C.state self.new) }
+        ensures count { IfOk result (λ bounds. vec_len bounds ≡ length values.now) }
+    {
+        self.steps.carried_within(values.len(), max)?;
+        self.observe_counted::<F, EF, ExtensionFieldCodec<F, EF, Cdc>>(
+            Kind::Message,
+            label,
+            values,
+            max,
+        )
+    }
+
+    /// Reads `len` bytes that hide what was sent later, and lends them.
+    ///
+    /// Condition: `U` is an alphabet. Bytes that are too long for it are refused with
+    /// [`ChallengerError::TooLong`](p3_challenger_core::ChallengerError::TooLong), and nothing of them is absorbed.
+    pub fn next_salt(&mut self, label: Label, len: usize) -> Result<&'a [u8], TranscriptError>
+        requires { U.is_alphabet }
+        ensures exact { ReceivesOrRefuses (reads.received_bytes Kind.Salt label.now
+            (alphabet_of U.items U.is_too_long C.observation C.slice_may_leave) len)
+            (verifying_of C.state self.old) (λ bytes. bytes.now) result (verifying_of C.state self.new) }
+        ensures count { IfOk result (λ bytes. length bytes.now ≡ len) }
+    {
+        self.receive_bytes(Kind::Salt, label, len)
+    }
+
+    /// Reads `len` bytes, and lends them.
+    ///
+    /// Condition: `U` is an alphabet. Bytes that are too long for it are refused with
+    /// [`ChallengerError::TooLong`](p3_challenger_core::ChallengerError::TooLong), and nothing of them is absorbed.
+    pub fn next_bytes(&mut self, label: Label, len: usize) -> Result<&'a [u8], TranscriptError>
+        requires { U.is_alphabet }
+        ensures exact { ReceivesOrRefuses (reads.received_bytes Kind.Message label.now
+            (alphabet_of U.items U.is_too_long C.observation C.slice_may_leave) len)
+            (verifying_of C.state self.old) (λ bytes. bytes.now) result (verifying_of C.state self.new) }
+        ensures count { IfOk result (λ bytes. length bytes.now ≡ len) }
+    {
+        self.receive_bytes(Kind::Message, label, len)
+    }
+
+    /// Reads at most `max` bytes, after their count, and lends them.
+    ///
+    /// Nothing is absorbed until all of them are there. A count above `max` is passed, and one that names more bytes
+    /// than are left.
+    ///
+    /// Condition: `U` is an alphabet. Bytes that are too long for it are refused with
+    /// [`ChallengerError::TooLong`](p3_challenger_core::ChallengerError::TooLong): their count is absorbed then.
+    pub fn next_bytes_bounded(
+        &mut self,
+        label: Label,
+        max: usize,
+    ) -> Result<&'a [u8], TranscriptError>
+        requires { U.is_alphabet }
+        ensures exact { ReceivesOrRefuses (reads.received_bytes_bounded label.now
+            (alphabet_of U.items U.is_too_long C.observation C.slice_may_leave) max)
+            (verifying_of C.state self.old) (λ bytes. bytes.now) result (verifying_of C.state self.new) }
+        ensures count { IfOk result (λ bytes. length bytes.now ≤ max) }
+    {
+        self.steps
+            .take_bytes(Kind::Message, label, Length::Bounded(max))?;
+        let bytes = self.read_counted(max, "message length exceeds declared maximum")?;
+        observe_count::<U, C>(&mut self.challenger, bytes.len(), max)?;
+        U::observe_bytes(&mut self.challenger, bytes)?;
+        self.steps.done();
+        Ok(bytes)
+    }
+
+    /// Reads at most `max` scalars, after their count.
+    ///
+    /// A count above `max` is passed. The count is absorbed before any scalar is read. Where the scalars' spellings
+    /// take more bytes than are left, they are refused before any is read; and the scalars before one that is none are
+    /// absorbed.
+    ///
+    /// Condition: `U` is an alphabet.
+    pub fn next_scalars_bounded<F: ScalarField, Cdc: Codec<C, F>>(
+        &mut self,
+        label: Label,
+        max: usize,
+    ) -> Result<Vec<TranscriptBound<F>>, TranscriptError>
+        requires { U.is_alphabet }
+        ensures exact { let step = algebra_step Kind.Message label.now F.residues.order F.DIMENSION
+            (D.digest_of F.identity) F.name_bytes (Length.Bounded max) in
+            ReceivesOrRefuses (reads.received_bounded step
+            (alphabet_of U.items U.is_too_long C.observation C.slice_may_leave) max Cdc.observation Cdc.encoding)
+            (verifying_of C.state self.old) values_of result (verifying_of C.state self.new) }
+        ensures count { IfOk result (λ bounds. vec_len bounds ≤ max) }
+    {
+        self.steps
+            .take_algebra::<F, F>(Kind::Message, label, Length::Bounded(max))?;
+        let count = self.read_count(max, "message length exceeds declared maximum")?;
+        observe_count::<U, C>(&mut self.challenger, count, max)?;
+        let bounds = self.receive_values::<F, Cdc>(count)?;
+        self.steps.done();
+        Ok(bounds)
+    }
+
+    // Reads bytes in a step of the kind.
+    fn receive_bytes(
+        &mut self,
+        kind: Kind,
+        label: Label,
+        len: usize,
+    ) -> Result<&'a [u8], TranscriptError>
+        requires { U.is_alphabet }
+        ensures exact { ReceivesOrRefuses (reads.received_bytes kind label.now
+            (alphabet_of U.items U.is_too_long C.observation C.slice_may_leave) len)
+            (verifying_of C.state self.old) (λ bytes. bytes.now) result (verifying_of C.state self.new) }
+        ensures count { IfOk result (λ bytes. length bytes.now ≡ len) }
+    {
+        self.steps.take_bytes(kind, label, Length::Fixed(len))?;
+        let bytes = self.read_bytes(len)?;
+        U::observe_bytes(&mut self.challenger, bytes)?;
+        self.steps.done();
+        Ok(bytes)
+    }
+}
+
+impl<'a, C: Sponge, U, D: DigestHasher> VerifierState<'a, C, U, D> {
+    /// Observes a scalar that both sides know.
+    pub fn observe_public_scalar<F: ScalarField, Cdc: Codec<C, F>>(
+        &mut self,
+        label: Label,
+        value: &F,
+    ) -> Result<TranscriptBound<F>, TranscriptError>
+        ensures { let step = algebra_step Kind.Public label.now F.residues.order F.DIMENSION (D.digest_of F.identity)
+            F.name_bytes Length.Scalar in
+            KeepsOrRefuses (meaning.observed step Cdc.observation value.now)
+            (verifying_of C.state self.old) value_of result (verifying_of C.state self.new) }
+    {
+        self.observe_element::<F, F, Cdc>(Kind::Public, label, value)
+    }
+
+    /// Observes so many scalars as the step says, which both sides know.
+    pub fn observe_public_scalars<F: ScalarField, Cdc: Codec<C, F>>(
+        &mut self,
+        label: Label,
+        values: &[F],
+    ) -> Result<Vec<TranscriptBound<F>>, TranscriptError>
+        ensures exact { let step = algebra_step Kind.Public label.now F.residues.order F.DIMENSION
+            (D.digest_of F.identity) F.name_bytes (Length.Fixed (length values.now)) in
+            KeepsOrRefuses (meaning.observed_all step Cdc.observation values.now)
+            (verifying_of C.state self.old) values_of result (verifying_of C.state self.new) }
+        ensures count { IfOk result (λ bounds. vec_len bounds ≡ length values.now) }
+    {
+        self.observe_list::<F, F, Cdc>(Kind::Public, label, values)
+    }
+
+    /// Observes so many elements of an extension as the step says, which the proof does not carry.
+    ///
+    /// Where the next step has a list of another length, the list is refused with [`TranscriptError::BadProofShape`]
+    /// and `list length differs from the recorded shape`, whatever that step is, unless a step was refused before.
+    /// Nothing is absorbed then.
+    pub fn observe_extensions<
+        F: TranscriptField,
+        EF: AlgebraIdentity<F> + Named,
+        Cdc: ScalarCodec<C, F>,
+    >(&mut self, label: Label, values: &[EF]) -> Result<Vec<TranscriptBound<EF>>, TranscriptError>
+        ensures exact { let step = algebra_step Kind.Message label.now F.residues.order EF.DIMENSION
+            (D.digest_of EF.identity) EF.name_bytes (Length.Fixed (length values.now)) in
+            CarriesAsRecorded (length values.now) (meaning.observed_all step
+            ⟦<ExtensionFieldCodec<F, EF, Cdc> as Codec<C, EF>>⟧.observation values.now)
+            (verifying_of C.state self.old) values_of result (verifying_of C.state self.new) }
+        ensures count { IfOk result (λ bounds. vec_len bounds ≡ length values.now) }
+    {
+        self.steps.carried_as_recorded(values.len())?;
+        self.observe_list::<F, EF, ExtensionFieldCodec<F, EF, Cdc>>(Kind::Message, label, values)
+    }
+
+    /// Reads one scalar.
+    pub fn next_scalar<F: ScalarField, Cdc: Codec<C, F>>(
+        &mut self,
+        label: Label,
+    ) -> Result<TranscriptBound<F>, TranscriptError>
+        ensures { let step = algebra_step Kind.Message label.now F.residues.order F.DIMENSION (D.digest_of F.identity)
+            F.name_bytes Length.Scalar in
+            ReceivesOrRefuses (reads.received step Cdc.observation Cdc.encoding)
+            (verifying_of C.state self.old) value_of result (verifying_of C.state self.new) }
+    {
+        self.receive::<F, F, Cdc>(label)
+    }
+
+    /// Reads `n` scalars.
+    ///
+    /// Where their spellings take more bytes than are left, they are refused before any is read. The scalars before one
+    /// that is none are absorbed.
+    pub fn next_scalars<F: ScalarField, Cdc: Codec<C, F>>(
+        &mut self,
+        label: Label,
+        n: usize,
+    ) -> Result<Vec<TranscriptBound<F>>, TranscriptError>
+        ensures exact { let step = algebra_step Kind.Message label.now F.residues.order F.DIMENSION
+            (D.digest_of F.identity) F.name_bytes (Length.Fixed n) in
+            ReceivesOrRefuses (reads.received_all step Cdc.observation Cdc.encoding n)
+            (verifying_of C.state self.old) values_of result (verifying_of C.state self.new) }
+        ensures count { IfOk result (λ bounds. vec_len bounds ≡ n) }
+    {
+        self.steps
+            .take_algebra::<F, F>(Kind::Message, label, Length::Fixed(n))?;
+        let bounds = self.receive_values::<F, Cdc>(n)?;
+        self.steps.done();
+        Ok(bounds)
+    }
+
+    /// Reads one element of an extension, by its coefficients.
+    pub fn next_extension<
+        F: TranscriptField,
+        EF: AlgebraIdentity<F> + Named,
+        Cdc: ScalarCodec<C, F>,
+    >(&mut self, label: Label) -> Result<TranscriptBound<EF>, TranscriptError>
+        ensures { let step = algebra_step Kind.Message label.now F.residues.order EF.DIMENSION (D.digest_of EF.identity)
+            EF.name_bytes Length.Scalar in
+            ReceivesOrRefuses (reads.received step ⟦<ExtensionFieldCodec<F, EF, Cdc> as Codec<C, EF>>⟧.observation
+            ⟦<ExtensionFieldCodec<F, EF, Cdc> as Codec<C, EF>>⟧.encoding)
+            (verifying_of C.state self.old) value_of result (verifying_of C.state self.new) }
+    {
+        self.receive::<F, EF, ExtensionFieldCodec<F, EF, Cdc>>(label)
+    }
+
+    /// Reads `len` bytes in which the challenger takes no part, and lends them. It takes no memory.
+    pub fn next_hint(&mut self, label: Label, len: usize) -> Result<&'a [u8], TranscriptError>
+        ensures exact { ReceivesOrRefuses (reads.hint_received {Symbol = C.Symbol} label.now len)
+            (verifying_of C.state self.old) (λ bytes. bytes.now) result (verifying_of C.state self.new) }
+        ensures no_memory { IfErr result (λ e. e ≡ TranscriptError.OutOfMemory → ⊥) }
+        ensures count { IfOk result (λ bytes. length bytes.now ≡ len) }
+    {
+        self.steps
+            .take_bytes(Kind::Hint, label, Length::Fixed(len))?;
+        let bytes = self.read_bytes(len)?;
+        self.steps.done();
+        Ok(bytes)
+    }
+
+    /// Reads at most `max` bytes, after their count, in which the challenger takes no part, and lends them. It takes no
+    /// memory.
+    ///
+    /// A count above `max` is passed, and one that names more bytes than are left.
+    pub fn next_hint_bounded(
+        &mut self,
+        label: Label,
+        max: usize,
+    ) -> Result<&'a [u8], TranscriptError>
+        ensures exact { ReceivesOrRefuses (reads.hint_received_bounded {Symbol = C.Symbol} label.now max)
+            (verifying_of C.state self.old) (λ bytes. bytes.now) result (verifying_of C.state self.new) }
+        ensures no_memory { IfErr result (λ e. e ≡ TranscriptError.OutOfMemory → ⊥) }
+        ensures count { IfOk result (λ bytes. length bytes.now ≤ max) }
+    {
+        self.steps
+            .take_bytes(Kind::Hint, label, Length::Bounded(max))?;
+        let bytes = self.read_counted(max, "hint length exceeds declared maximum")?;
+        self.steps.done();
+        Ok(bytes)
+    }
+
+    // Reads one element of an algebra.
+    fn receive<F: TranscriptField, A: AlgebraIdentity<F> + Named, Cdc: Codec<C, A>>(
+        &mut self,
+        label: Label,
+    ) -> Result<TranscriptBound<A>, TranscriptError>
+        ensures { let step = algebra_step Kind.Message label.now F.residues.order A.DIMENSION (D.digest_of A.identity)
+            A.name_bytes Length.Scalar in
+            ReceivesOrRefuses (reads.received step Cdc.observation Cdc.encoding)
+            (verifying_of C.state self.old) value_of result (verifying_of C.state self.new) }
+    {
+        self.steps
+            .take_algebra::<F, A>(Kind::Message, label, Length::Scalar)?;
+        let value = self.read_value::<A, Cdc>()?;
+        Cdc::observe(&mut self.challenger, &value)?;
+        self.steps.done();
+        Ok(bind(value))
+    }
+
+    // Reads so many values, and observes each before it reads the next one. Where their spellings take more bytes than
+    // are left, none is read, and no memory is asked for.
+    fn receive_values<A: Copy, Cdc: Codec<C, A>>(
+        &mut self,
+        n: usize,
+    ) -> Result<Vec<TranscriptBound<A>>, TranscriptError>
+        ensures read { TellsList (reads.read_values Cdc.encoding Cdc.observation.observed n self.old.tape.bytes.now)
+            (observed_all Cdc.observation.observed)
+            (reads.LeavesValues Cdc.encoding Cdc.observation n self.old.tape.bytes.now) values_of
+            (C.state self.old.challenger) result self.new.tape.bytes.now (C.state self.new.challenger) }
+        ensures steps { self.new.steps ≡ self.old.steps }
+        ensures count { IfOk result (λ bounds. vec_len bounds ≡ n) }
+    {
+        if !holds(self.tape.bytes.len(), n, Cdc::wire_len()) {
+            return Err(TranscriptError::BadProofShape {
+                reason: "step declares more values than the wire holds",
+            });
+        }
+        let mut bounds = Vec::with_capacity(self.alloc, n)?;
+        for _ in 0..n {
+            let value = self.read_value::<A, Cdc>()?;
+            Cdc::observe(&mut self.challenger, &value)?;
+            bounds.push_reserved(bind(value));
+        }
+        Ok(bounds)
+    }
+
+    // Reads so many bytes. Where there are fewer, none is passed.
+    pub(super) fn read_bytes(&mut self, len: usize) -> Result<&'a [u8], TranscriptError>
+        ensures read { TellsRead (reads.read_bytes {S = C.State} len self.old.tape.bytes.now) (λ bytes. bytes.now) result
+            self.new.tape.bytes.now }
+        ensures steps { self.new.steps ≡ self.old.steps }
+        ensures challenger { self.new.challenger ≡ self.old.challenger }
+        ensures count { IfOk result (λ bytes. length bytes.now ≡ len) }
+    {
+        let unread = self.tape.bytes;
+        if unread.len() < len {
+            return Err(TranscriptError::BadProofShape {
+                reason: "NARG ended before all expected bytes were read",
+            });
+        }
+        self.tape.bytes = &unread[len..];
+        Ok(&unread[..len])
+    }
+
+    // Reads a value.
+    fn read_value<A, Cdc: Codec<C, A>>(&mut self) -> Result<A, TranscriptError>
+        ensures read { TellsRead (reads.read_value {S = C.State} Cdc.encoding self.old.tape.bytes.now) (λ x. x) result
+            self.new.tape.bytes.now }
+        ensures steps { self.new.steps ≡ self.old.steps }
+        ensures challenger { self.new.challenger ≡ self.old.challenger }
+    {
+        let bytes = self.read_bytes(Cdc::wire_len())?;
+        Cdc::decode(bytes)
+    }
+
+    // Reads a count of at most so many. A greater one is refused with this reason, and is passed.
+    fn read_count(&mut self, max: usize, over: &'static str) -> Result<usize, TranscriptError>
+        ensures read { TellsRead (reads.read_count {S = C.State} over.now max self.old.tape.bytes.now) (λ n. n) result
+            self.new.tape.bytes.now }
+        ensures within { IfOk result (λ n. n ≤ max) }
+        ensures steps { self.new.steps ≡ self.old.steps }
+        ensures challenger { self.new.challenger ≡ self.old.challenger }
+    {
+        let width = count_width(max);
+        let bytes = self.read_bytes(width)?;
+        let count = decode_len_be(bytes, width);
+        if count > max {
+            return Err(TranscriptError::BadProofShape { reason: over });
+        }
+        Ok(count)
+    }
+
+    // Reads at most so many bytes after their count. A greater count is refused with this reason.
+    fn read_counted(&mut self, max: usize, over: &'static str) -> Result<&'a [u8], TranscriptError>
+        ensures read { TellsRead (reads.read_counted_bytes {S = C.State} over.now max self.old.tape.bytes.now)
+            (λ bytes. bytes.now) result self.new.tape.bytes.now }
+        ensures within { IfOk result (λ bytes. length bytes.now ≤ max) }
+        ensures steps { self.new.steps ≡ self.old.steps }
+        ensures challenger { self.new.challenger ≡ self.old.challenger }
+    {
+        let count = self.read_count(max, over)?;
+        self.read_bytes(count)
+    }
+}
+
+// So many bytes are enough for so many values.
+fn holds(len: usize, n: usize, width: usize) -> bool
+    ensures { IsTrue result ↔ n * width ≤ len }
+{
+    match n.checked_mul(width) {
+        None => false,
+        Some(total) => total <= len,
+    }
+}

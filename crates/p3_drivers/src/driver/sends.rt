@@ -1,0 +1,339 @@
+//! The steps of a prover that write into the proof, and those that add what both sides know.
+ghost use Rattle.std.specs.Prelude.{◌≡◌, ◌≤◌, length, IfOk, vec_len};
+ghost use Rattle.p3_driver_core.specs.Bound.{value_of, values_of};
+ghost use Rattle.p3_driver_core.specs.Effects.{alphabet_of};
+ghost use Rattle.p3_driver_core.specs.Meanings as meaning;
+ghost use Rattle.p3_driver_core.specs.Turns.{algebra_step};
+ghost use Rattle.p3_driver_core.specs.Driving.{KeepsOrRefuses};
+ghost use Rattle.p3_driver_core.specs.Proving.{WritesOrRefuses, WritesWithin, KeepsWithin};
+ghost use Rattle.p3_drivers.specs.Drivers.{proving_of};
+
+use crate::ProverState;
+use crate::writing::{write_bytes, write_counted_bytes, write_counted_values, write_values};
+use p3_challenger_core::{CanObserve, Sponge};
+use p3_codecs::{Codec, ExtensionFieldCodec, ScalarCodec, Unit};
+use p3_driver_core::{TranscriptBound, bind, bind_all, observe_count, observe_values};
+use p3_field_core::{AlgebraIdentity, Named, ScalarField};
+use p3_fs_core::{Kind, Label, Length, TranscriptError, TranscriptField};
+use p3_symmetric::DigestHasher;
+
+impl<U: Unit, C: CanObserve<U::Item>, D: DigestHasher> ProverState<C, U, D> {
+    /// Observes at most `max` elements of an extension, after their count, which the proof does not carry.
+    ///
+    /// More are refused with [`PatternError::OverCap`](p3_fs_core::PatternError::OverCap), with nothing done.
+    /// Condition: `U` is an alphabet.
+    pub fn observe_extensions_bounded<
+        F: TranscriptField,
+        EF: AlgebraIdentity<F> + Named,
+        Cdc: ScalarCodec<C, F>,
+    >(
+        &mut self,
+        label: Label,
+        values: &[EF],
+        max: usize,
+    ) -> Result<Vec<TranscriptBound<EF>>, TranscriptError>
+        requires { U.is_alphabet }
+        ensures exact { let step = algebra_step Kind.Message label.now F.residues.order EF.DIMENSION
+            (D.digest_of EF.identity) EF.name_bytes (Length.Bounded max) in
+            KeepsWithin (length values.now) max (meaning.observed_bounded step
+            (alphabet_of U.items U.is_too_long C.observation C.slice_may_leave) max
+            ⟦<ExtensionFieldCodec<F, EF, Cdc> as Codec<C, EF>>⟧.observation values.now)
+            (proving_of C.state self.old) values_of result (proving_of C.state self.new) }
+        ensures count { IfOk result (λ bounds. vec_len bounds ≡ length values.now) }
+    {
+        self.steps.within(values.len(), max)?;
+        self.observe_counted::<F, EF, ExtensionFieldCodec<F, EF, Cdc>>(
+            Kind::Message,
+            label,
+            values,
+            max,
+        )
+    }
+
+    /// Sends bytes that hide what is sent later.
+    ///
+    /// Condition: `U` is an alphabet. Bytes that are too long for it are refused with
+    /// [`ChallengerError::TooLong`](p3_challenger_core::ChallengerError::TooLong), and nothing of them is absorbed.
+    pub fn add_salt(&mut self, label: Label, bytes: &[u8]) -> Result<(), TranscriptError>
+        requires { U.is_alphabet }
+        ensures { WritesOrRefuses (meaning.sent_bytes Kind.Salt label.now
+            (alphabet_of U.items U.is_too_long C.observation C.slice_may_leave) bytes.now)
+            (proving_of C.state self.old) (λ _. bytes.now) result (proving_of C.state self.new) }
+    {
+        self.send_bytes(Kind::Salt, label, bytes)
+    }
+
+    /// Sends so many bytes as the step says.
+    ///
+    /// Condition: `U` is an alphabet. Bytes that are too long for it are refused with
+    /// [`ChallengerError::TooLong`](p3_challenger_core::ChallengerError::TooLong), and nothing of them is absorbed.
+    pub fn add_bytes(&mut self, label: Label, bytes: &[u8]) -> Result<(), TranscriptError>
+        requires { U.is_alphabet }
+        ensures { WritesOrRefuses (meaning.sent_bytes Kind.Message label.now
+            (alphabet_of U.items U.is_too_long C.observation C.slice_may_leave) bytes.now)
+            (proving_of C.state self.old) (λ _. bytes.now) result (proving_of C.state self.new) }
+    {
+        self.send_bytes(Kind::Message, label, bytes)
+    }
+
+    /// Sends at most `max` bytes, after their count.
+    ///
+    /// More are refused with [`PatternError::OverCap`](p3_fs_core::PatternError::OverCap), with nothing done.
+    /// Condition: `U` is an alphabet. Bytes that are too long for it are refused with
+    /// [`ChallengerError::TooLong`](p3_challenger_core::ChallengerError::TooLong): their count is absorbed then.
+    pub fn add_bytes_bounded(
+        &mut self,
+        label: Label,
+        bytes: &[u8],
+        max: usize,
+    ) -> Result<(), TranscriptError>
+        requires { U.is_alphabet }
+        ensures { WritesWithin (length bytes.now) max (meaning.sent_bytes_bounded Kind.Message label.now
+            (alphabet_of U.items U.is_too_long C.observation C.slice_may_leave) max bytes.now)
+            (proving_of C.state self.old) (λ _. bytes.now) result (proving_of C.state self.new) }
+    {
+        self.steps.within(bytes.len(), max)?;
+        self.send_counted_bytes(label, bytes, max)
+    }
+
+    /// Sends at most `max` scalars, after their count.
+    ///
+    /// More are refused with [`PatternError::OverCap`](p3_fs_core::PatternError::OverCap), with nothing done.
+    /// Condition: `U` is an alphabet.
+    pub fn add_scalars_bounded<F: ScalarField, Cdc: Codec<C, F>>(
+        &mut self,
+        label: Label,
+        values: &[F],
+        max: usize,
+    ) -> Result<Vec<TranscriptBound<F>>, TranscriptError>
+        requires { U.is_alphabet }
+        ensures exact { let step = algebra_step Kind.Message label.now F.residues.order F.DIMENSION
+            (D.digest_of F.identity) F.name_bytes (Length.Bounded max) in
+            WritesWithin (length values.now) max (meaning.sent_bounded step
+            (alphabet_of U.items U.is_too_long C.observation C.slice_may_leave) max Cdc.observation Cdc.encoding
+            values.now)
+            (proving_of C.state self.old) values_of result (proving_of C.state self.new) }
+        ensures count { IfOk result (λ bounds. vec_len bounds ≡ length values.now) }
+    {
+        self.steps.within(values.len(), max)?;
+        self.send_counted::<F, Cdc>(label, values, max)
+    }
+
+    // Sends bytes in a step of the kind.
+    #[tactic(auto, using(crate::proofs::Pieces::unwritten))]
+    fn send_bytes(&mut self, kind: Kind, label: Label, bytes: &[u8]) -> Result<(), TranscriptError>
+        requires { U.is_alphabet }
+        ensures { WritesOrRefuses (meaning.sent_bytes kind label.now
+            (alphabet_of U.items U.is_too_long C.observation C.slice_may_leave) bytes.now)
+            (proving_of C.state self.old) (λ _. bytes.now) result (proving_of C.state self.new) }
+    {
+        self.steps
+            .take_bytes(kind, label, Length::Fixed(bytes.len()))?;
+        U::observe_bytes(&mut self.challenger, bytes)?;
+        write_bytes(&mut self.tape.narg, bytes)?;
+        self.steps.done();
+        Ok(())
+    }
+
+    // Sends bytes after their count.
+    #[tactic(auto, using(crate::proofs::Pieces::unwritten))]
+    fn send_counted_bytes(
+        &mut self,
+        label: Label,
+        bytes: &[u8],
+        max: usize,
+    ) -> Result<(), TranscriptError>
+        requires alphabet { U.is_alphabet }
+        requires within { length bytes.now ≤ max }
+        ensures { WritesOrRefuses (meaning.sent_bytes_bounded Kind.Message label.now
+            (alphabet_of U.items U.is_too_long C.observation C.slice_may_leave) max bytes.now)
+            (proving_of C.state self.old) (λ _. bytes.now) result (proving_of C.state self.new) }
+    {
+        self.steps
+            .take_bytes(Kind::Message, label, Length::Bounded(max))?;
+        observe_count::<U, C>(&mut self.challenger, bytes.len(), max)?;
+        U::observe_bytes(&mut self.challenger, bytes)?;
+        write_counted_bytes(&mut self.tape.narg, bytes, max)?;
+        self.steps.done();
+        Ok(())
+    }
+
+    // Sends scalars after their count.
+    #[tactic(auto, using(crate::proofs::Pieces::unwritten))]
+    fn send_counted<F: ScalarField, Cdc: Codec<C, F>>(
+        &mut self,
+        label: Label,
+        values: &[F],
+        max: usize,
+    ) -> Result<Vec<TranscriptBound<F>>, TranscriptError>
+        requires alphabet { U.is_alphabet }
+        requires within { length values.now ≤ max }
+        ensures exact { let step = algebra_step Kind.Message label.now F.residues.order F.DIMENSION
+            (D.digest_of F.identity) F.name_bytes (Length.Bounded max) in
+            WritesOrRefuses (meaning.sent_bounded step
+            (alphabet_of U.items U.is_too_long C.observation C.slice_may_leave) max Cdc.observation Cdc.encoding
+            values.now)
+            (proving_of C.state self.old) values_of result (proving_of C.state self.new) }
+        ensures count { IfOk result (λ bounds. vec_len bounds ≡ length values.now) }
+    {
+        self.steps
+            .take_algebra::<F, F>(Kind::Message, label, Length::Bounded(max))?;
+        let bounds = bind_all(self.alloc, values)?;
+        observe_count::<U, C>(&mut self.challenger, values.len(), max)?;
+        observe_values::<F, C, Cdc>(&mut self.challenger, values)?;
+        write_counted_values::<F, C, Cdc>(&mut self.tape.narg, values, max)?;
+        self.steps.done();
+        Ok(bounds)
+    }
+}
+
+impl<C: Sponge, U, D: DigestHasher> ProverState<C, U, D> {
+    /// Observes a scalar that both sides know.
+    pub fn add_public_scalar<F: ScalarField, Cdc: Codec<C, F>>(
+        &mut self,
+        label: Label,
+        value: &F,
+    ) -> Result<TranscriptBound<F>, TranscriptError>
+        ensures { let step = algebra_step Kind.Public label.now F.residues.order F.DIMENSION (D.digest_of F.identity)
+            F.name_bytes Length.Scalar in
+            KeepsOrRefuses (meaning.observed step Cdc.observation value.now)
+            (proving_of C.state self.old) value_of result (proving_of C.state self.new) }
+    {
+        self.observe_element::<F, F, Cdc>(Kind::Public, label, value)
+    }
+
+    /// Observes so many scalars as the step says, which both sides know.
+    pub fn add_public_scalars<F: ScalarField, Cdc: Codec<C, F>>(
+        &mut self,
+        label: Label,
+        values: &[F],
+    ) -> Result<Vec<TranscriptBound<F>>, TranscriptError>
+        ensures exact { let step = algebra_step Kind.Public label.now F.residues.order F.DIMENSION
+            (D.digest_of F.identity) F.name_bytes (Length.Fixed (length values.now)) in
+            KeepsOrRefuses (meaning.observed_all step Cdc.observation values.now)
+            (proving_of C.state self.old) values_of result (proving_of C.state self.new) }
+        ensures count { IfOk result (λ bounds. vec_len bounds ≡ length values.now) }
+    {
+        self.observe_list::<F, F, Cdc>(Kind::Public, label, values)
+    }
+
+    /// Observes so many elements of an extension as the step says, which the proof does not carry.
+    pub fn observe_extensions<
+        F: TranscriptField,
+        EF: AlgebraIdentity<F> + Named,
+        Cdc: ScalarCodec<C, F>,
+    >(&mut self, label: Label, values: &[EF]) -> Result<Vec<TranscriptBound<EF>>, TranscriptError>
+        ensures exact { let step = algebra_step Kind.Message label.now F.residues.order EF.DIMENSION
+            (D.digest_of EF.identity) EF.name_bytes (Length.Fixed (length values.now)) in
+            KeepsOrRefuses (meaning.observed_all step ⟦<ExtensionFieldCodec<F, EF, Cdc> as Codec<C, EF>>⟧.observation
+            values.now)
+            (proving_of C.state self.old) values_of result (proving_of C.state self.new) }
+        ensures count { IfOk result (λ bounds. vec_len bounds ≡ length values.now) }
+    {
+        self.observe_list::<F, EF, ExtensionFieldCodec<F, EF, Cdc>>(Kind::Message, label, values)
+    }
+
+    /// Sends one scalar.
+    pub fn add_scalar<F: ScalarField, Cdc: Codec<C, F>>(
+        &mut self,
+        label: Label,
+        value: &F,
+    ) -> Result<TranscriptBound<F>, TranscriptError>
+        ensures { let step = algebra_step Kind.Message label.now F.residues.order F.DIMENSION (D.digest_of F.identity)
+            F.name_bytes Length.Scalar in
+            WritesOrRefuses (meaning.sent step Cdc.observation Cdc.encoding value.now)
+            (proving_of C.state self.old) value_of result (proving_of C.state self.new) }
+    {
+        self.send::<F, F, Cdc>(label, value)
+    }
+
+    /// Sends so many scalars as the step says.
+    #[tactic(auto, using(crate::proofs::Pieces::unwritten))]
+    pub fn add_scalars<F: ScalarField, Cdc: Codec<C, F>>(
+        &mut self,
+        label: Label,
+        values: &[F],
+    ) -> Result<Vec<TranscriptBound<F>>, TranscriptError>
+        ensures exact { let step = algebra_step Kind.Message label.now F.residues.order F.DIMENSION
+            (D.digest_of F.identity) F.name_bytes (Length.Fixed (length values.now)) in
+            WritesOrRefuses (meaning.sent_all step Cdc.observation Cdc.encoding values.now)
+            (proving_of C.state self.old) values_of result (proving_of C.state self.new) }
+        ensures count { IfOk result (λ bounds. vec_len bounds ≡ length values.now) }
+    {
+        self.steps
+            .take_algebra::<F, F>(Kind::Message, label, Length::Fixed(values.len()))?;
+        let bounds = bind_all(self.alloc, values)?;
+        observe_values::<F, C, Cdc>(&mut self.challenger, values)?;
+        write_values::<F, C, Cdc>(&mut self.tape.narg, values)?;
+        self.steps.done();
+        Ok(bounds)
+    }
+
+    /// Sends one element of an extension, by its coefficients.
+    pub fn add_extension<
+        F: TranscriptField,
+        EF: AlgebraIdentity<F> + Named,
+        Cdc: ScalarCodec<C, F>,
+    >(&mut self, label: Label, value: &EF) -> Result<TranscriptBound<EF>, TranscriptError>
+        ensures { let step = algebra_step Kind.Message label.now F.residues.order EF.DIMENSION (D.digest_of EF.identity)
+            EF.name_bytes Length.Scalar in
+            WritesOrRefuses (meaning.sent step ⟦<ExtensionFieldCodec<F, EF, Cdc> as Codec<C, EF>>⟧.observation
+            ⟦<ExtensionFieldCodec<F, EF, Cdc> as Codec<C, EF>>⟧.encoding value.now)
+            (proving_of C.state self.old) value_of result (proving_of C.state self.new) }
+    {
+        self.send::<F, EF, ExtensionFieldCodec<F, EF, Cdc>>(label, value)
+    }
+
+    /// Sends so many bytes as the step says, in which the challenger takes no part.
+    pub fn add_hint(&mut self, label: Label, bytes: &[u8]) -> Result<(), TranscriptError>
+        ensures { WritesOrRefuses (meaning.hinted {Symbol = C.Symbol} label.now bytes.now)
+            (proving_of C.state self.old) (λ _. bytes.now) result (proving_of C.state self.new) }
+    {
+        self.steps
+            .take_bytes(Kind::Hint, label, Length::Fixed(bytes.len()))?;
+        write_bytes(&mut self.tape.narg, bytes)?;
+        self.steps.done();
+        Ok(())
+    }
+
+    /// Sends at most `max` bytes, after their count, in which the challenger takes no part.
+    ///
+    /// More are refused with [`PatternError::OverCap`](p3_fs_core::PatternError::OverCap), with nothing done.
+    pub fn add_hint_bounded(
+        &mut self,
+        label: Label,
+        bytes: &[u8],
+        max: usize,
+    ) -> Result<(), TranscriptError>
+        ensures { WritesWithin (length bytes.now) max (meaning.hinted_bounded {Symbol = C.Symbol} label.now max
+            bytes.now)
+            (proving_of C.state self.old) (λ _. bytes.now) result (proving_of C.state self.new) }
+    {
+        self.steps.within(bytes.len(), max)?;
+        self.steps
+            .take_bytes(Kind::Hint, label, Length::Bounded(max))?;
+        write_counted_bytes(&mut self.tape.narg, bytes, max)?;
+        self.steps.done();
+        Ok(())
+    }
+
+    // Sends one element of an algebra.
+    #[tactic(auto, using(crate::proofs::Pieces::unwritten))]
+    fn send<F: TranscriptField, A: AlgebraIdentity<F> + Named, Cdc: Codec<C, A>>(
+        &mut self,
+        label: Label,
+        value: &A,
+    ) -> Result<TranscriptBound<A>, TranscriptError>
+        ensures { let step = algebra_step Kind.Message label.now F.residues.order A.DIMENSION (D.digest_of A.identity)
+            A.name_bytes Length.Scalar in
+            WritesOrRefuses (meaning.sent step Cdc.observation Cdc.encoding value.now)
+            (proving_of C.state self.old) value_of result (proving_of C.state self.new) }
+    {
+        self.steps
+            .take_algebra::<F, A>(Kind::Message, label, Length::Scalar)?;
+        Cdc::observe(&mut self.challenger, value)?;
+        Cdc::encode(value, &mut self.tape.narg)?;
+        self.steps.done();
+        Ok(bind(*value))
+    }
+}

@@ -1,2 +1,0 @@
-pub mod ProverLends
-pub mod Proving

@@ -1,0 +1,11 @@
+pub mod ExtensionReasons
+pub mod LimitLaws
+pub mod ListReasons
+pub mod MirrorLaws
+pub mod OneReason
+pub mod OnlyMemory
+pub mod ReadBack
+pub mod ReadOnly
+pub mod SpelledLaws
+pub mod WorkMirrors
+pub mod WorkReasons

@@ -1,0 +1,222 @@
+-- From one turn, a step is refused for one reason.
+use Rattle.std.proofs.Common.{◌≡◌, ◌⊎◌, ℕ, List, Bool, true, false, Option, Some, Ok, Err, refl, sym, ap}
+use Rattle.std.proofs.Common.{◌∙◌, inl, inr}
+use Rattle.p3_challenger_core.specs.declared.error.ChallengerError.{ChallengerError}
+use Rattle.p3_challenger_core.specs.declared.error.ChallengerError.TheVariants.{DrawLimit, NoWitness, TooLong}
+use Rattle.p3_challenger_core.specs.declared.error.ChallengerError.TheVariants as challenger
+use Rattle.p3_fs_core.specs.Errors.{IsBadShape, misfit_of, Refusal, refusal_of, misfit, challenger_refused}
+use Rattle.p3_fs_core.specs.Errors.{bad_proof_shape}
+use Rattle.p3_fs_core.specs.Steps.{Step}
+use Rattle.p3_fs_core.specs.declared.interaction.Interaction.{Interaction}
+use Rattle.p3_fs_core.specs.declared.error.PatternError.{PatternError}
+use Rattle.p3_fs_core.specs.declared.error.PatternError.TheVariants.{Finished, NoMoreSteps, WrongStep, Unplayed}
+use Rattle.p3_fs_core.specs.declared.error.PatternError.TheVariants.{OverCap}
+use Rattle.p3_fs_core.specs.declared.error.TranscriptError.{TranscriptError}
+use Rattle.p3_fs_core.specs.declared.error.TranscriptError.TheVariants.{MissingBegin, InvalidKind, MismatchedBeginEnd}
+use Rattle.p3_fs_core.specs.declared.error.TranscriptError.TheVariants.{MissingEnd, BadProofShape, Pattern}
+use Rattle.p3_fs_core.specs.declared.error.TranscriptError.TheVariants.{Challenger, LabelTooLong, OutOfMemory}
+use Rattle.p3_patterns.specs.Playing.{Playing, FaultOfPlay, IsNotNext, next_step}
+use Rattle.p3_driver_core.specs.Effects.{Effect}
+use Rattle.p3_driver_core.specs.Turns.{Meaning, Turn, IsNext, Refuses}
+use Rattle.p3_driver_core.specs.Reads.{Reading, Read}
+use Rattle.p3_driver_core.specs.Driving.{Driving}
+use Rattle.p3_driver_core.specs.Verifying.{RefusesToRead}
+use Rattle.p3_step_laws.proofs.LimitLaws.{some_none}
+use Rattle.p3_step_laws.specs.Limits.{TellsLimits}
+use Rattle.p3_step_laws.specs.OneReason.{TellOneReason}
+
+-- ---- the pattern
+
+pub both_ways : {b : Bool} → b ≡ true → b ≡ false → ⊥
+both_ways on off = absurd (cc)
+
+one_misfit : (next : Option Step) (s : Step) (e f : PatternError Step) → IsNotNext next s e → IsNotNext next s f → e ≡ f
+one_misfit next s Finished f a b = absurd a
+one_misfit next s (Unplayed x) f a b = absurd a
+one_misfit next s (OverCap len max) f a b = absurd a
+one_misfit next s (NoMoreSteps r) Finished a b = absurd b
+one_misfit next s (NoMoreSteps r) (Unplayed x) a b = absurd b
+one_misfit next s (NoMoreSteps r) (OverCap len max) a b = absurd b
+one_misfit next s (NoMoreSteps r) (NoMoreSteps q) a b = ap NoMoreSteps (a.0 ∙ sym b.0)
+one_misfit next s (NoMoreSteps r) (WrongStep q x) a b = let none = a.1 in let some = b.1 in absurd (cc)
+one_misfit next s (WrongStep r x) Finished a b = absurd b
+one_misfit next s (WrongStep r x) (Unplayed y) a b = absurd b
+one_misfit next s (WrongStep r x) (OverCap len max) a b = absurd b
+one_misfit next s (WrongStep r x) (NoMoreSteps q) a b = let some = a.1 in let none = b.1 in absurd (cc)
+one_misfit next s (WrongStep r x) (WrongStep q y) a b =
+    let first = a.1 in
+    let second = b.1 in
+    let same : x ≡ y = cc in
+    ap (λ z. WrongStep z x) (a.0 ∙ sym b.0) ∙ ap (λ z. WrongStep q z) same
+
+one_fault : (before : Playing) (s : Step) (e f : PatternError Step) → FaultOfPlay before s e → FaultOfPlay before s f →
+    e ≡ f
+one_fault before s e f (inl a) (inl b) = a.1 ∙ sym b.1
+one_fault before s e f (inl a) (inr b) = absurd (both_ways a.0 b.0)
+one_fault before s e f (inr a) (inl b) = absurd (both_ways b.0 a.0)
+one_fault before s e f (inr a) (inr b) = one_misfit (next_step before) s e f a.1 b.1
+
+next-no_fault : (before : Playing) (s : Step) (e : PatternError Step) → IsNext before s → FaultOfPlay before s e → ⊥
+next-no_fault before s e is (inl a) = both_ways a.0 is.0
+next-no_fault before s Finished is (inr a) = a.1
+next-no_fault before s (Unplayed x) is (inr a) = a.1
+next-no_fault before s (OverCap len max) is (inr a) = a.1
+next-no_fault before s (NoMoreSteps r) is (inr a) = let some = is.1 in let none = a.1.1 in absurd (cc)
+next-no_fault before s (WrongStep r x) is (inr a) =
+    let some = is.1 in let other = a.1.1 in let same : x ≡ s = cc in a.1.2 same
+
+-- ---- one cause
+
+-- the pattern refuses the step; or it is the next one, and the error tells this
+abbrev pub Cause : Playing → Step → Refusal → TranscriptError → Type 0
+Cause playing s told e =
+    ((p : PatternError Interaction) × (e ≡ Pattern p) × FaultOfPlay playing s (misfit_of p))
+    ⊎ (IsNext playing s × (refusal_of e ≡ told))
+
+-- what an error tells that names a bad shape
+pub bad_shape : (reason : List ℕ) (e : TranscriptError) → IsBadShape reason e → refusal_of e ≡ bad_proof_shape reason
+bad_shape reason (MissingBegin info) is = absurd is
+bad_shape reason (InvalidKind info) is = absurd is
+bad_shape reason (MismatchedBeginEnd info) is = absurd is
+bad_shape reason (MissingEnd info) is = absurd is
+bad_shape reason (BadProofShape text) is = ap bad_proof_shape is
+bad_shape reason (Pattern e) is = absurd is
+bad_shape reason (Challenger e) is = absurd is
+bad_shape reason LabelTooLong is = absurd is
+bad_shape reason OutOfMemory is = absurd is
+
+one_cause : (playing : Playing) (s : Step) (told : Refusal) (e f : TranscriptError) → Cause playing s told e →
+    Cause playing s told f → refusal_of e ≡ refusal_of f
+one_cause playing s told e f (inl x) (inl y) =
+    ap refusal_of x.1
+    ∙ ap misfit (one_fault playing s (misfit_of x.0) (misfit_of y.0) x.2 y.2)
+    ∙ sym (ap refusal_of y.1)
+one_cause playing s told e f (inl x) (inr y) = absurd (next-no_fault playing s (misfit_of x.0) y.0 x.2)
+one_cause playing s told e f (inr x) (inl y) = absurd (next-no_fault playing s (misfit_of y.0) x.0 y.2)
+one_cause playing s told e f (inr x) (inr y) = x.1 ∙ sym y.1
+
+-- what is told of the next step follows from the state before it
+pub one_reason : {V : Type 0} (Refused : V → TranscriptError → V → Type 0) (playing : V → Playing) (s : Step)
+    (told : V → Refusal) → ((v w : V) (e : TranscriptError) → Refused v e w → (e ≡ OutOfMemory → ⊥) →
+    Cause (playing v) s (told v) e) → TellOneReason Refused
+one_reason Refused playing s told cause start one other e f a b p q =
+    one_cause (playing start) s (told start) e f (cause start one e a p) (cause start other f b q)
+
+-- ---- the challenger and the alphabet
+
+-- where an effect is refused, this is told of the state
+abbrev pub Tells : {S Symbol A : Type 0} → Effect S Symbol A → (S → Refusal) → Type 0
+Tells {S} effect told =
+    (d : ChallengerError) (s t : S) → effect.refuses d s t → (d ≡ challenger.OutOfMemory → ⊥) →
+    challenger_refused d ≡ told s
+
+module _ {S Symbol A : Type 0} (effect : Effect S Symbol A) (tells : TellsLimits effect) where
+  -- where nothing is too long, that a draw meets its limit
+  pub short-tells : effect.fits → Tells effect (λ _. challenger_refused DrawLimit)
+  short-tells fits challenger.OutOfMemory s t refuses other = absurd (other refl)
+  short-tells fits DrawLimit s t refuses other = refl
+  short-tells fits NoWitness s t refuses other = absurd (tells.witness s t refuses)
+  short-tells fits TooLong s t refuses other = absurd (tells.too_long s t refuses fits)
+
+  -- where something is given from every state, that what is fed is too long
+  pub given-tells : ((s : S) → (x : A) × (effect.gives s ≡ Some x)) → Tells effect (λ _. challenger_refused TooLong)
+  given-tells gives challenger.OutOfMemory s t refuses other = absurd (other refl)
+  given-tells gives DrawLimit s t refuses other = absurd (some_none (gives s).1 (tells.limit s t refuses))
+  given-tells gives NoWitness s t refuses other = absurd (tells.witness s t refuses)
+  given-tells gives TooLong s t refuses other = refl
+
+limit_no_memory : DrawLimit ≡ challenger.OutOfMemory → ⊥
+limit_no_memory is = absurd (cc)
+
+witness_no_memory : NoWitness ≡ challenger.OutOfMemory → ⊥
+witness_no_memory is = absurd (cc)
+
+length_no_memory : TooLong ≡ challenger.OutOfMemory → ⊥
+length_no_memory is = absurd (cc)
+
+-- ---- a step that leaves the proof as it is, or that a prover writes
+
+module _ {S Symbol A : Type 0} (m : Meaning S Symbol A) (told : S → Refusal) (tells : Tells m.effect told) where
+  pub refused-cause : (before after : Turn S) (e : TranscriptError) → Refuses m before e after →
+      (e ≡ OutOfMemory → ⊥) → Cause before.playing m.interaction (told before.challenger) e
+  refused-cause before after (MissingBegin info) h other = absurd h
+  refused-cause before after (InvalidKind info) h other = absurd h
+  refused-cause before after (MismatchedBeginEnd info) h other = absurd h
+  refused-cause before after (MissingEnd info) h other = absurd h
+  refused-cause before after (BadProofShape reason) h other = absurd h
+  refused-cause before after (Pattern p) h other = inl (p, refl, h.playing.fault)
+  refused-cause before after (Challenger challenger.OutOfMemory) h other = absurd h
+  refused-cause before after (Challenger DrawLimit) h other =
+      inr (h.is_next, tells DrawLimit before.challenger after.challenger h.leaves limit_no_memory)
+  refused-cause before after (Challenger NoWitness) h other =
+      inr (h.is_next, tells NoWitness before.challenger after.challenger h.leaves witness_no_memory)
+  refused-cause before after (Challenger TooLong) h other =
+      inr (h.is_next, tells TooLong before.challenger after.challenger h.leaves length_no_memory)
+  refused-cause before after LabelTooLong h other = absurd h
+  refused-cause before after OutOfMemory h other = absurd (other refl)
+
+  pub refused-one_reason : TellOneReason (Refuses m)
+  refused-one_reason =
+      one_reason (Refuses m) (λ (v : Turn S). v.playing) m.interaction (λ (v : Turn S). told v.challenger)
+      refused-cause
+
+module _ {S Symbol A : Type 0} (m : Meaning S Symbol A) (tells : TellsLimits m.effect) where
+  pub short-one_reason : m.effect.fits → TellOneReason (Refuses m)
+  short-one_reason fits =
+      refused-one_reason m (λ _. challenger_refused DrawLimit) (short-tells m.effect tells fits)
+
+  pub given-one_reason : ((s : S) → (x : A) × (m.effect.gives s ≡ Some x)) → TellOneReason (Refuses m)
+  given-one_reason gives =
+      refused-one_reason m (λ _. challenger_refused TooLong) (given-tells m.effect tells gives)
+
+-- ---- a step that reads
+
+-- why nothing is read, or what is told of the value that is
+abbrev pub told_of_read : {S A : Type 0} → (A → Refusal) → Read S A → Refusal
+told_of_read told (Ok found) = told found.0
+told_of_read told (Err failure) = bad_proof_shape failure.reason
+
+module _ {S Symbol A : Type 0} (r : Reading S Symbol A) (told : A → S → Refusal)
+    (tells : (x : A) → Tells (r.effect x) (told x)) where
+  abbrev pub told_here : Driving S → Refusal
+  told_here v = told_of_read (λ x. told x v.turn.challenger) (r.read v.bytes)
+
+  of_value : (before after : Driving S) (d : ChallengerError) (x : A) →
+      r.read before.bytes ≡ Ok (x, after.bytes) →
+      (r.effect x).refuses d before.turn.challenger after.turn.challenger → (d ≡ challenger.OutOfMemory → ⊥) →
+      challenger_refused d ≡ told_here before
+  of_value before after d x read refuses other =
+      tells x d before.turn.challenger after.turn.challenger refuses other
+      ∙ sym (ap (told_of_read (λ y. told y before.turn.challenger)) read)
+
+  pub unread-cause : (before after : Driving S) (e : TranscriptError) → RefusesToRead r before e after →
+      (e ≡ OutOfMemory → ⊥) → Cause before.turn.playing r.interaction (told_here before) e
+  unread-cause before after (MissingBegin info) h other = absurd h
+  unread-cause before after (InvalidKind info) h other = absurd h
+  unread-cause before after (MismatchedBeginEnd info) h other = absurd h
+  unread-cause before after (MissingEnd info) h other = absurd h
+  unread-cause before after (BadProofShape reason) h other =
+      inr (
+        h.is_next,
+        ap bad_proof_shape h.told ∙ sym (ap (told_of_read (λ y. told y before.turn.challenger)) h.read),
+      )
+  unread-cause before after (Pattern p) h other = inl (p, refl, h.0.playing.fault)
+  unread-cause before after (Challenger challenger.OutOfMemory) h other = absurd h
+  unread-cause before after (Challenger DrawLimit) h other =
+      inr (h.gives_up.is_next, of_value before after DrawLimit h.value h.read h.gives_up.leaves limit_no_memory)
+  unread-cause before after (Challenger NoWitness) h other =
+      inr (h.gives_up.is_next, of_value before after NoWitness h.value h.read h.gives_up.leaves witness_no_memory)
+  unread-cause before after (Challenger TooLong) h other =
+      inr (h.gives_up.is_next, of_value before after TooLong h.value h.read h.gives_up.leaves length_no_memory)
+  unread-cause before after LabelTooLong h other = absurd h
+  unread-cause before after OutOfMemory h other = absurd (other refl)
+
+  pub unread-one_reason : TellOneReason (RefusesToRead r)
+  unread-one_reason =
+      one_reason (RefusesToRead r) (λ (v : Driving S). v.turn.playing) r.interaction told_here unread-cause
+
+pub given-unread_one_reason : {S Symbol A : Type 0} (r : Reading S Symbol A) →
+    ((x : A) → TellsLimits (r.effect x)) → ((x : A) (s : S) → (y : A) × ((r.effect x).gives s ≡ Some y)) →
+    TellOneReason (RefusesToRead r)
+given-unread_one_reason r tells gives =
+    unread-one_reason r (λ _ _. challenger_refused TooLong) (λ x. given-tells (r.effect x) (tells x) (gives x))

@@ -1,0 +1,13 @@
+use Rattle.p3_driver_core.specs.Effects.{alphabet_of}
+use Rattle.p3_step_laws.proofs.SpelledLaws.{bytes-spelled, counted_bytes-spelled}
+use Rattle.p3_step_laws.proofs.spelled.read_bytes_are_spelled.Goals as goal
+
+pub returns-clause-fixed : goal.returns-clause-fixed
+returns-clause-fixed g c = λ kind label n.
+    bytes-spelled (alphabet_of g.U.Unit.items g.U.Unit.is_too_long g.C.CanObserve.observation
+    g.C.CanObserve.slice_may_leave) label kind n
+
+pub returns-clause-counted : goal.returns-clause-counted
+returns-clause-counted g c = λ label max.
+    counted_bytes-spelled (alphabet_of g.U.Unit.items g.U.Unit.is_too_long g.C.CanObserve.observation
+    g.C.CanObserve.slice_may_leave) label max

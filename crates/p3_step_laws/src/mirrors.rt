@@ -1,0 +1,117 @@
+//! What a prover writes in a step, a verifier reads in its own: of `add_..` in `next_..`, of `pow` in `check_pow`.
+//!
+//! Each law is a function with an empty body: a caller calls it, and cites its clauses. `mirrors` says what is written
+//! and read. `follows` is what a caller wants of the two calls: where the prover's step was played, and the verifier
+//! stands at the turn before it with the step's bytes next, its step reads the prover's value, leaves what follows, and
+//! ends at the prover's turn; or it is refused for the sake of the challenger or of memory alone.
+ghost use Rattle.std.specs.Prelude.{◌^◌, ◌<◌, ◌≤◌, ℕ, List, length};
+ghost use Rattle.p3_fs_core.specs.Steps.{Step};
+ghost use Rattle.p3_driver_core.specs.Effects.{alphabet_of};
+ghost use Rattle.p3_driver_core.specs.Meanings as meaning;
+ghost use Rattle.p3_driver_core.specs.Working.{work_of, sent_work};
+ghost use Rattle.p3_fs_core.specs.Scalar.{encoding};
+ghost use Rattle.p3_step_laws.specs.Following.{Follows, FollowsWork};
+ghost use Rattle.p3_step_laws.specs.Mirrors.{Mirrors};
+ghost use Rattle.p3_driver_core.specs.Reads as reads;
+
+use p3_challenger_core::{CanObserve, Sponge};
+use p3_codecs::{Codec, Unit};
+use p3_fs_core::Kind;
+use p3_grinding::GrindingChallenger;
+
+/// What a prover writes of one value, a verifier reads: whatever follows it in the proof, the verifier's step reads
+/// that value, leaves what follows, and does to the challenger what the prover's step does. So it follows the prover's.
+///
+/// A law: the body is empty, and a caller cites the clauses.
+pub fn sent_value_is_received<A, C: Sponge, Cdc: Codec<C, A>>()
+    ensures mirrors { (step : Step) (x : A) → Mirrors (meaning.sent step Cdc.observation Cdc.encoding x)
+        (reads.received step Cdc.observation Cdc.encoding) x }
+    ensures follows { (step : Step) (x : A) → Follows (meaning.sent step Cdc.observation Cdc.encoding x)
+        (reads.received step Cdc.observation Cdc.encoding) x }
+{}
+
+/// What a prover writes of a list of so many values, a verifier reads that asks for so many, and follows it.
+///
+/// A law: the body is empty, and a caller cites the clauses.
+pub fn sent_values_are_received<A, C: Sponge, Cdc: Codec<C, A>>()
+    ensures mirrors { (step : Step) (xs : List A) → Mirrors (meaning.sent_all step Cdc.observation Cdc.encoding xs)
+        (reads.received_all step Cdc.observation Cdc.encoding (length xs)) xs }
+    ensures follows { (step : Step) (xs : List A) → Follows (meaning.sent_all step Cdc.observation Cdc.encoding xs)
+        (reads.received_all step Cdc.observation Cdc.encoding (length xs)) xs }
+{}
+
+/// What a prover writes of a list of at most so many values after their count, a verifier reads, and follows it.
+///
+/// A law: the body is empty, and a caller cites the clauses. The most is below 2^64, as a `usize` is.
+pub fn sent_counted_values_are_received<A, U: Unit, C: CanObserve<U::Item>, Cdc: Codec<C, A>>()
+    ensures mirrors { let alphabet = alphabet_of U.items U.is_too_long C.observation C.slice_may_leave in
+        (step : Step) (max : ℕ) (xs : List A) → length xs ≤ max → max < 2 ^ 64 →
+        Mirrors (meaning.sent_bounded step alphabet max Cdc.observation Cdc.encoding xs)
+        (reads.received_bounded step alphabet max Cdc.observation Cdc.encoding) xs }
+    ensures follows { let alphabet = alphabet_of U.items U.is_too_long C.observation C.slice_may_leave in
+        (step : Step) (max : ℕ) (xs : List A) → length xs ≤ max → max < 2 ^ 64 →
+        Follows (meaning.sent_bounded step alphabet max Cdc.observation Cdc.encoding xs)
+        (reads.received_bounded step alphabet max Cdc.observation Cdc.encoding) xs }
+{}
+
+/// What a prover writes of bytes, a verifier reads that asks for so many, and follows it.
+///
+/// A law: the body is empty, and a caller cites the clauses.
+pub fn sent_bytes_are_received<U: Unit, C: CanObserve<U::Item>>()
+    ensures mirrors { let alphabet = alphabet_of U.items U.is_too_long C.observation C.slice_may_leave in
+        (kind : Kind) (label bytes : List ℕ) → Mirrors (meaning.sent_bytes kind label alphabet bytes)
+        (reads.received_bytes kind label alphabet (length bytes)) bytes }
+    ensures follows { let alphabet = alphabet_of U.items U.is_too_long C.observation C.slice_may_leave in
+        (kind : Kind) (label bytes : List ℕ) → Follows (meaning.sent_bytes kind label alphabet bytes)
+        (reads.received_bytes kind label alphabet (length bytes)) bytes }
+{}
+
+/// What a prover writes of at most so many bytes after their count, a verifier reads, and follows it.
+///
+/// A law: the body is empty, and a caller cites the clauses. The most is below 2^64, as a `usize` is.
+pub fn sent_counted_bytes_are_received<U: Unit, C: CanObserve<U::Item>>()
+    ensures mirrors { let alphabet = alphabet_of U.items U.is_too_long C.observation C.slice_may_leave in
+        (label : List ℕ) (max : ℕ) (bytes : List ℕ) → length bytes ≤ max → max < 2 ^ 64 →
+        Mirrors (meaning.sent_bytes_bounded Kind.Message label alphabet max bytes)
+        (reads.received_bytes_bounded label alphabet max) bytes }
+    ensures follows { let alphabet = alphabet_of U.items U.is_too_long C.observation C.slice_may_leave in
+        (label : List ℕ) (max : ℕ) (bytes : List ℕ) → length bytes ≤ max → max < 2 ^ 64 →
+        Follows (meaning.sent_bytes_bounded Kind.Message label alphabet max bytes)
+        (reads.received_bytes_bounded label alphabet max) bytes }
+{}
+
+/// What a prover writes of a hint, a verifier reads that asks for so many bytes, and follows it.
+///
+/// A law: the body is empty, and a caller cites the clauses.
+pub fn hint_is_received<C: Sponge>()
+    ensures mirrors { (label bytes : List ℕ) → Mirrors {S = C.State} {Symbol = C.Symbol} (meaning.hinted label bytes)
+        (reads.hint_received label (length bytes)) bytes }
+    ensures follows { (label bytes : List ℕ) → Follows {S = C.State} {Symbol = C.Symbol} (meaning.hinted label bytes)
+        (reads.hint_received label (length bytes)) bytes }
+{}
+
+/// What a prover writes of a hint of at most so many bytes after their count, a verifier reads, and follows it.
+///
+/// A law: the body is empty, and a caller cites the clauses. The most is below 2^64, as a `usize` is.
+pub fn counted_hint_is_received<C: Sponge>()
+    ensures mirrors { (label : List ℕ) (max : ℕ) (bytes : List ℕ) → length bytes ≤ max → max < 2 ^ 64 →
+        Mirrors {S = C.State} {Symbol = C.Symbol} (meaning.hinted_bounded label max bytes)
+        (reads.hint_received_bounded label max) bytes }
+    ensures follows { (label : List ℕ) (max : ℕ) (bytes : List ℕ) → length bytes ≤ max → max < 2 ^ 64 →
+        Follows {S = C.State} {Symbol = C.Symbol} (meaning.hinted_bounded label max bytes)
+        (reads.hint_received_bounded label max) bytes }
+{}
+
+/// What a prover writes of a witness, a verifier reads, and follows it: the witness passes the verifier's check,
+/// which is refused for want of memory alone.
+///
+/// A law: the body is empty, and a caller cites the clauses.
+pub fn sent_work_is_received<C: GrindingChallenger>()
+    ensures mirrors { (step : Step) (bits : ℕ) (x : C.Witness) →
+        let work = work_of step C.Witness.residues C.before_witness C.observation C.bits_sampling bits in
+        let spelling = encoding C.Witness.residues C.Witness.bit_length in
+        Mirrors (sent_work work spelling x) (reads.received_work work spelling) x }
+    ensures follows { (step : Step) (bits : ℕ) (x : C.Witness) →
+        let work = work_of step C.Witness.residues C.before_witness C.observation C.bits_sampling bits in
+        FollowsWork work (encoding C.Witness.residues C.Witness.bit_length) x }
+{}

@@ -1,0 +1,91 @@
+//! A step of a verifier that reads, or to which its caller carries a list, is refused for one reason: what an error
+//! says follows from the turn before the step, and from the bytes that are left. So is proof of work, on either side.
+//! Want of memory alone may come in its place.
+ghost use Rattle.std.specs.Prelude.{◌<◌, ◌≤◌, ◌⊎◌, ℕ, List, length};
+ghost use Rattle.p3_fs_core.specs.Scalar.{encoding};
+ghost use Rattle.p3_fs_core.specs.Steps.{Step};
+ghost use Rattle.p3_patterns.specs.Playing.{next_step};
+ghost use Rattle.p3_driver_core.specs.Effects.{alphabet_of};
+ghost use Rattle.p3_driver_core.specs.Meanings as meaning;
+ghost use Rattle.p3_driver_core.specs.Turns.{Refuses, IsOtherLength, longer_list, another_length};
+ghost use Rattle.p3_driver_core.specs.Working.{work_of, RefusesToCheck, RefusesToGrind};
+ghost use Rattle.p3_driver_core.specs.Reads as reads;
+ghost use Rattle.p3_driver_core.specs.Verifying.{RefusesToRead, RefusesCarriedList, FailsWork};
+ghost use Rattle.p3_step_laws.specs.OneReason.{TellOneReason};
+
+use p3_challenger_core::{CanObserve, Sponge};
+use p3_codecs::{Codec, Unit};
+use p3_fs_core::Kind;
+use p3_grinding::GrindingChallenger;
+
+/// A step that reads one value, a list of so many, or a list after its count is refused for one reason: it is not the
+/// next one; or the bytes that are left spell no such value; or its count is too long for the alphabet.
+///
+/// A law: the body is empty, and a caller cites the clauses.
+pub fn values_are_unread_for_one_reason<A, U: Unit, C: CanObserve<U::Item>, Cdc: Codec<C, A>>()
+    ensures value { (step : Step) → TellOneReason (RefusesToRead (reads.received step Cdc.observation Cdc.encoding)) }
+    ensures list { (step : Step) (n : ℕ) →
+        TellOneReason (RefusesToRead (reads.received_all step Cdc.observation Cdc.encoding n)) }
+    ensures counted { let alphabet = alphabet_of U.items U.is_too_long C.observation C.slice_may_leave in
+        (step : Step) (max : ℕ) →
+        TellOneReason (RefusesToRead (reads.received_bounded step alphabet max Cdc.observation Cdc.encoding)) }
+{}
+
+/// The same of a step that reads so many bytes, or bytes after their count.
+///
+/// A law: the body is empty, and a caller cites the clauses.
+pub fn bytes_are_unread_for_one_reason<U: Unit, C: CanObserve<U::Item>>()
+    ensures fixed { let alphabet = alphabet_of U.items U.is_too_long C.observation C.slice_may_leave in
+        (kind : Kind) (label : List ℕ) (n : ℕ) →
+        TellOneReason (RefusesToRead (reads.received_bytes kind label alphabet n)) }
+    ensures counted { let alphabet = alphabet_of U.items U.is_too_long C.observation C.slice_may_leave in
+        (label : List ℕ) (max : ℕ) → TellOneReason (RefusesToRead (reads.received_bytes_bounded label alphabet max)) }
+{}
+
+/// The same of a step that reads a hint.
+///
+/// A law: the body is empty, and a caller cites the clauses.
+pub fn hints_are_unread_for_one_reason<C: Sponge>()
+    ensures fixed { (label : List ℕ) (n : ℕ) →
+        TellOneReason (RefusesToRead {S = C.State} {Symbol = C.Symbol} (reads.hint_received label n)) }
+    ensures counted { (label : List ℕ) (max : ℕ) →
+        TellOneReason (RefusesToRead {S = C.State} {Symbol = C.Symbol} (reads.hint_received_bounded label max)) }
+{}
+
+/// A step that observes a list which the caller carries is refused for one reason, also where it may be refused for the
+/// list's length before anything is done: a list longer than its step lets it be, or of another length than the next
+/// step says.
+///
+/// A law: the body is empty, and a caller cites the clauses.
+pub fn carried_lists_are_refused_for_one_reason<
+    A,
+    U: Unit,
+    C: CanObserve<U::Item>,
+    Cdc: Codec<C, A>,
+>()
+    ensures within { let alphabet = alphabet_of U.items U.is_too_long C.observation C.slice_may_leave in
+        (step : Step) (max : ℕ) (xs : List A) → TellOneReason (λ before e after.
+        RefusesCarriedList (max < length xs) longer_list before e after
+        ⊎ (length xs ≤ max
+        × Refuses (meaning.observed_bounded step alphabet max Cdc.observation xs) before.turn e after.turn)) }
+    ensures recorded { (step : Step) (xs : List A) → TellOneReason (λ before e after.
+        RefusesCarriedList (IsOtherLength (length xs) (next_step before.turn.playing)) another_length before e after
+        ⊎ ((IsOtherLength (length xs) (next_step before.turn.playing) → ⊥)
+        × Refuses (meaning.observed_all step Cdc.observation xs) before.turn e after.turn)) }
+{}
+
+/// Proof of work is refused for one reason: to a prover that searches for a witness, to a verifier that reads one, and
+/// to one whose caller carries it.
+///
+/// A law: the body is empty, and a caller cites the clauses.
+pub fn work_is_refused_for_one_reason<C: GrindingChallenger>()
+    ensures ground { (step : Step) (bits : ℕ) → TellOneReason (RefusesToGrind
+        (work_of step C.Witness.residues C.before_witness C.observation C.bits_sampling bits) C.may_run_out) }
+    ensures read { (step : Step) (bits : ℕ) →
+        let work = work_of step C.Witness.residues C.before_witness C.observation C.bits_sampling bits in
+        let spelling = encoding C.Witness.residues C.Witness.bit_length in
+        TellOneReason (λ before e after.
+        RefusesToRead (reads.received_work work spelling) before e after ⊎ FailsWork work spelling before e after) }
+    ensures carried { (step : Step) (bits : ℕ) (x : C.Witness) → TellOneReason (RefusesToCheck
+        (work_of step C.Witness.residues C.before_witness C.observation C.bits_sampling bits) x) }
+{}

@@ -1,5 +1,0 @@
-use Rattle.p3_verifier.specs.FollowingLaws.{reading-ends}
-use Rattle.p3_verifier.proofs.agreements.ended_verifiers_are_not_refused.Goals as goal
-
-pub returns : goal.returns
-returns g c = reading-ends
