@@ -12,11 +12,11 @@ use Rattle.p3_fs_core.specs.Steps.{Step}
 use Rattle.p3_fs_core.specs.declared.step.Kind.TheVariants.{Message, Salt}
 use Rattle.p3_fs_core.specs.declared.step.Length.TheVariants.{Fixed, Bounded}
 use Rattle.p3_driver_core.specs.Counts.{count_width, count_bytes}
-use Rattle.p3_driver_core.specs.Effects.{Effect, Alphabet, alphabet_of, drawing, drawing_all}
+use Rattle.p3_driver_core.specs.Effects.{Effect, Alphabet, alphabet_of, drawing, drawing_list}
 use Rattle.p3_driver_core.specs.Meanings.{sent, sent_bounded, observed_bounded, sent_bytes_bounded, hinted}
 use Rattle.p3_driver_core.specs.Meanings.{hinted_bounded, sent_bytes}
 use Rattle.p3_driver_core.specs.Rejecting.{Rule, taken, keeps, drawing_rejecting}
-use Rattle.p3_driver_core.specs.Turns.{Meaning, IsOtherLength, algebra_step, bytes_step}
+use Rattle.p3_driver_core.specs.Transcripts.{Meaning, IsOtherLength, algebra_step, bytes_step}
 
 -- ---- counts
 
@@ -138,11 +138,11 @@ comes effect s = (effect.gives s, effect.after s)
 one_drawn : comes (drawing supply) (7 ∷ 8 ∷ []) ≡ (Some 7, 8 ∷ [])
 one_drawn = refl
 
-two_drawn : comes (drawing_all supply 2) (7 ∷ 8 ∷ 9 ∷ []) ≡ (Some (7 ∷ 8 ∷ []), 9 ∷ [])
+two_drawn : comes (drawing_list supply 2) (7 ∷ 8 ∷ 9 ∷ []) ≡ (Some (7 ∷ 8 ∷ []), 9 ∷ [])
 unfolding draws after_draws
 two_drawn = refl
 
-limit_met : comes (drawing_all supply 3) (7 ∷ 8 ∷ []) ≡ (None, [])
+limit_met : comes (drawing_list supply 3) (7 ∷ 8 ∷ []) ≡ (None, [])
 unfolding draws after_draws
 limit_met = refl
 

@@ -3,19 +3,19 @@ use Rattle.std.specs.Prelude.{◌≡◌, List, ℕ, Result}
 use Rattle.p3_challenger_core.specs.declared.error.ChallengerError.TheVariants as challenger
 use Rattle.p3_fs_core.specs.declared.error.TranscriptError.{TranscriptError}
 use Rattle.p3_fs_core.specs.declared.error.TranscriptError.TheVariants.{Challenger, OutOfMemory}
-use Rattle.p3_driver_core.specs.Turns.{Meaning, Turn, PlaysOrRefuses}
+use Rattle.p3_driver_core.specs.Transcripts.{Meaning, Transcript, PlaysOrRefuses}
 
 -- its challenger and its pattern as it is played, and the bytes of the proof: those that a prover has written so far, or
 -- that a verifier has left to read
 pub record Driving (S : Type 0) : Type 0 where
-  pub turn : Turn S
+  pub transcript : Transcript S
   pub bytes : List ℕ
 
 -- the step is played, and the answer is what came of it, or it is refused; and the bytes stay as they are
 abbrev pub KeepsOrRefuses : {S Symbol A R : Type 0} → Meaning S Symbol A → Driving S → (R → A) →
     Result R TranscriptError → Driving S → Type 0
 KeepsOrRefuses m before value result after =
-    PlaysOrRefuses m before.turn value result after.turn × (after.bytes ≡ before.bytes)
+    PlaysOrRefuses m before.transcript value result after.transcript × (after.bytes ≡ before.bytes)
 
 -- why a driver could not be made: its seed is too long for the alphabet, or memory was refused
 abbrev pub RefusesStart : Type 0 → TranscriptError → Type 0

@@ -32,8 +32,8 @@ observing o x =
     }
 
 -- the values of a list are observed one after another
-abbrev pub observing_all : {S Symbol A : Type 0} → Observation S Symbol A → List A → Effect S Symbol (List A)
-observing_all o xs = observing (observation.in_row o) xs
+abbrev pub observing_list : {S Symbol A : Type 0} → Observation S Symbol A → List A → Effect S Symbol (List A)
+observing_list o xs = observing (observation.in_row o) xs
 
 -- an alphabet: what a byte string is in it, the lengths that are too long for it, and what observing an item, or
 -- items as one slice, does
@@ -72,8 +72,8 @@ drawing d =
     }
 
 -- so many values are drawn one after another, and the memory for them is asked for first
-abbrev pub drawing_all : {S Symbol A : Type 0} → Sampling S A → ℕ → Effect S Symbol (List A)
-drawing_all d n =
+abbrev pub drawing_list : {S Symbol A : Type 0} → Sampling S A → ℕ → Effect S Symbol (List A)
+drawing_list d n =
     record {
       symbols = [];
       fits = Unit {0};
@@ -83,8 +83,8 @@ drawing_all d n =
     }
 
 -- one thing is done and then another, of which the answer is
-abbrev pub in_turn : {S Symbol A B : Type 0} → Effect S Symbol A → Effect S Symbol B → Effect S Symbol B
-in_turn first second =
+abbrev pub in_sequence : {S Symbol A B : Type 0} → Effect S Symbol A → Effect S Symbol B → Effect S Symbol B
+in_sequence first second =
     record {
       symbols = first.symbols ++ second.symbols;
       fits = first.fits × second.fits;

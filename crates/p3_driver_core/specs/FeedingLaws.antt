@@ -18,12 +18,12 @@ use Rattle.p3_fs_core.specs.declared.error.TranscriptError.{TranscriptError}
 use Rattle.p3_fs_core.specs.declared.error.TranscriptError.TheVariants.{MissingBegin, InvalidKind, MismatchedBeginEnd}
 use Rattle.p3_fs_core.specs.declared.error.TranscriptError.TheVariants.{MissingEnd, BadProofShape, Pattern}
 use Rattle.p3_fs_core.specs.declared.error.TranscriptError.TheVariants.{Challenger, LabelTooLong, OutOfMemory}
-use Rattle.p3_driver_core.specs.Effects.{Effect, Alphabet, untouched, observing, observing_all, observing_bytes}
-use Rattle.p3_driver_core.specs.Effects.{drawing, drawing_all, in_turn}
+use Rattle.p3_driver_core.specs.Effects.{Effect, Alphabet, untouched, observing, observing_list, observing_bytes}
+use Rattle.p3_driver_core.specs.Effects.{drawing, drawing_list, in_sequence}
 use Rattle.p3_driver_core.specs.Feeding.{Feeds, OnlyDraws}
 use Rattle.p3_driver_core.specs.Rejecting.{Rule, Outcome, given, go_on, taken, RefusesTaken, keeps, RefusesKeeps}
 use Rattle.p3_driver_core.specs.Rejecting.{drawing_rejecting}
-use Rattle.p3_driver_core.specs.Turns.{Meaning, Turn, Plays, Refuses, LeavesBeginning}
+use Rattle.p3_driver_core.specs.Transcripts.{Meaning, Transcript, PlaysStep, RefusesStep, LeavesPart}
 
 -- ---- steps that feed
 
@@ -74,9 +74,9 @@ module _ {S Symbol : Type 0} (fed : S → List Symbol → S) (fed_nothing : (s :
         }
 
   -- the values of a list
-  pub observing_all-feeds : {T : Type 0} (o : Observation S Symbol T) → IsObservation fed o → (xs : List T) →
-      Feeds fed (observing_all o xs)
-  observing_all-feeds o laws xs =
+  pub observing_list-feeds : {T : Type 0} (o : Observation S Symbol T) → IsObservation fed o → (xs : List T) →
+      Feeds fed (observing_list o xs)
+  observing_list-feeds o laws xs =
       observing-feeds (observation.in_row o) (in_row-is_observation fed fed_nothing fed_more o laws) xs
 
   -- ---- byte strings
@@ -172,13 +172,13 @@ module _ {S Symbol : Type 0} (fed : S → List Symbol → S) (fed_nothing : (s :
     same_symbols : flat_map symbols_of calls ≡ first.symbols ++ second.symbols
     same_symbols = ap (λ ys. first.symbols ++ ys) (append-nil second.symbols)
 
-    call-refused : (e : ChallengerError) (s t : S) → (in_turn first second).refuses e s t →
+    call-refused : (e : ChallengerError) (s t : S) → (in_sequence first second).refuses e s t →
         LeavesInCalls observed_by MayLeave s calls t
     call-refused e s t (inl h) = inl (e, h)
     call-refused e s t (inr h) = inr (inl (e, h))
 
-    pub in_turn-feeds : Feeds fed (in_turn first second)
-    in_turn-feeds =
+    pub in_sequence-feeds : Feeds fed (in_sequence first second)
+    in_sequence-feeds =
         record {
           feeds = λ s. subst (λ a. IsFed fed s a (second.after (first.after s))) same_symbols
               (calls-are_observation.observes s calls);
@@ -194,23 +194,23 @@ module _ {S Symbol : Type 0} (fed : S → List Symbol → S) (fed_nothing : (s :
 
   -- want of memory leaves a state to which a front of the symbols was fed
   pub beginning-fed : {A : Type 0} (effect : Effect S Symbol A) → Feeds fed effect → (s t : S) →
-      LeavesBeginning effect s t → LeavesFed fed s effect.symbols t
+      LeavesPart effect s t → LeavesFed fed s effect.symbols t
   beginning-fed effect is s t (inl none) = unchanged-fed effect.symbols s t none
   beginning-fed effect is s t (inr (inl all)) =
       let here : IsFed fed s effect.symbols t = subst (λ u. IsFed fed s effect.symbols u) (sym all) (is.feeds s) in
       (length effect.symbols, subst (λ a. IsFed fed s a t) (sym (take-length effect.symbols)) here)
   beginning-fed effect is s t (inr (inr part)) = is.leaves challenger.OutOfMemory s t part
 
-  module _ {A : Type 0} (m : Meaning S Symbol A) (is : Feeds fed m.effect) (before after : Turn S) where
+  module _ {A : Type 0} (m : Meaning S Symbol A) (is : Feeds fed m.effect) (before after : Transcript S) where
     -- a step that is played has fed its symbols
-    pub played-fed : (x : A) → Plays m before x after →
+    pub played-fed : (x : A) → PlaysStep m before x after →
         IsFed fed before.challenger m.effect.symbols after.challenger
     played-fed x plays =
         subst (λ t. IsFed fed before.challenger m.effect.symbols t) (sym plays.challenger)
         (is.feeds before.challenger)
 
     -- one that is refused, for whatever reason, has fed a front of them
-    pub refused-fed : (e : TranscriptError) → Refuses m before e after →
+    pub refused-fed : (e : TranscriptError) → RefusesStep m before e after →
         LeavesFed fed before.challenger m.effect.symbols after.challenger
     refused-fed (Pattern e) h = unchanged-fed m.effect.symbols before.challenger after.challenger h.challenger
     refused-fed (Challenger challenger.OutOfMemory) h = absurd h
@@ -259,8 +259,8 @@ module _ {S : Type 0} (next : S → S) where
     draws-leave e s t (inr h) =
         draw-leaves (in_row d n) (in_row-is_sampling next d laws n) e s t (refused-in_row next d laws n e s t h)
 
-    pub drawing_all-draws : {Symbol : Type 0} → OnlyDraws next (drawing_all {Symbol = Symbol} d n)
-    drawing_all-draws =
+    pub drawing_list-draws : {Symbol : Type 0} → OnlyDraws next (drawing_list {Symbol = Symbol} d n)
+    drawing_list-draws =
         record { no_symbols = refl; steps = (in_row-is_sampling next d laws n).steps; leaves = draws-leave }
 
   -- ---- draws that a rule may refuse
@@ -328,13 +328,13 @@ module _ {S : Type 0} (next : S → S) where
   -- one draw after another
   module _ {Symbol A B : Type 0} (first : Effect S Symbol A) (second : Effect S Symbol B) (one : OnlyDraws next first)
       (other : OnlyDraws next second) where
-    turns-leave : (e : ChallengerError) (s t : S) → (in_turn first second).refuses e s t → IsStepsOn next s t
+    turns-leave : (e : ChallengerError) (s t : S) → (in_sequence first second).refuses e s t → IsStepsOn next s t
     turns-leave e s t (inl h) = one.leaves e s t h
     turns-leave e s t (inr h) =
         steps-then next s (first.after s) t (one.steps s) (other.leaves e (first.after s) t h)
 
-    pub in_turn-draws : OnlyDraws next (in_turn first second)
-    in_turn-draws =
+    pub in_sequence-draws : OnlyDraws next (in_sequence first second)
+    in_sequence-draws =
         record {
           no_symbols = ap (λ a. a ++ second.symbols) one.no_symbols ∙ other.no_symbols;
           steps = λ s. steps-then next s (first.after s) (second.after (first.after s)) (one.steps s)
@@ -344,19 +344,19 @@ module _ {S : Type 0} (next : S → S) where
 
   -- want of memory leaves a state after some number of the smallest draws
   pub beginning-drawn : {Symbol A : Type 0} (effect : Effect S Symbol A) → OnlyDraws next effect → (s t : S) →
-      LeavesBeginning effect s t → IsStepsOn next s t
+      LeavesPart effect s t → IsStepsOn next s t
   beginning-drawn effect is s t (inl none) = unchanged-steps s t none
   beginning-drawn effect is s t (inr (inl all)) = subst (λ u. IsStepsOn next s u) (sym all) (is.steps s)
   beginning-drawn effect is s t (inr (inr part)) = is.leaves challenger.OutOfMemory s t part
 
-  module _ {Symbol A : Type 0} (m : Meaning S Symbol A) (is : OnlyDraws next m.effect) (before after : Turn S) where
+  module _ {Symbol A : Type 0} (m : Meaning S Symbol A) (is : OnlyDraws next m.effect) (before after : Transcript S) where
     -- a step that is played has made some number of the smallest draws
-    pub played-drawn : (x : A) → Plays m before x after → IsStepsOn next before.challenger after.challenger
+    pub played-drawn : (x : A) → PlaysStep m before x after → IsStepsOn next before.challenger after.challenger
     played-drawn x plays =
         subst (λ t. IsStepsOn next before.challenger t) (sym plays.challenger) (is.steps before.challenger)
 
     -- so has one that is refused, for whatever reason
-    pub refused-drawn : (e : TranscriptError) → Refuses m before e after →
+    pub refused-drawn : (e : TranscriptError) → RefusesStep m before e after →
         IsStepsOn next before.challenger after.challenger
     refused-drawn (Pattern e) h = unchanged-steps before.challenger after.challenger h.challenger
     refused-drawn (Challenger challenger.OutOfMemory) h = absurd h

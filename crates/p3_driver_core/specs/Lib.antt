@@ -12,8 +12,8 @@ pub mod Proving
 pub mod Reads
 pub mod Rejecting
 pub mod RejectingLaws
-pub mod TurnLaws
-pub mod Turns
+pub mod TranscriptLaws
+pub mod Transcripts
 pub mod Verifying
 pub mod Working
 pub mod WorkingLaws

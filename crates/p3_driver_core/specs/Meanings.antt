@@ -8,9 +8,9 @@ use Rattle.p3_fs_core.specs.declared.step.Kind.{Kind}
 use Rattle.p3_fs_core.specs.declared.step.Kind.TheVariants.{Hint}
 use Rattle.p3_fs_core.specs.declared.step.Length.TheVariants.{Fixed, Bounded}
 use Rattle.p3_driver_core.specs.Counts.{count_bytes}
-use Rattle.p3_driver_core.specs.Effects.{Alphabet, untouched, observing, observing_all, observing_bytes, drawing}
-use Rattle.p3_driver_core.specs.Effects.{drawing_all, in_turn}
-use Rattle.p3_driver_core.specs.Turns.{Meaning, without_wire, bytes_step}
+use Rattle.p3_driver_core.specs.Effects.{Alphabet, untouched, observing, observing_list, observing_bytes, drawing}
+use Rattle.p3_driver_core.specs.Effects.{drawing_list, in_sequence}
+use Rattle.p3_driver_core.specs.Transcripts.{Meaning, without_wire, bytes_step}
 
 -- a container is opened or closed
 abbrev pub marked : {S Symbol : Type 0} → Step → Meaning S Symbol (Unit {0})
@@ -46,20 +46,20 @@ drawn interaction d = without_wire interaction (drawing d)
 -- ---- lists
 
 -- the values of a list are observed that do not stand in the proof
-abbrev pub observed_all : {S Symbol A : Type 0} → Step → Observation S Symbol A → List A → Meaning S Symbol (List A)
-observed_all interaction o xs = without_wire interaction (observing_all o xs)
+abbrev pub observed_list : {S Symbol A : Type 0} → Step → Observation S Symbol A → List A → Meaning S Symbol (List A)
+observed_list interaction o xs = without_wire interaction (observing_list o xs)
 
 -- the same after their count, of a list of at most so many
 abbrev pub observed_bounded : {S Symbol I A : Type 0} → Step → Alphabet S Symbol I → ℕ → Observation S Symbol A →
     List A → Meaning S Symbol (List A)
 observed_bounded interaction alphabet max o xs =
-    without_wire interaction (in_turn (observing_bytes alphabet (count_bytes max (length xs))) (observing_all o xs))
+    without_wire interaction (in_sequence (observing_bytes alphabet (count_bytes max (length xs))) (observing_list o xs))
 
 -- the values of a list are sent
-abbrev pub sent_all : {S Symbol A : Type 0} → Step → Observation S Symbol A → Encoding A → List A →
+abbrev pub sent_list : {S Symbol A : Type 0} → Step → Observation S Symbol A → Encoding A → List A →
     Meaning S Symbol (List A)
-sent_all interaction o e xs =
-    record { interaction = interaction; effect = observing_all o xs; wire = flat_map e.wire xs }
+sent_list interaction o e xs =
+    record { interaction = interaction; effect = observing_list o xs; wire = flat_map e.wire xs }
 
 -- the same after their count, of a list of at most so many
 abbrev pub sent_bounded : {S Symbol I A : Type 0} → Step → Alphabet S Symbol I → ℕ → Observation S Symbol A →
@@ -67,7 +67,7 @@ abbrev pub sent_bounded : {S Symbol I A : Type 0} → Step → Alphabet S Symbol
 sent_bounded interaction alphabet max o e xs =
     record {
       interaction = interaction;
-      effect = in_turn (observing_bytes alphabet (count_bytes max (length xs))) (observing_all o xs);
+      effect = in_sequence (observing_bytes alphabet (count_bytes max (length xs))) (observing_list o xs);
       wire = count_bytes max (length xs) ++ flat_map e.wire xs;
     }
 
@@ -77,7 +77,7 @@ abbrev pub sent_bytes_bounded : {S Symbol I : Type 0} → Kind → List ℕ → 
 sent_bytes_bounded kind label alphabet max bytes =
     record {
       interaction = bytes_step kind label (Bounded max);
-      effect = in_turn (observing_bytes alphabet (count_bytes max (length bytes))) (observing_bytes alphabet bytes);
+      effect = in_sequence (observing_bytes alphabet (count_bytes max (length bytes))) (observing_bytes alphabet bytes);
       wire = count_bytes max (length bytes) ++ bytes;
     }
 
@@ -91,5 +91,5 @@ hinted_bounded label max bytes =
     }
 
 -- so many values are drawn
-abbrev pub drawn_all : {S Symbol A : Type 0} → Step → Sampling S A → ℕ → Meaning S Symbol (List A)
-drawn_all interaction d n = without_wire interaction (drawing_all d n)
+abbrev pub drawn_list : {S Symbol A : Type 0} → Step → Sampling S A → ℕ → Meaning S Symbol (List A)
+drawn_list interaction d n = without_wire interaction (drawing_list d n)

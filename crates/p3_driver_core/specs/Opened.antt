@@ -3,7 +3,7 @@ use Rattle.std.specs.Prelude.{◌≡◌, ◌||◌, true}
 use Rattle.p3_fs_core.specs.Steps.{Step}
 use Rattle.p3_patterns.specs.Playing.{Playing}
 use Rattle.p3_symmetric.specs.declared.digest_hasher.DigestHasher.{Ghosts}
-use Rattle.p3_driver_core.specs.Turns.{Turn, IsNext, step_on}
+use Rattle.p3_driver_core.specs.Transcripts.{Transcript, IsNext, step_on}
 use Rattle.p3_driver_core.specs.declared.steps.Steps.{Steps}
 
 -- a driver's pattern as it is played: nothing may follow while a step is open, or after one was given up
@@ -23,5 +23,5 @@ pub record Opens {D : Type 0} {hasher : Ghosts D} (before : Steps D hasher) (s :
   pub closed : after.closed ≡ true
 
 -- a driver between two steps: the state of its challenger, and its pattern as it is played
-abbrev pub turn_of : {D S : Type 0} {hasher : Ghosts D} → S → Steps D hasher → Turn S
-turn_of challenger steps = record { challenger = challenger; playing = playing_of steps }
+abbrev pub transcript_of : {D S : Type 0} {hasher : Ghosts D} → S → Steps D hasher → Transcript S
+transcript_of challenger steps = record { challenger = challenger; playing = playing_of steps }

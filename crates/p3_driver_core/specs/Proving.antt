@@ -5,23 +5,23 @@ use Rattle.p3_fs_core.specs.declared.error.TranscriptError.TheVariants.{OutOfMem
 use Rattle.p3_fs_core.specs.Encoding.{Encoding}
 use Rattle.p3_grinding.specs.Checks.{IsLeast}
 use Rattle.p3_driver_core.specs.Driving.{Driving}
-use Rattle.p3_driver_core.specs.Turns.{Meaning, Plays, Refuses, RefusesLength, LeavesWire}
-use Rattle.p3_driver_core.specs.Turns.{GivesUp}
+use Rattle.p3_driver_core.specs.Transcripts.{Meaning, PlaysStep, RefusesStep, RefusesLength, LeavesWire}
+use Rattle.p3_driver_core.specs.Transcripts.{Abandons}
 use Rattle.p3_driver_core.specs.Working.{Work, sent_work, RefusesToGrind, GrindsOrRefuses}
 
 -- the step is played, and its bytes are added
 pub record Writes {S Symbol A : Type 0} (m : Meaning S Symbol A) (before : Driving S) (x : A) (after : Driving S) :
     Type 0 where
-  pub plays : Plays m before.turn x after.turn
+  pub plays : PlaysStep m before.transcript x after.transcript
   pub wire : after.bytes ≡ before.bytes ++ m.wire
 
 -- the step is refused; where memory was, a beginning of its bytes is added, and none before the challenger took part in
 -- all of it
 pub record RefusesToWrite {S Symbol A : Type 0} (m : Meaning S Symbol A) (before : Driving S) (e : TranscriptError)
     (after : Driving S) : Type 0 where
-  pub refuses : Refuses m before.turn e after.turn
+  pub refuses : RefusesStep m before.transcript e after.transcript
   pub wire : LeavesWire m.wire e before.bytes after.bytes
-  pub order : (after.bytes ≡ before.bytes) ⊎ (after.turn.challenger ≡ m.effect.after before.turn.challenger)
+  pub order : (after.bytes ≡ before.bytes) ⊎ (after.transcript.challenger ≡ m.effect.after before.transcript.challenger)
 
 -- the step is played, and the answer is what came of it; or it is refused
 abbrev pub WritesOrRefuses : {S Symbol A R : Type 0} → Meaning S Symbol A → Driving S → (R → A) →
@@ -34,8 +34,8 @@ WritesOrRefuses m before value result after =
 -- a list that is too long is refused first: nothing was done then
 pub record RefusesLongList {S : Type 0} (len max : ℕ) (before : Driving S) (e : TranscriptError) (after : Driving S) :
     Type 0 where
-  pub playing : RefusesLength len max before.turn.playing e after.turn.playing
-  pub challenger : after.turn.challenger ≡ before.turn.challenger
+  pub playing : RefusesLength len max before.transcript.playing e after.transcript.playing
+  pub challenger : after.transcript.challenger ≡ before.transcript.challenger
   pub bytes : after.bytes ≡ before.bytes
 
 abbrev pub WritesWithin : {S Symbol A R : Type 0} → ℕ → ℕ → Meaning S Symbol A → Driving S → (R → A) →
@@ -47,8 +47,8 @@ WritesWithin len max m before value result after =
 abbrev pub KeepsWithin : {S Symbol A R : Type 0} → ℕ → ℕ → Meaning S Symbol A → Driving S → (R → A) →
     Result R TranscriptError → Driving S → Type 0
 KeepsWithin len max m before value result after =
-    MatchResult result (λ r. (len ≤ max) × Plays m before.turn (value r) after.turn)
-    (λ e. RefusesLongList len max before e after ⊎ ((len ≤ max) × Refuses m before.turn e after.turn))
+    MatchResult result (λ r. (len ≤ max) × PlaysStep m before.transcript (value r) after.transcript)
+    (λ e. RefusesLongList len max before e after ⊎ ((len ≤ max) × RefusesStep m before.transcript e after.transcript))
     × (after.bytes ≡ before.bytes)
 
 -- ---- proof of work
@@ -58,8 +58,8 @@ pub record Unwritten {S Symbol W : Type 0} (work : Work S Symbol W) (enc : Encod
     (e : TranscriptError) (after : Driving S) : Type 0 where
   pub memory : e ≡ OutOfMemory
   pub witness : W
-  pub least : IsLeast work.residues work.check before.turn.challenger witness
-  pub gives_up : GivesUp work.interaction before.turn (λ s t. t ≡ (work.check witness).after s) after.turn
+  pub least : IsLeast work.residues work.check before.transcript.challenger witness
+  pub abandons : Abandons work.interaction before.transcript (λ s t. t ≡ (work.check witness).after s) after.transcript
   pub wire : (n : ℕ) × (after.bytes ≡ before.bytes ++ take n (enc.wire witness))
 
 -- the step is played: the least witness that passes is found, and its bytes are added; or the step is refused
@@ -67,13 +67,13 @@ abbrev pub GrindsAndWrites : {S Symbol W R : Type 0} → Work S Symbol W → Enc
     Result R TranscriptError → Driving S → Type 0
 GrindsAndWrites {S} {Symbol} {W} work enc may_run_out before result after =
     MatchResult result
-    (λ _. (x : W) × IsLeast work.residues work.check before.turn.challenger x
+    (λ _. (x : W) × IsLeast work.residues work.check before.transcript.challenger x
     × Writes (sent_work work enc x) before x after)
-    (λ e. (RefusesToGrind work may_run_out before.turn e after.turn × (after.bytes ≡ before.bytes))
+    (λ e. (RefusesToGrind work may_run_out before.transcript e after.transcript × (after.bytes ≡ before.bytes))
     ⊎ Unwritten work enc before e after)
 
 -- the same where the answer is the witness, and the proof stays as it is
 abbrev pub GrindsAndKeeps : {S Symbol W R : Type 0} → Work S Symbol W → (S → Type 0) → Driving S → (R → W) →
     Result R TranscriptError → Driving S → Type 0
 GrindsAndKeeps work may_run_out before value result after =
-    GrindsOrRefuses work may_run_out before.turn value result after.turn × (after.bytes ≡ before.bytes)
+    GrindsOrRefuses work may_run_out before.transcript value result after.transcript × (after.bytes ≡ before.bytes)

@@ -9,7 +9,7 @@ use Rattle.p3_challenger_core.specs.declared.error.ChallengerError.{ChallengerEr
 use Rattle.p3_challenger_core.specs.declared.error.ChallengerError.TheVariants.{DrawLimit}
 use Rattle.p3_fs_core.specs.Steps.{Step}
 use Rattle.p3_driver_core.specs.Effects.{Effect}
-use Rattle.p3_driver_core.specs.Turns.{Meaning, without_wire}
+use Rattle.p3_driver_core.specs.Transcripts.{Meaning, without_wire}
 
 -- of a candidate and those kept so far, whether the candidate is kept too
 abbrev pub Rule : Type 0 → Type 0

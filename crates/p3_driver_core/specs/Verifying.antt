@@ -4,10 +4,10 @@ use Rattle.p3_fs_core.specs.declared.error.TranscriptError.{TranscriptError}
 use Rattle.p3_fs_core.specs.declared.error.TranscriptError.TheVariants.{Pattern, BadProofShape, Challenger, OutOfMemory}
 use Rattle.p3_challenger_core.specs.declared.error.ChallengerError.TheVariants as challenger
 use Rattle.p3_driver_core.specs.Driving.{Driving}
-use Rattle.p3_driver_core.specs.Turns.{Meaning, Plays, Refuses, RefusesTurn, GivesUp, IsNext}
-use Rattle.p3_driver_core.specs.Turns.{step_on}
+use Rattle.p3_driver_core.specs.Transcripts.{Meaning, PlaysStep, RefusesStep, RefusesOrder, Abandons, IsNext}
+use Rattle.p3_driver_core.specs.Transcripts.{step_on}
 use Rattle.p3_driver_core.specs.Working.{Work, FailsCheck, ChecksOrRefuses}
-use Rattle.p3_driver_core.specs.Turns.{RefusesCarried, IsOtherLength, longer_list, another_length}
+use Rattle.p3_driver_core.specs.Transcripts.{RefusesCarried, IsOtherLength, longer_list, another_length}
 use Rattle.p3_fs_core.specs.Encoding.{Encoding}
 use Rattle.p3_fs_core.specs.Errors.{misfit_of}
 use Rattle.p3_patterns.specs.Playing.{FaultOfPlayEnd, IsPlayed, next_step}
@@ -16,41 +16,41 @@ use Rattle.p3_driver_core.specs.Reads.{Reading, Unreadable, trailing_bytes, rece
 -- the step is played: this is read, and is done
 pub record Receives {S Symbol A : Type 0} (r : Reading S Symbol A) (before : Driving S) (x : A)
     (after : Driving S) : Type 0 where
-  pub is_next : IsNext before.turn.playing r.interaction
+  pub is_next : IsNext before.transcript.playing r.interaction
   pub read : r.read before.bytes ≡ Ok (x, after.bytes)
   pub fits : (r.effect x).fits
-  pub gives : (r.effect x).gives before.turn.challenger ≡ Some x
-  pub challenger : after.turn.challenger ≡ (r.effect x).after before.turn.challenger
-  pub playing : after.turn.playing ≡ step_on before.turn.playing
+  pub gives : (r.effect x).gives before.transcript.challenger ≡ Some x
+  pub challenger : after.transcript.challenger ≡ (r.effect x).after before.transcript.challenger
+  pub playing : after.transcript.playing ≡ step_on before.transcript.playing
 
 -- nothing is read, for the reason
 pub record ReadsNothing {S Symbol A : Type 0} (r : Reading S Symbol A) (before : Driving S) (reason : List ℕ)
     (after : Driving S) : Type 0 where
   pub failure : Unreadable S
-  pub is_next : IsNext before.turn.playing r.interaction
+  pub is_next : IsNext before.transcript.playing r.interaction
   pub read : r.read before.bytes ≡ Err failure
   pub told : reason ≡ failure.reason
   pub unread : after.bytes ≡ failure.left
-  pub challenger : after.turn.challenger ≡ failure.absorbed before.turn.challenger
-  pub finished : after.turn.playing.finished ≡ true
+  pub challenger : after.transcript.challenger ≡ failure.absorbed before.transcript.challenger
+  pub finished : after.transcript.playing.finished ≡ true
 
 -- this was read, and the challenger refuses it
 pub record RefusesRead {S Symbol A : Type 0} (r : Reading S Symbol A) (before : Driving S)
     (Leaves : A → S → S → Type 0) (after : Driving S) : Type 0 where
   pub value : A
   pub read : r.read before.bytes ≡ Ok (value, after.bytes)
-  pub gives_up : GivesUp r.interaction before.turn (Leaves value) after.turn
+  pub abandons : Abandons r.interaction before.transcript (Leaves value) after.transcript
 
 -- why a step that reads is refused, and what is left
 abbrev pub RefusesToRead : {S Symbol A : Type 0} → Reading S Symbol A → Driving S → TranscriptError → Driving S →
     Type 0
 RefusesToRead r before (Pattern e) after =
-    RefusesTurn r.interaction before.turn (Pattern e) after.turn × (after.bytes ≡ before.bytes)
+    RefusesOrder r.interaction before.transcript (Pattern e) after.transcript × (after.bytes ≡ before.bytes)
 RefusesToRead r before (BadProofShape reason) after = ReadsNothing r before reason.now after
 RefusesToRead r before (Challenger challenger.OutOfMemory) after = ⊥
 RefusesToRead r before (Challenger e) after = RefusesRead r before (λ x. (r.effect x).refuses e) after
 RefusesToRead r before OutOfMemory after =
-    GivesUp r.interaction before.turn (λ s t. r.may_leave before.bytes s after.bytes t) after.turn
+    Abandons r.interaction before.transcript (λ s t. r.may_leave before.bytes s after.bytes t) after.transcript
 RefusesToRead r before _ after = ⊥
 
 -- the step is played, and the answer is what was read; or it is refused
@@ -66,7 +66,7 @@ pub record FailsWork {S Symbol W : Type 0} (work : Work S Symbol W) (enc : Encod
     (e : TranscriptError) (after : Driving S) : Type 0 where
   pub witness : W
   pub read : (received_work work enc).read before.bytes ≡ Ok (witness, after.bytes)
-  pub fails : FailsCheck work witness before.turn e after.turn
+  pub fails : FailsCheck work witness before.transcript e after.transcript
 
 -- the step is played: a witness is read, and passes; or the step is refused
 abbrev pub ReceivesWork : {S Symbol W R : Type 0} → Work S Symbol W → Encoding W → Driving S →
@@ -79,41 +79,41 @@ ReceivesWork {S} {Symbol} {W} work enc before result after =
 abbrev pub ChecksAndKeeps : {S Symbol W R : Type 0} → Work S Symbol W → W → Driving S → Result R TranscriptError →
     Driving S → Type 0
 ChecksAndKeeps work x before result after =
-    ChecksOrRefuses work x before.turn result after.turn × (after.bytes ≡ before.bytes)
+    ChecksOrRefuses work x before.transcript result after.transcript × (after.bytes ≡ before.bytes)
 
 -- ---- lists that the caller carries
 
 -- a list of a wrong length is refused first: nothing was done then
 pub record RefusesCarriedList {S : Type 0} (IsWrong : Type 0) (reason : List ℕ) (before : Driving S) (e : TranscriptError)
     (after : Driving S) : Type 0 where
-  pub playing : RefusesCarried IsWrong reason before.turn.playing e after.turn.playing
-  pub challenger : after.turn.challenger ≡ before.turn.challenger
+  pub playing : RefusesCarried IsWrong reason before.transcript.playing e after.transcript.playing
+  pub challenger : after.transcript.challenger ≡ before.transcript.challenger
 
 -- a list that may have so many elements
 abbrev pub CarriesWithin : {S Symbol A R : Type 0} → ℕ → ℕ → Meaning S Symbol A → Driving S → (R → A) →
     Result R TranscriptError → Driving S → Type 0
 CarriesWithin len max m before value result after =
-    MatchResult result (λ r. (len ≤ max) × Plays m before.turn (value r) after.turn)
-    (λ e. RefusesCarriedList (max < len) longer_list before e after ⊎ ((len ≤ max) × Refuses m before.turn e after.turn))
+    MatchResult result (λ r. (len ≤ max) × PlaysStep m before.transcript (value r) after.transcript)
+    (λ e. RefusesCarriedList (max < len) longer_list before e after ⊎ ((len ≤ max) × RefusesStep m before.transcript e after.transcript))
     × (after.bytes ≡ before.bytes)
 
 -- a list that has as many elements as the next step says, where it says so
 abbrev pub CarriesAsRecorded : {S Symbol A R : Type 0} → ℕ → Meaning S Symbol A → Driving S → (R → A) →
     Result R TranscriptError → Driving S → Type 0
 CarriesAsRecorded len m before value result after =
-    MatchResult result (λ r. Plays m before.turn (value r) after.turn)
-    (λ e. RefusesCarriedList (IsOtherLength len (next_step before.turn.playing)) another_length before e after
-    ⊎ ((IsOtherLength len (next_step before.turn.playing) → ⊥) × Refuses m before.turn e after.turn))
+    MatchResult result (λ r. PlaysStep m before.transcript (value r) after.transcript)
+    (λ e. RefusesCarriedList (IsOtherLength len (next_step before.transcript.playing)) another_length before e after
+    ⊎ ((IsOtherLength len (next_step before.transcript.playing) → ⊥) × RefusesStep m before.transcript e after.transcript))
     × (after.bytes ≡ before.bytes)
 
 -- all steps are played, none was refused, and no byte is left
 pub record EndsReading {S : Type 0} (v : Driving S) : Type 0 where
-  pub played : IsPlayed v.turn.playing
+  pub played : IsPlayed v.transcript.playing
   pub whole : v.bytes ≡ []
 
 -- why a verifier does not end: a step was refused, or is left; or all were played, and bytes are left
 abbrev pub RefusesEnd : {S : Type 0} → Driving S → TranscriptError → Type 0
-RefusesEnd v (Pattern e) = FaultOfPlayEnd v.turn.playing (misfit_of e)
+RefusesEnd v (Pattern e) = FaultOfPlayEnd v.transcript.playing (misfit_of e)
 RefusesEnd v (BadProofShape reason) =
-    IsPlayed v.turn.playing × (v.bytes ≡ [] → ⊥) × (reason.now ≡ trailing_bytes)
+    IsPlayed v.transcript.playing × (v.bytes ≡ [] → ⊥) × (reason.now ≡ trailing_bytes)
 RefusesEnd v _ = ⊥

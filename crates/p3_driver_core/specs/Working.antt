@@ -12,7 +12,7 @@ use Rattle.p3_fs_core.specs.Steps.{Step}
 use Rattle.p3_fs_core.specs.declared.error.TranscriptError.{TranscriptError}
 use Rattle.p3_fs_core.specs.declared.error.TranscriptError.TheVariants.{Pattern, BadProofShape, Challenger, OutOfMemory}
 use Rattle.p3_driver_core.specs.Effects.{Effect}
-use Rattle.p3_driver_core.specs.Turns.{Meaning, Turn, Plays, RefusesTurn, GivesUp, without_wire}
+use Rattle.p3_driver_core.specs.Transcripts.{Meaning, Transcript, PlaysStep, RefusesOrder, Abandons, without_wire}
 
 abbrev pub too_few_zero_bits : List ℕ
 too_few_zero_bits = codes "pow witness does not produce enough zero bits"
@@ -77,40 +77,40 @@ module _ {S Symbol W : Type 0} (work : Work S Symbol W) where
   sent_work e x = record { interaction = work.interaction; effect = checking x; wire = e.wire x }
 
   -- the step was the next one, and too few bits are 0: the witness is checked, and no step may follow
-  pub record FailsCheck (x : W) (before : Turn S) (e : TranscriptError) (after : Turn S) : Type 0 where
+  pub record FailsCheck (x : W) (before : Transcript S) (e : TranscriptError) (after : Transcript S) : Type 0 where
     pub told : IsBadShape too_few_zero_bits e
-    pub gives_up : GivesUp work.interaction before
+    pub abandons : Abandons work.interaction before
         (λ s t. ((work.check x).sampled s ≡ Some false) × (t ≡ (work.check x).after s)) after
 
   -- why a witness is not taken, and what is left: the step may not be played; or too few bits are 0, or the challenger
   -- refused the check, which alone asks for memory
-  abbrev pub RefusesToCheck : W → Turn S → TranscriptError → Turn S → Type 0
-  RefusesToCheck x before (Pattern e) after = RefusesTurn work.interaction before (Pattern e) after
-  RefusesToCheck x before e after = GivesUp work.interaction before (RefusesWitness (work.check x) e) after
+  abbrev pub RefusesToCheck : W → Transcript S → TranscriptError → Transcript S → Type 0
+  RefusesToCheck x before (Pattern e) after = RefusesOrder work.interaction before (Pattern e) after
+  RefusesToCheck x before e after = Abandons work.interaction before (RefusesWitness (work.check x) e) after
 
   -- the step is played, with this witness; or it is refused
-  abbrev pub ChecksOrRefuses : {R : Type 0} → W → Turn S → Result R TranscriptError → Turn S → Type 0
+  abbrev pub ChecksOrRefuses : {R : Type 0} → W → Transcript S → Result R TranscriptError → Transcript S → Type 0
   ChecksOrRefuses x before result after =
-      MatchResult result (λ _. Plays (observed_work x) before x after) (λ e. RefusesToCheck x before e after)
+      MatchResult result (λ _. PlaysStep (observed_work x) before x after) (λ e. RefusesToCheck x before e after)
 
   -- ---- a witness is searched for
 
   -- why none is found, and what is left: the step may not be played; or no witness passes, or memory was refused, and
   -- the challenger is as it was
-  abbrev pub RefusesToGrind : (S → Type 0) → Turn S → TranscriptError → Turn S → Type 0
-  RefusesToGrind may_run_out before (Pattern e) after = RefusesTurn work.interaction before (Pattern e) after
+  abbrev pub RefusesToGrind : (S → Type 0) → Transcript S → TranscriptError → Transcript S → Type 0
+  RefusesToGrind may_run_out before (Pattern e) after = RefusesOrder work.interaction before (Pattern e) after
   RefusesToGrind may_run_out before (Challenger challenger.OutOfMemory) after = ⊥
   RefusesToGrind may_run_out before (Challenger e) after =
-      GivesUp work.interaction before (RefusesSearch work.residues may_run_out work.check e) after
+      Abandons work.interaction before (RefusesSearch work.residues may_run_out work.check e) after
   RefusesToGrind may_run_out before OutOfMemory after =
-      GivesUp work.interaction before (RefusesSearch work.residues may_run_out work.check challenger.OutOfMemory) after
+      Abandons work.interaction before (RefusesSearch work.residues may_run_out work.check challenger.OutOfMemory) after
   RefusesToGrind may_run_out before _ after = ⊥
 
   -- the step is played, with the least witness that passes; or it is refused
-  abbrev pub GrindsOrRefuses : {R : Type 0} → (S → Type 0) → Turn S → (R → W) → Result R TranscriptError → Turn S →
+  abbrev pub GrindsOrRefuses : {R : Type 0} → (S → Type 0) → Transcript S → (R → W) → Result R TranscriptError → Transcript S →
       Type 0
   GrindsOrRefuses may_run_out before value result after =
       MatchResult result
       (λ r. IsLeast work.residues work.check before.challenger (value r)
-      × Plays (observed_work (value r)) before (value r) after)
+      × PlaysStep (observed_work (value r)) before (value r) after)
       (λ e. RefusesToGrind may_run_out before e after)

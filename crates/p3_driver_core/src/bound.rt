@@ -1,6 +1,6 @@
 //! A value that a transcript has bound: it was observed, or drawn.
 ghost use Rattle.std.specs.Prelude.{◌≡◌};
-ghost use Rattle.p3_driver_core.specs.Bound.{value_of};
+ghost use Rattle.p3_driver_core.specs.Bound.{bound_value};
 
 /// A value that went through the transcript: it was absorbed, or drawn.
 ///
@@ -13,14 +13,14 @@ pub struct TranscriptBound<T>(T);
 impl<T> TranscriptBound<T> {
     /// The value.
     pub fn as_inner(&self) -> &T
-        ensures { result.now ≡ value_of self.now }
+        ensures { result.now ≡ bound_value self.now }
     {
         &self.0
     }
 
     /// The value alone.
     pub fn into_inner(self) -> T
-        ensures { result ≡ value_of self }
+        ensures { result ≡ bound_value self }
     {
         self.0
     }
@@ -34,14 +34,14 @@ impl<T: PartialEq> TranscriptBound<T> {
     /// A law: the body is empty, and a caller cites the clause.
     pub fn compared_by_values()
         ensures value { (x y : _) → ⟦<TranscriptBound<T> as PartialEq>⟧.eq x y
-            ≡ T.eq (value_of x) (value_of y) }
+            ≡ T.eq (bound_value x) (bound_value y) }
         ensures exact { IsExact T.eq → IsExact ⟦<TranscriptBound<T> as PartialEq>⟧.eq }
     {}
 }
 
 /// The value as one that went through the transcript. For drivers. In the Rust crate it is private.
 pub fn bind<T>(value: T) -> TranscriptBound<T>
-    ensures { value_of result ≡ value }
+    ensures { bound_value result ≡ value }
 {
     TranscriptBound(value)
 }

@@ -1,8 +1,8 @@
 //! Each step feeds just the symbols that its meaning names: laws, of every challenger, codec and alphabet.
 ghost use Rattle.std.specs.Prelude.{◌≡◌, ℕ, true, Some, List, length};
 ghost use Rattle.p3_driver_core.specs.Counts.{count_bytes};
-ghost use Rattle.p3_driver_core.specs.Effects.{alphabet_of, untouched, observing, observing_all, observing_bytes};
-ghost use Rattle.p3_driver_core.specs.Effects.{drawing, drawing_all, in_turn};
+ghost use Rattle.p3_driver_core.specs.Effects.{alphabet_of, untouched, observing, observing_list, observing_bytes};
+ghost use Rattle.p3_driver_core.specs.Effects.{drawing, drawing_list, in_sequence};
 ghost use Rattle.p3_driver_core.specs.Feeding.{Feeds, OnlyDraws, FeedsItsWitness};
 ghost use Rattle.p3_driver_core.specs.Rejecting.{Rule, drawing_rejecting};
 ghost use Rattle.p3_driver_core.specs.Working.{work_of, checking};
@@ -18,7 +18,7 @@ use p3_grinding::{CanSampleUniformBits, GrindingChallenger};
 /// A law: the body is empty, and a caller cites the clause.
 pub fn values_feed_their_symbols<A, C: Sponge, Cdc: Codec<C, A>>()
     ensures value { (x : A) → Feeds C.fed (observing Cdc.observation x) }
-    ensures list { (xs : List A) → Feeds C.fed (observing_all Cdc.observation xs) }
+    ensures list { (xs : List A) → Feeds C.fed (observing_list Cdc.observation xs) }
 {}
 
 /// A step of a value that the challenger itself knows how to observe feeds just the symbols that the challenger names
@@ -38,7 +38,7 @@ pub fn bytes_feed_their_symbols<U: Unit, C: CanObserve<U::Item>>()
         (observing_bytes (alphabet_of U.items U.is_too_long C.observation C.slice_may_leave) bytes) }
     ensures counted { (max : ℕ) (bytes : List ℕ) →
         let alphabet = alphabet_of U.items U.is_too_long C.observation C.slice_may_leave in Feeds C.fed
-        (in_turn (observing_bytes alphabet (count_bytes max (length bytes))) (observing_bytes alphabet bytes)) }
+        (in_sequence (observing_bytes alphabet (count_bytes max (length bytes))) (observing_bytes alphabet bytes)) }
 {}
 
 /// A step of a list that comes after its count feeds just the symbols of the count's items, and then those of the
@@ -46,9 +46,9 @@ pub fn bytes_feed_their_symbols<U: Unit, C: CanObserve<U::Item>>()
 ///
 /// A law: the body is empty, and a caller cites the clause.
 pub fn counted_values_feed_their_symbols<A, U: Unit, C: CanObserve<U::Item>, Cdc: Codec<C, A>>()
-    ensures { (max : ℕ) (xs : List A) → Feeds C.fed (in_turn
+    ensures { (max : ℕ) (xs : List A) → Feeds C.fed (in_sequence
         (observing_bytes (alphabet_of U.items U.is_too_long C.observation C.slice_may_leave)
-        (count_bytes max (length xs))) (observing_all Cdc.observation xs)) }
+        (count_bytes max (length xs))) (observing_list Cdc.observation xs)) }
 {}
 
 /// A step that draws feeds nothing, and makes some number of the challenger's smallest draws, also where it is refused:
@@ -57,7 +57,7 @@ pub fn counted_values_feed_their_symbols<A, U: Unit, C: CanObserve<U::Item>, Cdc
 /// A law: the body is empty, and a caller cites the clause.
 pub fn draws_feed_nothing<A, C: Sponge, Cdc: Codec<C, A>>()
     ensures value { OnlyDraws {Symbol = C.Symbol} C.next (drawing Cdc.sampling) }
-    ensures list { (n : ℕ) → OnlyDraws {Symbol = C.Symbol} C.next (drawing_all Cdc.sampling n) }
+    ensures list { (n : ℕ) → OnlyDraws {Symbol = C.Symbol} C.next (drawing_list Cdc.sampling n) }
     ensures rejecting { (rule : Rule A) (limit n : ℕ) →
         OnlyDraws {Symbol = C.Symbol} C.next (drawing_rejecting Cdc.sampling rule limit n) }
 {}
@@ -67,7 +67,7 @@ pub fn draws_feed_nothing<A, C: Sponge, Cdc: Codec<C, A>>()
 ///
 /// A law: the body is empty, and a caller cites the clause.
 pub fn bit_draws_feed_nothing<C: CanSampleBits<usize>>()
-    ensures { (width n : ℕ) → OnlyDraws {Symbol = C.Symbol} C.next (drawing_all (C.bits_sampling width) n) }
+    ensures { (width n : ℕ) → OnlyDraws {Symbol = C.Symbol} C.next (drawing_list (C.bits_sampling width) n) }
 {}
 
 /// A step that draws numbers of so many uniform bits feeds nothing, and makes some number of the challenger's smallest
@@ -76,7 +76,7 @@ pub fn bit_draws_feed_nothing<C: CanSampleBits<usize>>()
 /// A law: the body is empty, and a caller cites the clause.
 pub fn uniform_draws_feed_nothing<F, C: CanSampleUniformBits<F>>()
     ensures list { (width n : ℕ) →
-        OnlyDraws {Symbol = C.Symbol} C.next (drawing_all (C.uniform true width).draw n) }
+        OnlyDraws {Symbol = C.Symbol} C.next (drawing_list (C.uniform true width).draw n) }
     ensures rejecting { (width : ℕ) (rule : Rule ℕ) (limit n : ℕ) →
         OnlyDraws {Symbol = C.Symbol} C.next (drawing_rejecting (C.uniform true width).draw rule limit n) }
 {}

@@ -3,7 +3,7 @@
 ghost use Rattle.std.specs.Prelude.{◌≡◌, ◌≤◌, Some, OnOk, IfOk, IfErr, length, vec_len};
 ghost use Rattle.p3_challenger_core.specs.Observation.{observed_all, LeavesInCalls, RefusesObserve};
 ghost use Rattle.p3_challenger_core.specs.Sampling.{draws, after_draws, RefusesDrawVec};
-ghost use Rattle.p3_driver_core.specs.Bound.{values_of};
+ghost use Rattle.p3_driver_core.specs.Bound.{bound_values};
 
 use crate::{TranscriptBound, bind};
 use p3_challenger_core::{CanSampleBits, ChallengerError, Sponge};
@@ -33,7 +33,7 @@ pub fn observe_values<T, C: Sponge, Cdc: Codec<C, T>>(
 ///
 /// The one error is that memory was refused. Not in the Rust crate.
 pub fn bind_all<T: Copy>(alloc: Global, values: &[T]) -> Result<Vec<TranscriptBound<T>>, AllocError>
-    ensures values { IfOk result (λ bounds. values_of bounds ≡ values.now) }
+    ensures values { IfOk result (λ bounds. bound_values bounds ≡ values.now) }
     ensures count { IfOk result (λ bounds. vec_len bounds ≡ length values.now) }
 {
     let mut bounds = Vec::with_capacity(alloc, values.len())?;
@@ -55,7 +55,7 @@ pub fn draw_values<T: Copy, C: Sponge, Cdc: Codec<C, T>>(
 ) -> Result<Vec<TranscriptBound<T>>, ChallengerError>
     requires { 128 ≤ Cdc.SECURITY_BITS }
     ensures drawn { IfOk result (λ bounds.
-        draws Cdc.sampling n (C.state challenger.old) ≡ Some (values_of bounds)) }
+        draws Cdc.sampling n (C.state challenger.old) ≡ Some (bound_values bounds)) }
     ensures after { OnOk result (
         C.state challenger.new ≡ after_draws Cdc.sampling n (C.state challenger.old)) }
     ensures err { IfErr result (λ e.
@@ -82,7 +82,7 @@ pub fn draw_numbers<C: CanSampleBits<usize>>(
 ) -> Result<Vec<TranscriptBound<usize>>, ChallengerError>
     requires { width ≤ C.most_bits }
     ensures drawn { IfOk result (λ bounds.
-        draws (C.bits_sampling width) n (C.state challenger.old) ≡ Some (values_of bounds)) }
+        draws (C.bits_sampling width) n (C.state challenger.old) ≡ Some (bound_values bounds)) }
     ensures after { OnOk result (
         C.state challenger.new ≡ after_draws (C.bits_sampling width) n (C.state challenger.old)) }
     ensures err { IfErr result (λ e.

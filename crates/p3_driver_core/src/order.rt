@@ -1,6 +1,6 @@
 //! The order of a pattern: laws of which steps may be played, and which are refused as wrong ones.
 ghost use Rattle.std.specs.Prelude.{◌≡◌, ◌++◌, true, false, List, length};
-ghost use Rattle.p3_driver_core.specs.Turns.{IsNext, AreNext, steps_on};
+ghost use Rattle.p3_driver_core.specs.Transcripts.{IsNext, AreNext, steps_on};
 ghost use Rattle.p3_fs_core.specs.Errors.{misfit_of};
 ghost use Rattle.p3_fs_core.specs.Steps.{Step};
 ghost use Rattle.p3_fs_core.specs.declared.error.TranscriptError.TheVariants.{Pattern};

@@ -1,6 +1,6 @@
 //! Draws until a rule has taken so many of the candidates.
 ghost use Rattle.std.specs.Prelude.{◌≡◌, ◌≤◌, ◌↔◌, ℕ, List, [], IfOk, vec_len};
-ghost use Rattle.p3_driver_core.specs.Bound.{values_of};
+ghost use Rattle.p3_driver_core.specs.Bound.{bound_values};
 ghost use Rattle.p3_driver_core.specs.Rejecting.{Rule, Computes, Takes, TakesAll};
 ghost use Rattle.p3_driver_core.specs.Rejecting.{given, keeps, KeepsFirst};
 
@@ -50,7 +50,7 @@ pub fn draw_accepted<T: Copy, C: Sponge, Cdc: Codec<C, T>, R: Fn(&T, &[T]) -> bo
     requires secure { 128 ≤ Cdc.SECURITY_BITS }
     requires callable { R.IsAlwaysCallable accept.now }
     ensures kept { (rule : Rule T) → Computes R.Fn accept.now rule →
-        TakesAll Cdc.sampling rule limit n values_of (C.state challenger.old) result (C.state challenger.new) }
+        TakesAll Cdc.sampling rule limit n bound_values (C.state challenger.old) result (C.state challenger.new) }
     ensures count { IfOk result (λ bounds. vec_len bounds ≡ n) }
 {
     let mut bounds = Vec::with_capacity(alloc, n)?;

@@ -6,9 +6,9 @@ ghost use Rattle.p3_fs_core.specs.Interactions.{step_of};
 ghost use Rattle.p3_fs_core.specs.Steps.{step_with};
 ghost use Rattle.p3_patterns.specs.Playing.{RefusesToPlay, FaultOfPlayEnd, IsPatternError, IsPlayed, next_step};
 ghost use Rattle.p3_driver_core.specs.Opened.{playing_of, Opens};
-ghost use Rattle.p3_driver_core.specs.Turns.{algebra_step, bytes_step, uniform_bits_step, halted_player};
-ghost use Rattle.p3_driver_core.specs.Turns.{RefusesLength, RefusesCarried};
-ghost use Rattle.p3_driver_core.specs.Turns.{IsOtherLength, longer_list, another_length};
+ghost use Rattle.p3_driver_core.specs.Transcripts.{algebra_step, bytes_step, uniform_bits_step, halted_player};
+ghost use Rattle.p3_driver_core.specs.Transcripts.{RefusesLength, RefusesCarried};
+ghost use Rattle.p3_driver_core.specs.Transcripts.{IsOtherLength, longer_list, another_length};
 
 use crate::algebras::Algebras;
 use p3_field_core::{AlgebraIdentity, Named};

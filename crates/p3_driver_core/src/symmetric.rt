@@ -1,11 +1,11 @@
 //! The steps that a prover and a verifier play alike, for code that plays either side.
 ghost use Rattle.std.specs.Prelude.{◌≡◌, ◌≤◌, ℕ, true, List, IsOk, IfOk, IfErr, vec_len};
 ghost use Rattle.p3_fs_core.specs.Steps.{marker_of};
-ghost use Rattle.p3_driver_core.specs.Bound.{value_of, values_of};
+ghost use Rattle.p3_driver_core.specs.Bound.{bound_value, bound_values};
 ghost use Rattle.p3_driver_core.specs.Meanings as meaning;
 ghost use Rattle.p3_driver_core.specs.Rejecting.{Rule, Computes, drawn_rejecting};
-ghost use Rattle.p3_driver_core.specs.Turns.{Turn, PlaysOrRefuses, KeepsOrder, IsNext, halted, algebra_step};
-ghost use Rattle.p3_driver_core.specs.Turns.{opaque_step, uniform_bits_step};
+ghost use Rattle.p3_driver_core.specs.Transcripts.{Transcript, PlaysOrRefuses, KeepsOrder, IsNext, halted, algebra_step};
+ghost use Rattle.p3_driver_core.specs.Transcripts.{opaque_step, uniform_bits_step};
 
 use crate::TranscriptBound;
 use p3_challenger_core::{CanObserve, Sponge};
@@ -33,7 +33,7 @@ pub trait SymmetricSteps: Driver {
     type Digest: DigestHasher;
 
     // Its challenger, and its pattern as it is played.
-    ghost turn: { Self → Turn Self.Challenger.State };
+    ghost transcript: { Self → Transcript Self.Challenger.State };
 
     // The bytes of the proof that were written, or that are left to read.
     ghost bytes: { Self → List ℕ };
@@ -42,25 +42,25 @@ pub trait SymmetricSteps: Driver {
     ///
     /// Not in the Rust crate.
     fn halt(&mut self)
-        ensures turn { turn self.new ≡ halted (turn self.old) }
+        ensures transcript { transcript self.new ≡ halted (transcript self.old) }
         ensures bytes { bytes self.new ≡ bytes self.old };
 
     /// Opens a container that may hold steps of any kind. It takes no memory.
     fn begin_protocol<T: Named>(&mut self, label: Label) -> Result<(), TranscriptError>
         ensures played { PlaysOrRefuses (meaning.marked {Symbol = Self.Challenger.Symbol}
             (marker_of Hierarchy.Begin Kind.Protocol label.now T.name_bytes))
-            (turn self.old) (λ _. tt {0}) result (turn self.new) }
+            (transcript self.old) (λ _. tt {0}) result (transcript self.new) }
         ensures bytes { bytes self.new ≡ bytes self.old }
-        ensures only { IsNext (turn self.old).playing
+        ensures only { IsNext (transcript self.old).playing
             (marker_of Hierarchy.Begin Kind.Protocol label.now T.name_bytes) → IsOk result };
 
     /// Closes a container that may hold steps of any kind. It takes no memory.
     fn end_protocol<T: Named>(&mut self, label: Label) -> Result<(), TranscriptError>
         ensures played { PlaysOrRefuses (meaning.marked {Symbol = Self.Challenger.Symbol}
             (marker_of Hierarchy.End Kind.Protocol label.now T.name_bytes))
-            (turn self.old) (λ _. tt {0}) result (turn self.new) }
+            (transcript self.old) (λ _. tt {0}) result (transcript self.new) }
         ensures bytes { bytes self.new ≡ bytes self.old }
-        ensures only { IsNext (turn self.old).playing
+        ensures only { IsNext (transcript self.old).playing
             (marker_of Hierarchy.End Kind.Protocol label.now T.name_bytes) → IsOk result };
 
     /// Observes a value as the challenger itself knows how.
@@ -76,7 +76,7 @@ pub trait SymmetricSteps: Driver {
         requires { (copy : T) → T.is_clone value copy → copy ≡ value }
         ensures played { PlaysOrRefuses
             (meaning.observed (opaque_step Kind.Message label.now Length.Scalar) Self.Challenger.observation value)
-            (turn self.old) value_of result (turn self.new) }
+            (transcript self.old) bound_value result (transcript self.new) }
         ensures bytes { bytes self.new ≡ bytes self.old };
 
     /// Observes one element of an extension that the proof does not carry.
@@ -89,7 +89,7 @@ pub trait SymmetricSteps: Driver {
             (Self.Digest.digest_of EF.identity) EF.name_bytes Length.Scalar in
             PlaysOrRefuses (meaning.observed step
             ⟦<ExtensionFieldCodec<F, EF, Cdc> as Codec<Self::Challenger, EF>>⟧.observation value.now)
-            (turn self.old) value_of result (turn self.new) }
+            (transcript self.old) bound_value result (transcript self.new) }
         ensures bytes { bytes self.new ≡ bytes self.old };
 
     /// Draws one element of an extension, coefficient 0 first.
@@ -106,7 +106,7 @@ pub trait SymmetricSteps: Driver {
             (Self.Digest.digest_of EF.identity) EF.name_bytes Length.Scalar in
             PlaysOrRefuses (meaning.drawn {Symbol = Self.Challenger.Symbol} step
             ⟦<ExtensionFieldCodec<F, EF, Cdc> as Codec<Self::Challenger, EF>>⟧.sampling)
-            (turn self.old) value_of result (turn self.new) }
+            (transcript self.old) bound_value result (transcript self.new) }
         ensures bytes { bytes self.new ≡ bytes self.old };
 
     /// Draws elements of an extension until the rule `accept` has taken `n`, and answers these in order.
@@ -139,13 +139,13 @@ pub trait SymmetricSteps: Driver {
             (Self.Digest.digest_of EF.identity) EF.name_bytes (Length.Fixed n) in
             PlaysOrRefuses (drawn_rejecting {Symbol = Self.Challenger.Symbol} step
             ⟦<ExtensionFieldCodec<F, EF, Cdc> as Codec<Self::Challenger, EF>>⟧.sampling rule limit n)
-            (turn self.old) values_of result (turn self.new) }
+            (transcript self.old) bound_values result (transcript self.new) }
         ensures order { let step = algebra_step Kind.Challenge label.now F.residues.order EF.DIMENSION
             (Self.Digest.digest_of EF.identity) EF.name_bytes (Length.Fixed n) in
-            KeepsOrder step (turn self.old) result (turn self.new) }
+            KeepsOrder step (transcript self.old) result (transcript self.new) }
         ensures count { IfOk result (λ bounds. vec_len bounds ≡ n) }
         ensures bytes { bytes self.new ≡ bytes self.old }
-        ensures spent { IfErr result (λ _. (turn self.new).playing.finished ≡ true) };
+        ensures spent { IfErr result (λ _. (transcript self.new).playing.finished ≡ true) };
 
     /// Draws `n` numbers of `width` uniform bits: another value is drawn in the place of one that is rejected.
     ///
@@ -160,9 +160,9 @@ pub trait SymmetricSteps: Driver {
         Self::Challenger: CanSampleUniformBits<F>,
         requires { width ≤ Self.Challenger.most_bits }
         ensures played { PlaysOrRefuses
-            (meaning.drawn_all {Symbol = Self.Challenger.Symbol} (uniform_bits_step label.now width (Length.Fixed n))
+            (meaning.drawn_list {Symbol = Self.Challenger.Symbol} (uniform_bits_step label.now width (Length.Fixed n))
             (Self.Challenger.uniform true width).draw n)
-            (turn self.old) values_of result (turn self.new) }
+            (transcript self.old) bound_values result (transcript self.new) }
         ensures count { IfOk result (λ bounds. vec_len bounds ≡ n) }
         ensures bytes { bytes self.new ≡ bytes self.old };
 }

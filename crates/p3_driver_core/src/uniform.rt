@@ -1,7 +1,7 @@
 //! Numbers of uniform bits, drawn one after another, and until a rule has taken so many.
 ghost use Rattle.std.specs.Prelude.{◌≡◌, ◌≤◌, ◌↔◌, ℕ, true, List, [], Some, OnOk, IfOk, IfErr, vec_len};
 ghost use Rattle.p3_challenger_core.specs.Sampling.{draws, after_draws, RefusesDraw, RefusesDrawVec};
-ghost use Rattle.p3_driver_core.specs.Bound.{values_of};
+ghost use Rattle.p3_driver_core.specs.Bound.{bound_values};
 ghost use Rattle.p3_driver_core.specs.Rejecting.{Rule, ComputesOfValues, Takes, TakesAll};
 ghost use Rattle.p3_driver_core.specs.Rejecting.{given, keeps, KeepsFirst};
 
@@ -42,7 +42,7 @@ pub fn draw_uniform_numbers<F, C: CanSampleUniformBits<F>>(
 ) -> Result<Vec<TranscriptBound<usize>>, ChallengerError>
     requires { width ≤ C.most_bits }
     ensures drawn { IfOk result (λ bounds.
-        draws (C.uniform true width).draw n (C.state challenger.old) ≡ Some (values_of bounds)) }
+        draws (C.uniform true width).draw n (C.state challenger.old) ≡ Some (bound_values bounds)) }
     ensures after { OnOk result (
         C.state challenger.new ≡ after_draws (C.uniform true width).draw n (C.state challenger.old)) }
     ensures err { IfErr result (λ e.
@@ -96,7 +96,7 @@ pub fn draw_accepted_numbers<F, C: CanSampleUniformBits<F>, R: Fn(usize, &[usize
     requires within { width ≤ C.most_bits }
     requires callable { R.IsAlwaysCallable accept.now }
     ensures kept { (rule : Rule ℕ) → ComputesOfValues R.Fn accept.now rule → TakesAll (C.uniform true width).draw rule
-        limit n values_of (C.state challenger.old) result (C.state challenger.new) }
+        limit n bound_values (C.state challenger.old) result (C.state challenger.new) }
     ensures count { IfOk result (λ bounds. vec_len bounds ≡ n) }
 {
     let mut bounds = Vec::with_capacity(alloc, n)?;

@@ -20,7 +20,7 @@ use Rattle.p3_patterns.specs.Playing.{Playing, next_step}
 use Rattle.p3_driver_core.specs.Counts.{count_width}
 use Rattle.p3_driver_core.specs.Effects.{Alphabet, alphabet_of}
 use Rattle.p3_driver_core.specs.Meanings.{sent_bounded, sent_bytes_bounded, hinted}
-use Rattle.p3_driver_core.specs.Turns.{Meaning, IsNext, step_on, algebra_step}
+use Rattle.p3_driver_core.specs.Transcripts.{Meaning, IsNext, step_on, algebra_step}
 use Rattle.p3_driver_core.specs.Working.{Work, work_of, sent_work, RefusesToGrind}
 use Rattle.p3_driver_core.specs.Driving.{Driving}
 use Rattle.p3_driver_core.specs.Proving.{Writes, RefusesToWrite, RefusesLongList, Unwritten}
@@ -48,7 +48,7 @@ two_numbers =
 -- a prover whose challenger was fed 9, and which has written the byte aa; and one later
 abbrev proving : Playing → List ℕ → List ℕ → Driving (List ℕ)
 proving playing challenger narg =
-    record { turn = record { challenger = challenger; playing = playing }; bytes = narg }
+    record { transcript = record { challenger = challenger; playing = playing }; bytes = narg }
 
 abbrev before : Playing → Driving (List ℕ)
 before playing = proving playing (9 ∷ []) (0xaa ∷ [])
@@ -200,7 +200,7 @@ seven_cut playing next =
       memory = refl;
       witness = 7;
       least = seven_is_least;
-      gives_up = record { is_next = next; leaves = refl; finished = refl };
+      abandons = record { is_next = next; leaves = refl; finished = refl };
       wire = (1, refl);
     }
 
@@ -221,6 +221,6 @@ hopeless =
     (λ _. unrefused_draw (λ s. Some 1) (λ s. 0 ∷ s)) 1
 
 none_found : (playing : Playing) → IsNext playing hopeless.interaction →
-    RefusesToGrind hopeless (λ _. ⊥) (before playing).turn (Challenger NoWitness) (before (closed playing)).turn
+    RefusesToGrind hopeless (λ _. ⊥) (before playing).transcript (Challenger NoWitness) (before (closed playing)).transcript
 none_found playing next =
     record { is_next = next; leaves = (λ n h e. differs e, refl); finished = refl }

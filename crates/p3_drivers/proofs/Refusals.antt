@@ -12,19 +12,19 @@ use Rattle.p3_challenger_core.specs.Observation.{Observation, observed_all}
 use Rattle.p3_fs_core.specs.Encoding.{Encoding}
 use Rattle.p3_driver_core.specs.Counts.{count_bytes}
 use Rattle.p3_driver_core.specs.Effects.{Effect, Alphabet, observing_bytes}
-use Rattle.p3_driver_core.specs.Turns.{IsNext, GivesUp, step_on}
+use Rattle.p3_driver_core.specs.Transcripts.{IsNext, Abandons, step_on}
 use Rattle.p3_drivers.proofs.ValuesInTurn.{values-as_many}
 use Rattle.p3_driver_core.specs.Reads.{Read, Reading, FailsFor, FailsForList, reading_first, then_read}
 use Rattle.p3_driver_core.specs.Reads.{absorbed_first}
-use Rattle.p3_driver_core.specs.Reads.{read_values, read_count, LeavesValues, received_all, received_bounded}
+use Rattle.p3_driver_core.specs.Reads.{read_values, read_count, LeavesValues, received_list, received_bounded}
 use Rattle.p3_driver_core.specs.Reads.{message_too_long}
 use Rattle.p3_driver_core.specs.Driving.{Driving}
 use Rattle.p3_driver_core.specs.Verifying.{Receives, RefusesToRead}
 
 -- nothing was read, and nothing done
 pub not-read : {S Symbol A : Type 0} (r : Reading S Symbol A) (before after : Driving S) (e : TranscriptError) →
-    IsNext before.turn.playing r.interaction → FailsFor (r.read before.bytes) after.bytes e →
-    after.turn.challenger ≡ before.turn.challenger → after.turn.playing.finished ≡ true → RefusesToRead r before e after
+    IsNext before.transcript.playing r.interaction → FailsFor (r.read before.bytes) after.bytes e →
+    after.transcript.challenger ≡ before.transcript.challenger → after.transcript.playing.finished ≡ true → RefusesToRead r before e after
 not-read r before after (MissingBegin info) is_next fails same finished = absurd fails
 not-read r before after (InvalidKind info) is_next fails same finished = absurd fails
 not-read r before after (MismatchedBeginEnd info) is_next fails same finished = absurd fails
@@ -46,41 +46,41 @@ not-read r before after OutOfMemory is_next fails same finished = absurd fails
 
 by_error : {S Symbol A : Type 0} (interaction : Step) (read : List ℕ → Read S A)
     (effect : A → Effect S Symbol A) (before after : Driving S) (x : A) (e : ChallengerError) →
-    read before.bytes ≡ Ok (x, after.bytes) → GivesUp interaction before.turn ((effect x).refuses e) after.turn →
+    read before.bytes ≡ Ok (x, after.bytes) → Abandons interaction before.transcript ((effect x).refuses e) after.transcript →
     RefusesToRead (reading_first interaction read effect) before (transcript_error e) after
 by_error interaction read effect before after x challenger.OutOfMemory found given =
     record { is_next = given.is_next; leaves = (x, found, inr (inr given.leaves)); finished = given.finished }
 by_error interaction read effect before after x challenger.DrawLimit found given =
-    record { value = x; read = found; gives_up = given }
+    record { value = x; read = found; abandons = given }
 by_error interaction read effect before after x challenger.NoWitness found given =
-    record { value = x; read = found; gives_up = given }
+    record { value = x; read = found; abandons = given }
 by_error interaction read effect before after x challenger.TooLong found given =
-    record { value = x; read = found; gives_up = given }
+    record { value = x; read = found; abandons = given }
 
 -- all was read, and the challenger refuses it
 pub refused-after_read : {S Symbol A : Type 0} (interaction : Step) (read : List ℕ → Read S A)
     (effect : A → Effect S Symbol A) (before after : Driving S) (x : A) (e : ChallengerError) (here : S) →
-    IsNext before.turn.playing interaction → read before.bytes ≡ Ok (x, after.bytes) →
-    here ≡ before.turn.challenger →
-    (effect x).refuses e here after.turn.challenger →
-    after.turn.playing.finished ≡ true →
+    IsNext before.transcript.playing interaction → read before.bytes ≡ Ok (x, after.bytes) →
+    here ≡ before.transcript.challenger →
+    (effect x).refuses e here after.transcript.challenger →
+    after.transcript.playing.finished ≡ true →
     RefusesToRead (reading_first interaction read effect) before (transcript_error e) after
 refused-after_read {S} interaction read effect before after x e here is_next found same refuses finished =
-    let from_before = subst (λ (s : S). (effect x).refuses e s after.turn.challenger) same refuses in
-    let gives_up : GivesUp interaction before.turn ((effect x).refuses e) after.turn =
+    let from_before = subst (λ (s : S). (effect x).refuses e s after.transcript.challenger) same refuses in
+    let abandons : Abandons interaction before.transcript ((effect x).refuses e) after.transcript =
     record { is_next = is_next; leaves = from_before; finished = finished } in
-    by_error interaction read effect before after x e found gives_up
+    by_error interaction read effect before after x e found abandons
 
 -- ---- lists
 
 module _ {S Symbol A : Type 0} (interaction : Step) (o : Observation S Symbol A) (enc : Encoding A) (before after :
-    Driving S) (is_next : IsNext before.turn.playing interaction)
-    (finished : after.turn.playing.finished ≡ true) where
+    Driving S) (is_next : IsNext before.transcript.playing interaction)
+    (finished : after.transcript.playing.finished ≡ true) where
   -- a list is refused
   pub list-refused : (n : ℕ) (err : TranscriptError) →
       FailsForList (read_values enc o.observed n before.bytes) (LeavesValues enc o n before.bytes)
-      before.turn.challenger after.bytes after.turn.challenger err →
-      RefusesToRead (received_all interaction o enc n) before err after
+      before.transcript.challenger after.bytes after.transcript.challenger err →
+      RefusesToRead (received_list interaction o enc n) before err after
   list-refused n (MissingBegin info) fails = absurd fails
   list-refused n (InvalidKind info) fails = absurd fails
   list-refused n (MismatchedBeginEnd info) fails = absurd fails
@@ -121,7 +121,7 @@ module _ {S Symbol A : Type 0} (interaction : Step) (o : Observation S Symbol A)
         (found : read_count {S = S} message_too_long max before.bytes ≡ Ok (n, rest)) where
       -- the count is refused for memory
       pub count-refused : after.bytes ≡ rest → (e : ChallengerError) → e ≡ challenger.OutOfMemory →
-          (observing_bytes alphabet (count_bytes max n)).refuses e before.turn.challenger after.turn.challenger →
+          (observing_bytes alphabet (count_bytes max n)).refuses e before.transcript.challenger after.transcript.challenger →
           RefusesToRead (received_bounded interaction alphabet max o enc) before (transcript_error e) after
       count-refused left challenger.OutOfMemory is refuses =
           record { is_next = is_next; leaves = (n, rest, found, inl (left, refuses)); finished = finished }
@@ -139,9 +139,9 @@ module _ {S Symbol A : Type 0} (interaction : Step) (o : Observation S Symbol A)
 
       -- the values after it are refused
       pub values-refused : (here : S) (err : TranscriptError) →
-          here ≡ (observing_bytes alphabet (count_bytes max n)).after before.turn.challenger →
+          here ≡ (observing_bytes alphabet (count_bytes max n)).after before.transcript.challenger →
           FailsForList (read_values enc o.observed n rest) (LeavesValues enc o n rest) here after.bytes
-          after.turn.challenger err →
+          after.transcript.challenger err →
           RefusesToRead (received_bounded interaction alphabet max o enc) before err after
       values-refused here (MissingBegin info) is fails = absurd fails
       values-refused here (InvalidKind info) is fails = absurd fails
@@ -165,19 +165,19 @@ module _ {S Symbol A : Type 0} (interaction : Step) (o : Observation S Symbol A)
       values-refused here (Challenger e) is fails = absurd fails
       values-refused here LabelTooLong is fails = absurd fails
       values-refused here OutOfMemory is fails =
-          let leaves = subst (λ s. LeavesValues enc o n rest s after.bytes after.turn.challenger) is fails in
+          let leaves = subst (λ s. LeavesValues enc o n rest s after.bytes after.transcript.challenger) is fails in
           record { is_next = is_next; leaves = (n, rest, found, inr leaves); finished = finished }
 
 -- a list is received after its count
 pub values-received : {S Symbol I A : Type 0} (interaction : Step) (o : Observation S Symbol A) (enc : Encoding A)
     (alphabet : Alphabet S Symbol I) (max : ℕ) (before after : Driving S) (n : ℕ) (rest : List ℕ) (xs : List A)
-    (here : S) → IsNext before.turn.playing interaction →
+    (here : S) → IsNext before.transcript.playing interaction →
     read_count {S = S} message_too_long max before.bytes ≡ Ok (n, rest) →
     (alphabet.is_too_long (length (count_bytes max n)) → ⊥) →
-    here ≡ (observing_bytes alphabet (count_bytes max n)).after before.turn.challenger →
-    read_values enc o.observed n rest ≡ Ok (xs, after.bytes) → after.turn.challenger ≡ observed_all o.observed here
+    here ≡ (observing_bytes alphabet (count_bytes max n)).after before.transcript.challenger →
+    read_values enc o.observed n rest ≡ Ok (xs, after.bytes) → after.transcript.challenger ≡ observed_all o.observed here
     xs →
-    after.turn.playing ≡ step_on before.turn.playing →
+    after.transcript.playing ≡ step_on before.transcript.playing →
     Receives (received_bounded interaction alphabet max o enc) before xs after
 values-received interaction o enc alphabet max before after n rest xs here is_next found fits is read observed playing =
     let many : length xs ≡ n = values-as_many enc o n rest xs after.bytes read in
@@ -193,7 +193,7 @@ values-received interaction o enc alphabet max before after n rest xs here is_ne
           observed
           ∙ ap (λ s. observed_all o.observed s xs) is
           ∙ ap (λ m. observed_all o.observed
-          ((observing_bytes alphabet (count_bytes max m)).after before.turn.challenger) xs) (sym many);
+          ((observing_bytes alphabet (count_bytes max m)).after before.transcript.challenger) xs) (sym many);
       playing = playing;
     }
 

@@ -16,9 +16,9 @@ use Rattle.p3_fs_core.specs.declared.step.Length.TheVariants.{Scalar, Fixed, Bou
 use Rattle.p3_patterns.specs.Playing.{Playing, IsPlayed}
 use Rattle.p3_driver_core.specs.Counts.{count_width}
 use Rattle.p3_driver_core.specs.Effects.{Alphabet, alphabet_of}
-use Rattle.p3_driver_core.specs.Turns.{IsNext, step_on, algebra_step}
+use Rattle.p3_driver_core.specs.Transcripts.{IsNext, step_on, algebra_step}
 use Rattle.p3_driver_core.specs.Working.{Work, work_of}
-use Rattle.p3_driver_core.specs.Reads.{Read, Reading, read_each, received, received_all, received_bounded}
+use Rattle.p3_driver_core.specs.Reads.{Read, Reading, read_each, received, received_list, received_bounded}
 use Rattle.p3_driver_core.specs.Reads.{received_bytes, received_bytes_bounded, hint_received_bounded, received_work}
 use Rattle.p3_driver_core.specs.Driving.{Driving}
 use Rattle.p3_driver_core.specs.Verifying.{Receives, ReadsNothing, FailsWork, EndsReading, RefusesEnd}
@@ -65,7 +65,7 @@ short = refl
 -- ---- lists
 
 abbrev read_two : List ℕ → Read (List ℕ) (List ℕ)
-read_two = (received_all (step_of (Fixed 2)) kept spelled 2).read
+read_two = (received_list (step_of (Fixed 2)) kept spelled 2).read
 
 two_read : read_two (0 ∷ 0 ∷ 0 ∷ 7 ∷ 0x78 ∷ 0 ∷ 0 ∷ 0 ∷ []) ≡ Ok (7 ∷ 2013265920 ∷ [], [])
 unfolding read_each
@@ -183,7 +183,7 @@ salt_short = refl
 -- a verifier whose challenger was fed 9, and what it has left to read
 abbrev verifying : Playing → List ℕ → List ℕ → Driving (List ℕ)
 verifying playing challenger unread =
-    record { turn = record { challenger = challenger; playing = playing }; bytes = unread }
+    record { transcript = record { challenger = challenger; playing = playing }; bytes = unread }
 
 abbrev before : Playing → List ℕ → Driving (List ℕ)
 before playing unread = verifying playing (9 ∷ []) unread
@@ -272,7 +272,7 @@ eight_fails playing reason next is =
       read = refl;
       fails = record {
         told = is;
-        gives_up = record { is_next = next; leaves = (refl, refl); finished = refl };
+        abandons = record { is_next = next; leaves = (refl, refl); finished = refl };
       };
     }
 

@@ -19,7 +19,7 @@ ghost use Rattle.p3_challenger_core.specs.Reading.{AreBytes};
 ghost use Rattle.p3_domain_separator.specs.SeparatorSeed.{seed_of_separator, pattern_of};
 ghost use Rattle.p3_driver_core.specs.Driving.{RefusesStart};
 ghost use Rattle.p3_driver_core.specs.Reads.{trailing_bytes};
-ghost use Rattle.p3_driver_core.specs.Turns.{halted};
+ghost use Rattle.p3_driver_core.specs.Transcripts.{halted};
 ghost use Rattle.p3_driver_core.specs.Verifying.{EndsReading, RefusesEnd};
 ghost use Rattle.p3_drivers.specs.DriverLends.{lends_challenger};
 ghost use Rattle.p3_drivers.specs.Drivers.{driving_of, proving_of, verifying_of};
@@ -114,7 +114,7 @@ impl<U: Unit, C: CanObserve<U::Item> + Drop, D: DigestHasher> ProverState<C, U, 
         requires { U.is_alphabet }
         ensures ok { let seed = seed_of_separator D.digest_of separator.now in
             IfOk result (λ prover. proving_of C.state prover ≡ record {
-              turn = record {
+              transcript = record {
                 challenger = observed_all C.observation.observed (C.state challenger) (U.items seed);
                 playing = record { pattern = pattern_of separator.now; position = 0; finished = false };
               };
@@ -146,7 +146,7 @@ impl<'a, U: Unit, C: CanObserve<U::Item> + Drop, D: DigestHasher> VerifierState<
         requires { U.is_alphabet }
         ensures ok { let seed = seed_of_separator D.digest_of separator.now in
             IfOk result (λ verifier. verifying_of C.state verifier ≡ record {
-              turn = record {
+              transcript = record {
                 challenger = observed_all C.observation.observed (C.state challenger) (U.items seed);
                 playing = record { pattern = pattern_of separator.now; position = 0; finished = false };
               };
@@ -172,7 +172,7 @@ impl<U: Unit, C: CanObserve<U::Item> + Drop, D: DigestHasher, P: Tape> DriverSta
         requires { U.is_alphabet }
         ensures ok { let seed = seed_of_separator D.digest_of separator.now in
             IfOk result (λ driver. driving_of C.state P.bytes driver ≡ record {
-              turn = record {
+              transcript = record {
                 challenger = observed_all C.observation.observed (C.state challenger) (U.items seed);
                 playing = record { pattern = pattern_of separator.now; position = 0; finished = false };
               };
@@ -198,7 +198,7 @@ impl<U: Unit, C: CanObserve<U::Item> + Drop, D: DigestHasher, P: Tape> DriverSta
 impl<C: Sponge, U, D: DigestHasher, P: Tape> DriverState<C, U, D, P> {
     /// The challenger.
     pub fn challenger(&self) -> &C
-        ensures { C.state result.now ≡ (driving_of C.state P.bytes self.now).turn.challenger }
+        ensures { C.state result.now ≡ (driving_of C.state P.bytes self.now).transcript.challenger }
     {
         &self.challenger
     }
@@ -210,7 +210,7 @@ impl<C: Sponge, U, D: DigestHasher, P: Tape> DriverState<C, U, D, P> {
     /// two sides draw the same challenges only if both callers made the same changes between the same steps.
     pub fn challenger_mut(&mut self) -> &mut C
         ensures* writes_back { sem 𝓛 (lends_challenger C.row U.row D.row P.row D.DigestHasher self.entry result) }
-        ensures lent { C.state result.now ≡ (driving_of C.state P.bytes self.old).turn.challenger }
+        ensures lent { C.state result.now ≡ (driving_of C.state P.bytes self.old).transcript.challenger }
     {
         &mut self.challenger
     }
@@ -221,7 +221,7 @@ impl<C: Sponge, U, D: DigestHasher, P: Tape> DriverState<C, U, D, P> {
     /// Each step, and the end, is refused with [`PatternError::Finished`](p3_fs_core::PatternError::Finished) from then
     /// on. The challenger stays as it is, and the bytes of the proof. Not in the Rust crate.
     pub fn halt(&mut self)
-        ensures turn { (driving_of C.state P.bytes self.new).turn ≡ halted (driving_of C.state P.bytes self.old).turn }
+        ensures transcript { (driving_of C.state P.bytes self.new).transcript ≡ halted (driving_of C.state P.bytes self.old).transcript }
         ensures bytes { (driving_of C.state P.bytes self.new).bytes ≡ (driving_of C.state P.bytes self.old).bytes }
     {
         self.steps.halt();
@@ -260,11 +260,11 @@ impl<C: Sponge + Drop, U, D: DigestHasher> ProverState<C, U, D> {
     /// [`PatternError::Unplayed`](p3_fs_core::PatternError::Unplayed) with the next step where there is one. It takes
     /// no memory. The Rust crate panics in their place.
     pub fn finalize(self) -> Result<Vec<u8>, TranscriptError>
-        ensures ok { IfOk result (λ narg. IsPlayed (proving_of C.state self).turn.playing
+        ensures ok { IfOk result (λ narg. IsPlayed (proving_of C.state self).transcript.playing
             × (narg.items ≡ (proving_of C.state self).bytes)) }
         ensures err { IfErr result (λ e.
-            IsPatternError (λ m. FaultOfPlayEnd (proving_of C.state self).turn.playing (misfit_of m)) e) }
-        ensures only { IsPlayed (proving_of C.state self).turn.playing → IsOk result }
+            IsPatternError (λ m. FaultOfPlayEnd (proving_of C.state self).transcript.playing (misfit_of m)) e) }
+        ensures only { IsPlayed (proving_of C.state self).transcript.playing → IsOk result }
     {
         let (narg, _challenger) = self.finish()?;
         Ok(narg)
@@ -274,12 +274,12 @@ impl<C: Sponge + Drop, U, D: DigestHasher> ProverState<C, U, D> {
     ///
     /// The errors are those of [`finalize`](ProverState::finalize). Not in the Rust crate.
     pub fn finish(self) -> Result<(Vec<u8>, C), TranscriptError>
-        ensures ok { IfOk result (λ end. IsPlayed (proving_of C.state self).turn.playing
+        ensures ok { IfOk result (λ end. IsPlayed (proving_of C.state self).transcript.playing
             × (end.0.items ≡ (proving_of C.state self).bytes)
-            × (C.state end.1 ≡ (proving_of C.state self).turn.challenger)) }
+            × (C.state end.1 ≡ (proving_of C.state self).transcript.challenger)) }
         ensures err { IfErr result (λ e.
-            IsPatternError (λ m. FaultOfPlayEnd (proving_of C.state self).turn.playing (misfit_of m)) e) }
-        ensures only { IsPlayed (proving_of C.state self).turn.playing → IsOk result }
+            IsPatternError (λ m. FaultOfPlayEnd (proving_of C.state self).transcript.playing (misfit_of m)) e) }
+        ensures only { IsPlayed (proving_of C.state self).transcript.playing → IsOk result }
     {
         let DriverState {
             challenger,
@@ -332,7 +332,7 @@ impl<'a, C: Sponge + Drop, U, D: DigestHasher> VerifierState<'a, C, U, D> {
     /// The errors are those of [`finalize`](VerifierState::finalize). Not in the Rust crate.
     pub fn finish(self) -> Result<C, TranscriptError>
         ensures ok { IfOk result (λ challenger. EndsReading (verifying_of C.state self.entry)
-            × (C.state challenger ≡ (verifying_of C.state self.entry).turn.challenger)) }
+            × (C.state challenger ≡ (verifying_of C.state self.entry).transcript.challenger)) }
         ensures err { IfErr result (RefusesEnd (verifying_of C.state self.entry)) }
         ensures only { EndsReading (verifying_of C.state self.entry) → IsOk result }
     {

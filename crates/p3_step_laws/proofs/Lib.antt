@@ -9,3 +9,4 @@ pub mod ReadOnly
 pub mod SpelledLaws
 pub mod WorkMirrors
 pub mod WorkReasons
+pub mod WorkedRows

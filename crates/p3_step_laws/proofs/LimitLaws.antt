@@ -7,7 +7,7 @@ use Rattle.p3_challenger_core.specs.SamplingLaws.{in_row-is_sampling, refused-in
 use Rattle.p3_challenger_core.specs.declared.error.ChallengerError.TheVariants.{DrawLimit, NoWitness, TooLong}
 use Rattle.p3_grinding.specs.CheckLaws.{LimitGivesNone}
 use Rattle.p3_driver_core.specs.Effects.{Alphabet, untouched, observing, observing_bytes}
-use Rattle.p3_driver_core.specs.Effects.{drawing, drawing_all, in_turn}
+use Rattle.p3_driver_core.specs.Effects.{drawing, drawing_list, in_sequence}
 use Rattle.p3_driver_core.specs.Rejecting.{Rule, given, go_on, taken, RefusesTaken, keeps, RefusesKeeps}
 use Rattle.p3_driver_core.specs.Rejecting.{drawing_rejecting}
 use Rattle.p3_driver_core.specs.Working.{Work, checking, where_passed}
@@ -40,7 +40,7 @@ module _ {S Symbol : Type 0} where
 
   -- a count, and then values
   pub counted-tell : {I A : Type 0} (a : Alphabet S Symbol I) (count : List ℕ) (o : Observation S Symbol A) (x : A) →
-      TellsLimits (in_turn (observing_bytes a count) (observing o x))
+      TellsLimits (in_sequence (observing_bytes a count) (observing o x))
   counted-tell a count o x =
       record {
         limit = λ s t. elim [ inl h ↦ absurd h | inr h ↦ absurd h ];
@@ -50,7 +50,7 @@ module _ {S Symbol : Type 0} where
 
   -- a count, and then bytes
   pub counted_bytes-tell : {I : Type 0} (a : Alphabet S Symbol I) (count bytes : List ℕ) →
-      TellsLimits (in_turn (observing_bytes a count) (observing_bytes a bytes))
+      TellsLimits (in_sequence (observing_bytes a count) (observing_bytes a bytes))
   counted_bytes-tell a count bytes =
       record {
         limit = λ s t. elim [ inl h ↦ absurd h | inr h ↦ absurd h ];
@@ -82,8 +82,8 @@ module _ {S : Type 0} (next : S → S) {T : Type 0} (d : Sampling S T) (laws : I
   row-witness n s t (inl h) = h
   row-witness n s t (inr h) = refused-in_row next d laws n NoWitness s t h
 
-  pub drawing_all-tells : {Symbol : Type 0} (n : ℕ) → TellsLimits (drawing_all {Symbol = Symbol} d n)
-  drawing_all-tells n =
+  pub drawing_list-tells : {Symbol : Type 0} (n : ℕ) → TellsLimits (drawing_list {Symbol = Symbol} d n)
+  drawing_list-tells n =
       record {
         limit = row-limit n;
         too_long = λ s t h fits. row-long n s t h;

@@ -1,4 +1,4 @@
--- From one turn, a step is refused for one reason that may be refused first for the length of a list.
+-- From one state, a step is refused for one reason that may be refused first for the length of a list.
 use Rattle.std.proofs.Common.{◌≡◌, ◌⊎◌, ◌≤◌, ℕ, List, true, false, sym, ap, ◌∙◌, inl, inr, arith}
 use Rattle.p3_fs_core.specs.Errors.{refusal_of, misfit, bad_proof_shape, Refusal}
 use Rattle.p3_fs_core.specs.Steps.{Step}
@@ -6,7 +6,7 @@ use Rattle.p3_fs_core.specs.declared.error.PatternError.TheVariants.{Finished, O
 use Rattle.p3_fs_core.specs.declared.error.TranscriptError.{TranscriptError}
 use Rattle.p3_fs_core.specs.declared.error.TranscriptError.TheVariants.{OutOfMemory}
 use Rattle.p3_patterns.specs.Playing.{Playing}
-use Rattle.p3_driver_core.specs.Turns.{Meaning, Turn, Refuses, RefusesLength}
+use Rattle.p3_driver_core.specs.Transcripts.{Meaning, Transcript, RefusesStep, RefusesLength}
 use Rattle.p3_driver_core.specs.Driving.{Driving}
 use Rattle.p3_driver_core.specs.Verifying.{RefusesCarriedList}
 use Rattle.p3_step_laws.proofs.OneReason.{Cause, Tells, both_ways, bad_shape, refused-cause, refused-one_reason}
@@ -26,23 +26,23 @@ First playing IsRight said e =
     ⊎ ((playing.finished ≡ false) × (IsRight → ⊥) × (refusal_of e ≡ said))
 
 module _ {S Symbol A : Type 0} (m : Meaning S Symbol A) (told : S → Refusal) (tells : Tells m.effect told) where
-  module _ {V : Type 0} (turn : V → Turn S) (RefusedFirst : V → TranscriptError → V → Type 0) (IsRight : V → Type 0)
+  module _ {V : Type 0} (transcript : V → Transcript S) (RefusedFirst : V → TranscriptError → V → Type 0) (IsRight : V → Type 0)
       (said : Refusal)
-      (first : (v w : V) (e : TranscriptError) → RefusedFirst v e w → First (turn v).playing (IsRight v) said e) where
+      (first : (v w : V) (e : TranscriptError) → RefusedFirst v e w → First (transcript v).playing (IsRight v) said e) where
     abbrev pub Refused : V → TranscriptError → V → Type 0
     Refused before e after =
-        RefusedFirst before e after ⊎ (IsRight before × Refuses m (turn before) e (turn after))
+        RefusedFirst before e after ⊎ (IsRight before × RefusesStep m (transcript before) e (transcript after))
 
-    first_and_step : (start other : V) (e f : TranscriptError) → First (turn start).playing (IsRight start) said e →
-        IsRight start → Refuses m (turn start) f (turn other) → (f ≡ OutOfMemory → ⊥) → refusal_of e ≡ refusal_of f
+    first_and_step : (start other : V) (e f : TranscriptError) → First (transcript start).playing (IsRight start) said e →
+        IsRight start → RefusesStep m (transcript start) f (transcript other) → (f ≡ OutOfMemory → ⊥) → refusal_of e ≡ refusal_of f
     first_and_step start other e f (inl late) right refuses q =
         late.1
-        ∙ sym (finished-told (turn start).playing m.interaction (told (turn start).challenger) f late.0
-        (refused-cause m told tells (turn start) (turn other) f refuses q))
+        ∙ sym (finished-told (transcript start).playing m.interaction (told (transcript start).challenger) f late.0
+        (refused-cause m told tells (transcript start) (transcript other) f refuses q))
     first_and_step start other e f (inr wrong) right refuses q = absurd (wrong.1 right)
 
-    both_first : (start : V) (e f : TranscriptError) → First (turn start).playing (IsRight start) said e →
-        First (turn start).playing (IsRight start) said f → refusal_of e ≡ refusal_of f
+    both_first : (start : V) (e f : TranscriptError) → First (transcript start).playing (IsRight start) said e →
+        First (transcript start).playing (IsRight start) said f → refusal_of e ≡ refusal_of f
     both_first start e f (inl late) (inl again) = late.1 ∙ sym again.1
     both_first start e f (inl late) (inr wrong) = absurd (both_ways late.0 wrong.0)
     both_first start e f (inr wrong) (inl late) = absurd (both_ways late.0 wrong.0)
@@ -56,34 +56,34 @@ module _ {S Symbol A : Type 0} (m : Meaning S Symbol A) (told : S → Refusal) (
     first-one_reason start one other e f (inr a) (inl b) p q =
         sym (first_and_step start one f e (first start other f b) a.0 a.1 p)
     first-one_reason start one other e f (inr a) (inr b) p q =
-        refused-one_reason m told tells (turn start) (turn one) (turn other) e f a.1 b.1 p q
+        refused-one_reason m told tells (transcript start) (transcript one) (transcript other) e f a.1 b.1 p q
 
   -- ---- a list that a verifier's caller carries
 
   module _ (IsWrong IsRight : Playing → Type 0) (apart : (p : Playing) → IsWrong p → IsRight p → ⊥)
       (reason : List ℕ) where
     carried-first : (before after : Driving S) (e : TranscriptError) →
-        RefusesCarriedList (IsWrong before.turn.playing) reason before e after →
-        First before.turn.playing (IsRight before.turn.playing) (bad_proof_shape reason) e
+        RefusesCarriedList (IsWrong before.transcript.playing) reason before e after →
+        First before.transcript.playing (IsRight before.transcript.playing) (bad_proof_shape reason) e
     carried-first before after e h =
         elim h.playing.fault [
           | inl late ↦ inl (late.0, ap refusal_of late.1)
           | inr wrong ↦
-              inr (wrong.0, λ right. apart before.turn.playing wrong.1 right, bad_shape reason e wrong.2)
+              inr (wrong.0, λ right. apart before.transcript.playing wrong.1 right, bad_shape reason e wrong.2)
         ]
 
     pub carried_list-one_reason : TellOneReason (λ (before : Driving S) e (after : Driving S).
-        RefusesCarriedList (IsWrong before.turn.playing) reason before e after
-        ⊎ (IsRight before.turn.playing × Refuses m before.turn e after.turn))
+        RefusesCarriedList (IsWrong before.transcript.playing) reason before e after
+        ⊎ (IsRight before.transcript.playing × RefusesStep m before.transcript e after.transcript))
     carried_list-one_reason =
-        first-one_reason (λ (v : Driving S). v.turn)
-        (λ before e after. RefusesCarriedList (IsWrong before.turn.playing) reason before e after)
-        (λ (v : Driving S). IsRight v.turn.playing) (bad_proof_shape reason) carried-first
+        first-one_reason (λ (v : Driving S). v.transcript)
+        (λ before e after. RefusesCarriedList (IsWrong before.transcript.playing) reason before e after)
+        (λ (v : Driving S). IsRight v.transcript.playing) (bad_proof_shape reason) carried-first
 
   -- ---- a list of a prover that its step lets be of some length at most
 
   module _ (len max : ℕ) where
-    length-first : (before after : Turn S) (e : TranscriptError) →
+    length-first : (before after : Transcript S) (e : TranscriptError) →
         RefusesLength len max before.playing e after.playing →
         First before.playing (len ≤ max) (misfit (OverCap len max)) e
     length-first before after e h =
@@ -92,8 +92,8 @@ module _ {S Symbol A : Type 0} (m : Meaning S Symbol A) (told : S → Refusal) (
           | inr wrong ↦ let over = wrong.1 in inr (wrong.0, λ right. omega (arith, over, right), ap refusal_of wrong.2)
         ]
 
-    pub length-one_reason : TellOneReason (λ (before : Turn S) e (after : Turn S).
-        RefusesLength len max before.playing e after.playing ⊎ ((len ≤ max) × Refuses m before e after))
+    pub length-one_reason : TellOneReason (λ (before : Transcript S) e (after : Transcript S).
+        RefusesLength len max before.playing e after.playing ⊎ ((len ≤ max) × RefusesStep m before e after))
     length-one_reason =
-        first-one_reason (λ (v : Turn S). v) (λ before e after. RefusesLength len max before.playing e after.playing)
+        first-one_reason (λ (v : Transcript S). v) (λ before e after. RefusesLength len max before.playing e after.playing)
         (λ _. len ≤ max) (misfit (OverCap len max)) length-first

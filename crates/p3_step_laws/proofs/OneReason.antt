@@ -1,4 +1,4 @@
--- From one turn, a step is refused for one reason.
+-- From one state, a step is refused for one reason.
 use Rattle.std.proofs.Common.{◌≡◌, ◌⊎◌, ℕ, List, Bool, true, false, Option, Some, Ok, Err, refl, sym, ap}
 use Rattle.std.proofs.Common.{◌∙◌, inl, inr}
 use Rattle.p3_challenger_core.specs.declared.error.ChallengerError.{ChallengerError}
@@ -17,7 +17,7 @@ use Rattle.p3_fs_core.specs.declared.error.TranscriptError.TheVariants.{MissingE
 use Rattle.p3_fs_core.specs.declared.error.TranscriptError.TheVariants.{Challenger, LabelTooLong, OutOfMemory}
 use Rattle.p3_patterns.specs.Playing.{Playing, FaultOfPlay, IsNotNext, next_step}
 use Rattle.p3_driver_core.specs.Effects.{Effect}
-use Rattle.p3_driver_core.specs.Turns.{Meaning, Turn, IsNext, Refuses}
+use Rattle.p3_driver_core.specs.Transcripts.{Meaning, Transcript, IsNext, RefusesStep}
 use Rattle.p3_driver_core.specs.Reads.{Reading, Read}
 use Rattle.p3_driver_core.specs.Driving.{Driving}
 use Rattle.p3_driver_core.specs.Verifying.{RefusesToRead}
@@ -137,7 +137,7 @@ length_no_memory is = absurd (cc)
 -- ---- a step that leaves the proof as it is, or that a prover writes
 
 module _ {S Symbol A : Type 0} (m : Meaning S Symbol A) (told : S → Refusal) (tells : Tells m.effect told) where
-  pub refused-cause : (before after : Turn S) (e : TranscriptError) → Refuses m before e after →
+  pub refused-cause : (before after : Transcript S) (e : TranscriptError) → RefusesStep m before e after →
       (e ≡ OutOfMemory → ⊥) → Cause before.playing m.interaction (told before.challenger) e
   refused-cause before after (MissingBegin info) h other = absurd h
   refused-cause before after (InvalidKind info) h other = absurd h
@@ -155,17 +155,17 @@ module _ {S Symbol A : Type 0} (m : Meaning S Symbol A) (told : S → Refusal) (
   refused-cause before after LabelTooLong h other = absurd h
   refused-cause before after OutOfMemory h other = absurd (other refl)
 
-  pub refused-one_reason : TellOneReason (Refuses m)
+  pub refused-one_reason : TellOneReason (RefusesStep m)
   refused-one_reason =
-      one_reason (Refuses m) (λ (v : Turn S). v.playing) m.interaction (λ (v : Turn S). told v.challenger)
+      one_reason (RefusesStep m) (λ (v : Transcript S). v.playing) m.interaction (λ (v : Transcript S). told v.challenger)
       refused-cause
 
 module _ {S Symbol A : Type 0} (m : Meaning S Symbol A) (tells : TellsLimits m.effect) where
-  pub short-one_reason : m.effect.fits → TellOneReason (Refuses m)
+  pub short-one_reason : m.effect.fits → TellOneReason (RefusesStep m)
   short-one_reason fits =
       refused-one_reason m (λ _. challenger_refused DrawLimit) (short-tells m.effect tells fits)
 
-  pub given-one_reason : ((s : S) → (x : A) × (m.effect.gives s ≡ Some x)) → TellOneReason (Refuses m)
+  pub given-one_reason : ((s : S) → (x : A) × (m.effect.gives s ≡ Some x)) → TellOneReason (RefusesStep m)
   given-one_reason gives =
       refused-one_reason m (λ _. challenger_refused TooLong) (given-tells m.effect tells gives)
 
@@ -179,18 +179,18 @@ told_of_read told (Err failure) = bad_proof_shape failure.reason
 module _ {S Symbol A : Type 0} (r : Reading S Symbol A) (told : A → S → Refusal)
     (tells : (x : A) → Tells (r.effect x) (told x)) where
   abbrev pub told_here : Driving S → Refusal
-  told_here v = told_of_read (λ x. told x v.turn.challenger) (r.read v.bytes)
+  told_here v = told_of_read (λ x. told x v.transcript.challenger) (r.read v.bytes)
 
   of_value : (before after : Driving S) (d : ChallengerError) (x : A) →
       r.read before.bytes ≡ Ok (x, after.bytes) →
-      (r.effect x).refuses d before.turn.challenger after.turn.challenger → (d ≡ challenger.OutOfMemory → ⊥) →
+      (r.effect x).refuses d before.transcript.challenger after.transcript.challenger → (d ≡ challenger.OutOfMemory → ⊥) →
       challenger_refused d ≡ told_here before
   of_value before after d x read refuses other =
-      tells x d before.turn.challenger after.turn.challenger refuses other
-      ∙ sym (ap (told_of_read (λ y. told y before.turn.challenger)) read)
+      tells x d before.transcript.challenger after.transcript.challenger refuses other
+      ∙ sym (ap (told_of_read (λ y. told y before.transcript.challenger)) read)
 
   pub unread-cause : (before after : Driving S) (e : TranscriptError) → RefusesToRead r before e after →
-      (e ≡ OutOfMemory → ⊥) → Cause before.turn.playing r.interaction (told_here before) e
+      (e ≡ OutOfMemory → ⊥) → Cause before.transcript.playing r.interaction (told_here before) e
   unread-cause before after (MissingBegin info) h other = absurd h
   unread-cause before after (InvalidKind info) h other = absurd h
   unread-cause before after (MismatchedBeginEnd info) h other = absurd h
@@ -198,22 +198,22 @@ module _ {S Symbol A : Type 0} (r : Reading S Symbol A) (told : A → S → Refu
   unread-cause before after (BadProofShape reason) h other =
       inr (
         h.is_next,
-        ap bad_proof_shape h.told ∙ sym (ap (told_of_read (λ y. told y before.turn.challenger)) h.read),
+        ap bad_proof_shape h.told ∙ sym (ap (told_of_read (λ y. told y before.transcript.challenger)) h.read),
       )
   unread-cause before after (Pattern p) h other = inl (p, refl, h.0.playing.fault)
   unread-cause before after (Challenger challenger.OutOfMemory) h other = absurd h
   unread-cause before after (Challenger DrawLimit) h other =
-      inr (h.gives_up.is_next, of_value before after DrawLimit h.value h.read h.gives_up.leaves limit_no_memory)
+      inr (h.abandons.is_next, of_value before after DrawLimit h.value h.read h.abandons.leaves limit_no_memory)
   unread-cause before after (Challenger NoWitness) h other =
-      inr (h.gives_up.is_next, of_value before after NoWitness h.value h.read h.gives_up.leaves witness_no_memory)
+      inr (h.abandons.is_next, of_value before after NoWitness h.value h.read h.abandons.leaves witness_no_memory)
   unread-cause before after (Challenger TooLong) h other =
-      inr (h.gives_up.is_next, of_value before after TooLong h.value h.read h.gives_up.leaves length_no_memory)
+      inr (h.abandons.is_next, of_value before after TooLong h.value h.read h.abandons.leaves length_no_memory)
   unread-cause before after LabelTooLong h other = absurd h
   unread-cause before after OutOfMemory h other = absurd (other refl)
 
   pub unread-one_reason : TellOneReason (RefusesToRead r)
   unread-one_reason =
-      one_reason (RefusesToRead r) (λ (v : Driving S). v.turn.playing) r.interaction told_here unread-cause
+      one_reason (RefusesToRead r) (λ (v : Driving S). v.transcript.playing) r.interaction told_here unread-cause
 
 pub given-unread_one_reason : {S Symbol A : Type 0} (r : Reading S Symbol A) →
     ((x : A) → TellsLimits (r.effect x)) → ((x : A) (s : S) → (y : A) × ((r.effect x).gives s ≡ Some y)) →

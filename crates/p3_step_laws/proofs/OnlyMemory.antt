@@ -8,9 +8,9 @@ use Rattle.p3_fs_core.specs.declared.error.TranscriptError.TheVariants.{MissingB
 use Rattle.p3_fs_core.specs.declared.error.TranscriptError.TheVariants.{MissingEnd, BadProofShape, Pattern}
 use Rattle.p3_fs_core.specs.declared.error.TranscriptError.TheVariants.{Challenger, LabelTooLong, OutOfMemory}
 use Rattle.p3_driver_core.specs.Effects.{Effect}
-use Rattle.p3_driver_core.specs.Turns.{Meaning, Turn, Plays}
-use Rattle.p3_step_laws.specs.FollowingLaws.{mirror-follows, meaning-agrees}
-use Rattle.p3_step_laws.specs.Mirrors.{Mirrors}
+use Rattle.p3_driver_core.specs.Transcripts.{Meaning, Transcript, PlaysStep}
+use Rattle.p3_step_laws.specs.CompletenessLaws.{read_back-completes, step-completes}
+use Rattle.p3_step_laws.specs.ReadBack.{ReadsBack}
 use Rattle.p3_driver_core.specs.Reads.{Reading}
 use Rattle.p3_driver_core.specs.Driving.{Driving}
 use Rattle.p3_driver_core.specs.Verifying.{RefusesToRead}
@@ -27,11 +27,11 @@ only_memory m tells before after start end x (MismatchedBeginEnd info) plays at 
 only_memory m tells before after start end x (MissingEnd info) plays at refuses = absurd refuses
 only_memory m tells before after start end x (BadProofShape reason) plays at refuses = absurd refuses
 only_memory m tells before after start end x (Pattern e) plays at refuses =
-    absurd ((meaning-agrees m).refuses before after start end x (Pattern e) plays at refuses)
+    absurd ((step-completes m).refuses before after start end x (Pattern e) plays at refuses)
 only_memory m tells before after start end x (Challenger challenger.OutOfMemory) plays at refuses = absurd refuses
 only_memory {S} m tells before after start end x (Challenger DrawLimit) plays at refuses =
     let gives : m.effect.gives start.challenger ≡ Some x
-    = ap (λ (t : Turn S). m.effect.gives t.challenger) at ∙ plays.gives in
+    = ap (λ (t : Transcript S). m.effect.gives t.challenger) at ∙ plays.gives in
     absurd (some_none gives (tells.limit start.challenger end.challenger refuses.leaves))
 only_memory m tells before after start end x (Challenger NoWitness) plays at refuses =
     absurd (tells.witness start.challenger end.challenger refuses.leaves)
@@ -42,25 +42,25 @@ only_memory m tells before after start end x OutOfMemory plays at refuses = refl
 
 -- ---- a step that is mirrored
 
-module _ {S Symbol A : Type 0} (m : Meaning S Symbol A) (r : Reading S Symbol A) (x : A) (mirrors : Mirrors m r x)
+module _ {S Symbol A : Type 0} (m : Meaning S Symbol A) (r : Reading S Symbol A) (x : A) (mirrors : ReadsBack m r x)
     (same : r.effect x ≡ m.effect) (tells : TellsLimits m.effect) where
-  module _ (before after : Turn S) (rest : List ℕ) (start end : Driving S) (plays : Plays m before x after)
-      (at : start ≡ record { turn = before; bytes = m.wire ++ rest }) where
+  module _ (before after : Transcript S) (rest : List ℕ) (start end : Driving S) (plays : PlaysStep m before x after)
+      (at : start ≡ record { transcript = before; bytes = m.wire ++ rest }) where
     -- what the challenger refuses of the value that is read, it refuses of the value that was sent
     refused_of_sent : (e : ChallengerError) (value : A) → r.read start.bytes ≡ Ok (value, end.bytes) →
-        (r.effect value).refuses e start.turn.challenger end.turn.challenger →
-        m.effect.refuses e start.turn.challenger end.turn.challenger
+        (r.effect value).refuses e start.transcript.challenger end.transcript.challenger →
+        m.effect.refuses e start.transcript.challenger end.transcript.challenger
     refused_of_sent e value read refuses =
         let found : r.read (m.wire ++ rest) ≡ Ok (value, end.bytes)
         = ap (λ (v : Driving S). r.read v.bytes) (sym at) ∙ read in
         let back = mirrors.reads_back rest in
         let both : ◌≡◌ {A = A × List ℕ} (value, end.bytes) (x, rest) = cc in
         let is : value ≡ x = ap (λ p. p.0) both in
-        subst (λ (f : Effect S Symbol A). f.refuses e start.turn.challenger end.turn.challenger)
+        subst (λ (f : Effect S Symbol A). f.refuses e start.transcript.challenger end.transcript.challenger)
         (ap r.effect is ∙ same) refuses
 
-    gives : m.effect.gives start.turn.challenger ≡ Some x
-    gives = ap (λ (v : Driving S). m.effect.gives v.turn.challenger) at ∙ plays.gives
+    gives : m.effect.gives start.transcript.challenger ≡ Some x
+    gives = ap (λ (v : Driving S). m.effect.gives v.transcript.challenger) at ∙ plays.gives
 
     from_here : (e : TranscriptError) → RefusesToRead r start e end → e ≡ OutOfMemory
     from_here (MissingBegin info) refuses = absurd refuses
@@ -68,20 +68,20 @@ module _ {S Symbol A : Type 0} (m : Meaning S Symbol A) (r : Reading S Symbol A)
     from_here (MismatchedBeginEnd info) refuses = absurd refuses
     from_here (MissingEnd info) refuses = absurd refuses
     from_here (BadProofShape reason) refuses =
-        absurd ((mirror-follows m r x mirrors).refuses before after rest start end (BadProofShape reason) plays at
+        absurd ((read_back-completes m r x mirrors).refuses before after rest start end (BadProofShape reason) plays at
         refuses)
     from_here (Pattern e) refuses =
-        absurd ((mirror-follows m r x mirrors).refuses before after rest start end (Pattern e) plays at refuses)
+        absurd ((read_back-completes m r x mirrors).refuses before after rest start end (Pattern e) plays at refuses)
     from_here (Challenger challenger.OutOfMemory) refuses = absurd refuses
     from_here (Challenger DrawLimit) refuses =
-        absurd (some_none gives (tells.limit start.turn.challenger end.turn.challenger
-        (refused_of_sent DrawLimit refuses.value refuses.read refuses.gives_up.leaves)))
+        absurd (some_none gives (tells.limit start.transcript.challenger end.transcript.challenger
+        (refused_of_sent DrawLimit refuses.value refuses.read refuses.abandons.leaves)))
     from_here (Challenger NoWitness) refuses =
-        absurd (tells.witness start.turn.challenger end.turn.challenger
-        (refused_of_sent NoWitness refuses.value refuses.read refuses.gives_up.leaves))
+        absurd (tells.witness start.transcript.challenger end.transcript.challenger
+        (refused_of_sent NoWitness refuses.value refuses.read refuses.abandons.leaves))
     from_here (Challenger TooLong) refuses =
-        absurd (tells.too_long start.turn.challenger end.turn.challenger
-        (refused_of_sent TooLong refuses.value refuses.read refuses.gives_up.leaves) plays.fits)
+        absurd (tells.too_long start.transcript.challenger end.transcript.challenger
+        (refused_of_sent TooLong refuses.value refuses.read refuses.abandons.leaves) plays.fits)
     from_here LabelTooLong refuses = absurd refuses
     from_here OutOfMemory refuses = refl
 

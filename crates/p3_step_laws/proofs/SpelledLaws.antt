@@ -8,11 +8,11 @@ use Rattle.p3_fs_core.specs.declared.step.Kind.{Kind}
 use Rattle.p3_fs_core.specs.declared.step.Kind.TheVariants.{Message}
 use Rattle.p3_driver_core.specs.Counts.{count_bytes}
 use Rattle.p3_driver_core.specs.Effects.{Alphabet, observing_bytes}
-use Rattle.p3_driver_core.specs.Meanings.{sent, sent_all, sent_bounded, sent_bytes, sent_bytes_bounded, hinted}
+use Rattle.p3_driver_core.specs.Meanings.{sent, sent_list, sent_bounded, sent_bytes, sent_bytes_bounded, hinted}
 use Rattle.p3_driver_core.specs.Meanings.{hinted_bounded}
-use Rattle.p3_driver_core.specs.Turns.{Meaning}
+use Rattle.p3_driver_core.specs.Transcripts.{Meaning}
 use Rattle.p3_driver_core.specs.Working.{Work, sent_work}
-use Rattle.p3_driver_core.specs.Reads.{Reading, received, received_all, received_bounded, received_bytes}
+use Rattle.p3_driver_core.specs.Reads.{Reading, received, received_list, received_bounded, received_bytes}
 use Rattle.p3_driver_core.specs.Reads.{received_bytes_bounded, hint_received, hint_received_bounded, received_work}
 use Rattle.p3_driver_core.specs.Reads.{message_too_long, hint_too_long}
 use Rattle.p3_step_laws.proofs.ReadOnly.{are_left, bytes-only, value-only, values-only, counted_bytes-only}
@@ -40,9 +40,9 @@ module _ {S Symbol A : Type 0} (step : Step) (o : Observation S Symbol A) (e : E
 
     -- a list of so many
     pub values-spelled : (n : ℕ) →
-        OnlyReads (received_all step o e n) (λ xs. length xs ≡ n) (λ xs. sent_all step o e xs)
+        OnlyReads (received_list step o e n) (λ xs. length xs ≡ n) (λ xs. sent_list step o e xs)
     values-spelled n =
-        only_reads (received_all step o e n) (λ xs. length xs ≡ n) (λ xs. sent_all step o e xs)
+        only_reads (received_list step o e n) (λ xs. length xs ≡ n) (λ xs. sent_list step o e xs)
         (λ bytes xs rest are h. values-only {S = S} e encodes o.observed n bytes xs rest are h)
 
     -- a list after its count

@@ -8,13 +8,13 @@ use Rattle.p3_fs_core.specs.declared.error.TranscriptError.TheVariants.{MissingB
 use Rattle.p3_fs_core.specs.declared.error.TranscriptError.TheVariants.{MissingEnd, BadProofShape, Pattern}
 use Rattle.p3_fs_core.specs.declared.error.TranscriptError.TheVariants.{Challenger, LabelTooLong, OutOfMemory}
 use Rattle.p3_grinding.specs.CheckLaws.{LimitGivesNone}
-use Rattle.p3_driver_core.specs.Turns.{Turn, Plays}
+use Rattle.p3_driver_core.specs.Transcripts.{Transcript, PlaysStep}
 use Rattle.p3_driver_core.specs.Working.{Work, sent_work, observed_work, RefusesToCheck}
 use Rattle.p3_driver_core.specs.WorkingLaws.{where_passed-true}
 use Rattle.p3_step_laws.proofs.ReadBack.{value-back}
-use Rattle.p3_step_laws.specs.Following.{IsOwnRefusal, FollowsWork, AgreesOnWork}
-use Rattle.p3_step_laws.specs.FollowingLaws.{mirror-follows, meaning-agrees}
-use Rattle.p3_step_laws.specs.Mirrors.{Mirrors}
+use Rattle.p3_step_laws.specs.Completeness.{IsOwnRefusal, CompletesWork, CompletesCarriedWork}
+use Rattle.p3_step_laws.specs.CompletenessLaws.{read_back-completes, step-completes}
+use Rattle.p3_step_laws.specs.ReadBack.{ReadsBack}
 use Rattle.p3_driver_core.specs.Reads.{received_work}
 use Rattle.p3_driver_core.specs.Driving.{Driving}
 use Rattle.p3_driver_core.specs.Verifying.{RefusesToRead, FailsWork}
@@ -27,7 +27,7 @@ true_not_none is = search (rules, is)
 
 -- a witness that is sent is received
 pub work-mirrored : {S Symbol W : Type 0} (work : Work S Symbol W) (enc : Encoding W) → IsEncoding enc → (x : W) →
-    Mirrors (sent_work work enc x) (received_work work enc) x
+    ReadsBack (sent_work work enc x) (received_work work enc) x
 work-mirrored {S} work enc encodes x =
     record {
       interaction = refl;
@@ -40,13 +40,13 @@ module _ {S Symbol W : Type 0} (work : Work S Symbol W) (limits : (x : W) → Li
   -- ---- a witness that is sent
 
   module _ (enc : Encoding W) (encodes : IsEncoding enc) where
-    module _ (before after : Turn S) (rest : List ℕ) (start end : Driving S)
-        (plays : Plays (sent_work work enc x) before x after)
-        (at : start ≡ record { turn = before; bytes = enc.wire x ++ rest }) where
+    module _ (before after : Transcript S) (rest : List ℕ) (start end : Driving S)
+        (plays : PlaysStep (sent_work work enc x) before x after)
+        (at : start ≡ record { transcript = before; bytes = enc.wire x ++ rest }) where
       -- the verifier's check is the prover's
-      passes : (work.check x).sampled start.turn.challenger ≡ Some true
+      passes : (work.check x).sampled start.transcript.challenger ≡ Some true
       passes =
-          ap (λ (v : Driving S). (work.check x).sampled v.turn.challenger) at
+          ap (λ (v : Driving S). (work.check x).sampled v.transcript.challenger) at
           ∙ where_passed-true x x ((work.check x).sampled before.challenger) plays.gives
 
       same_witness : (y : W) → (received_work work enc).read start.bytes ≡ Ok (y, end.bytes) → y ≡ x
@@ -60,13 +60,13 @@ module _ {S Symbol W : Type 0} (work : Work S Symbol W) (limits : (x : W) → Li
       not_failed : (e : TranscriptError) → FailsWork work enc start e end → ⊥
       not_failed e fails =
           let same = same_witness fails.witness fails.read in
-          let is : (work.check x).sampled start.turn.challenger ≡ Some false
-          = ap (λ y. (work.check y).sampled start.turn.challenger) (sym same) ∙ fails.fails.gives_up.leaves.0 in
+          let is : (work.check x).sampled start.transcript.challenger ≡ Some false
+          = ap (λ y. (work.check y).sampled start.transcript.challenger) (sym same) ∙ fails.fails.abandons.leaves.0 in
           true_not_false (sym passes ∙ is) refl
 
       own_refusal : (e : TranscriptError) → RefusesToRead (received_work work enc) start e end → IsOwnRefusal e
       own_refusal e refuses =
-          (mirror-follows _ _ _ (work-mirrored work enc encodes x)).refuses before after rest start end e plays at refuses
+          (read_back-completes _ _ _ (work-mirrored work enc encodes x)).refuses before after rest start end e plays at refuses
 
       only_memory : (e : TranscriptError) → RefusesToRead (received_work work enc) start e end → e ≡ OutOfMemory
       only_memory (MissingBegin info) refuses = absurd refuses
@@ -80,19 +80,19 @@ module _ {S Symbol W : Type 0} (work : Work S Symbol W) (limits : (x : W) → Li
       only_memory (Challenger challenger.OutOfMemory) refuses = absurd refuses
       only_memory (Challenger challenger.DrawLimit) refuses =
           let same = same_witness refuses.value refuses.read in
-          let none : (work.check x).sampled start.turn.challenger ≡ None
-          = ap (λ y. (work.check y).sampled start.turn.challenger) (sym same)
-          ∙ limits refuses.value start.turn.challenger refuses.gives_up.leaves.0 in
+          let none : (work.check x).sampled start.transcript.challenger ≡ None
+          = ap (λ y. (work.check y).sampled start.transcript.challenger) (sym same)
+          ∙ limits refuses.value start.transcript.challenger refuses.abandons.leaves.0 in
           absurd (true_not_none (sym passes ∙ none))
-      only_memory (Challenger challenger.NoWitness) refuses = absurd refuses.gives_up.leaves
-      only_memory (Challenger challenger.TooLong) refuses = absurd refuses.gives_up.leaves
+      only_memory (Challenger challenger.NoWitness) refuses = absurd refuses.abandons.leaves
+      only_memory (Challenger challenger.TooLong) refuses = absurd refuses.abandons.leaves
       only_memory LabelTooLong refuses = absurd refuses
       only_memory OutOfMemory refuses = refl
 
-    pub work-followed : FollowsWork work enc x
+    pub work-followed : CompletesWork work enc x
     work-followed =
         record {
-          follows = mirror-follows _ _ _ (work-mirrored work enc encodes x);
+          completes = read_back-completes _ _ _ (work-mirrored work enc encodes x);
           refuses = λ before after rest start end e plays at. elim [
             | inl refuses ↦ only_memory before after rest start end plays at e refuses
             | inr fails ↦ absurd (not_failed before after rest start end plays at e fails)
@@ -101,11 +101,11 @@ module _ {S Symbol W : Type 0} (work : Work S Symbol W) (limits : (x : W) → Li
 
   -- ---- a witness that the caller carries
 
-  module _ (before after start end : Turn S) (plays : Plays (observed_work work x) before x after) (at : start ≡ before)
+  module _ (before after start end : Transcript S) (plays : PlaysStep (observed_work work x) before x after) (at : start ≡ before)
     where
       carried-passes : (work.check x).sampled start.challenger ≡ Some true
       carried-passes =
-          ap (λ (t : Turn S). (work.check x).sampled t.challenger) at
+          ap (λ (t : Transcript S). (work.check x).sampled t.challenger) at
           ∙ where_passed-true x x ((work.check x).sampled before.challenger) plays.gives
 
       carried-only_memory : (e : TranscriptError) → RefusesToCheck work x start e end → e ≡ OutOfMemory
@@ -116,7 +116,7 @@ module _ {S Symbol W : Type 0} (work : Work S Symbol W) (limits : (x : W) → Li
       carried-only_memory (BadProofShape reason) refuses =
           absurd (true_not_false (sym carried-passes ∙ refuses.leaves.1) refl)
       carried-only_memory (Pattern e) refuses =
-          absurd ((meaning-agrees (observed_work work x)).refuses before after start end x (Pattern e) plays at refuses)
+          absurd ((step-completes (observed_work work x)).refuses before after start end x (Pattern e) plays at refuses)
       carried-only_memory (Challenger challenger.OutOfMemory) refuses = absurd refuses.leaves
       carried-only_memory (Challenger challenger.DrawLimit) refuses =
           absurd (true_not_none (sym carried-passes ∙ limits x start.challenger refuses.leaves.0))
@@ -125,10 +125,10 @@ module _ {S Symbol W : Type 0} (work : Work S Symbol W) (limits : (x : W) → Li
       carried-only_memory LabelTooLong refuses = absurd refuses.leaves
       carried-only_memory OutOfMemory refuses = refl
 
-  pub work-agrees : AgreesOnWork work x
+  pub work-agrees : CompletesCarriedWork work x
   work-agrees =
       record {
-        agrees = meaning-agrees (observed_work work x);
+        completes = step-completes (observed_work work x);
         refuses = λ before after start end e plays at refuses.
             carried-only_memory before after start end plays at e refuses;
       }

@@ -1,4 +1,4 @@
--- From one turn, proof of work is refused for one reason.
+-- From one state, proof of work is refused for one reason.
 use Rattle.std.proofs.Common.{◌≡◌, ◌⊎◌, Bool, true, false, Option, Some, None, refl, sym, ap, ◌∙◌, inl}
 use Rattle.std.proofs.Common.{inr}
 use Rattle.p3_challenger_core.specs.declared.error.ChallengerError.TheVariants.{DrawLimit, NoWitness, TooLong}
@@ -10,7 +10,7 @@ use Rattle.p3_fs_core.specs.declared.error.TranscriptError.TheVariants.{MissingB
 use Rattle.p3_fs_core.specs.declared.error.TranscriptError.TheVariants.{MissingEnd, BadProofShape, Pattern}
 use Rattle.p3_fs_core.specs.declared.error.TranscriptError.TheVariants.{Challenger, LabelTooLong, OutOfMemory}
 use Rattle.p3_grinding.specs.CheckLaws.{LimitGivesNone}
-use Rattle.p3_driver_core.specs.Turns.{Turn}
+use Rattle.p3_driver_core.specs.Transcripts.{Transcript}
 use Rattle.p3_driver_core.specs.Working.{Work, checking, too_few_zero_bits, RefusesToCheck, RefusesToGrind}
 use Rattle.p3_driver_core.specs.Reads.{received_work}
 use Rattle.p3_driver_core.specs.Driving.{Driving}
@@ -27,7 +27,7 @@ verdict (Some false) = bad_proof_shape too_few_zero_bits
 module _ {S Symbol W : Type 0} (work : Work S Symbol W) where
   -- ---- a witness is searched for
 
-  ground-cause : (may_run_out : S → Type 0) (before after : Turn S) (e : TranscriptError) →
+  ground-cause : (may_run_out : S → Type 0) (before after : Transcript S) (e : TranscriptError) →
       RefusesToGrind work may_run_out before e after → (e ≡ OutOfMemory → ⊥) →
       Cause before.playing work.interaction (challenger_refused NoWitness) e
   ground-cause may_run_out before after (MissingBegin info) h other = absurd h
@@ -45,7 +45,7 @@ module _ {S Symbol W : Type 0} (work : Work S Symbol W) where
 
   pub ground-one_reason : (may_run_out : S → Type 0) → TellOneReason (RefusesToGrind work may_run_out)
   ground-one_reason may_run_out =
-      one_reason (RefusesToGrind work may_run_out) (λ (v : Turn S). v.playing) work.interaction
+      one_reason (RefusesToGrind work may_run_out) (λ (v : Transcript S). v.playing) work.interaction
       (λ _. challenger_refused NoWitness) (ground-cause may_run_out)
 
   module _ (limits : (x : W) → LimitGivesNone (work.check x)) where
@@ -60,7 +60,7 @@ module _ {S Symbol W : Type 0} (work : Work S Symbol W) where
 
     -- ---- a witness that the caller carries
 
-    carried-cause : (x : W) (before after : Turn S) (e : TranscriptError) → RefusesToCheck work x before e after →
+    carried-cause : (x : W) (before after : Transcript S) (e : TranscriptError) → RefusesToCheck work x before e after →
         (e ≡ OutOfMemory → ⊥) → Cause before.playing work.interaction (told x before.challenger) e
     carried-cause x before after (MissingBegin info) h other = absurd h.leaves
     carried-cause x before after (InvalidKind info) h other = absurd h.leaves
@@ -79,23 +79,23 @@ module _ {S Symbol W : Type 0} (work : Work S Symbol W) where
 
     pub carried-one_reason : (x : W) → TellOneReason (RefusesToCheck work x)
     carried-one_reason x =
-        one_reason (RefusesToCheck work x) (λ (v : Turn S). v.playing) work.interaction
-        (λ (v : Turn S). told x v.challenger) (carried-cause x)
+        one_reason (RefusesToCheck work x) (λ (v : Transcript S). v.playing) work.interaction
+        (λ (v : Transcript S). told x v.challenger) (carried-cause x)
 
     -- ---- a witness that is read
 
     module _ (enc : Encoding W) where
       abbrev told_work : Driving S → Refusal
-      told_work v = told_of_read (λ x. told x v.turn.challenger) ((received_work work enc).read v.bytes)
+      told_work v = told_of_read (λ x. told x v.transcript.challenger) ((received_work work enc).read v.bytes)
 
       failed-cause : (before after : Driving S) (e : TranscriptError) → FailsWork work enc before e after →
-          Cause before.turn.playing work.interaction (told_work before) e
+          Cause before.transcript.playing work.interaction (told_work before) e
       failed-cause before after e h =
           inr (
-            h.fails.gives_up.is_next,
+            h.fails.abandons.is_next,
             bad_shape too_few_zero_bits e h.fails.told
-                ∙ sym (ap verdict h.fails.gives_up.leaves.0)
-                ∙ sym (ap (told_of_read (λ x. told x before.turn.challenger)) h.read),
+                ∙ sym (ap verdict h.fails.abandons.leaves.0)
+                ∙ sym (ap (told_of_read (λ x. told x before.transcript.challenger)) h.read),
           )
 
       abbrev RefusesWork : Driving S → TranscriptError → Driving S → Type 0
@@ -103,11 +103,11 @@ module _ {S Symbol W : Type 0} (work : Work S Symbol W) where
           RefusesToRead (received_work work enc) before e after ⊎ FailsWork work enc before e after
 
       work-cause : (before after : Driving S) (e : TranscriptError) → RefusesWork before e after →
-          (e ≡ OutOfMemory → ⊥) → Cause before.turn.playing work.interaction (told_work before) e
+          (e ≡ OutOfMemory → ⊥) → Cause before.transcript.playing work.interaction (told_work before) e
       work-cause before after e (inl refuses) other =
           unread-cause (received_work work enc) told check-tells before after e refuses other
       work-cause before after e (inr fails) other = failed-cause before after e fails
 
       pub work-one_reason : TellOneReason RefusesWork
       work-one_reason =
-          one_reason RefusesWork (λ (v : Driving S). v.turn.playing) work.interaction told_work work-cause
+          one_reason RefusesWork (λ (v : Driving S). v.transcript.playing) work.interaction told_work work-cause

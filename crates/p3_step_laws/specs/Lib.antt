@@ -1,7 +1,9 @@
-pub mod Following
-pub mod FollowingLaws
+pub mod Completeness
+pub mod CompletenessLaws
 pub mod Limits
 pub mod Memory
-pub mod Mirrors
 pub mod OneReason
+pub mod ReadBack
+pub mod RoundLaws
+pub mod Rounds
 pub mod Spelled

@@ -7,6 +7,6 @@ use Rattle.p3_fs_core.specs.declared.error.TranscriptError.TheVariants.{OutOfMem
 -- Of what a state, an error and the state after it have to be where a step is refused: any two errors from one state,
 -- neither of them for want of memory, say the same.
 abbrev pub TellOneReason : {V : Type 0} → (V → TranscriptError → V → Type 0) → Type 0
-TellOneReason {V} Refuses =
-    (start one other : V) (e f : TranscriptError) → Refuses start e one → Refuses start f other →
+TellOneReason {V} RefusesStep =
+    (start one other : V) (e f : TranscriptError) → RefusesStep start e one → RefusesStep start f other →
     (e ≡ OutOfMemory → ⊥) → (f ≡ OutOfMemory → ⊥) → refusal_of e ≡ refusal_of f

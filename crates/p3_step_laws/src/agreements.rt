@@ -1,8 +1,8 @@
-//! The steps that leave the proof as it is: from one turn, a prover and a verifier play them alike.
+//! The steps that leave the proof as it is: from one state, a prover and a verifier play them alike.
 //!
 //! Each law is a function with an empty body: a caller calls it, and cites its clauses. Where the prover's step was
-//! played, and the verifier stands at the turn before it, what comes of the verifier's step is the same, and so is the
-//! turn after it; or it is refused for the sake of the challenger or of memory alone.
+//! played, and the verifier stands at the state before it, what comes of the verifier's step is the same, and so is the
+//! state after it; or it is refused for the sake of the challenger or of memory alone.
 ghost use Rattle.std.specs.Prelude.{◌≡◌, ◌<◌, ◌≤◌, ℕ, List, true, false};
 ghost use Rattle.p3_fs_core.specs.Steps.{Step};
 ghost use Rattle.p3_fs_core.specs.declared.error.TranscriptError.{TranscriptError};
@@ -10,9 +10,9 @@ ghost use Rattle.p3_patterns.specs.Playing.{next_step};
 ghost use Rattle.p3_driver_core.specs.Effects.{alphabet_of};
 ghost use Rattle.p3_driver_core.specs.Meanings as meaning;
 ghost use Rattle.p3_driver_core.specs.Rejecting.{Rule, drawn_rejecting};
-ghost use Rattle.p3_driver_core.specs.Turns.{IsNext, IsOtherLength, longer_list, another_length};
+ghost use Rattle.p3_driver_core.specs.Transcripts.{IsNext, IsOtherLength, longer_list, another_length};
 ghost use Rattle.p3_driver_core.specs.Working.{work_of};
-ghost use Rattle.p3_step_laws.specs.Following.{Agrees, AgreesOnWork};
+ghost use Rattle.p3_step_laws.specs.Completeness.{CompletesAlike, CompletesCarriedWork};
 ghost use Rattle.p3_driver_core.specs.Driving.{Driving};
 ghost use Rattle.p3_driver_core.specs.Verifying.{RefusesCarriedList, EndsReading, RefusesEnd};
 
@@ -25,15 +25,15 @@ use p3_grinding::{CanSampleUniformBits, GrindingChallenger};
 ///
 /// A law: the body is empty, and a caller cites the clause.
 pub fn markers_agree<C: Sponge>()
-    ensures { (step : Step) → Agrees {S = C.State} {Symbol = C.Symbol} (meaning.marked step) }
+    ensures { (step : Step) → CompletesAlike {S = C.State} {Symbol = C.Symbol} (meaning.marked step) }
 {}
 
 /// One value, and the values of a list, are observed alike.
 ///
 /// A law: the body is empty, and a caller cites the clauses.
 pub fn observed_values_agree<A, C: Sponge, Cdc: Codec<C, A>>()
-    ensures value { (step : Step) (x : A) → Agrees (meaning.observed step Cdc.observation x) }
-    ensures list { (step : Step) (xs : List A) → Agrees (meaning.observed_all step Cdc.observation xs) }
+    ensures value { (step : Step) (x : A) → CompletesAlike (meaning.observed step Cdc.observation x) }
+    ensures list { (step : Step) (xs : List A) → CompletesAlike (meaning.observed_list step Cdc.observation xs) }
 {}
 
 /// The values of a list of at most so many are observed alike, after their count.
@@ -41,24 +41,24 @@ pub fn observed_values_agree<A, C: Sponge, Cdc: Codec<C, A>>()
 /// A law: the body is empty, and a caller cites the clause.
 pub fn observed_counted_values_agree<A, U: Unit, C: CanObserve<U::Item>, Cdc: Codec<C, A>>()
     ensures { let alphabet = alphabet_of U.items U.is_too_long C.observation C.slice_may_leave in
-        (step : Step) (max : ℕ) (xs : List A) → Agrees (meaning.observed_bounded step alphabet max Cdc.observation xs) }
+        (step : Step) (max : ℕ) (xs : List A) → CompletesAlike (meaning.observed_bounded step alphabet max Cdc.observation xs) }
 {}
 
 /// A value is observed alike as the challenger itself knows how.
 ///
 /// A law: the body is empty, and a caller cites the clause.
 pub fn opaque_values_agree<T, C: CanObserve<T>>()
-    ensures { (step : Step) (x : T) → Agrees (meaning.observed step C.observation x) }
+    ensures { (step : Step) (x : T) → CompletesAlike (meaning.observed step C.observation x) }
 {}
 
 /// One value, so many values, and so many that a rule takes, are drawn alike.
 ///
 /// A law: the body is empty, and a caller cites the clauses.
 pub fn drawn_values_agree<A, C: Sponge, Cdc: Codec<C, A>>()
-    ensures value { (step : Step) → Agrees {Symbol = C.Symbol} (meaning.drawn step Cdc.sampling) }
-    ensures list { (step : Step) (n : ℕ) → Agrees {Symbol = C.Symbol} (meaning.drawn_all step Cdc.sampling n) }
+    ensures value { (step : Step) → CompletesAlike {Symbol = C.Symbol} (meaning.drawn step Cdc.sampling) }
+    ensures list { (step : Step) (n : ℕ) → CompletesAlike {Symbol = C.Symbol} (meaning.drawn_list step Cdc.sampling n) }
     ensures rejecting { (step : Step) (rule : Rule A) (limit n : ℕ) →
-        Agrees {Symbol = C.Symbol} (drawn_rejecting step Cdc.sampling rule limit n) }
+        CompletesAlike {Symbol = C.Symbol} (drawn_rejecting step Cdc.sampling rule limit n) }
 {}
 
 /// So many numbers of so many bits are drawn alike.
@@ -66,7 +66,7 @@ pub fn drawn_values_agree<A, C: Sponge, Cdc: Codec<C, A>>()
 /// A law: the body is empty, and a caller cites the clause.
 pub fn drawn_bits_agree<C: CanSampleBits<usize>>()
     ensures { (step : Step) (width n : ℕ) →
-        Agrees {Symbol = C.Symbol} (meaning.drawn_all step (C.bits_sampling width) n) }
+        CompletesAlike {Symbol = C.Symbol} (meaning.drawn_list step (C.bits_sampling width) n) }
 {}
 
 /// So many numbers of so many uniform bits, and so many that a rule takes, are drawn alike.
@@ -74,9 +74,9 @@ pub fn drawn_bits_agree<C: CanSampleBits<usize>>()
 /// A law: the body is empty, and a caller cites the clauses.
 pub fn drawn_uniform_bits_agree<F, C: CanSampleUniformBits<F>>()
     ensures list { (step : Step) (width n : ℕ) →
-        Agrees {Symbol = C.Symbol} (meaning.drawn_all step (C.uniform true width).draw n) }
+        CompletesAlike {Symbol = C.Symbol} (meaning.drawn_list step (C.uniform true width).draw n) }
     ensures rejecting { (step : Step) (width : ℕ) (rule : Rule ℕ) (limit n : ℕ) →
-        Agrees {Symbol = C.Symbol} (drawn_rejecting step (C.uniform true width).draw rule limit n) }
+        CompletesAlike {Symbol = C.Symbol} (drawn_rejecting step (C.uniform true width).draw rule limit n) }
 {}
 
 /// A witness that a prover has answered passes the check of a verifier whose caller carries it, which is refused for
@@ -84,7 +84,7 @@ pub fn drawn_uniform_bits_agree<F, C: CanSampleUniformBits<F>>()
 ///
 /// A law: the body is empty, and a caller cites the clause.
 pub fn carried_work_agrees<C: GrindingChallenger>()
-    ensures { (step : Step) (bits : ℕ) (x : C.Witness) → AgreesOnWork
+    ensures { (step : Step) (bits : ℕ) (x : C.Witness) → CompletesCarriedWork
         (work_of step C.Witness.residues C.before_witness C.observation C.bits_sampling bits) x }
 {}
 
@@ -94,10 +94,10 @@ pub fn carried_work_agrees<C: GrindingChallenger>()
 /// A law: the body is empty, and a caller cites the clauses.
 pub fn carried_lists_are_let_through<C: Sponge>()
     ensures within { (len max : ℕ) (start end : Driving C.State) (e : TranscriptError) →
-        start.turn.playing.finished ≡ false → len ≤ max → RefusesCarriedList (max < len) longer_list start e end → ⊥ }
+        start.transcript.playing.finished ≡ false → len ≤ max → RefusesCarriedList (max < len) longer_list start e end → ⊥ }
     ensures recorded { (len : ℕ) (step : Step) (start end : Driving C.State) (e : TranscriptError) →
-        IsNext start.turn.playing step → step.length ≡ Length.Fixed len →
-        RefusesCarriedList (IsOtherLength len (next_step start.turn.playing)) another_length start e end → ⊥ }
+        IsNext start.transcript.playing step → step.length ≡ Length.Fixed len →
+        RefusesCarriedList (IsOtherLength len (next_step start.transcript.playing)) another_length start e end → ⊥ }
 {}
 
 /// A verifier that has played all steps and has read all bytes is not refused the end.

@@ -12,7 +12,11 @@ mod reasons;
 mod spelled;
 mod verifier_reasons;
 
-pub use agreements::{carried_lists_are_let_through, carried_work_agrees, drawn_bits_agree, drawn_uniform_bits_agree, drawn_values_agree, ended_verifiers_are_not_refused, markers_agree, observed_counted_values_agree, observed_values_agree, opaque_values_agree};
+pub use agreements::{
+    carried_lists_are_let_through, carried_work_agrees, drawn_bits_agree, drawn_uniform_bits_agree,
+    drawn_values_agree, ended_verifiers_are_not_refused, markers_agree,
+    observed_counted_values_agree, observed_values_agree, opaque_values_agree,
+};
 pub use extensions::extensions_are_refused_for_one_reason;
 pub use limits::{
     bit_draws_tell_limits, bytes_tell_limits, draws_tell_limits, markers_and_hints_tell_limits,
@@ -24,7 +28,11 @@ pub use memory::{
     only_memory_refuses_observed_values, only_memory_refuses_opaque_values,
     only_memory_refuses_sent_bytes, only_memory_refuses_sent_values,
 };
-pub use mirrors::{counted_hint_is_received, hint_is_received, sent_bytes_are_received, sent_counted_bytes_are_received, sent_counted_values_are_received, sent_value_is_received, sent_values_are_received, sent_work_is_received};
+pub use mirrors::{
+    counted_hint_is_received, hint_is_received, sent_bytes_are_received,
+    sent_counted_bytes_are_received, sent_counted_values_are_received, sent_value_is_received,
+    sent_values_are_received, sent_work_is_received,
+};
 pub use reasons::{
     bit_draws_are_refused_for_one_reason, bytes_are_refused_for_one_reason,
     draws_are_refused_for_one_reason, hints_are_refused_for_one_reason,

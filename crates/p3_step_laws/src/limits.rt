@@ -2,8 +2,8 @@
 //! its limit, or bytes that are too long for the alphabet. Laws, of every challenger, codec and alphabet.
 ghost use Rattle.std.specs.Prelude.{ℕ, List, length, true};
 ghost use Rattle.p3_driver_core.specs.Counts.{count_bytes};
-ghost use Rattle.p3_driver_core.specs.Effects.{alphabet_of, untouched, observing, observing_all, observing_bytes};
-ghost use Rattle.p3_driver_core.specs.Effects.{drawing, drawing_all, in_turn};
+ghost use Rattle.p3_driver_core.specs.Effects.{alphabet_of, untouched, observing, observing_list, observing_bytes};
+ghost use Rattle.p3_driver_core.specs.Effects.{drawing, drawing_list, in_sequence};
 ghost use Rattle.p3_driver_core.specs.Rejecting.{Rule, drawing_rejecting};
 ghost use Rattle.p3_driver_core.specs.Working.{work_of, checking};
 ghost use Rattle.p3_fs_core.specs.Steps.{Step};
@@ -19,10 +19,10 @@ use p3_grinding::{CanSampleUniformBits, GrindingChallenger};
 /// A law: the body is empty, and a caller cites the clauses.
 pub fn values_tell_limits<A, U: Unit, C: CanObserve<U::Item>, Cdc: Codec<C, A>>()
     ensures value { (x : A) → TellsLimits (observing Cdc.observation x) }
-    ensures list { (xs : List A) → TellsLimits (observing_all Cdc.observation xs) }
-    ensures counted { (max : ℕ) (xs : List A) → TellsLimits (in_turn
+    ensures list { (xs : List A) → TellsLimits (observing_list Cdc.observation xs) }
+    ensures counted { (max : ℕ) (xs : List A) → TellsLimits (in_sequence
         (observing_bytes (alphabet_of U.items U.is_too_long C.observation C.slice_may_leave)
-        (count_bytes max (length xs))) (observing_all Cdc.observation xs)) }
+        (count_bytes max (length xs))) (observing_list Cdc.observation xs)) }
 {}
 
 /// A step of a value that the challenger itself knows how to observe meets no limit.
@@ -40,7 +40,7 @@ pub fn bytes_tell_limits<U: Unit, C: CanObserve<U::Item>>()
         (observing_bytes (alphabet_of U.items U.is_too_long C.observation C.slice_may_leave) bytes) }
     ensures counted { (max : ℕ) (bytes : List ℕ) →
         let alphabet = alphabet_of U.items U.is_too_long C.observation C.slice_may_leave in TellsLimits
-        (in_turn (observing_bytes alphabet (count_bytes max (length bytes))) (observing_bytes alphabet bytes)) }
+        (in_sequence (observing_bytes alphabet (count_bytes max (length bytes))) (observing_bytes alphabet bytes)) }
 {}
 
 /// A marker and a hint meet no limit.
@@ -56,7 +56,7 @@ pub fn markers_and_hints_tell_limits<A, C: Sponge>()
 /// A law: the body is empty, and a caller cites the clauses.
 pub fn draws_tell_limits<A, C: Sponge, Cdc: Codec<C, A>>()
     ensures value { TellsLimits {Symbol = C.Symbol} (drawing Cdc.sampling) }
-    ensures list { (n : ℕ) → TellsLimits {Symbol = C.Symbol} (drawing_all Cdc.sampling n) }
+    ensures list { (n : ℕ) → TellsLimits {Symbol = C.Symbol} (drawing_list Cdc.sampling n) }
     ensures rejecting { (rule : Rule A) (limit n : ℕ) →
         TellsLimits {Symbol = C.Symbol} (drawing_rejecting Cdc.sampling rule limit n) }
 {}
@@ -65,7 +65,7 @@ pub fn draws_tell_limits<A, C: Sponge, Cdc: Codec<C, A>>()
 ///
 /// A law: the body is empty, and a caller cites the clauses.
 pub fn bit_draws_tell_limits<C: CanSampleBits<usize>>()
-    ensures list { (width n : ℕ) → TellsLimits {Symbol = C.Symbol} (drawing_all (C.bits_sampling width) n) }
+    ensures list { (width n : ℕ) → TellsLimits {Symbol = C.Symbol} (drawing_list (C.bits_sampling width) n) }
     ensures rejecting { (width : ℕ) (rule : Rule ℕ) (limit n : ℕ) →
         TellsLimits {Symbol = C.Symbol} (drawing_rejecting (C.bits_sampling width) rule limit n) }
 {}
@@ -74,7 +74,7 @@ pub fn bit_draws_tell_limits<C: CanSampleBits<usize>>()
 ///
 /// A law: the body is empty, and a caller cites the clauses.
 pub fn uniform_draws_tell_limits<F, C: CanSampleUniformBits<F>>()
-    ensures list { (width n : ℕ) → TellsLimits {Symbol = C.Symbol} (drawing_all (C.uniform true width).draw n) }
+    ensures list { (width n : ℕ) → TellsLimits {Symbol = C.Symbol} (drawing_list (C.uniform true width).draw n) }
     ensures rejecting { (width : ℕ) (rule : Rule ℕ) (limit n : ℕ) →
         TellsLimits {Symbol = C.Symbol} (drawing_rejecting (C.uniform true width).draw rule limit n) }
 {}

@@ -1,4 +1,4 @@
-//! Where a prover has played a step, a verifier that stands at the same turn is refused its step for want of memory
+//! Where a prover has played a step, a verifier that stands at the same state is refused its step for want of memory
 //! alone.
 //!
 //! The laws of mirrors and agreements say what comes of the verifier's step where it is played, and that no fault of the pattern
@@ -11,15 +11,15 @@ ghost use Rattle.p3_driver_core.specs.Rejecting.{Rule, drawn_rejecting};
 ghost use Rattle.p3_driver_core.specs.Reads as reads;
 ghost use Rattle.p3_step_laws.specs.Memory.{OnlyMemoryRefuses, OnlyMemoryRefusesToRead};
 
-use p3_challenger_core::{CanObserve, CanSampleBits, Sponge};
-use p3_codecs::{Codec, Unit};
-use p3_fs_core::Kind;
-use p3_grinding::CanSampleUniformBits;
 use crate::mirrors::{
     counted_hint_is_received, hint_is_received, sent_bytes_are_received,
     sent_counted_bytes_are_received, sent_counted_values_are_received, sent_value_is_received,
     sent_values_are_received,
 };
+use p3_challenger_core::{CanObserve, CanSampleBits, Sponge};
+use p3_codecs::{Codec, Unit};
+use p3_fs_core::Kind;
+use p3_grinding::CanSampleUniformBits;
 
 /// Where a prover has sent one value, a list, or a list after its count, want of memory alone refuses the verifier that
 /// reads it.
@@ -29,8 +29,8 @@ pub fn only_memory_refuses_sent_values<A, U: Unit, C: CanObserve<U::Item>, Cdc: 
     ensures value { (step : Step) (x : A) → OnlyMemoryRefusesToRead
         (meaning.sent step Cdc.observation Cdc.encoding x) (reads.received step Cdc.observation Cdc.encoding) x }
     ensures list { (step : Step) (xs : List A) → OnlyMemoryRefusesToRead
-        (meaning.sent_all step Cdc.observation Cdc.encoding xs)
-        (reads.received_all step Cdc.observation Cdc.encoding (length xs)) xs }
+        (meaning.sent_list step Cdc.observation Cdc.encoding xs)
+        (reads.received_list step Cdc.observation Cdc.encoding (length xs)) xs }
     ensures counted { let alphabet = alphabet_of U.items U.is_too_long C.observation C.slice_may_leave in
         (step : Step) (max : ℕ) (xs : List A) → length xs ≤ max → max < 2 ^ 64 → OnlyMemoryRefusesToRead
         (meaning.sent_bounded step alphabet max Cdc.observation Cdc.encoding xs)
@@ -84,7 +84,7 @@ pub fn only_memory_refuses_markers<C: Sponge>()
 /// A law: the body is empty, and a caller cites the clauses.
 pub fn only_memory_refuses_observed_values<A, U: Unit, C: CanObserve<U::Item>, Cdc: Codec<C, A>>()
     ensures value { (step : Step) (x : A) → OnlyMemoryRefuses (meaning.observed step Cdc.observation x) }
-    ensures list { (step : Step) (xs : List A) → OnlyMemoryRefuses (meaning.observed_all step Cdc.observation xs) }
+    ensures list { (step : Step) (xs : List A) → OnlyMemoryRefuses (meaning.observed_list step Cdc.observation xs) }
     ensures counted { let alphabet = alphabet_of U.items U.is_too_long C.observation C.slice_may_leave in
         (step : Step) (max : ℕ) (xs : List A) →
         OnlyMemoryRefuses (meaning.observed_bounded step alphabet max Cdc.observation xs) }
@@ -104,7 +104,7 @@ pub fn only_memory_refuses_opaque_values<T, C: CanObserve<T>>()
 pub fn only_memory_refuses_drawn_values<A, C: Sponge, Cdc: Codec<C, A>>()
     ensures value { (step : Step) → OnlyMemoryRefuses {Symbol = C.Symbol} (meaning.drawn step Cdc.sampling) }
     ensures list { (step : Step) (n : ℕ) →
-        OnlyMemoryRefuses {Symbol = C.Symbol} (meaning.drawn_all step Cdc.sampling n) }
+        OnlyMemoryRefuses {Symbol = C.Symbol} (meaning.drawn_list step Cdc.sampling n) }
     ensures rejecting { (step : Step) (rule : Rule A) (limit n : ℕ) →
         OnlyMemoryRefuses {Symbol = C.Symbol} (drawn_rejecting step Cdc.sampling rule limit n) }
 {}
@@ -114,7 +114,7 @@ pub fn only_memory_refuses_drawn_values<A, C: Sponge, Cdc: Codec<C, A>>()
 /// A law: the body is empty, and a caller cites the clause.
 pub fn only_memory_refuses_drawn_bits<C: CanSampleBits<usize>>()
     ensures { (step : Step) (width n : ℕ) →
-        OnlyMemoryRefuses {Symbol = C.Symbol} (meaning.drawn_all step (C.bits_sampling width) n) }
+        OnlyMemoryRefuses {Symbol = C.Symbol} (meaning.drawn_list step (C.bits_sampling width) n) }
 {}
 
 /// The same of numbers of so many uniform bits.
@@ -122,7 +122,7 @@ pub fn only_memory_refuses_drawn_bits<C: CanSampleBits<usize>>()
 /// A law: the body is empty, and a caller cites the clauses.
 pub fn only_memory_refuses_drawn_uniform_bits<F, C: CanSampleUniformBits<F>>()
     ensures list { (step : Step) (width n : ℕ) →
-        OnlyMemoryRefuses {Symbol = C.Symbol} (meaning.drawn_all step (C.uniform true width).draw n) }
+        OnlyMemoryRefuses {Symbol = C.Symbol} (meaning.drawn_list step (C.uniform true width).draw n) }
     ensures rejecting { (step : Step) (width : ℕ) (rule : Rule ℕ) (limit n : ℕ) →
         OnlyMemoryRefuses {Symbol = C.Symbol} (drawn_rejecting step (C.uniform true width).draw rule limit n) }
 {}

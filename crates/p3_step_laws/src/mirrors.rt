@@ -2,16 +2,16 @@
 //!
 //! Each law is a function with an empty body: a caller calls it, and cites its clauses. `mirrors` says what is written
 //! and read. `follows` is what a caller wants of the two calls: where the prover's step was played, and the verifier
-//! stands at the turn before it with the step's bytes next, its step reads the prover's value, leaves what follows, and
-//! ends at the prover's turn; or it is refused for the sake of the challenger or of memory alone.
+//! stands at the state before it with the step's bytes next, its step reads the prover's value, leaves what follows, and
+//! ends at the prover's state; or it is refused for the sake of the challenger or of memory alone.
 ghost use Rattle.std.specs.Prelude.{◌^◌, ◌<◌, ◌≤◌, ℕ, List, length};
 ghost use Rattle.p3_fs_core.specs.Steps.{Step};
 ghost use Rattle.p3_driver_core.specs.Effects.{alphabet_of};
 ghost use Rattle.p3_driver_core.specs.Meanings as meaning;
 ghost use Rattle.p3_driver_core.specs.Working.{work_of, sent_work};
 ghost use Rattle.p3_fs_core.specs.Scalar.{encoding};
-ghost use Rattle.p3_step_laws.specs.Following.{Follows, FollowsWork};
-ghost use Rattle.p3_step_laws.specs.Mirrors.{Mirrors};
+ghost use Rattle.p3_step_laws.specs.Completeness.{Completes, CompletesWork};
+ghost use Rattle.p3_step_laws.specs.ReadBack.{ReadsBack};
 ghost use Rattle.p3_driver_core.specs.Reads as reads;
 
 use p3_challenger_core::{CanObserve, Sponge};
@@ -24,9 +24,9 @@ use p3_grinding::GrindingChallenger;
 ///
 /// A law: the body is empty, and a caller cites the clauses.
 pub fn sent_value_is_received<A, C: Sponge, Cdc: Codec<C, A>>()
-    ensures mirrors { (step : Step) (x : A) → Mirrors (meaning.sent step Cdc.observation Cdc.encoding x)
+    ensures read_back { (step : Step) (x : A) → ReadsBack (meaning.sent step Cdc.observation Cdc.encoding x)
         (reads.received step Cdc.observation Cdc.encoding) x }
-    ensures follows { (step : Step) (x : A) → Follows (meaning.sent step Cdc.observation Cdc.encoding x)
+    ensures complete { (step : Step) (x : A) → Completes (meaning.sent step Cdc.observation Cdc.encoding x)
         (reads.received step Cdc.observation Cdc.encoding) x }
 {}
 
@@ -34,23 +34,23 @@ pub fn sent_value_is_received<A, C: Sponge, Cdc: Codec<C, A>>()
 ///
 /// A law: the body is empty, and a caller cites the clauses.
 pub fn sent_values_are_received<A, C: Sponge, Cdc: Codec<C, A>>()
-    ensures mirrors { (step : Step) (xs : List A) → Mirrors (meaning.sent_all step Cdc.observation Cdc.encoding xs)
-        (reads.received_all step Cdc.observation Cdc.encoding (length xs)) xs }
-    ensures follows { (step : Step) (xs : List A) → Follows (meaning.sent_all step Cdc.observation Cdc.encoding xs)
-        (reads.received_all step Cdc.observation Cdc.encoding (length xs)) xs }
+    ensures read_back { (step : Step) (xs : List A) → ReadsBack (meaning.sent_list step Cdc.observation Cdc.encoding xs)
+        (reads.received_list step Cdc.observation Cdc.encoding (length xs)) xs }
+    ensures complete { (step : Step) (xs : List A) → Completes (meaning.sent_list step Cdc.observation Cdc.encoding xs)
+        (reads.received_list step Cdc.observation Cdc.encoding (length xs)) xs }
 {}
 
 /// What a prover writes of a list of at most so many values after their count, a verifier reads, and follows it.
 ///
 /// A law: the body is empty, and a caller cites the clauses. The most is below 2^64, as a `usize` is.
 pub fn sent_counted_values_are_received<A, U: Unit, C: CanObserve<U::Item>, Cdc: Codec<C, A>>()
-    ensures mirrors { let alphabet = alphabet_of U.items U.is_too_long C.observation C.slice_may_leave in
+    ensures read_back { let alphabet = alphabet_of U.items U.is_too_long C.observation C.slice_may_leave in
         (step : Step) (max : ℕ) (xs : List A) → length xs ≤ max → max < 2 ^ 64 →
-        Mirrors (meaning.sent_bounded step alphabet max Cdc.observation Cdc.encoding xs)
+        ReadsBack (meaning.sent_bounded step alphabet max Cdc.observation Cdc.encoding xs)
         (reads.received_bounded step alphabet max Cdc.observation Cdc.encoding) xs }
-    ensures follows { let alphabet = alphabet_of U.items U.is_too_long C.observation C.slice_may_leave in
+    ensures complete { let alphabet = alphabet_of U.items U.is_too_long C.observation C.slice_may_leave in
         (step : Step) (max : ℕ) (xs : List A) → length xs ≤ max → max < 2 ^ 64 →
-        Follows (meaning.sent_bounded step alphabet max Cdc.observation Cdc.encoding xs)
+        Completes (meaning.sent_bounded step alphabet max Cdc.observation Cdc.encoding xs)
         (reads.received_bounded step alphabet max Cdc.observation Cdc.encoding) xs }
 {}
 
@@ -58,11 +58,11 @@ pub fn sent_counted_values_are_received<A, U: Unit, C: CanObserve<U::Item>, Cdc:
 ///
 /// A law: the body is empty, and a caller cites the clauses.
 pub fn sent_bytes_are_received<U: Unit, C: CanObserve<U::Item>>()
-    ensures mirrors { let alphabet = alphabet_of U.items U.is_too_long C.observation C.slice_may_leave in
-        (kind : Kind) (label bytes : List ℕ) → Mirrors (meaning.sent_bytes kind label alphabet bytes)
+    ensures read_back { let alphabet = alphabet_of U.items U.is_too_long C.observation C.slice_may_leave in
+        (kind : Kind) (label bytes : List ℕ) → ReadsBack (meaning.sent_bytes kind label alphabet bytes)
         (reads.received_bytes kind label alphabet (length bytes)) bytes }
-    ensures follows { let alphabet = alphabet_of U.items U.is_too_long C.observation C.slice_may_leave in
-        (kind : Kind) (label bytes : List ℕ) → Follows (meaning.sent_bytes kind label alphabet bytes)
+    ensures complete { let alphabet = alphabet_of U.items U.is_too_long C.observation C.slice_may_leave in
+        (kind : Kind) (label bytes : List ℕ) → Completes (meaning.sent_bytes kind label alphabet bytes)
         (reads.received_bytes kind label alphabet (length bytes)) bytes }
 {}
 
@@ -70,13 +70,13 @@ pub fn sent_bytes_are_received<U: Unit, C: CanObserve<U::Item>>()
 ///
 /// A law: the body is empty, and a caller cites the clauses. The most is below 2^64, as a `usize` is.
 pub fn sent_counted_bytes_are_received<U: Unit, C: CanObserve<U::Item>>()
-    ensures mirrors { let alphabet = alphabet_of U.items U.is_too_long C.observation C.slice_may_leave in
+    ensures read_back { let alphabet = alphabet_of U.items U.is_too_long C.observation C.slice_may_leave in
         (label : List ℕ) (max : ℕ) (bytes : List ℕ) → length bytes ≤ max → max < 2 ^ 64 →
-        Mirrors (meaning.sent_bytes_bounded Kind.Message label alphabet max bytes)
+        ReadsBack (meaning.sent_bytes_bounded Kind.Message label alphabet max bytes)
         (reads.received_bytes_bounded label alphabet max) bytes }
-    ensures follows { let alphabet = alphabet_of U.items U.is_too_long C.observation C.slice_may_leave in
+    ensures complete { let alphabet = alphabet_of U.items U.is_too_long C.observation C.slice_may_leave in
         (label : List ℕ) (max : ℕ) (bytes : List ℕ) → length bytes ≤ max → max < 2 ^ 64 →
-        Follows (meaning.sent_bytes_bounded Kind.Message label alphabet max bytes)
+        Completes (meaning.sent_bytes_bounded Kind.Message label alphabet max bytes)
         (reads.received_bytes_bounded label alphabet max) bytes }
 {}
 
@@ -84,9 +84,9 @@ pub fn sent_counted_bytes_are_received<U: Unit, C: CanObserve<U::Item>>()
 ///
 /// A law: the body is empty, and a caller cites the clauses.
 pub fn hint_is_received<C: Sponge>()
-    ensures mirrors { (label bytes : List ℕ) → Mirrors {S = C.State} {Symbol = C.Symbol} (meaning.hinted label bytes)
+    ensures read_back { (label bytes : List ℕ) → ReadsBack {S = C.State} {Symbol = C.Symbol} (meaning.hinted label bytes)
         (reads.hint_received label (length bytes)) bytes }
-    ensures follows { (label bytes : List ℕ) → Follows {S = C.State} {Symbol = C.Symbol} (meaning.hinted label bytes)
+    ensures complete { (label bytes : List ℕ) → Completes {S = C.State} {Symbol = C.Symbol} (meaning.hinted label bytes)
         (reads.hint_received label (length bytes)) bytes }
 {}
 
@@ -94,11 +94,11 @@ pub fn hint_is_received<C: Sponge>()
 ///
 /// A law: the body is empty, and a caller cites the clauses. The most is below 2^64, as a `usize` is.
 pub fn counted_hint_is_received<C: Sponge>()
-    ensures mirrors { (label : List ℕ) (max : ℕ) (bytes : List ℕ) → length bytes ≤ max → max < 2 ^ 64 →
-        Mirrors {S = C.State} {Symbol = C.Symbol} (meaning.hinted_bounded label max bytes)
+    ensures read_back { (label : List ℕ) (max : ℕ) (bytes : List ℕ) → length bytes ≤ max → max < 2 ^ 64 →
+        ReadsBack {S = C.State} {Symbol = C.Symbol} (meaning.hinted_bounded label max bytes)
         (reads.hint_received_bounded label max) bytes }
-    ensures follows { (label : List ℕ) (max : ℕ) (bytes : List ℕ) → length bytes ≤ max → max < 2 ^ 64 →
-        Follows {S = C.State} {Symbol = C.Symbol} (meaning.hinted_bounded label max bytes)
+    ensures complete { (label : List ℕ) (max : ℕ) (bytes : List ℕ) → length bytes ≤ max → max < 2 ^ 64 →
+        Completes {S = C.State} {Symbol = C.Symbol} (meaning.hinted_bounded label max bytes)
         (reads.hint_received_bounded label max) bytes }
 {}
 
@@ -107,11 +107,11 @@ pub fn counted_hint_is_received<C: Sponge>()
 ///
 /// A law: the body is empty, and a caller cites the clauses.
 pub fn sent_work_is_received<C: GrindingChallenger>()
-    ensures mirrors { (step : Step) (bits : ℕ) (x : C.Witness) →
+    ensures read_back { (step : Step) (bits : ℕ) (x : C.Witness) →
         let work = work_of step C.Witness.residues C.before_witness C.observation C.bits_sampling bits in
         let spelling = encoding C.Witness.residues C.Witness.bit_length in
-        Mirrors (sent_work work spelling x) (reads.received_work work spelling) x }
-    ensures follows { (step : Step) (bits : ℕ) (x : C.Witness) →
+        ReadsBack (sent_work work spelling x) (reads.received_work work spelling) x }
+    ensures complete { (step : Step) (bits : ℕ) (x : C.Witness) →
         let work = work_of step C.Witness.residues C.before_witness C.observation C.bits_sampling bits in
-        FollowsWork work (encoding C.Witness.residues C.Witness.bit_length) x }
+        CompletesWork work (encoding C.Witness.residues C.Witness.bit_length) x }
 {}

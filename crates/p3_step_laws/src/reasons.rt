@@ -1,11 +1,11 @@
-//! A step is refused for one reason: what an error says follows from the turn before the step. Want of memory alone may
+//! A step is refused for one reason: what an error says follows from the state before the step. Want of memory alone may
 //! come in its place. Here the steps that leave the proof as it is, and those that a prover writes.
 ghost use Rattle.std.specs.Prelude.{◌≤◌, ◌⊎◌, ℕ, List, length, true};
 ghost use Rattle.p3_fs_core.specs.Steps.{Step};
 ghost use Rattle.p3_driver_core.specs.Effects.{alphabet_of};
 ghost use Rattle.p3_driver_core.specs.Meanings as meaning;
 ghost use Rattle.p3_driver_core.specs.Rejecting.{Rule, drawn_rejecting};
-ghost use Rattle.p3_driver_core.specs.Turns.{Turn, Refuses, RefusesLength};
+ghost use Rattle.p3_driver_core.specs.Transcripts.{Transcript, RefusesStep, RefusesLength};
 ghost use Rattle.p3_step_laws.specs.OneReason.{TellOneReason};
 
 use p3_challenger_core::{CanObserve, CanSampleBits, Sponge};
@@ -17,7 +17,7 @@ use p3_grinding::CanSampleUniformBits;
 ///
 /// A law: the body is empty, and a caller cites the clause.
 pub fn markers_are_refused_for_one_reason<C: Sponge>()
-    ensures { (step : Step) → TellOneReason (Refuses {S = C.State} {Symbol = C.Symbol} (meaning.marked step)) }
+    ensures { (step : Step) → TellOneReason (RefusesStep {S = C.State} {Symbol = C.Symbol} (meaning.marked step)) }
 {}
 
 /// A step is refused for one reason that observes values which do not stand in the proof, or that a prover sends. So it
@@ -25,27 +25,27 @@ pub fn markers_are_refused_for_one_reason<C: Sponge>()
 ///
 /// A law: the body is empty, and a caller cites the clauses.
 pub fn values_are_refused_for_one_reason<A, U: Unit, C: CanObserve<U::Item>, Cdc: Codec<C, A>>()
-    ensures observed { (step : Step) (x : A) → TellOneReason (Refuses (meaning.observed step Cdc.observation x)) }
+    ensures observed { (step : Step) (x : A) → TellOneReason (RefusesStep (meaning.observed step Cdc.observation x)) }
     ensures observed_list { (step : Step) (xs : List A) →
-        TellOneReason (Refuses (meaning.observed_all step Cdc.observation xs)) }
+        TellOneReason (RefusesStep (meaning.observed_list step Cdc.observation xs)) }
     ensures observed_counted { let alphabet = alphabet_of U.items U.is_too_long C.observation C.slice_may_leave in
         (step : Step) (max : ℕ) (xs : List A) →
-        TellOneReason (Refuses (meaning.observed_bounded step alphabet max Cdc.observation xs)) }
+        TellOneReason (RefusesStep (meaning.observed_bounded step alphabet max Cdc.observation xs)) }
     ensures sent { (step : Step) (x : A) →
-        TellOneReason (Refuses (meaning.sent step Cdc.observation Cdc.encoding x)) }
+        TellOneReason (RefusesStep (meaning.sent step Cdc.observation Cdc.encoding x)) }
     ensures sent_list { (step : Step) (xs : List A) →
-        TellOneReason (Refuses (meaning.sent_all step Cdc.observation Cdc.encoding xs)) }
+        TellOneReason (RefusesStep (meaning.sent_list step Cdc.observation Cdc.encoding xs)) }
     ensures sent_counted { let alphabet = alphabet_of U.items U.is_too_long C.observation C.slice_may_leave in
         (step : Step) (max : ℕ) (xs : List A) →
-        TellOneReason (Refuses (meaning.sent_bounded step alphabet max Cdc.observation Cdc.encoding xs)) }
+        TellOneReason (RefusesStep (meaning.sent_bounded step alphabet max Cdc.observation Cdc.encoding xs)) }
     ensures observed_within { let alphabet = alphabet_of U.items U.is_too_long C.observation C.slice_may_leave in
-        (step : Step) (max : ℕ) (xs : List A) → TellOneReason {V = Turn C.State} (λ before e after.
+        (step : Step) (max : ℕ) (xs : List A) → TellOneReason {V = Transcript C.State} (λ before e after.
         RefusesLength (length xs) max before.playing e after.playing ⊎ (length xs ≤ max
-        × Refuses (meaning.observed_bounded step alphabet max Cdc.observation xs) before e after)) }
+        × RefusesStep (meaning.observed_bounded step alphabet max Cdc.observation xs) before e after)) }
     ensures sent_within { let alphabet = alphabet_of U.items U.is_too_long C.observation C.slice_may_leave in
-        (step : Step) (max : ℕ) (xs : List A) → TellOneReason {V = Turn C.State} (λ before e after.
+        (step : Step) (max : ℕ) (xs : List A) → TellOneReason {V = Transcript C.State} (λ before e after.
         RefusesLength (length xs) max before.playing e after.playing ⊎ (length xs ≤ max
-        × Refuses (meaning.sent_bounded step alphabet max Cdc.observation Cdc.encoding xs) before e after)) }
+        × RefusesStep (meaning.sent_bounded step alphabet max Cdc.observation Cdc.encoding xs) before e after)) }
 {}
 
 /// A step of bytes is refused to a prover for one reason, also where they may be refused first for being too many.
@@ -54,15 +54,15 @@ pub fn values_are_refused_for_one_reason<A, U: Unit, C: CanObserve<U::Item>, Cdc
 pub fn bytes_are_refused_for_one_reason<U: Unit, C: CanObserve<U::Item>>()
     ensures fixed { let alphabet = alphabet_of U.items U.is_too_long C.observation C.slice_may_leave in
         (kind : Kind) (label bytes : List ℕ) →
-        TellOneReason (Refuses (meaning.sent_bytes kind label alphabet bytes)) }
+        TellOneReason (RefusesStep (meaning.sent_bytes kind label alphabet bytes)) }
     ensures counted { let alphabet = alphabet_of U.items U.is_too_long C.observation C.slice_may_leave in
         (kind : Kind) (label : List ℕ) (max : ℕ) (bytes : List ℕ) →
-        TellOneReason (Refuses (meaning.sent_bytes_bounded kind label alphabet max bytes)) }
+        TellOneReason (RefusesStep (meaning.sent_bytes_bounded kind label alphabet max bytes)) }
     ensures within { let alphabet = alphabet_of U.items U.is_too_long C.observation C.slice_may_leave in
         (kind : Kind) (label : List ℕ) (max : ℕ) (bytes : List ℕ) →
-        TellOneReason {V = Turn C.State} (λ before e after.
+        TellOneReason {V = Transcript C.State} (λ before e after.
         RefusesLength (length bytes) max before.playing e after.playing ⊎ (length bytes ≤ max
-        × Refuses (meaning.sent_bytes_bounded kind label alphabet max bytes) before e after)) }
+        × RefusesStep (meaning.sent_bytes_bounded kind label alphabet max bytes) before e after)) }
 {}
 
 /// The same of a hint.
@@ -70,31 +70,31 @@ pub fn bytes_are_refused_for_one_reason<U: Unit, C: CanObserve<U::Item>>()
 /// A law: the body is empty, and a caller cites the clauses.
 pub fn hints_are_refused_for_one_reason<C: Sponge>()
     ensures fixed { (label bytes : List ℕ) →
-        TellOneReason (Refuses {S = C.State} {Symbol = C.Symbol} (meaning.hinted label bytes)) }
+        TellOneReason (RefusesStep {S = C.State} {Symbol = C.Symbol} (meaning.hinted label bytes)) }
     ensures counted { (label : List ℕ) (max : ℕ) (bytes : List ℕ) →
-        TellOneReason (Refuses {S = C.State} {Symbol = C.Symbol} (meaning.hinted_bounded label max bytes)) }
+        TellOneReason (RefusesStep {S = C.State} {Symbol = C.Symbol} (meaning.hinted_bounded label max bytes)) }
     ensures within { (label : List ℕ) (max : ℕ) (bytes : List ℕ) →
-        TellOneReason {V = Turn C.State} (λ before e after.
+        TellOneReason {V = Transcript C.State} (λ before e after.
         RefusesLength (length bytes) max before.playing e after.playing ⊎ (length bytes ≤ max
-        × Refuses {Symbol = C.Symbol} (meaning.hinted_bounded label max bytes) before e after)) }
+        × RefusesStep {Symbol = C.Symbol} (meaning.hinted_bounded label max bytes) before e after)) }
 {}
 
 /// A step is refused for one reason that observes a value as the challenger itself knows how.
 ///
 /// A law: the body is empty, and a caller cites the clause.
 pub fn opaque_values_are_refused_for_one_reason<T, C: CanObserve<T>>()
-    ensures { (step : Step) (x : T) → TellOneReason (Refuses (meaning.observed step C.observation x)) }
+    ensures { (step : Step) (x : T) → TellOneReason (RefusesStep (meaning.observed step C.observation x)) }
 {}
 
 /// A step that draws is refused for one reason: a step of one value, of so many, and of so many that a rule takes.
 ///
 /// A law: the body is empty, and a caller cites the clauses.
 pub fn draws_are_refused_for_one_reason<A, C: Sponge, Cdc: Codec<C, A>>()
-    ensures value { (step : Step) → TellOneReason (Refuses {Symbol = C.Symbol} (meaning.drawn step Cdc.sampling)) }
+    ensures value { (step : Step) → TellOneReason (RefusesStep {Symbol = C.Symbol} (meaning.drawn step Cdc.sampling)) }
     ensures list { (step : Step) (n : ℕ) →
-        TellOneReason (Refuses {Symbol = C.Symbol} (meaning.drawn_all step Cdc.sampling n)) }
+        TellOneReason (RefusesStep {Symbol = C.Symbol} (meaning.drawn_list step Cdc.sampling n)) }
     ensures rejecting { (step : Step) (rule : Rule A) (limit n : ℕ) →
-        TellOneReason (Refuses {Symbol = C.Symbol} (drawn_rejecting step Cdc.sampling rule limit n)) }
+        TellOneReason (RefusesStep {Symbol = C.Symbol} (drawn_rejecting step Cdc.sampling rule limit n)) }
 {}
 
 /// The same of a step that draws numbers of so many bits.
@@ -102,7 +102,7 @@ pub fn draws_are_refused_for_one_reason<A, C: Sponge, Cdc: Codec<C, A>>()
 /// A law: the body is empty, and a caller cites the clause.
 pub fn bit_draws_are_refused_for_one_reason<C: CanSampleBits<usize>>()
     ensures { (step : Step) (width n : ℕ) →
-        TellOneReason (Refuses {Symbol = C.Symbol} (meaning.drawn_all step (C.bits_sampling width) n)) }
+        TellOneReason (RefusesStep {Symbol = C.Symbol} (meaning.drawn_list step (C.bits_sampling width) n)) }
 {}
 
 /// The same of a step that draws numbers of so many uniform bits.
@@ -110,7 +110,7 @@ pub fn bit_draws_are_refused_for_one_reason<C: CanSampleBits<usize>>()
 /// A law: the body is empty, and a caller cites the clauses.
 pub fn uniform_draws_are_refused_for_one_reason<F, C: CanSampleUniformBits<F>>()
     ensures list { (step : Step) (width n : ℕ) →
-        TellOneReason (Refuses {Symbol = C.Symbol} (meaning.drawn_all step (C.uniform true width).draw n)) }
+        TellOneReason (RefusesStep {Symbol = C.Symbol} (meaning.drawn_list step (C.uniform true width).draw n)) }
     ensures rejecting { (step : Step) (width : ℕ) (rule : Rule ℕ) (limit n : ℕ) →
-        TellOneReason (Refuses {Symbol = C.Symbol} (drawn_rejecting step (C.uniform true width).draw rule limit n)) }
+        TellOneReason (RefusesStep {Symbol = C.Symbol} (drawn_rejecting step (C.uniform true width).draw rule limit n)) }
 {}

@@ -26,8 +26,8 @@ use p3_grinding::GrindingChallenger;
 pub fn read_values_are_spelled<A, U: Unit, C: CanObserve<U::Item>, Cdc: Codec<C, A>>()
     ensures value { (step : Step) → OnlyReads (reads.received step Cdc.observation Cdc.encoding) AnyValue
         (λ x. meaning.sent step Cdc.observation Cdc.encoding x) }
-    ensures list { (step : Step) (n : ℕ) → OnlyReads (reads.received_all step Cdc.observation Cdc.encoding n)
-        (λ xs. length xs ≡ n) (λ xs. meaning.sent_all step Cdc.observation Cdc.encoding xs) }
+    ensures list { (step : Step) (n : ℕ) → OnlyReads (reads.received_list step Cdc.observation Cdc.encoding n)
+        (λ xs. length xs ≡ n) (λ xs. meaning.sent_list step Cdc.observation Cdc.encoding xs) }
     ensures counted { let alphabet = alphabet_of U.items U.is_too_long C.observation C.slice_may_leave in
         (step : Step) (max : ℕ) → OnlyReads (reads.received_bounded step alphabet max Cdc.observation Cdc.encoding)
         (λ xs. length xs ≤ max) (λ xs. meaning.sent_bounded step alphabet max Cdc.observation Cdc.encoding xs) }

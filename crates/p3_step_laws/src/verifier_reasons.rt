@@ -1,5 +1,5 @@
 //! A step of a verifier that reads, or to which its caller carries a list, is refused for one reason: what an error
-//! says follows from the turn before the step, and from the bytes that are left. So is proof of work, on either side.
+//! says follows from the state before the step, and from the bytes that are left. So is proof of work, on either side.
 //! Want of memory alone may come in its place.
 ghost use Rattle.std.specs.Prelude.{◌<◌, ◌≤◌, ◌⊎◌, ℕ, List, length};
 ghost use Rattle.p3_fs_core.specs.Scalar.{encoding};
@@ -7,7 +7,7 @@ ghost use Rattle.p3_fs_core.specs.Steps.{Step};
 ghost use Rattle.p3_patterns.specs.Playing.{next_step};
 ghost use Rattle.p3_driver_core.specs.Effects.{alphabet_of};
 ghost use Rattle.p3_driver_core.specs.Meanings as meaning;
-ghost use Rattle.p3_driver_core.specs.Turns.{Refuses, IsOtherLength, longer_list, another_length};
+ghost use Rattle.p3_driver_core.specs.Transcripts.{RefusesStep, IsOtherLength, longer_list, another_length};
 ghost use Rattle.p3_driver_core.specs.Working.{work_of, RefusesToCheck, RefusesToGrind};
 ghost use Rattle.p3_driver_core.specs.Reads as reads;
 ghost use Rattle.p3_driver_core.specs.Verifying.{RefusesToRead, RefusesCarriedList, FailsWork};
@@ -25,7 +25,7 @@ use p3_grinding::GrindingChallenger;
 pub fn values_are_unread_for_one_reason<A, U: Unit, C: CanObserve<U::Item>, Cdc: Codec<C, A>>()
     ensures value { (step : Step) → TellOneReason (RefusesToRead (reads.received step Cdc.observation Cdc.encoding)) }
     ensures list { (step : Step) (n : ℕ) →
-        TellOneReason (RefusesToRead (reads.received_all step Cdc.observation Cdc.encoding n)) }
+        TellOneReason (RefusesToRead (reads.received_list step Cdc.observation Cdc.encoding n)) }
     ensures counted { let alphabet = alphabet_of U.items U.is_too_long C.observation C.slice_may_leave in
         (step : Step) (max : ℕ) →
         TellOneReason (RefusesToRead (reads.received_bounded step alphabet max Cdc.observation Cdc.encoding)) }
@@ -67,11 +67,11 @@ pub fn carried_lists_are_refused_for_one_reason<
         (step : Step) (max : ℕ) (xs : List A) → TellOneReason (λ before e after.
         RefusesCarriedList (max < length xs) longer_list before e after
         ⊎ (length xs ≤ max
-        × Refuses (meaning.observed_bounded step alphabet max Cdc.observation xs) before.turn e after.turn)) }
+        × RefusesStep (meaning.observed_bounded step alphabet max Cdc.observation xs) before.transcript e after.transcript)) }
     ensures recorded { (step : Step) (xs : List A) → TellOneReason (λ before e after.
-        RefusesCarriedList (IsOtherLength (length xs) (next_step before.turn.playing)) another_length before e after
-        ⊎ ((IsOtherLength (length xs) (next_step before.turn.playing) → ⊥)
-        × Refuses (meaning.observed_all step Cdc.observation xs) before.turn e after.turn)) }
+        RefusesCarriedList (IsOtherLength (length xs) (next_step before.transcript.playing)) another_length before e after
+        ⊎ ((IsOtherLength (length xs) (next_step before.transcript.playing) → ⊥)
+        × RefusesStep (meaning.observed_list step Cdc.observation xs) before.transcript e after.transcript)) }
 {}
 
 /// Proof of work is refused for one reason: to a prover that searches for a witness, to a verifier that reads one, and

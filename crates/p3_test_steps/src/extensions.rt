@@ -1,12 +1,12 @@
 // A world of extensions of four coefficients over a larger field.
 use p3_challenger_core::{CanObserve, CanSample};
 use p3_codecs::{FieldToFieldCodec, FieldUnit};
+use p3_domain_separator::DomainSeparator;
 use p3_duplex::DuplexChallenger;
 use p3_field::{BabyBear, BasedVectorSpace, Coeffs, PrimeCharacteristicRing, PrimeField64};
 use p3_fs_core::{Hierarchy, Interaction, Kind, Label, Length, TranscriptError};
 use p3_patterns::InteractionPattern;
 use p3_symmetric::{Sha256Hasher, Turn};
-use p3_domain_separator::DomainSeparator;
 use std::alloc::{AllocError, Global};
 
 /// An element of the extension.

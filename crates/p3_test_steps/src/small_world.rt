@@ -2,15 +2,14 @@
 // without chunks. Right after the seed, whatever the pattern is, it draws 2, 6, 8, 132, 134, 6.
 use p3_challenger_core::{CanObserve, CanSample, ChallengerError};
 use p3_codecs::{FieldToFieldCodec, FieldUnit};
+use p3_domain_separator::DomainSeparator;
+use p3_drivers::{ProverState, VerifierState};
 use p3_duplex::DuplexChallenger;
 use p3_field::{F257, PrimeField64};
 use p3_fs_core::{Hierarchy, Interaction, Kind, Label, Length, TranscriptError};
 use p3_patterns::InteractionPattern;
-use p3_drivers::ProverState;
 use p3_symmetric::{Sha256Hasher, Turn};
 use p3_test_support::element;
-use p3_domain_separator::DomainSeparator;
-use p3_drivers::VerifierState;
 use std::alloc::{AllocError, Global};
 
 /// The challenger: three cells, of which two are the rate.

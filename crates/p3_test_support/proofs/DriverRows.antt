@@ -1,11 +1,11 @@
 -- Worked rows of steps over a duplex challenger, computed on the definitions: three cells of the field of order 257, of
--- which two are the rate, under a turn by two places, which makes (c + 1, a + 2, b + 3) of the cells (a, b, c). The
+-- which two are the rate, under a state by two places, which makes (c + 1, a + 2, b + 3) of the cells (a, b, c). The
 -- cells are (6, 2, 131), and both outputs are left: so a separator with no chunk leaves them, of any name and pattern.
 use Rattle.std.proofs.Common.{◌≡◌, ◌≤◌, ◌==◌, ◌||◌, ℕ, Bool, false, not, List, [], ◌∷◌, map, replicate, codes}
 use Rattle.std.proofs.Common.{Option, Some, None, refl}
 use Rattle.std.specs.Option.{option_map}
 use Rattle.p3_small_primes.specs.F257Residues.{F257, residues}
-use Rattle.p3_symmetric.specs.Turn.{turned}
+use Rattle.p3_symmetric.specs.Transcript.{turned}
 use Rattle.p3_challenger_core.specs.Observation.{Observation, unrefused_observe}
 use Rattle.p3_challenger_core.specs.Sampling.{Sampling, unrefused_draw, draws, after_draws}
 use Rattle.p3_fs_core.specs.Encoding.{Encoding}
@@ -21,9 +21,9 @@ use Rattle.p3_duplex.specs.DuplexCalls.{DuplexSponge}
 use Rattle.p3_driver_core.specs.Counts.{count_width}
 use Rattle.p3_driver_core.specs.Effects.{Alphabet, alphabet_of}
 use Rattle.p3_driver_core.specs.Meanings.{observed_all, observed_bounded, sent, sent_bounded, sent_bytes, hinted}
-use Rattle.p3_driver_core.specs.Meanings.{drawn_all}
+use Rattle.p3_driver_core.specs.Meanings.{drawn_list}
 use Rattle.p3_driver_core.specs.Rejecting.{Rule, taken, keeps, drawn_rejecting}
-use Rattle.p3_driver_core.specs.Turns.{Meaning, algebra_step}
+use Rattle.p3_driver_core.specs.Transcripts.{Meaning, algebra_step}
 
 abbrev Sponge : Type 0
 Sponge = DuplexSponge F257
@@ -110,7 +110,7 @@ hint_of_one = refl
 abbrev draws_then : Meaning Sponge F257 (List F257) → Option (List ℕ) × ℕ × ℕ
 draws_then m = let rest = goes m in (option_map (map residues.number) (m.effect.gives start), rest.1, rest.2)
 
-six_drawn : draws_then (drawn_all (step_of Challenge (Fixed 6)) draw 6)
+six_drawn : draws_then (drawn_list (step_of Challenge (Fixed 6)) draw 6)
     ≡ (Some (2 ∷ 6 ∷ 8 ∷ 132 ∷ 134 ∷ 6 ∷ []), 8, 12)
 unfolding draws after_draws
 six_drawn = refl

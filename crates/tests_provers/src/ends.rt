@@ -1,8 +1,8 @@
 // How a prover ends where steps are left.
 use p3_driver_core::SymmetricSteps;
+use p3_drivers::ProverState;
 use p3_field::F257;
 use p3_fs_core::{Interaction, PatternError, TranscriptError};
-use p3_drivers::ProverState;
 use p3_test_steps::{Message, Prover, Scalars, World, challenge, send, separator, world};
 use p3_test_support::element;
 use std::alloc::Global;

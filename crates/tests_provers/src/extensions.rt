@@ -1,7 +1,7 @@
 // Elements of an extension of four coefficients, each step of theirs once.
+use p3_drivers::ProverState;
 use p3_field::BabyBear;
 use p3_fs_core::TranscriptError;
-use p3_drivers::ProverState;
 use p3_symmetric::Sha256Hasher;
 use p3_test_steps::{
     Coefficients, Wide, WideAlphabet, WideWorld, push_numbers, wide, wide_draws, wide_observed,

@@ -1,15 +1,15 @@
 // Draws that a rule may refuse. Right after the seed the challenger draws 2, 6, 8, 132, 134, 6, 8, 12, 14, 138.
 use p3_challenger_core::ChallengerError;
 use p3_codecs::BytesToFieldCodec;
+use p3_domain_separator::DomainSeparator;
 use p3_driver_core::TranscriptBound;
+use p3_drivers::ProverState;
 use p3_field::{BabyBear, F257, PrimeField64};
 use p3_fs_core::{Hierarchy, Interaction, Kind, Length, TranscriptError};
 use p3_patterns::InteractionPattern;
-use p3_drivers::ProverState;
 use p3_symmetric::Sha256Hasher;
 use p3_test_steps::{Draw, Prover, Scalars, World, drawn, prover_draws, prover_of};
 use p3_test_support::Supply;
-use p3_domain_separator::DomainSeparator;
 use std::test::Fail;
 
 type Bytes = BytesToFieldCodec<BabyBear>;

@@ -1,7 +1,7 @@
 // Byte strings of 257 bytes, for which the alphabet of the small world has no length.
 use p3_challenger_core::ChallengerError;
-use p3_fs_core::TranscriptError;
 use p3_drivers::ProverState;
+use p3_fs_core::TranscriptError;
 use p3_test_steps::{Message, challenge, noted, noting_prover, send, separator, world};
 use std::test::Fail;
 

@@ -1,10 +1,10 @@
 // Proof of work: the least witness, whether it is sent or answered, and where there is none.
 use p3_challenger_core::{CanSampleBits, ChallengerError};
 use p3_codecs::FieldUnit;
+use p3_drivers::ProverState;
 use p3_duplex::DuplexChallenger;
 use p3_field::F257;
 use p3_fs_core::{Kind, Length, PatternError, TranscriptError};
-use p3_drivers::ProverState;
 use p3_symmetric::{Sha256Hasher, Turn};
 use p3_test_steps::{
     bytes, drawn, prover_of, prover_works, prover_works_after, scalars, separator, work_rows, world,

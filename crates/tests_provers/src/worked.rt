@@ -1,18 +1,18 @@
 // Worked rows: a message and then a challenge, over a challenger of the prover's own and one that is lent.
 use p3_challenger_core::{CanObserve, CanSample};
 use p3_codecs::{BytesToFieldCodec, FieldToFieldCodec, FieldUnit};
+use p3_domain_separator::DomainSeparator;
+use p3_drivers::ProverState;
 use p3_duplex::DuplexChallenger;
 use p3_field::{BabyBear, F257, PrimeField64};
 use p3_fs_core::{Hierarchy, Interaction, Kind, Length, TranscriptError};
 use p3_hash_challenger::HashChallenger;
 use p3_patterns::InteractionPattern;
-use p3_drivers::ProverState;
 use p3_symmetric::{Sha256Hasher, Turn};
 use p3_test_steps::{
     Message, Prover, Scalars, challenge, drawn, send, separator, worked_rows, world,
 };
 use p3_test_support::element;
-use p3_domain_separator::DomainSeparator;
 use std::alloc::Global;
 use std::test::Fail;
 

@@ -1,7 +1,7 @@
 // A step in the place of another: nothing is written or observed, and nothing may follow, not even the right one.
+use p3_drivers::ProverState;
 use p3_field::F257;
 use p3_fs_core::{Hierarchy, Interaction, Kind, Length, PatternError, TranscriptError};
-use p3_drivers::ProverState;
 use p3_test_steps::{
     Prover, Scalars, World, bytes, challenge, containers, draw_rows, drawn, known_rows,
     message_rows, prover_draws, prover_marks, prover_observes, prover_of, send, separator, world,

@@ -1,9 +1,9 @@
 ghost use Rattle.std.specs.Prelude.{◌≤◌, length};
 
+use p3_domain_separator::DomainSeparator;
 use p3_fs_core::{Hierarchy, Interaction, Kind, Length};
 use p3_patterns::InteractionPattern;
 use p3_symmetric::Sha256Hasher;
-use p3_domain_separator::DomainSeparator;
 use std::alloc::{AllocError, Global};
 use std::test::Fail;
 

@@ -1,11 +1,11 @@
 // Lists that a verifier knows, of another length than their step has.
+use p3_drivers::VerifierState;
 use p3_fs_core::{Kind, Length, PatternError, TranscriptError};
 use p3_test_steps::{
     Known, Verifier, World, bytes, challenge, drawn, scalars, separator, verifier_observes,
     verifier_of, world,
 };
 use p3_test_support::element;
-use p3_drivers::VerifierState;
 use std::process::Abort;
 use std::test::Fail;
 

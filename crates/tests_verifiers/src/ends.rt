@@ -1,9 +1,9 @@
 // How a verifier ends where steps or bytes are left.
 use p3_driver_core::SymmetricSteps;
+use p3_drivers::VerifierState;
 use p3_field::F257;
 use p3_fs_core::{Interaction, Kind, Length, PatternError, TranscriptError};
 use p3_test_steps::{Scalars, Verifier, World, bytes, challenge, separator, world};
-use p3_drivers::VerifierState;
 use std::alloc::Global;
 use std::test::Fail;
 

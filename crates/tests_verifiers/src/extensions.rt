@@ -1,6 +1,7 @@
 // Elements of an extension of four coefficients, each step of theirs once.
 use p3_challenger_core::{CanObserve, CanSample};
 use p3_driver_core::TranscriptBound;
+use p3_drivers::VerifierState;
 use p3_field::BabyBear;
 use p3_fs_core::TranscriptError;
 use p3_symmetric::Sha256Hasher;
@@ -8,7 +9,6 @@ use p3_test_steps::{
     Coefficients, Wide, WideAlphabet, push_numbers, wide, wide_draws, wide_observed,
     wide_separator, wide_world,
 };
-use p3_drivers::VerifierState;
 use std::alloc::Global;
 use std::test::Fail;
 

@@ -19,6 +19,8 @@ mod reads;
 #[cfg(test)]
 mod rejecting;
 #[cfg(test)]
+mod serializing;
+#[cfg(test)]
 mod too_long;
 #[cfg(test)]
 mod work;

@@ -1,13 +1,13 @@
 // Lists of a larger field, and lists whose bytes are more than a machine number counts.
 use p3_codecs::{FieldToFieldCodec, FieldUnit};
+use p3_domain_separator::DomainSeparator;
+use p3_drivers::VerifierState;
 use p3_duplex::DuplexChallenger;
 use p3_field::{BabyBear, F257, PrimeField64};
 use p3_fs_core::{Hierarchy, Interaction, Kind, Length, TranscriptError};
 use p3_patterns::InteractionPattern;
 use p3_symmetric::{Sha256Hasher, Turn};
 use p3_test_steps::{Scalars, Separator, drawn, scalars, separator, world};
-use p3_domain_separator::DomainSeparator;
-use p3_drivers::VerifierState;
 use std::alloc::Global;
 use std::process::Abort;
 use std::test::Fail;

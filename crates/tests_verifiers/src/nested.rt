@@ -1,14 +1,13 @@
 // A component that lends its challenger to a protocol of its own, in the middle of another one.
 //
 // The other program's challenger, fed both seeds and the two values between them, draws these numbers.
+use p3_drivers::{ProverState, VerifierState};
 use p3_field::{F257, PrimeField64};
 use p3_fs_core::{Interaction, Kind, Length, TranscriptError};
-use p3_drivers::ProverState;
 use p3_test_steps::{
     Prover, Scalars, Verifier, World, challenge, drawn, scalars, separator, world,
 };
 use p3_test_support::element;
-use p3_drivers::VerifierState;
 use std::alloc::{AllocError, Global};
 use std::test::Fail;
 

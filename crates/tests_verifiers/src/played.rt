@@ -1,11 +1,11 @@
 // Each step as it is to be: what is read, and the symbols that the challenger is fed.
+use p3_drivers::VerifierState;
 use p3_test_steps::{
     after, alike_steps, containers, draw_rows, drawn, known_rows, message_rows, noted,
     noting_verifier, play_alike, receive, separator, verifier_draws, verifier_marks,
     verifier_observes, verifier_of, world,
 };
 use p3_test_support::element;
-use p3_drivers::VerifierState;
 use std::test::Fail;
 
 #[test]

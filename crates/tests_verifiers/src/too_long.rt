@@ -1,8 +1,8 @@
 // Byte strings of 257 bytes, for which the alphabet of the small world has no length.
 use p3_challenger_core::ChallengerError;
+use p3_drivers::VerifierState;
 use p3_fs_core::TranscriptError;
 use p3_test_steps::{Message, challenge, noted, noting_verifier, receive, separator, world};
-use p3_drivers::VerifierState;
 use std::test::Fail;
 
 fn too_long<T>() -> Result<T, TranscriptError> {

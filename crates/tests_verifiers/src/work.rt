@@ -1,11 +1,11 @@
 // Proof of work: witnesses that pass, and witnesses that do not.
+use p3_drivers::VerifierState;
 use p3_fs_core::{Kind, Length, PatternError, TranscriptError};
 use p3_test_steps::{
     Verifier, Work, World, bytes, drawn, separator, verifier_checks, verifier_checks_after,
     verifier_of, work_rows, world,
 };
 use p3_test_support::element;
-use p3_drivers::VerifierState;
 use std::alloc::Global;
 use std::process::Abort;
 use std::test::Fail;

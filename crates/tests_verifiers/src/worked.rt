@@ -1,6 +1,8 @@
 // Worked rows: a message and then a challenge, over a challenger of the verifier's own and one that is lent.
 use p3_challenger_core::{CanObserve, CanSample};
 use p3_codecs::{BytesToFieldCodec, FieldToFieldCodec, FieldUnit};
+use p3_domain_separator::DomainSeparator;
+use p3_drivers::VerifierState;
 use p3_duplex::DuplexChallenger;
 use p3_field::{BabyBear, F257, PrimeField64};
 use p3_fs_core::{Hierarchy, Interaction, Kind, Length, TranscriptError};
@@ -11,8 +13,6 @@ use p3_test_steps::{
     Message, Scalars, Verifier, challenge, drawn, receive, separator, worked_rows, world,
 };
 use p3_test_support::element;
-use p3_domain_separator::DomainSeparator;
-use p3_drivers::VerifierState;
 use std::alloc::Global;
 use std::test::Fail;
 

@@ -1,4 +1,5 @@
 // A step in the place of another: nothing is read or observed, and nothing may follow, not even the right one.
+use p3_drivers::VerifierState;
 use p3_field::F257;
 use p3_fs_core::{Hierarchy, Interaction, Kind, Length, PatternError, TranscriptError};
 use p3_test_steps::{
@@ -7,7 +8,6 @@ use p3_test_steps::{
     verifier_of, world,
 };
 use p3_test_support::element;
-use p3_drivers::VerifierState;
 use std::process::Abort;
 use std::test::Fail;
 

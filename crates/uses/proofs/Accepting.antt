@@ -3,8 +3,8 @@ use Rattle.std.proofs.Common.{◌≡◌, ℕ, ◌+◌, ◌≤◌, true, false, L
 use Rattle.std.proofs.Common.{append-nil, length, Result, Ok, Err, OnOk, arith, refl, ap, sym, subst, ◌∙◌}
 use Rattle.p3_challenger.specs.BabyBearResidues.{BabyBear}
 use Rattle.p3_challenger.specs.Encoding.{Encoding}
-use Rattle.p3_challenger.specs.Following.{Follows}
-use Rattle.p3_challenger.specs.FollowingLaws.{meaning-agrees}
+use Rattle.p3_challenger.specs.Completeness.{Completes}
+use Rattle.p3_challenger.specs.CompletenessLaws.{step-completes}
 use Rattle.p3_challenger.specs.Kind.TheVariants.{Challenge, Hint, Message}
 use Rattle.p3_challenger.specs.Length.TheVariants.{Fixed, Scalar}
 use Rattle.p3_challenger.specs.Meanings.{sent, drawn, hinted}
@@ -19,7 +19,7 @@ use Rattle.p3_challenger.specs.Sampling.{Sampling}
 use Rattle.p3_challenger.specs.Steps.{Step}
 use Rattle.p3_challenger.specs.TranscriptError.{TranscriptError}
 use Rattle.p3_challenger.specs.TranscriptError.TheVariants.{OutOfMemory}
-use Rattle.p3_challenger.specs.Turns.{IsNext, Meaning, Plays, Refuses, Turn, algebra_step, bytes_step, step_on}
+use Rattle.p3_challenger.specs.Transcripts.{IsNext, Meaning, PlaysStep, RefusesStep, Transcript, algebra_step, bytes_step, step_on}
 use Rattle.p3_challenger.specs.Driving.{Driving}
 use Rattle.p3_challenger.specs.Verifying.{EndsReading, Receives, RefusesToRead}
 use Rattle.uses.specs.Protocol.{IsAhead, IsDivisor, IsPast, IsRun, after_line, bytes_of, element_step, may_divide}
@@ -29,33 +29,33 @@ use Rattle.uses.specs.declared.protocol.Claim.{Claim}
 -- ---- one step
 
 -- A step that a verifier reads, where it is next, with its bytes, and would be played: it is, or memory is refused.
-module _ {S Symbol A : Type 0} (m : Meaning S Symbol A) (r : Reading S Symbol A) (x : A) (follows : Follows m r x)
-    (memory : OnlyMemoryRefusesToRead m r x) (turn after : Turn S) (plays : Plays m turn x after) (rest : List ℕ)
-    (before : Driving S) (at : before ≡ record { turn = turn; bytes = m.wire ++ rest }) where
+module _ {S Symbol A : Type 0} (m : Meaning S Symbol A) (r : Reading S Symbol A) (x : A) (completes : Completes m r x)
+    (memory : OnlyMemoryRefusesToRead m r x) (transcript after : Transcript S) (plays : PlaysStep m transcript x after) (rest : List ℕ)
+    (before : Driving S) (at : before ≡ record { transcript = transcript; bytes = m.wire ++ rest }) where
   pub reads : (y : A) (end : Driving S) → Receives r before y end →
-      (y ≡ x) × (end ≡ record { turn = after; bytes = rest })
-  reads y end receives = follows.receives turn after rest before end y plays at receives
+      (y ≡ x) × (end ≡ record { transcript = after; bytes = rest })
+  reads y end receives = completes.receives transcript after rest before end y plays at receives
 
   pub reads-or_memory : (e : TranscriptError) (end : Driving S) → RefusesToRead r before e end → e ≡ OutOfMemory
-  reads-or_memory e end refuses = memory turn after rest before end e plays at refuses
+  reads-or_memory e end refuses = memory transcript after rest before end e plays at refuses
 
 -- the same of one that leaves the bytes as they are
-module _ {S Symbol A : Type 0} (m : Meaning S Symbol A) (x : A) (memory : OnlyMemoryRefuses m) (turn after : Turn S)
-    (plays : Plays m turn x after) (rest : List ℕ) (before : Driving S)
-    (at : before ≡ record { turn = turn; bytes = rest }) where
-  start : before.turn ≡ turn
-  start = ap (λ (v : Driving S). v.turn) at
+module _ {S Symbol A : Type 0} (m : Meaning S Symbol A) (x : A) (memory : OnlyMemoryRefuses m) (transcript after : Transcript S)
+    (plays : PlaysStep m transcript x after) (rest : List ℕ) (before : Driving S)
+    (at : before ≡ record { transcript = transcript; bytes = rest }) where
+  start : before.transcript ≡ transcript
+  start = ap (λ (v : Driving S). v.transcript) at
 
-  pub plays-on : (y : A) (end : Driving S) → Plays m before.turn y end.turn → end.bytes ≡ before.bytes →
-      (y ≡ x) × (end ≡ record { turn = after; bytes = rest })
+  pub plays-on : (y : A) (end : Driving S) → PlaysStep m before.transcript y end.transcript → end.bytes ≡ before.bytes →
+      (y ≡ x) × (end ≡ record { transcript = after; bytes = rest })
   plays-on y end second keeps =
-      let alike = (meaning-agrees m).plays turn after before.turn end.turn x y plays start second in
+      let alike = (step-completes m).plays transcript after before.transcript end.transcript x y plays start second in
       let then = alike.1 in
       let left : end.bytes ≡ rest = keeps ∙ ap (λ (v : Driving S). v.bytes) at in
-      (alike.0, λ i. record { turn = then i; bytes = left i })
+      (alike.0, λ i. record { transcript = then i; bytes = left i })
 
-  pub plays-or_memory : (e : TranscriptError) (end : Turn S) → Refuses m before.turn e end → e ≡ OutOfMemory
-  plays-or_memory e end refuses = memory turn after before.turn end x e plays start refuses
+  pub plays-or_memory : (e : TranscriptError) (end : Transcript S) → RefusesStep m before.transcript e end → e ≡ OutOfMemory
+  plays-or_memory e end refuses = memory transcript after before.transcript end x e plays start refuses
 
 -- ---- a draw of one value that a rule may reject
 
@@ -66,11 +66,11 @@ module _ {S T : Type 0} (d : Sampling S T) (rule : Rule T) (limit : ℕ) (s : S)
   kept-one is =
       ap (λ g. (go_on (λ y t. keeps d rule limit 0 (y ∷ []) t) g (taken d rule limit [] s).after).gives) is
 
-  pub draws-one : {Symbol : Type 0} (step : Step) (turn : Turn S) → turn.challenger ≡ s → IsNext turn.playing step →
+  pub draws-one : {Symbol : Type 0} (step : Step) (transcript : Transcript S) → transcript.challenger ≡ s → IsNext transcript.playing step →
       (taken d rule limit [] s).gives ≡ Some x →
-      Plays {Symbol = Symbol} (drawn_rejecting step d rule limit 1) turn (x ∷ [])
-      (record { challenger = (keeps d rule limit 1 [] turn.challenger).after; playing = step_on turn.playing })
-  draws-one step turn at is_next is =
+      PlaysStep {Symbol = Symbol} (drawn_rejecting step d rule limit 1) transcript (x ∷ [])
+      (record { challenger = (keeps d rule limit 1 [] transcript.challenger).after; playing = step_on transcript.playing })
+  draws-one step transcript at is_next is =
       record {
         is_next = is_next;
         fits = tt;
@@ -89,16 +89,16 @@ next-at p steps k s is position going at = (going, (λ i. slice_get (is i) (posi
 module _ {S Symbol : Type 0} (o : Observation S Symbol BabyBear) (places divisors : Sampling S BabyBear)
     (e : Encoding BabyBear) (digest : List ℕ) (v : Driving S) (claim : Claim) (rest : List ℕ)
     (ahead : IsAhead o places divisors e digest v claim rest) where
-  -- the turns after slope, offset and place
-  abbrev pub after_slope : Turn S
+  -- the states after slope, offset and place
+  abbrev pub after_slope : Transcript S
   after_slope =
-      record { challenger = o.observed v.turn.challenger claim.slope; playing = step_on v.turn.playing }
+      record { challenger = o.observed v.transcript.challenger claim.slope; playing = step_on v.transcript.playing }
 
-  abbrev pub after_offset : Turn S
+  abbrev pub after_offset : Transcript S
   after_offset =
-      record { challenger = after_line o v.turn.challenger claim; playing = step_on after_slope.playing }
+      record { challenger = after_line o v.transcript.challenger claim; playing = step_on after_slope.playing }
 
-  abbrev pub after_place : Turn S
+  abbrev pub after_place : Transcript S
   after_place =
       record { challenger = places.after after_offset.challenger; playing = step_on after_offset.playing }
 
@@ -109,30 +109,30 @@ module _ {S Symbol : Type 0} (o : Observation S Symbol BabyBear) (places divisor
   abbrev pub offset_on : List ℕ
   offset_on = e.wire claim.offset ++ quotient_on
 
-  pub begins : v ≡ record { turn = v.turn; bytes = e.wire claim.slope ++ offset_on }
+  pub begins : v ≡ record { transcript = v.transcript; bytes = e.wire claim.slope ++ offset_on }
   begins =
       let spelled = ahead.unread
       ∙ append_assoc (e.wire claim.slope) (e.wire claim.offset ++ e.wire claim.quotient) rest
       ∙ ap (λ l. e.wire claim.slope ++ l) (append_assoc (e.wire claim.offset) (e.wire claim.quotient) rest) in
-      λ i. record { turn = v.turn; bytes = spelled i }
+      λ i. record { transcript = v.transcript; bytes = spelled i }
 
-  line_at : (k : ℕ) (p : Playing) → p.pattern ≡ v.turn.playing.pattern → p.position ≡ k → p.finished ≡ false → (s : Step) →
+  line_at : (k : ℕ) (p : Playing) → p.pattern ≡ v.transcript.playing.pattern → p.position ≡ k → p.finished ≡ false → (s : Step) →
       slice_get (steps_of_line digest) k ≡ Some s → IsNext p s
   line_at k p same position going s at =
       next-at p (steps_of_line digest) k s (ap (λ it. it.steps) same ∙ ahead.steps) position going at
 
-  pub sends-slope : Plays (sent (element_step digest Message (codes "slope") Scalar) o e claim.slope) v.turn claim.slope
+  pub sends-slope : PlaysStep (sent (element_step digest Message (codes "slope") Scalar) o e claim.slope) v.transcript claim.slope
       after_slope
   sends-slope =
       record {
-        is_next = line_at 0 v.turn.playing refl ahead.position ahead.going _ refl;
+        is_next = line_at 0 v.transcript.playing refl ahead.position ahead.going _ refl;
         fits = tt;
         gives = refl;
         challenger = refl;
         playing = refl;
       }
 
-  pub sends-offset : Plays (sent (element_step digest Message (codes "offset") Scalar) o e claim.offset) after_slope
+  pub sends-offset : PlaysStep (sent (element_step digest Message (codes "offset") Scalar) o e claim.offset) after_slope
       claim.offset after_offset
   sends-offset =
       record {
@@ -143,7 +143,7 @@ module _ {S Symbol : Type 0} (o : Observation S Symbol BabyBear) (places divisor
         playing = refl;
       }
 
-  pub draws-place : Plays {Symbol = Symbol} (drawn (element_step digest Challenge (codes "place") Scalar) places)
+  pub draws-place : PlaysStep {Symbol = Symbol} (drawn (element_step digest Challenge (codes "place") Scalar) places)
       after_offset claim.place after_place
   draws-place =
       record {
@@ -155,27 +155,27 @@ module _ {S Symbol : Type 0} (o : Observation S Symbol BabyBear) (places divisor
       }
 
   -- the divisor is next from there, and is drawn
-  pub divisor-next : (turn : Turn S) → turn ≡ after_place →
-      IsNext turn.playing (element_step digest Challenge (codes "divisor") (Fixed 1))
-  divisor-next turn at =
-      subst (λ (t : Turn S). IsNext t.playing (element_step digest Challenge (codes "divisor") (Fixed 1))) (sym at)
+  pub divisor-next : (transcript : Transcript S) → transcript ≡ after_place →
+      IsNext transcript.playing (element_step digest Challenge (codes "divisor") (Fixed 1))
+  divisor-next transcript at =
+      subst (λ (t : Transcript S). IsNext t.playing (element_step digest Challenge (codes "divisor") (Fixed 1))) (sym at)
       (line_at 3 after_place.playing refl (ap (λ k. k + 1 + 1 + 1) ahead.position) refl _ refl)
 
-  pub divisor-drawn : (turn : Turn S) → turn ≡ after_place → IsDivisor divisors turn.challenger claim.divisor
-  divisor-drawn turn at =
-      subst (λ (t : Turn S). IsDivisor divisors t.challenger claim.divisor) (sym at) ahead.run.divisor
+  pub divisor-drawn : (transcript : Transcript S) → transcript ≡ after_place → IsDivisor divisors transcript.challenger claim.divisor
+  divisor-drawn transcript at =
+      subst (λ (t : Transcript S). IsDivisor divisors t.challenger claim.divisor) (sym at) ahead.run.divisor
 
-  pub sends-quotient : (turn : Turn S) → turn.playing ≡ step_on after_place.playing →
+  pub sends-quotient : (transcript : Transcript S) → transcript.playing ≡ step_on after_place.playing →
       length (e.wire claim.quotient) ≡ 4 →
-      Plays {Symbol = Symbol} (hinted (codes "quotient") (e.wire claim.quotient)) turn (e.wire claim.quotient)
-      (record { challenger = turn.challenger; playing = step_on turn.playing })
-  sends-quotient turn at wide =
+      PlaysStep {Symbol = Symbol} (hinted (codes "quotient") (e.wire claim.quotient)) transcript (e.wire claim.quotient)
+      (record { challenger = transcript.challenger; playing = step_on transcript.playing })
+  sends-quotient transcript at wide =
       let steps = ap (λ (p : Playing). p.pattern) at in
-      let position : turn.playing.position ≡ 4
+      let position : transcript.playing.position ≡ 4
       = ap (λ (p : Playing). p.position) at ∙ ap (λ k. k + 1 + 1 + 1 + 1) ahead.position in
       let going = ap (λ (p : Playing). p.finished) at in
       record {
-        is_next = line_at 4 turn.playing steps position going _
+        is_next = line_at 4 transcript.playing steps position going _
             (ap (λ n. Some (bytes_step Hint (codes "quotient") (Fixed n))) (sym wide));
         fits = tt;
         gives = refl;
@@ -183,13 +183,13 @@ module _ {S Symbol : Type 0} (o : Observation S Symbol BabyBear) (places divisor
         playing = refl;
       }
 
-  pub ends-past : (turn : Turn S) (end : Driving S) → turn.playing ≡ step_on after_place.playing →
+  pub ends-past : (transcript : Transcript S) (end : Driving S) → transcript.playing ≡ step_on after_place.playing →
       end ≡ record {
-        turn = record { challenger = turn.challenger; playing = step_on turn.playing };
+        transcript = record { challenger = transcript.challenger; playing = step_on transcript.playing };
         bytes = rest;
       } → IsPast v rest end
-  ends-past turn end at is =
-      let playing = ap (λ (w : Driving S). w.turn.playing) is ∙ ap step_on at in
+  ends-past transcript end at is =
+      let playing = ap (λ (w : Driving S). w.transcript.playing) is ∙ ap step_on at in
       record {
         pattern = ap (λ (p : Playing). p.pattern) playing;
         position = ap (λ (p : Playing). p.position) playing ∙ ap (λ k. k + 1 + 1 + 1 + 1 + 1) ahead.position;
@@ -226,10 +226,10 @@ one-given {A = A} given x y is other = let both : ◌≡◌ {A = Option A} (Some
 
 -- a hint of so many bytes
 module _ {S Symbol : Type 0} (label bytes : List ℕ) (n : ℕ) (wide : length bytes ≡ n) where
-  pub following-of : Follows {S = S} {Symbol = Symbol} (hinted label bytes) (hint_received label (length bytes)) bytes →
-      Follows {S = S} {Symbol = Symbol} (hinted label bytes) (hint_received label n) bytes
-  following-of follows =
-      subst (λ k. Follows {S = S} {Symbol = Symbol} (hinted label bytes) (hint_received label k) bytes) wide follows
+  pub completing-of : Completes {S = S} {Symbol = Symbol} (hinted label bytes) (hint_received label (length bytes)) bytes →
+      Completes {S = S} {Symbol = Symbol} (hinted label bytes) (hint_received label n) bytes
+  completing-of completes =
+      subst (λ k. Completes {S = S} {Symbol = Symbol} (hinted label bytes) (hint_received label k) bytes) wide completes
 
   pub memory-of : OnlyMemoryRefusesToRead {S = S} {Symbol = Symbol} (hinted label bytes)
       (hint_received label (length bytes)) bytes →
@@ -255,11 +255,11 @@ module _ {S Symbol : Type 0} (o : Observation S Symbol BabyBear) (places divisor
     (e : Encoding BabyBear) (digest : List ℕ) where
   -- a verifier that has just begun stands before the protocol, where its bytes are those of a run
   pub ahead-of : (v start : Driving S) (p : PatternSteps) (s : S) (proof : List ℕ) (claim : Claim) → v ≡ start →
-      start.turn.playing ≡ record { pattern = p; position = 0; finished = false } → start.bytes ≡ proof →
-      p.steps ≡ steps_of_line digest → v.turn.challenger ≡ s → IsRun o places divisors e s claim proof →
+      start.transcript.playing ≡ record { pattern = p; position = 0; finished = false } → start.bytes ≡ proof →
+      p.steps ≡ steps_of_line digest → v.transcript.challenger ≡ s → IsRun o places divisors e s claim proof →
       IsAhead o places divisors e digest v claim []
   ahead-of v start p s proof claim is playing unread steps at run =
-      let here = ap (λ (w : Driving S). w.turn.playing) is ∙ playing in
+      let here = ap (λ (w : Driving S). w.transcript.playing) is ∙ playing in
       record {
         steps = ap (λ (q : Playing). q.pattern.steps) here ∙ steps;
         position = ap (λ (q : Playing). q.position) here;

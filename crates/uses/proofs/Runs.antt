@@ -10,7 +10,7 @@ use Rattle.p3_challenger.specs.Driving.{Driving}
 use Rattle.p3_challenger.specs.Proving.{Writes, WritesOrRefuses}
 use Rattle.p3_challenger.specs.Sampling.{Sampling}
 use Rattle.p3_challenger.specs.TranscriptError.{TranscriptError}
-use Rattle.p3_challenger.specs.Turns.{Meaning}
+use Rattle.p3_challenger.specs.Transcripts.{Meaning}
 use Rattle.uses.specs.Protocol.{IsAnswer, IsDivisor, IsQuotient, IsRun, IsSent, after_line, bytes_of, quotient_of}
 use Rattle.uses.specs.declared.protocol.Claim.{Claim}
 

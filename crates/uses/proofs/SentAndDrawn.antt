@@ -5,31 +5,31 @@ use Rattle.std.specs.Result.{IfOk, OnErr}
 use Rattle.p3_challenger.specs.TranscriptError.{TranscriptError}
 use Rattle.p3_challenger.specs.Effects.{Alphabet, observing, observing_bytes}
 use Rattle.p3_challenger.specs.Feeding.{Feeds, OnlyDraws}
-use Rattle.p3_challenger.specs.FeedingLaws.{in_turn-feeds, played-fed, refused-fed, refused-drawn}
+use Rattle.p3_challenger.specs.FeedingLaws.{in_sequence-feeds, played-fed, refused-fed, refused-drawn}
 use Rattle.p3_challenger.specs.Observation.{Observation}
 use Rattle.p3_challenger.specs.Driving.{Driving, KeepsOrRefuses}
 use Rattle.p3_challenger.specs.Proving.{Writes, RefusesToWrite}
 use Rattle.p3_challenger.specs.Sampling.{Sampling}
-use Rattle.p3_challenger.specs.Turns.{Meaning}
+use Rattle.p3_challenger.specs.Transcripts.{Meaning}
 use Rattle.uses.specs.SentAndDrawn.{DrawnAfter, LeavesRound}
 
 module _ {S Symbol A : Type 0} (fed : S → List Symbol → S) (fed_nothing : (s : S) → fed s [] ≡ s)
     (fed_more : (s : S) (a b : List Symbol) → fed (fed s a) b ≡ fed s (a ++ b)) (next : S → S)
     (sent : Meaning S Symbol A) (feeds : Feeds fed sent.effect) (before : Driving S) where
   pub sent-refused : (after : Driving S) (e : TranscriptError) → RefusesToWrite sent before e after →
-      LeavesRound fed next sent.effect.symbols before.turn.challenger after.turn.challenger
-  sent-refused after e h = inl (refused-fed fed fed_nothing fed_more sent feeds before.turn after.turn e h.refuses)
+      LeavesRound fed next sent.effect.symbols before.transcript.challenger after.transcript.challenger
+  sent-refused after e h = inl (refused-fed fed fed_nothing fed_more sent feeds before.transcript after.transcript e h.refuses)
 
   pub drawn-refused : {B R : Type 0} (drawn : Meaning S Symbol B) → OnlyDraws next drawn.effect →
       (here after : Driving S) (x : A) (value : R → B) (result : Result R TranscriptError) →
       Writes sent before x here → KeepsOrRefuses drawn here value result after →
-      OnErr result (LeavesRound fed next sent.effect.symbols before.turn.challenger after.turn.challenger)
+      OnErr result (LeavesRound fed next sent.effect.symbols before.transcript.challenger after.transcript.challenger)
   drawn-refused drawn draws here after x value (Ok y) first h = tt
   drawn-refused drawn draws here after x value (Err e) first h =
       inr (
-        here.turn.challenger,
-        played-fed fed fed_nothing fed_more sent feeds before.turn here.turn x first.plays,
-        refused-drawn next drawn draws here.turn after.turn e h.0,
+        here.transcript.challenger,
+        played-fed fed fed_nothing fed_more sent feeds before.transcript here.transcript x first.plays,
+        refused-drawn next drawn draws here.transcript after.transcript e h.0,
       )
 
 -- the seed and then the value, and the draw after them
@@ -43,7 +43,7 @@ module _ {S Symbol I T R : Type 0} (fed : S → List Symbol → S) (fed_nothing 
       IfOk result (λ r. DrawnAfter fed d (flat_map alphabet.item.symbols (alphabet.items seed) ++ o.symbols x) (value r)
       s)
   drawn-first value s begun after (Ok r) is h =
-      let both = in_turn-feeds fed fed_nothing fed_more (observing_bytes alphabet seed) (observing o x) seed_feeds
+      let both = in_sequence-feeds fed fed_nothing fed_more (observing_bytes alphabet seed) (observing o x) seed_feeds
       value_feeds in (
         o.observed ((observing_bytes alphabet seed).after s) x,
         both.feeds s,

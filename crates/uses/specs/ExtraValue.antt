@@ -1,7 +1,7 @@
 -- A value that no step carries, observed before a step.
 use Rattle.p3_challenger.specs.Observation.{Observation}
-use Rattle.p3_challenger.specs.Turns.{Turn}
+use Rattle.p3_challenger.specs.Transcripts.{Transcript}
 
--- the turn, where the challenger has observed a value more
-abbrev pub after_value : {S Symbol T : Type 0} → Observation S Symbol T → T → Turn S → Turn S
-after_value o x turn = record { challenger = o.observed turn.challenger x; playing = turn.playing }
+-- the state, where the challenger has observed a value more
+abbrev pub after_value : {S Symbol T : Type 0} → Observation S Symbol T → T → Transcript S → Transcript S
+after_value o x transcript = record { challenger = o.observed transcript.challenger x; playing = transcript.playing }

@@ -11,7 +11,7 @@ use Rattle.p3_challenger.specs.Rejecting.{taken}
 use Rattle.p3_challenger.specs.Residues.{sum_of, product_of, power_of}
 use Rattle.p3_challenger.specs.Sampling.{Sampling}
 use Rattle.p3_challenger.specs.Steps.{Step}
-use Rattle.p3_challenger.specs.Turns.{algebra_step, bytes_step}
+use Rattle.p3_challenger.specs.Transcripts.{algebra_step, bytes_step}
 use Rattle.p3_challenger.specs.Driving.{Driving}
 use Rattle.uses.specs.declared.protocol.Claim.{Claim}
 
@@ -82,15 +82,15 @@ pub record IsSent {S Symbol : Type 0} (o : Observation S Symbol BabyBear) (place
 -- begin with those of a run, and these follow.
 pub record IsAhead {S Symbol : Type 0} (o : Observation S Symbol BabyBear) (places divisors : Sampling S BabyBear)
     (e : Encoding BabyBear) (digest : List ℕ) (v : Driving S) (claim : Claim) (rest : List ℕ) : Type 0 where
-  pub steps : v.turn.playing.pattern.steps ≡ steps_of_line digest
-  pub position : v.turn.playing.position ≡ 0
-  pub going : v.turn.playing.finished ≡ false
-  pub run : IsRun o places divisors e v.turn.challenger claim (bytes_of e claim)
+  pub steps : v.transcript.playing.pattern.steps ≡ steps_of_line digest
+  pub position : v.transcript.playing.position ≡ 0
+  pub going : v.transcript.playing.finished ≡ false
+  pub run : IsRun o places divisors e v.transcript.challenger claim (bytes_of e claim)
   pub unread : v.bytes ≡ bytes_of e claim ++ rest
 
 -- it has played all of the protocol, and has these bytes left
 pub record IsPast {S : Type 0} (before : Driving S) (rest : List ℕ) (after : Driving S) : Type 0 where
-  pub pattern : after.turn.playing.pattern ≡ before.turn.playing.pattern
-  pub position : after.turn.playing.position ≡ 5
-  pub going : after.turn.playing.finished ≡ false
+  pub pattern : after.transcript.playing.pattern ≡ before.transcript.playing.pattern
+  pub position : after.transcript.playing.position ≡ 5
+  pub going : after.transcript.playing.finished ≡ false
   pub unread : after.bytes ≡ rest

@@ -1,11 +1,11 @@
 //! A value that no step carries is observed through the challenger that a driver lends, and then a step is played.
 ghost use Rattle.std.specs.Prelude.{IfOk};
-ghost use Rattle.p3_challenger.specs.Bound.{value_of};
+ghost use Rattle.p3_challenger.specs.Bound.{bound_value};
 ghost use Rattle.p3_challenger.specs.Meanings as meaning;
 ghost use Rattle.p3_challenger.specs.Drivers.{proving_of};
 ghost use Rattle.p3_challenger.specs.Proving.{Writes};
 ghost use Rattle.p3_challenger.specs.Reads as reads;
-ghost use Rattle.p3_challenger.specs.Turns.{algebra_step};
+ghost use Rattle.p3_challenger.specs.Transcripts.{algebra_step};
 ghost use Rattle.p3_challenger.specs.Drivers.{verifying_of};
 ghost use Rattle.p3_challenger.specs.Verifying.{Receives};
 ghost use Rattle.uses.specs.ExtraValue.{after_value};
@@ -31,7 +31,7 @@ pub fn send_after<F: ScalarField, T, U, C: CanObserve<T> + Drop, D: DigestHasher
         let step = algebra_step Kind.Message label.now F.residues.order F.DIMENSION (D.digest_of F.identity)
         F.name_bytes Length.Scalar in
         IfOk result (λ bound. Writes (meaning.sent step Cdc.observation Cdc.encoding value.now)
-        (record { turn = after_value C.observation extra before.turn; bytes = before.bytes }) (value_of bound)
+        (record { transcript = after_value C.observation extra before.transcript; bytes = before.bytes }) (bound_value bound)
         (proving_of C.state prover.new)) }
 {
     prover.challenger_mut().observe(extra)?;
@@ -58,7 +58,7 @@ pub fn receive_after<
         let step = algebra_step Kind.Message label.now F.residues.order F.DIMENSION (D.digest_of F.identity)
         F.name_bytes Length.Scalar in
         IfOk result (λ bound. Receives (reads.received step Cdc.observation Cdc.encoding)
-        (record { turn = after_value C.observation extra before.turn; bytes = before.bytes }) (value_of bound)
+        (record { transcript = after_value C.observation extra before.transcript; bytes = before.bytes }) (bound_value bound)
         (verifying_of C.state verifier.new)) }
 {
     verifier.challenger_mut().observe(extra)?;

@@ -1,8 +1,8 @@
 //! Lists that a verifier reads: two scalars by their places, and so many in a list of the caller's own.
 ghost use Rattle.std.specs.Prelude.{◌≡◌, [], ◌∷◌, true, map, IfOk, IfErr};
-ghost use Rattle.p3_challenger.specs.Bound.{value_of};
+ghost use Rattle.p3_challenger.specs.Bound.{bound_value};
 ghost use Rattle.p3_challenger.specs.Reads as reads;
-ghost use Rattle.p3_challenger.specs.Turns.{algebra_step};
+ghost use Rattle.p3_challenger.specs.Transcripts.{algebra_step};
 ghost use Rattle.p3_challenger.specs.Drivers.{verifying_of};
 ghost use Rattle.p3_challenger.specs.Verifying.{Receives, ReceivesOrRefuses};
 
@@ -24,7 +24,7 @@ pub fn receive_pair<F: ScalarField, U, C: Sponge + Drop, D: DigestHasher, Cdc: C
 ) -> Result<(F, F), TranscriptError>
     ensures { let step = algebra_step Kind.Message label.now F.residues.order F.DIMENSION (D.digest_of F.identity)
         F.name_bytes (Length.Fixed 2) in
-        ReceivesOrRefuses (reads.received_all step Cdc.observation Cdc.encoding 2)
+        ReceivesOrRefuses (reads.received_list step Cdc.observation Cdc.encoding 2)
         (verifying_of C.state verifier.old) (λ pair. pair.0 ∷ pair.1 ∷ []) result
         (verifying_of C.state verifier.new) }
 {
@@ -44,9 +44,9 @@ pub fn receive_list<F: ScalarField, U, C: Sponge + Drop, D: DigestHasher, Cdc: C
 ) -> Result<Vec<F>, TranscriptError>
     ensures read { let step = algebra_step Kind.Message label.now F.residues.order F.DIMENSION (D.digest_of F.identity)
         F.name_bytes (Length.Fixed n) in
-        IfOk result (λ values. Receives (reads.received_all step Cdc.observation Cdc.encoding n)
+        IfOk result (λ values. Receives (reads.received_list step Cdc.observation Cdc.encoding n)
         (verifying_of C.state verifier.old) values.items (verifying_of C.state verifier.new)) }
-    ensures last { IfErr result (λ _. (verifying_of C.state verifier.new).turn.playing.finished ≡ true) }
+    ensures last { IfErr result (λ _. (verifying_of C.state verifier.new).transcript.playing.finished ≡ true) }
 {
     let bounds = verifier.next_scalars::<F, Cdc>(label, n)?;
     match values_alone(alloc, &bounds) {
@@ -60,7 +60,7 @@ pub fn receive_list<F: ScalarField, U, C: Sponge + Drop, D: DigestHasher, Cdc: C
 
 // The values of a list without their bounds.
 fn values_alone<T: Copy>(alloc: Global, bounds: &[TranscriptBound<T>]) -> Result<Vec<T>, AllocError>
-    ensures { IfOk result (λ values. values.items ≡ map value_of bounds.now) }
+    ensures { IfOk result (λ values. values.items ≡ map bound_value bounds.now) }
 {
     let mut values = Vec::with_capacity(alloc, bounds.len())?;
     for bound in bounds {

@@ -166,7 +166,7 @@ fn receive<'a>(verifier: &mut Verifier<'a>, alloc: Global) -> Result<Read<'a>, T
         let after = verifying_of ⟦<Challenger as Sponge>⟧.state verifier.new in
         IfOk result (λ leaf. IsTrue leaf.in_tree → IsOpened ⟦<Sha256Hasher as DigestHasher>⟧.digest_of
         ⟦<Coefficient as Codec<Challenger, BabyBear>>⟧.sampling (observed_all observed) before.bytes
-        before.turn.challenger leaf.place leaf.bytes.now after.bytes after.turn.challenger) }
+        before.transcript.challenger leaf.place leaf.bytes.now after.bytes after.transcript.challenger) }
 {
     let root = verifier.next_bytes("root", 32)?;
     let place = draw_place(verifier)?;
@@ -192,8 +192,8 @@ fn climb(
     ensures climbed { IfOk result (λ top. IsClimb ⟦<Sha256Hasher as DigestHasher>⟧.digest_of place leaf
         (verifying_of ⟦<Challenger as Sponge>⟧.state verifier.old).bytes top
         (verifying_of ⟦<Challenger as Sponge>⟧.state verifier.new).bytes) }
-    ensures untouched { OnOk result ((verifying_of ⟦<Challenger as Sponge>⟧.state verifier.new).turn.challenger
-        ≡ (verifying_of ⟦<Challenger as Sponge>⟧.state verifier.old).turn.challenger) }
+    ensures untouched { OnOk result ((verifying_of ⟦<Challenger as Sponge>⟧.state verifier.new).transcript.challenger
+        ≡ (verifying_of ⟦<Challenger as Sponge>⟧.state verifier.old).transcript.challenger) }
 {
     let mut node = leaf;
     let mut place = place;
@@ -223,7 +223,7 @@ fn draw_place<S: SymmetricSteps<Challenger = Challenger>>(
     side: &mut S,
 ) -> Result<usize, TranscriptError>
     ensures drawn { IfOk result (λ place. IsDrawnPlace ⟦<Coefficient as Codec<Challenger, BabyBear>>⟧.sampling place
-        (S.turn side.old).challenger (S.turn side.new).challenger) }
+        (S.transcript side.old).challenger (S.transcript side.new).challenger) }
     ensures below { IfOk result (λ place. place < 8) }
     ensures bytes { OnOk result (S.bytes side.new ≡ S.bytes side.old) }
 {

@@ -3,11 +3,11 @@
 //! Nothing is known here of the field but what [`ScalarField`] says: that it has one coefficient over itself, and that
 //! an array of two elements fits in memory.
 ghost use Rattle.std.specs.Prelude.{[], ◌∷◌};
-ghost use Rattle.p3_challenger.specs.Bound.{values_of};
+ghost use Rattle.p3_challenger.specs.Bound.{bound_values};
 ghost use Rattle.p3_challenger.specs.Meanings as meaning;
 ghost use Rattle.p3_challenger.specs.Drivers.{proving_of};
 ghost use Rattle.p3_challenger.specs.Proving.{WritesOrRefuses};
-ghost use Rattle.p3_challenger.specs.Turns.{algebra_step};
+ghost use Rattle.p3_challenger.specs.Transcripts.{algebra_step};
 
 use p3_challenger::Sponge;
 use p3_challenger::fs::{
@@ -27,8 +27,8 @@ pub fn send_pair<F: ScalarField, U, C: Sponge + Drop, D: DigestHasher, Cdc: Code
 ) -> Result<Vec<TranscriptBound<F>>, TranscriptError>
     ensures { let step = algebra_step Kind.Message label.now F.residues.order 1 (D.digest_of F.identity)
         F.name_bytes (Length.Fixed 2) in
-        WritesOrRefuses (meaning.sent_all step Cdc.observation Cdc.encoding (first ∷ second ∷ []))
-        (proving_of C.state prover.old) values_of result (proving_of C.state prover.new) }
+        WritesOrRefuses (meaning.sent_list step Cdc.observation Cdc.encoding (first ∷ second ∷ []))
+        (proving_of C.state prover.old) bound_values result (proving_of C.state prover.new) }
 {
     prover.add_scalars::<F, Cdc>(label, &[first, second])
 }

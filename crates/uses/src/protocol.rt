@@ -10,7 +10,7 @@ ghost use Rattle.p3_challenger.specs.HashCalls.{absorbing};
 ghost use Rattle.p3_challenger.specs.Drivers.{proving_of};
 ghost use Rattle.p3_challenger.specs.Reading.{AreBytes};
 ghost use Rattle.p3_challenger.specs.SeparatorSeed.{pattern_of, seed_of_separator};
-ghost use Rattle.p3_challenger.specs.Turns.{IsNext, step_on};
+ghost use Rattle.p3_challenger.specs.Transcripts.{IsNext, step_on};
 ghost use Rattle.p3_challenger.specs.Drivers.{verifying_of};
 ghost use Rattle.uses.specs.Protocol.{IsAhead, IsAnswer, IsDivisor, IsPast, IsRun, IsSent, after_line, bytes_of};
 ghost use Rattle.uses.specs.Protocol.{element_step, may_divide, steps_of_line};
@@ -86,7 +86,7 @@ fn send(
         OnOk result ((bytes : List ℕ) × (after.bytes ≡ before.bytes ++ bytes)
         × IsSent ⟦<Scalars as Codec<Challenger, BabyBear>>⟧.observation
         ⟦<Scalars as Codec<Challenger, BabyBear>>⟧.sampling ⟦<Coefficient as Codec<Challenger, BabyBear>>⟧.sampling
-        ⟦<Scalars as Codec<Challenger, BabyBear>>⟧.encoding before.turn.challenger slope offset bytes) }
+        ⟦<Scalars as Codec<Challenger, BabyBear>>⟧.encoding before.transcript.challenger slope offset bytes) }
 {
     prover.add_scalar::<BabyBear, Scalars>("slope", &slope)?;
     prover.add_scalar::<BabyBear, Scalars>("offset", &offset)?;
@@ -139,11 +139,11 @@ fn receive(verifier: &mut Verifier<'_>) -> Result<Claim, TranscriptError>
     ensures place { let before = verifying_of ⟦<Challenger as Sponge>⟧.state verifier.old in
         let places = ⟦<Scalars as Codec<Challenger, BabyBear>>⟧.sampling in
         IfOk result (λ claim. places.sampled (after_line ⟦<Scalars as Codec<Challenger, BabyBear>>⟧.observation
-        before.turn.challenger claim) ≡ Some claim.place) }
+        before.transcript.challenger claim) ≡ Some claim.place) }
     ensures divisor { let before = verifying_of ⟦<Challenger as Sponge>⟧.state verifier.old in
         let places = ⟦<Scalars as Codec<Challenger, BabyBear>>⟧.sampling in
         IfOk result (λ claim. IsDivisor ⟦<Coefficient as Codec<Challenger, BabyBear>>⟧.sampling (places.after
-        (after_line ⟦<Scalars as Codec<Challenger, BabyBear>>⟧.observation before.turn.challenger claim))
+        (after_line ⟦<Scalars as Codec<Challenger, BabyBear>>⟧.observation before.transcript.challenger claim))
         claim.divisor) }
     ensures read { let before = verifying_of ⟦<Challenger as Sponge>⟧.state verifier.old in
         let after = verifying_of ⟦<Challenger as Sponge>⟧.state verifier.new in
@@ -186,14 +186,14 @@ fn draw_divisor<S: SymmetricSteps<Challenger = Challenger, Digest = Sha256Hasher
     side: &mut S,
 ) -> Result<BabyBear, TranscriptError>
     ensures drawn { IfOk result (IsDivisor ⟦<Coefficient as Codec<Challenger, BabyBear>>⟧.sampling
-        (S.turn side.old).challenger) }
+        (S.transcript side.old).challenger) }
     ensures bytes { OnOk result (S.bytes side.new ≡ S.bytes side.old) }
-    ensures accepted { let before = S.turn side.old in
+    ensures accepted { let before = S.transcript side.old in
         let digest = ⟦<Sha256Hasher as DigestHasher>⟧.digest_of ⟦<BabyBear as AlgebraIdentity<BabyBear>>⟧.identity in
         (divisor : baby_bear.BabyBear) →
         IsNext before.playing (element_step digest Kind.Challenge (codes "divisor") (Length.Fixed 1)) →
         IsDivisor ⟦<Coefficient as Codec<Challenger, BabyBear>>⟧.sampling before.challenger divisor →
-        MatchResult result (λ found. (found ≡ divisor) × ((S.turn side.new).playing ≡ step_on before.playing))
+        MatchResult result (λ found. (found ≡ divisor) × ((S.transcript side.new).playing ≡ step_on before.playing))
         (λ e. e ≡ TranscriptError.OutOfMemory) }
 {
     // A law, which does nothing: where one side has drawn it, memory alone can be refused to the other.

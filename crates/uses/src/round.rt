@@ -4,7 +4,7 @@
 //! on what the drawn scalar depends on: just the symbols of the sent one. Nothing is known here of the challenger and
 //! the codec; the contracts of the drivers' steps and three laws say it, each called in a body for its clause.
 ghost use Rattle.std.specs.Prelude.{◌≡◌, ◌≤◌, ◌++◌, Some, flat_map, IfOk, OnErr};
-ghost use Rattle.p3_challenger.specs.Bound.{value_of};
+ghost use Rattle.p3_challenger.specs.Bound.{bound_value};
 ghost use Rattle.p3_challenger.specs.Drivers.{proving_of};
 ghost use Rattle.p3_challenger.specs.SeparatorSeed.{seed_of_separator};
 ghost use Rattle.p3_challenger.specs.Drivers.{verifying_of};
@@ -35,15 +35,15 @@ pub fn send_and_draw<
     Cdc: Codec<C, F>,
 >(prover: &mut ProverState<C, U, D>, value: &F) -> Result<TranscriptBound<F>, TranscriptError>
     requires { 128 ≤ Cdc.SECURITY_BITS }
-    ensures drawn { IfOk result (λ x. DrawsAfter C.fed Cdc.sampling (Cdc.observation.symbols value.now) (value_of x)
-        (proving_of C.state prover.old).turn.challenger (proving_of C.state prover.new).turn.challenger) }
+    ensures drawn { IfOk result (λ x. DrawsAfter C.fed Cdc.sampling (Cdc.observation.symbols value.now) (bound_value x)
+        (proving_of C.state prover.old).transcript.challenger (proving_of C.state prover.new).transcript.challenger) }
     // The two steps, by what the codec observes and draws.
     ensures steps { IfOk result (λ x. let here = Cdc.observation.observed
-        (proving_of C.state prover.old).turn.challenger value.now in
-        (Cdc.sampling.sampled here ≡ Some (value_of x))
-        × ((proving_of C.state prover.new).turn.challenger ≡ Cdc.sampling.after here)) }
+        (proving_of C.state prover.old).transcript.challenger value.now in
+        (Cdc.sampling.sampled here ≡ Some (bound_value x))
+        × ((proving_of C.state prover.new).transcript.challenger ≡ Cdc.sampling.after here)) }
     ensures err { OnErr result (LeavesRound C.fed C.next (Cdc.observation.symbols value.now)
-        (proving_of C.state prover.old).turn.challenger (proving_of C.state prover.new).turn.challenger) }
+        (proving_of C.state prover.old).transcript.challenger (proving_of C.state prover.new).transcript.challenger) }
 {
     values_feed_their_symbols::<F, C, Cdc>();
     draws_feed_nothing::<F, C, Cdc>();
@@ -76,7 +76,7 @@ pub fn receive_and_draw<
 >(verifier: &mut VerifierState<'_, C, U, D>) -> Result<Round<F>, TranscriptError>
     requires { 128 ≤ Cdc.SECURITY_BITS }
     ensures { IfOk result (λ round. DrawsAfter C.fed Cdc.sampling (Cdc.observation.symbols round.sent) round.drawn
-        (verifying_of C.state verifier.old).turn.challenger (verifying_of C.state verifier.new).turn.challenger) }
+        (verifying_of C.state verifier.old).transcript.challenger (verifying_of C.state verifier.new).transcript.challenger) }
 {
     values_feed_their_symbols::<F, C, Cdc>();
     let sent = verifier.next_scalar::<F, Cdc>("sent")?;
@@ -110,7 +110,7 @@ pub fn first_challenge<
     requires secure { 128 ≤ Cdc.SECURITY_BITS }
     ensures { let seed = seed_of_separator D.digest_of separator.now in
         IfOk result (λ x. DrawnAfter C.fed Cdc.sampling
-        (flat_map C.observation.symbols (U.items seed) ++ Cdc.observation.symbols value.now) (value_of x)
+        (flat_map C.observation.symbols (U.items seed) ++ Cdc.observation.symbols value.now) (bound_value x)
         (C.state challenger)) }
 {
     bytes_feed_their_symbols::<U, C>();

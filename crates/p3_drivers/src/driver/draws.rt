@@ -1,10 +1,10 @@
 //! The steps that draw challenges. They leave the proof as it is.
 ghost use Rattle.std.specs.Prelude.{◌≡◌, ◌≤◌, ℕ, true, IfErr, IfOk, vec_len};
-ghost use Rattle.p3_driver_core.specs.Bound.{value_of, values_of};
+ghost use Rattle.p3_driver_core.specs.Bound.{bound_value, bound_values};
 ghost use Rattle.p3_driver_core.specs.Driving.{KeepsOrRefuses};
 ghost use Rattle.p3_driver_core.specs.Meanings as meaning;
 ghost use Rattle.p3_driver_core.specs.Rejecting.{Rule, Computes, ComputesOfValues, drawn_rejecting};
-ghost use Rattle.p3_driver_core.specs.Turns.{PlaysOrRefuses, KeepsOrder, algebra_step, bits_step, uniform_bits_step};
+ghost use Rattle.p3_driver_core.specs.Transcripts.{PlaysOrRefuses, KeepsOrder, algebra_step, bits_step, uniform_bits_step};
 ghost use Rattle.p3_drivers.specs.Drivers.{driving_of};
 
 use crate::DriverState;
@@ -33,7 +33,7 @@ impl<C: Sponge, U, D: DigestHasher, P: Tape> DriverState<C, U, D, P> {
         ensures { let step = algebra_step Kind.Challenge label.now F.residues.order F.DIMENSION (D.digest_of F.identity)
             F.name_bytes Length.Scalar in
             KeepsOrRefuses (meaning.drawn {Symbol = C.Symbol} step Cdc.sampling)
-            (driving_of C.state P.bytes self.old) value_of result (driving_of C.state P.bytes self.new) }
+            (driving_of C.state P.bytes self.old) bound_value result (driving_of C.state P.bytes self.new) }
     {
         self.draw::<F, F, Cdc>(label)
     }
@@ -50,8 +50,8 @@ impl<C: Sponge, U, D: DigestHasher, P: Tape> DriverState<C, U, D, P> {
         requires { 128 ≤ Cdc.SECURITY_BITS }
         ensures exact { let step = algebra_step Kind.Challenge label.now F.residues.order F.DIMENSION
             (D.digest_of F.identity) F.name_bytes (Length.Fixed n) in
-            KeepsOrRefuses (meaning.drawn_all {Symbol = C.Symbol} step Cdc.sampling n)
-            (driving_of C.state P.bytes self.old) values_of result (driving_of C.state P.bytes self.new) }
+            KeepsOrRefuses (meaning.drawn_list {Symbol = C.Symbol} step Cdc.sampling n)
+            (driving_of C.state P.bytes self.old) bound_values result (driving_of C.state P.bytes self.new) }
         ensures count { IfOk result (λ bounds. vec_len bounds ≡ n) }
     {
         self.draw_list::<F, F, Cdc>(label, n)
@@ -71,7 +71,7 @@ impl<C: Sponge, U, D: DigestHasher, P: Tape> DriverState<C, U, D, P> {
             (D.digest_of EF.identity) EF.name_bytes Length.Scalar in
             KeepsOrRefuses (meaning.drawn {Symbol = C.Symbol} step
             ⟦<ExtensionFieldCodec<F, EF, Cdc> as Codec<C, EF>>⟧.sampling)
-            (driving_of C.state P.bytes self.old) value_of result (driving_of C.state P.bytes self.new) }
+            (driving_of C.state P.bytes self.old) bound_value result (driving_of C.state P.bytes self.new) }
     {
         self.draw::<F, EF, ExtensionFieldCodec<F, EF, Cdc>>(label)
     }
@@ -88,9 +88,9 @@ impl<C: Sponge, U, D: DigestHasher, P: Tape> DriverState<C, U, D, P> {
         requires { 128 ≤ Cdc.SECURITY_BITS }
         ensures exact { let step = algebra_step Kind.Challenge label.now F.residues.order EF.DIMENSION
             (D.digest_of EF.identity) EF.name_bytes (Length.Fixed n) in
-            KeepsOrRefuses (meaning.drawn_all {Symbol = C.Symbol} step
+            KeepsOrRefuses (meaning.drawn_list {Symbol = C.Symbol} step
             ⟦<ExtensionFieldCodec<F, EF, Cdc> as Codec<C, EF>>⟧.sampling n)
-            (driving_of C.state P.bytes self.old) values_of result (driving_of C.state P.bytes self.new) }
+            (driving_of C.state P.bytes self.old) bound_values result (driving_of C.state P.bytes self.new) }
         ensures count { IfOk result (λ bounds. vec_len bounds ≡ n) }
     {
         self.draw_list::<F, EF, ExtensionFieldCodec<F, EF, Cdc>>(label, n)
@@ -130,12 +130,12 @@ impl<C: Sponge, U, D: DigestHasher, P: Tape> DriverState<C, U, D, P> {
             EF.name_bytes (Length.Fixed n) in
             PlaysOrRefuses (drawn_rejecting {Symbol = C.Symbol} step
             ⟦<ExtensionFieldCodec<F, EF, Cdc> as Codec<C, EF>>⟧.sampling rule limit n)
-            (driving_of C.state P.bytes self.old).turn values_of result (driving_of C.state P.bytes self.new).turn }
+            (driving_of C.state P.bytes self.old).transcript bound_values result (driving_of C.state P.bytes self.new).transcript }
         ensures bytes { (driving_of C.state P.bytes self.new).bytes ≡ (driving_of C.state P.bytes self.old).bytes }
         ensures order { let step = algebra_step Kind.Challenge label.now F.residues.order EF.DIMENSION
             (D.digest_of EF.identity) EF.name_bytes (Length.Fixed n) in
-            KeepsOrder step (driving_of C.state P.bytes self.old).turn result (driving_of C.state P.bytes self.new).turn }
-        ensures spent { IfErr result (λ _. (driving_of C.state P.bytes self.new).turn.playing.finished ≡ true) }
+            KeepsOrder step (driving_of C.state P.bytes self.old).transcript result (driving_of C.state P.bytes self.new).transcript }
+        ensures spent { IfErr result (λ _. (driving_of C.state P.bytes self.new).transcript.playing.finished ≡ true) }
         ensures count { IfOk result (λ bounds. vec_len bounds ≡ n) }
     {
         self.draw_rejecting::<F, EF, ExtensionFieldCodec<F, EF, Cdc>, R>(label, n, accept, limit)
@@ -153,9 +153,9 @@ impl<C: Sponge, U, D: DigestHasher, P: Tape> DriverState<C, U, D, P> {
     where
         C: CanSampleBits<usize>,
         requires { width ≤ C.most_bits }
-        ensures exact { KeepsOrRefuses (meaning.drawn_all {Symbol = C.Symbol}
+        ensures exact { KeepsOrRefuses (meaning.drawn_list {Symbol = C.Symbol}
             (bits_step label.now width (Length.Fixed n)) (C.bits_sampling width) n)
-            (driving_of C.state P.bytes self.old) values_of result (driving_of C.state P.bytes self.new) }
+            (driving_of C.state P.bytes self.old) bound_values result (driving_of C.state P.bytes self.new) }
         ensures count { IfOk result (λ bounds. vec_len bounds ≡ n) }
     {
         self.steps.take(Interaction::bits(
@@ -182,9 +182,9 @@ impl<C: Sponge, U, D: DigestHasher, P: Tape> DriverState<C, U, D, P> {
     where
         C: CanSampleUniformBits<F>,
         requires { width ≤ C.most_bits }
-        ensures exact { KeepsOrRefuses (meaning.drawn_all {Symbol = C.Symbol}
+        ensures exact { KeepsOrRefuses (meaning.drawn_list {Symbol = C.Symbol}
             (uniform_bits_step label.now width (Length.Fixed n)) (C.uniform true width).draw n)
-            (driving_of C.state P.bytes self.old) values_of result (driving_of C.state P.bytes self.new) }
+            (driving_of C.state P.bytes self.old) bound_values result (driving_of C.state P.bytes self.new) }
         ensures count { IfOk result (λ bounds. vec_len bounds ≡ n) }
     {
         self.steps
@@ -225,11 +225,11 @@ impl<C: Sponge, U, D: DigestHasher, P: Tape> DriverState<C, U, D, P> {
         ensures played { (rule : Rule ℕ) → ComputesOfValues R.Fn accept.now rule → PlaysOrRefuses
             (drawn_rejecting {Symbol = C.Symbol} (uniform_bits_step label.now width (Length.Fixed n))
             (C.uniform true width).draw rule limit n)
-            (driving_of C.state P.bytes self.old).turn values_of result (driving_of C.state P.bytes self.new).turn }
+            (driving_of C.state P.bytes self.old).transcript bound_values result (driving_of C.state P.bytes self.new).transcript }
         ensures bytes { (driving_of C.state P.bytes self.new).bytes ≡ (driving_of C.state P.bytes self.old).bytes }
         ensures order { KeepsOrder (uniform_bits_step label.now width (Length.Fixed n))
-            (driving_of C.state P.bytes self.old).turn result (driving_of C.state P.bytes self.new).turn }
-        ensures spent { IfErr result (λ _. (driving_of C.state P.bytes self.new).turn.playing.finished ≡ true) }
+            (driving_of C.state P.bytes self.old).transcript result (driving_of C.state P.bytes self.new).transcript }
+        ensures spent { IfErr result (λ _. (driving_of C.state P.bytes self.new).transcript.playing.finished ≡ true) }
         ensures count { IfOk result (λ bounds. vec_len bounds ≡ n) }
     {
         self.steps
@@ -258,7 +258,7 @@ impl<C: Sponge, U, D: DigestHasher, P: Tape> DriverState<C, U, D, P> {
         ensures { let step = algebra_step Kind.Challenge label.now F.residues.order A.DIMENSION
             (D.digest_of A.identity) A.name_bytes Length.Scalar in
             KeepsOrRefuses (meaning.drawn {Symbol = C.Symbol} step Cdc.sampling)
-            (driving_of C.state P.bytes self.old) value_of result (driving_of C.state P.bytes self.new) }
+            (driving_of C.state P.bytes self.old) bound_value result (driving_of C.state P.bytes self.new) }
     {
         self.steps
             .take_algebra::<F, A>(Kind::Challenge, label, Length::Scalar)?;
@@ -279,8 +279,8 @@ impl<C: Sponge, U, D: DigestHasher, P: Tape> DriverState<C, U, D, P> {
         requires { 128 ≤ Cdc.SECURITY_BITS }
         ensures exact { let step = algebra_step Kind.Challenge label.now F.residues.order A.DIMENSION
             (D.digest_of A.identity) A.name_bytes (Length.Fixed n) in
-            KeepsOrRefuses (meaning.drawn_all {Symbol = C.Symbol} step Cdc.sampling n)
-            (driving_of C.state P.bytes self.old) values_of result (driving_of C.state P.bytes self.new) }
+            KeepsOrRefuses (meaning.drawn_list {Symbol = C.Symbol} step Cdc.sampling n)
+            (driving_of C.state P.bytes self.old) bound_values result (driving_of C.state P.bytes self.new) }
         ensures count { IfOk result (λ bounds. vec_len bounds ≡ n) }
     {
         self.steps
@@ -309,12 +309,12 @@ impl<C: Sponge, U, D: DigestHasher, P: Tape> DriverState<C, U, D, P> {
             let step = algebra_step Kind.Challenge label.now F.residues.order A.DIMENSION
             (D.digest_of A.identity) A.name_bytes (Length.Fixed n) in
             PlaysOrRefuses (drawn_rejecting {Symbol = C.Symbol} step Cdc.sampling rule limit n)
-            (driving_of C.state P.bytes self.old).turn values_of result (driving_of C.state P.bytes self.new).turn }
+            (driving_of C.state P.bytes self.old).transcript bound_values result (driving_of C.state P.bytes self.new).transcript }
         ensures bytes { (driving_of C.state P.bytes self.new).bytes ≡ (driving_of C.state P.bytes self.old).bytes }
         ensures order { let step = algebra_step Kind.Challenge label.now F.residues.order A.DIMENSION
             (D.digest_of A.identity) A.name_bytes (Length.Fixed n) in
-            KeepsOrder step (driving_of C.state P.bytes self.old).turn result (driving_of C.state P.bytes self.new).turn }
-        ensures spent { IfErr result (λ _. (driving_of C.state P.bytes self.new).turn.playing.finished ≡ true) }
+            KeepsOrder step (driving_of C.state P.bytes self.old).transcript result (driving_of C.state P.bytes self.new).transcript }
+        ensures spent { IfErr result (λ _. (driving_of C.state P.bytes self.new).transcript.playing.finished ≡ true) }
         ensures count { IfOk result (λ bounds. vec_len bounds ≡ n) }
     {
         self.steps

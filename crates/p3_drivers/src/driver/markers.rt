@@ -3,7 +3,7 @@ ghost use Rattle.std.specs.Prelude.{◌≡◌, IsOk};
 ghost use Rattle.p3_fs_core.specs.Steps.{marker_of};
 ghost use Rattle.p3_driver_core.specs.Driving.{KeepsOrRefuses};
 ghost use Rattle.p3_driver_core.specs.Meanings as meaning;
-ghost use Rattle.p3_driver_core.specs.Turns.{IsNext};
+ghost use Rattle.p3_driver_core.specs.Transcripts.{IsNext};
 ghost use Rattle.p3_drivers.specs.Drivers.{driving_of};
 
 use crate::DriverState;
@@ -19,7 +19,7 @@ impl<C: Sponge, U, D: DigestHasher, P: Tape> DriverState<C, U, D, P> {
         ensures exact { KeepsOrRefuses (meaning.marked {Symbol = C.Symbol}
             (marker_of Hierarchy.Begin kind label.now T.name_bytes))
             (driving_of C.state P.bytes self.old) (λ _. tt {0}) result (driving_of C.state P.bytes self.new) }
-        ensures only { IsNext (driving_of C.state P.bytes self.old).turn.playing
+        ensures only { IsNext (driving_of C.state P.bytes self.old).transcript.playing
             (marker_of Hierarchy.Begin kind label.now T.name_bytes) → IsOk result }
     {
         self.mark::<T>(Hierarchy::Begin, kind, label)
@@ -30,7 +30,7 @@ impl<C: Sponge, U, D: DigestHasher, P: Tape> DriverState<C, U, D, P> {
         ensures exact { KeepsOrRefuses (meaning.marked {Symbol = C.Symbol}
             (marker_of Hierarchy.End kind label.now T.name_bytes))
             (driving_of C.state P.bytes self.old) (λ _. tt {0}) result (driving_of C.state P.bytes self.new) }
-        ensures only { IsNext (driving_of C.state P.bytes self.old).turn.playing
+        ensures only { IsNext (driving_of C.state P.bytes self.old).transcript.playing
             (marker_of Hierarchy.End kind label.now T.name_bytes) → IsOk result }
     {
         self.mark::<T>(Hierarchy::End, kind, label)
@@ -41,7 +41,7 @@ impl<C: Sponge, U, D: DigestHasher, P: Tape> DriverState<C, U, D, P> {
         ensures exact { KeepsOrRefuses (meaning.marked {Symbol = C.Symbol}
             (marker_of Hierarchy.Begin Kind.Protocol label.now T.name_bytes))
             (driving_of C.state P.bytes self.old) (λ _. tt {0}) result (driving_of C.state P.bytes self.new) }
-        ensures only { IsNext (driving_of C.state P.bytes self.old).turn.playing
+        ensures only { IsNext (driving_of C.state P.bytes self.old).transcript.playing
             (marker_of Hierarchy.Begin Kind.Protocol label.now T.name_bytes) → IsOk result }
     {
         self.mark::<T>(Hierarchy::Begin, Kind::Protocol, label)
@@ -52,7 +52,7 @@ impl<C: Sponge, U, D: DigestHasher, P: Tape> DriverState<C, U, D, P> {
         ensures exact { KeepsOrRefuses (meaning.marked {Symbol = C.Symbol}
             (marker_of Hierarchy.End Kind.Protocol label.now T.name_bytes))
             (driving_of C.state P.bytes self.old) (λ _. tt {0}) result (driving_of C.state P.bytes self.new) }
-        ensures only { IsNext (driving_of C.state P.bytes self.old).turn.playing
+        ensures only { IsNext (driving_of C.state P.bytes self.old).transcript.playing
             (marker_of Hierarchy.End Kind.Protocol label.now T.name_bytes) → IsOk result }
     {
         self.mark::<T>(Hierarchy::End, Kind::Protocol, label)
@@ -67,7 +67,7 @@ impl<C: Sponge, U, D: DigestHasher, P: Tape> DriverState<C, U, D, P> {
     ) -> Result<(), TranscriptError>
         ensures exact { KeepsOrRefuses (meaning.marked {Symbol = C.Symbol} (marker_of hierarchy kind label.now T.name_bytes))
             (driving_of C.state P.bytes self.old) (λ _. tt {0}) result (driving_of C.state P.bytes self.new) }
-        ensures only { IsNext (driving_of C.state P.bytes self.old).turn.playing
+        ensures only { IsNext (driving_of C.state P.bytes self.old).transcript.playing
             (marker_of hierarchy kind label.now T.name_bytes) → IsOk result }
     {
         self.steps

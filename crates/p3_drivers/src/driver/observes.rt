@@ -1,10 +1,10 @@
 //! The steps that observe values which the proof does not carry, as both sides play them.
 ghost use Rattle.std.specs.Prelude.{◌≡◌, ◌≤◌, length, IfOk, vec_len};
-ghost use Rattle.p3_driver_core.specs.Bound.{value_of, values_of};
+ghost use Rattle.p3_driver_core.specs.Bound.{bound_value, bound_values};
 ghost use Rattle.p3_driver_core.specs.Driving.{KeepsOrRefuses};
 ghost use Rattle.p3_driver_core.specs.Effects.{alphabet_of};
 ghost use Rattle.p3_driver_core.specs.Meanings as meaning;
-ghost use Rattle.p3_driver_core.specs.Turns.{algebra_step, opaque_step};
+ghost use Rattle.p3_driver_core.specs.Transcripts.{algebra_step, opaque_step};
 ghost use Rattle.p3_drivers.specs.Drivers.{driving_of};
 
 use crate::DriverState;
@@ -27,7 +27,7 @@ impl<C: Sponge, U, D: DigestHasher, P: Tape> DriverState<C, U, D, P> {
             EF.name_bytes Length.Scalar in
             KeepsOrRefuses (meaning.observed step ⟦<ExtensionFieldCodec<F, EF, Cdc> as Codec<C, EF>>⟧.observation
             value.now)
-            (driving_of C.state P.bytes self.old) value_of result (driving_of C.state P.bytes self.new) }
+            (driving_of C.state P.bytes self.old) bound_value result (driving_of C.state P.bytes self.new) }
     {
         self.observe_element::<F, EF, ExtensionFieldCodec<F, EF, Cdc>>(Kind::Message, label, value)
     }
@@ -45,7 +45,7 @@ impl<C: Sponge, U, D: DigestHasher, P: Tape> DriverState<C, U, D, P> {
         requires { (copy : T) → T.is_clone value copy → copy ≡ value }
         ensures { KeepsOrRefuses (meaning.observed (opaque_step Kind.Message label.now Length.Scalar)
             C.observation value)
-            (driving_of C.state P.bytes self.old) value_of result (driving_of C.state P.bytes self.new) }
+            (driving_of C.state P.bytes self.old) bound_value result (driving_of C.state P.bytes self.new) }
     {
         self.steps.take(Interaction::opaque(
             Hierarchy::Atomic,
@@ -68,7 +68,7 @@ impl<C: Sponge, U, D: DigestHasher, P: Tape> DriverState<C, U, D, P> {
         ensures { let step = algebra_step kind label.now F.residues.order A.DIMENSION (D.digest_of A.identity)
             A.name_bytes Length.Scalar in
             KeepsOrRefuses (meaning.observed step Cdc.observation value.now)
-            (driving_of C.state P.bytes self.old) value_of result (driving_of C.state P.bytes self.new) }
+            (driving_of C.state P.bytes self.old) bound_value result (driving_of C.state P.bytes self.new) }
     {
         self.steps
             .take_algebra::<F, A>(kind, label, Length::Scalar)?;
@@ -86,8 +86,8 @@ impl<C: Sponge, U, D: DigestHasher, P: Tape> DriverState<C, U, D, P> {
     ) -> Result<Vec<TranscriptBound<A>>, TranscriptError>
         ensures exact { let step = algebra_step kind label.now F.residues.order A.DIMENSION (D.digest_of A.identity)
             A.name_bytes (Length.Fixed (length values.now)) in
-            KeepsOrRefuses (meaning.observed_all step Cdc.observation values.now)
-            (driving_of C.state P.bytes self.old) values_of result (driving_of C.state P.bytes self.new) }
+            KeepsOrRefuses (meaning.observed_list step Cdc.observation values.now)
+            (driving_of C.state P.bytes self.old) bound_values result (driving_of C.state P.bytes self.new) }
         ensures count { IfOk result (λ bounds. vec_len bounds ≡ length values.now) }
     {
         self.steps
@@ -120,7 +120,7 @@ impl<U: Unit, C: CanObserve<U::Item>, D: DigestHasher, P: Tape> DriverState<C, U
             A.name_bytes (Length.Bounded max) in
             KeepsOrRefuses (meaning.observed_bounded step
             (alphabet_of U.items U.is_too_long C.observation C.slice_may_leave) max Cdc.observation values.now)
-            (driving_of C.state P.bytes self.old) values_of result (driving_of C.state P.bytes self.new) }
+            (driving_of C.state P.bytes self.old) bound_values result (driving_of C.state P.bytes self.new) }
         ensures count { IfOk result (λ bounds. vec_len bounds ≡ length values.now) }
     {
         self.steps

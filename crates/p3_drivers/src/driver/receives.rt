@@ -1,11 +1,11 @@
 //! The steps of a verifier that read the proof, and those that observe what both sides know.
 ghost use Rattle.std.specs.Prelude.{◌≡◌, ◌≤◌, ◌↔◌, ◌*◌, IsTrue, length, IfOk, IfErr, vec_len};
 ghost use Rattle.p3_challenger_core.specs.Observation.{observed_all};
-ghost use Rattle.p3_driver_core.specs.Bound.{value_of, values_of};
+ghost use Rattle.p3_driver_core.specs.Bound.{bound_value, bound_values};
 ghost use Rattle.p3_driver_core.specs.Effects.{alphabet_of};
-ghost use Rattle.p3_driver_core.specs.Turns.{algebra_step};
+ghost use Rattle.p3_driver_core.specs.Transcripts.{algebra_step};
 ghost use Rattle.p3_driver_core.specs.Reads as reads;
-ghost use Rattle.p3_driver_core.specs.Reads.{TellsRead, TellsList};
+ghost use Rattle.p3_driver_core.specs.Reads.{AnswersRead, AnswersList};
 ghost use Rattle.p3_driver_core.specs.Driving.{KeepsOrRefuses};
 ghost use Rattle.p3_driver_core.specs.Meanings as meaning;
 ghost use Rattle.p3_driver_core.specs.Verifying.{ReceivesOrRefuses, CarriesWithin, CarriesAsRecorded};
@@ -41,7 +41,7 @@ impl<'a, U: Unit, C: CanObserve<U::Item>, D: DigestHasher> VerifierState<'a, C, 
             CarriesWithin (length values.now) max (meaning.observed_bounded step
             (alphabet_of U.items U.is_too_long C.observation C.slice_may_leave) max
             ⟦<ExtensionFieldCodec<F, EF, Cdc> as Codec<C, EF>>⟧.observation values.now)
-            (verifying_of C.state self.old) values_of result (verifying_of C.state self.new) }
+            (verifying_of C.state self.old) bound_values result (verifying_of C.state self.new) }
         ensures count { IfOk result (λ bounds. vec_len bounds ≡ length values.now) }
     {
         self.steps.carried_within(values.len(), max)?;
@@ -125,7 +125,7 @@ impl<'a, U: Unit, C: CanObserve<U::Item>, D: DigestHasher> VerifierState<'a, C, 
             (D.digest_of F.identity) F.name_bytes (Length.Bounded max) in
             ReceivesOrRefuses (reads.received_bounded step
             (alphabet_of U.items U.is_too_long C.observation C.slice_may_leave) max Cdc.observation Cdc.encoding)
-            (verifying_of C.state self.old) values_of result (verifying_of C.state self.new) }
+            (verifying_of C.state self.old) bound_values result (verifying_of C.state self.new) }
         ensures count { IfOk result (λ bounds. vec_len bounds ≤ max) }
     {
         self.steps
@@ -168,7 +168,7 @@ impl<'a, C: Sponge, U, D: DigestHasher> VerifierState<'a, C, U, D> {
         ensures { let step = algebra_step Kind.Public label.now F.residues.order F.DIMENSION (D.digest_of F.identity)
             F.name_bytes Length.Scalar in
             KeepsOrRefuses (meaning.observed step Cdc.observation value.now)
-            (verifying_of C.state self.old) value_of result (verifying_of C.state self.new) }
+            (verifying_of C.state self.old) bound_value result (verifying_of C.state self.new) }
     {
         self.observe_element::<F, F, Cdc>(Kind::Public, label, value)
     }
@@ -181,8 +181,8 @@ impl<'a, C: Sponge, U, D: DigestHasher> VerifierState<'a, C, U, D> {
     ) -> Result<Vec<TranscriptBound<F>>, TranscriptError>
         ensures exact { let step = algebra_step Kind.Public label.now F.residues.order F.DIMENSION
             (D.digest_of F.identity) F.name_bytes (Length.Fixed (length values.now)) in
-            KeepsOrRefuses (meaning.observed_all step Cdc.observation values.now)
-            (verifying_of C.state self.old) values_of result (verifying_of C.state self.new) }
+            KeepsOrRefuses (meaning.observed_list step Cdc.observation values.now)
+            (verifying_of C.state self.old) bound_values result (verifying_of C.state self.new) }
         ensures count { IfOk result (λ bounds. vec_len bounds ≡ length values.now) }
     {
         self.observe_list::<F, F, Cdc>(Kind::Public, label, values)
@@ -200,9 +200,9 @@ impl<'a, C: Sponge, U, D: DigestHasher> VerifierState<'a, C, U, D> {
     >(&mut self, label: Label, values: &[EF]) -> Result<Vec<TranscriptBound<EF>>, TranscriptError>
         ensures exact { let step = algebra_step Kind.Message label.now F.residues.order EF.DIMENSION
             (D.digest_of EF.identity) EF.name_bytes (Length.Fixed (length values.now)) in
-            CarriesAsRecorded (length values.now) (meaning.observed_all step
+            CarriesAsRecorded (length values.now) (meaning.observed_list step
             ⟦<ExtensionFieldCodec<F, EF, Cdc> as Codec<C, EF>>⟧.observation values.now)
-            (verifying_of C.state self.old) values_of result (verifying_of C.state self.new) }
+            (verifying_of C.state self.old) bound_values result (verifying_of C.state self.new) }
         ensures count { IfOk result (λ bounds. vec_len bounds ≡ length values.now) }
     {
         self.steps.carried_as_recorded(values.len())?;
@@ -217,7 +217,7 @@ impl<'a, C: Sponge, U, D: DigestHasher> VerifierState<'a, C, U, D> {
         ensures { let step = algebra_step Kind.Message label.now F.residues.order F.DIMENSION (D.digest_of F.identity)
             F.name_bytes Length.Scalar in
             ReceivesOrRefuses (reads.received step Cdc.observation Cdc.encoding)
-            (verifying_of C.state self.old) value_of result (verifying_of C.state self.new) }
+            (verifying_of C.state self.old) bound_value result (verifying_of C.state self.new) }
     {
         self.receive::<F, F, Cdc>(label)
     }
@@ -233,8 +233,8 @@ impl<'a, C: Sponge, U, D: DigestHasher> VerifierState<'a, C, U, D> {
     ) -> Result<Vec<TranscriptBound<F>>, TranscriptError>
         ensures exact { let step = algebra_step Kind.Message label.now F.residues.order F.DIMENSION
             (D.digest_of F.identity) F.name_bytes (Length.Fixed n) in
-            ReceivesOrRefuses (reads.received_all step Cdc.observation Cdc.encoding n)
-            (verifying_of C.state self.old) values_of result (verifying_of C.state self.new) }
+            ReceivesOrRefuses (reads.received_list step Cdc.observation Cdc.encoding n)
+            (verifying_of C.state self.old) bound_values result (verifying_of C.state self.new) }
         ensures count { IfOk result (λ bounds. vec_len bounds ≡ n) }
     {
         self.steps
@@ -254,7 +254,7 @@ impl<'a, C: Sponge, U, D: DigestHasher> VerifierState<'a, C, U, D> {
             EF.name_bytes Length.Scalar in
             ReceivesOrRefuses (reads.received step ⟦<ExtensionFieldCodec<F, EF, Cdc> as Codec<C, EF>>⟧.observation
             ⟦<ExtensionFieldCodec<F, EF, Cdc> as Codec<C, EF>>⟧.encoding)
-            (verifying_of C.state self.old) value_of result (verifying_of C.state self.new) }
+            (verifying_of C.state self.old) bound_value result (verifying_of C.state self.new) }
     {
         self.receive::<F, EF, ExtensionFieldCodec<F, EF, Cdc>>(label)
     }
@@ -302,7 +302,7 @@ impl<'a, C: Sponge, U, D: DigestHasher> VerifierState<'a, C, U, D> {
         ensures { let step = algebra_step Kind.Message label.now F.residues.order A.DIMENSION (D.digest_of A.identity)
             A.name_bytes Length.Scalar in
             ReceivesOrRefuses (reads.received step Cdc.observation Cdc.encoding)
-            (verifying_of C.state self.old) value_of result (verifying_of C.state self.new) }
+            (verifying_of C.state self.old) bound_value result (verifying_of C.state self.new) }
     {
         self.steps
             .take_algebra::<F, A>(Kind::Message, label, Length::Scalar)?;
@@ -318,9 +318,9 @@ impl<'a, C: Sponge, U, D: DigestHasher> VerifierState<'a, C, U, D> {
         &mut self,
         n: usize,
     ) -> Result<Vec<TranscriptBound<A>>, TranscriptError>
-        ensures read { TellsList (reads.read_values Cdc.encoding Cdc.observation.observed n self.old.tape.bytes.now)
+        ensures read { AnswersList (reads.read_values Cdc.encoding Cdc.observation.observed n self.old.tape.bytes.now)
             (observed_all Cdc.observation.observed)
-            (reads.LeavesValues Cdc.encoding Cdc.observation n self.old.tape.bytes.now) values_of
+            (reads.LeavesValues Cdc.encoding Cdc.observation n self.old.tape.bytes.now) bound_values
             (C.state self.old.challenger) result self.new.tape.bytes.now (C.state self.new.challenger) }
         ensures steps { self.new.steps ≡ self.old.steps }
         ensures count { IfOk result (λ bounds. vec_len bounds ≡ n) }
@@ -341,7 +341,7 @@ impl<'a, C: Sponge, U, D: DigestHasher> VerifierState<'a, C, U, D> {
 
     // Reads so many bytes. Where there are fewer, none is passed.
     pub(super) fn read_bytes(&mut self, len: usize) -> Result<&'a [u8], TranscriptError>
-        ensures read { TellsRead (reads.read_bytes {S = C.State} len self.old.tape.bytes.now) (λ bytes. bytes.now) result
+        ensures read { AnswersRead (reads.read_bytes {S = C.State} len self.old.tape.bytes.now) (λ bytes. bytes.now) result
             self.new.tape.bytes.now }
         ensures steps { self.new.steps ≡ self.old.steps }
         ensures challenger { self.new.challenger ≡ self.old.challenger }
@@ -359,7 +359,7 @@ impl<'a, C: Sponge, U, D: DigestHasher> VerifierState<'a, C, U, D> {
 
     // Reads a value.
     fn read_value<A, Cdc: Codec<C, A>>(&mut self) -> Result<A, TranscriptError>
-        ensures read { TellsRead (reads.read_value {S = C.State} Cdc.encoding self.old.tape.bytes.now) (λ x. x) result
+        ensures read { AnswersRead (reads.read_value {S = C.State} Cdc.encoding self.old.tape.bytes.now) (λ x. x) result
             self.new.tape.bytes.now }
         ensures steps { self.new.steps ≡ self.old.steps }
         ensures challenger { self.new.challenger ≡ self.old.challenger }
@@ -370,7 +370,7 @@ impl<'a, C: Sponge, U, D: DigestHasher> VerifierState<'a, C, U, D> {
 
     // Reads a count of at most so many. A greater one is refused with this reason, and is passed.
     fn read_count(&mut self, max: usize, over: &'static str) -> Result<usize, TranscriptError>
-        ensures read { TellsRead (reads.read_count {S = C.State} over.now max self.old.tape.bytes.now) (λ n. n) result
+        ensures read { AnswersRead (reads.read_count {S = C.State} over.now max self.old.tape.bytes.now) (λ n. n) result
             self.new.tape.bytes.now }
         ensures within { IfOk result (λ n. n ≤ max) }
         ensures steps { self.new.steps ≡ self.old.steps }
@@ -387,7 +387,7 @@ impl<'a, C: Sponge, U, D: DigestHasher> VerifierState<'a, C, U, D> {
 
     // Reads at most so many bytes after their count. A greater count is refused with this reason.
     fn read_counted(&mut self, max: usize, over: &'static str) -> Result<&'a [u8], TranscriptError>
-        ensures read { TellsRead (reads.read_counted_bytes {S = C.State} over.now max self.old.tape.bytes.now)
+        ensures read { AnswersRead (reads.read_counted_bytes {S = C.State} over.now max self.old.tape.bytes.now)
             (λ bytes. bytes.now) result self.new.tape.bytes.now }
         ensures within { IfOk result (λ bytes. length bytes.now ≤ max) }
         ensures steps { self.new.steps ≡ self.old.steps }

@@ -1,9 +1,9 @@
 //! The steps of a prover that write into the proof, and those that add what both sides know.
 ghost use Rattle.std.specs.Prelude.{◌≡◌, ◌≤◌, length, IfOk, vec_len};
-ghost use Rattle.p3_driver_core.specs.Bound.{value_of, values_of};
+ghost use Rattle.p3_driver_core.specs.Bound.{bound_value, bound_values};
 ghost use Rattle.p3_driver_core.specs.Effects.{alphabet_of};
 ghost use Rattle.p3_driver_core.specs.Meanings as meaning;
-ghost use Rattle.p3_driver_core.specs.Turns.{algebra_step};
+ghost use Rattle.p3_driver_core.specs.Transcripts.{algebra_step};
 ghost use Rattle.p3_driver_core.specs.Driving.{KeepsOrRefuses};
 ghost use Rattle.p3_driver_core.specs.Proving.{WritesOrRefuses, WritesWithin, KeepsWithin};
 ghost use Rattle.p3_drivers.specs.Drivers.{proving_of};
@@ -38,7 +38,7 @@ impl<U: Unit, C: CanObserve<U::Item>, D: DigestHasher> ProverState<C, U, D> {
             KeepsWithin (length values.now) max (meaning.observed_bounded step
             (alphabet_of U.items U.is_too_long C.observation C.slice_may_leave) max
             ⟦<ExtensionFieldCodec<F, EF, Cdc> as Codec<C, EF>>⟧.observation values.now)
-            (proving_of C.state self.old) values_of result (proving_of C.state self.new) }
+            (proving_of C.state self.old) bound_values result (proving_of C.state self.new) }
         ensures count { IfOk result (λ bounds. vec_len bounds ≡ length values.now) }
     {
         self.steps.within(values.len(), max)?;
@@ -112,7 +112,7 @@ impl<U: Unit, C: CanObserve<U::Item>, D: DigestHasher> ProverState<C, U, D> {
             WritesWithin (length values.now) max (meaning.sent_bounded step
             (alphabet_of U.items U.is_too_long C.observation C.slice_may_leave) max Cdc.observation Cdc.encoding
             values.now)
-            (proving_of C.state self.old) values_of result (proving_of C.state self.new) }
+            (proving_of C.state self.old) bound_values result (proving_of C.state self.new) }
         ensures count { IfOk result (λ bounds. vec_len bounds ≡ length values.now) }
     {
         self.steps.within(values.len(), max)?;
@@ -173,7 +173,7 @@ impl<U: Unit, C: CanObserve<U::Item>, D: DigestHasher> ProverState<C, U, D> {
             WritesOrRefuses (meaning.sent_bounded step
             (alphabet_of U.items U.is_too_long C.observation C.slice_may_leave) max Cdc.observation Cdc.encoding
             values.now)
-            (proving_of C.state self.old) values_of result (proving_of C.state self.new) }
+            (proving_of C.state self.old) bound_values result (proving_of C.state self.new) }
         ensures count { IfOk result (λ bounds. vec_len bounds ≡ length values.now) }
     {
         self.steps
@@ -197,7 +197,7 @@ impl<C: Sponge, U, D: DigestHasher> ProverState<C, U, D> {
         ensures { let step = algebra_step Kind.Public label.now F.residues.order F.DIMENSION (D.digest_of F.identity)
             F.name_bytes Length.Scalar in
             KeepsOrRefuses (meaning.observed step Cdc.observation value.now)
-            (proving_of C.state self.old) value_of result (proving_of C.state self.new) }
+            (proving_of C.state self.old) bound_value result (proving_of C.state self.new) }
     {
         self.observe_element::<F, F, Cdc>(Kind::Public, label, value)
     }
@@ -210,8 +210,8 @@ impl<C: Sponge, U, D: DigestHasher> ProverState<C, U, D> {
     ) -> Result<Vec<TranscriptBound<F>>, TranscriptError>
         ensures exact { let step = algebra_step Kind.Public label.now F.residues.order F.DIMENSION
             (D.digest_of F.identity) F.name_bytes (Length.Fixed (length values.now)) in
-            KeepsOrRefuses (meaning.observed_all step Cdc.observation values.now)
-            (proving_of C.state self.old) values_of result (proving_of C.state self.new) }
+            KeepsOrRefuses (meaning.observed_list step Cdc.observation values.now)
+            (proving_of C.state self.old) bound_values result (proving_of C.state self.new) }
         ensures count { IfOk result (λ bounds. vec_len bounds ≡ length values.now) }
     {
         self.observe_list::<F, F, Cdc>(Kind::Public, label, values)
@@ -225,9 +225,9 @@ impl<C: Sponge, U, D: DigestHasher> ProverState<C, U, D> {
     >(&mut self, label: Label, values: &[EF]) -> Result<Vec<TranscriptBound<EF>>, TranscriptError>
         ensures exact { let step = algebra_step Kind.Message label.now F.residues.order EF.DIMENSION
             (D.digest_of EF.identity) EF.name_bytes (Length.Fixed (length values.now)) in
-            KeepsOrRefuses (meaning.observed_all step ⟦<ExtensionFieldCodec<F, EF, Cdc> as Codec<C, EF>>⟧.observation
+            KeepsOrRefuses (meaning.observed_list step ⟦<ExtensionFieldCodec<F, EF, Cdc> as Codec<C, EF>>⟧.observation
             values.now)
-            (proving_of C.state self.old) values_of result (proving_of C.state self.new) }
+            (proving_of C.state self.old) bound_values result (proving_of C.state self.new) }
         ensures count { IfOk result (λ bounds. vec_len bounds ≡ length values.now) }
     {
         self.observe_list::<F, EF, ExtensionFieldCodec<F, EF, Cdc>>(Kind::Message, label, values)
@@ -242,7 +242,7 @@ impl<C: Sponge, U, D: DigestHasher> ProverState<C, U, D> {
         ensures { let step = algebra_step Kind.Message label.now F.residues.order F.DIMENSION (D.digest_of F.identity)
             F.name_bytes Length.Scalar in
             WritesOrRefuses (meaning.sent step Cdc.observation Cdc.encoding value.now)
-            (proving_of C.state self.old) value_of result (proving_of C.state self.new) }
+            (proving_of C.state self.old) bound_value result (proving_of C.state self.new) }
     {
         self.send::<F, F, Cdc>(label, value)
     }
@@ -256,8 +256,8 @@ impl<C: Sponge, U, D: DigestHasher> ProverState<C, U, D> {
     ) -> Result<Vec<TranscriptBound<F>>, TranscriptError>
         ensures exact { let step = algebra_step Kind.Message label.now F.residues.order F.DIMENSION
             (D.digest_of F.identity) F.name_bytes (Length.Fixed (length values.now)) in
-            WritesOrRefuses (meaning.sent_all step Cdc.observation Cdc.encoding values.now)
-            (proving_of C.state self.old) values_of result (proving_of C.state self.new) }
+            WritesOrRefuses (meaning.sent_list step Cdc.observation Cdc.encoding values.now)
+            (proving_of C.state self.old) bound_values result (proving_of C.state self.new) }
         ensures count { IfOk result (λ bounds. vec_len bounds ≡ length values.now) }
     {
         self.steps
@@ -279,7 +279,7 @@ impl<C: Sponge, U, D: DigestHasher> ProverState<C, U, D> {
             EF.name_bytes Length.Scalar in
             WritesOrRefuses (meaning.sent step ⟦<ExtensionFieldCodec<F, EF, Cdc> as Codec<C, EF>>⟧.observation
             ⟦<ExtensionFieldCodec<F, EF, Cdc> as Codec<C, EF>>⟧.encoding value.now)
-            (proving_of C.state self.old) value_of result (proving_of C.state self.new) }
+            (proving_of C.state self.old) bound_value result (proving_of C.state self.new) }
     {
         self.send::<F, EF, ExtensionFieldCodec<F, EF, Cdc>>(label, value)
     }
@@ -327,7 +327,7 @@ impl<C: Sponge, U, D: DigestHasher> ProverState<C, U, D> {
         ensures { let step = algebra_step Kind.Message label.now F.residues.order A.DIMENSION (D.digest_of A.identity)
             A.name_bytes Length.Scalar in
             WritesOrRefuses (meaning.sent step Cdc.observation Cdc.encoding value.now)
-            (proving_of C.state self.old) value_of result (proving_of C.state self.new) }
+            (proving_of C.state self.old) bound_value result (proving_of C.state self.new) }
     {
         self.steps
             .take_algebra::<F, A>(Kind::Message, label, Length::Scalar)?;

@@ -19,7 +19,7 @@ impl<C: Sponge, U, D: DigestHasher, P: Tape> SymmetricSteps for DriverState<C, U
 
     type Digest = D;
 
-    ghost turn = { λ driver. (driving_of C.state P.bytes driver).turn };
+    ghost transcript = { λ driver. (driving_of C.state P.bytes driver).transcript };
 
     ghost bytes = { λ driver. (driving_of C.state P.bytes driver).bytes };
 

@@ -2,8 +2,8 @@
 ghost use Rattle.std.specs.Prelude.{◌≡◌, ◌≤◌};
 ghost use Rattle.p3_driver_core.specs.Proving.{GrindsAndWrites, GrindsAndKeeps};
 ghost use Rattle.p3_driver_core.specs.Reads as reads;
-ghost use Rattle.p3_driver_core.specs.Reads.{TellsRead};
-ghost use Rattle.p3_driver_core.specs.Turns.{algebra_step};
+ghost use Rattle.p3_driver_core.specs.Reads.{AnswersRead};
+ghost use Rattle.p3_driver_core.specs.Transcripts.{algebra_step};
 ghost use Rattle.p3_driver_core.specs.Verifying.{ReceivesWork, ChecksAndKeeps};
 ghost use Rattle.p3_driver_core.specs.Working.{work_of};
 ghost use Rattle.p3_fs_core.specs.Scalar.{encoding};
@@ -122,7 +122,7 @@ impl<C: GrindingChallenger, U, D: DigestHasher> VerifierState<'_, C, U, D> {
 
     // Reads a witness.
     fn read_witness(&mut self) -> Result<C::Witness, TranscriptError>
-        ensures read { TellsRead (reads.read_value {S = C.State} (encoding C.Witness.residues C.Witness.bit_length)
+        ensures read { AnswersRead (reads.read_value {S = C.State} (encoding C.Witness.residues C.Witness.bit_length)
             self.old.tape.bytes.now) (λ x. x) result self.new.tape.bytes.now }
         ensures steps { self.new.steps ≡ self.old.steps }
         ensures challenger { self.new.challenger ≡ self.old.challenger }

@@ -2,7 +2,7 @@ use Rattle.std.proofs.Common.{ℕ, List, length}
 use Rattle.p3_driver_core.specs.Counts.{count_bytes}
 use Rattle.p3_driver_core.specs.Effects.{alphabet_of, observing_bytes}
 use Rattle.p3_driver_core.specs.Feeding.{Feeds}
-use Rattle.p3_driver_core.specs.FeedingLaws.{observing_bytes-feeds, in_turn-feeds}
+use Rattle.p3_driver_core.specs.FeedingLaws.{observing_bytes-feeds, in_sequence-feeds}
 use Rattle.p3_driver_core.proofs.feeding.bytes_feed_their_symbols.Given.{Over}
 use Rattle.p3_driver_core.proofs.feeding.bytes_feed_their_symbols.Goals as goal
 
@@ -18,6 +18,6 @@ pub returns : goal.returns
 returns g c =
     record {
       fixed = bytes-feed g;
-      counted = λ max bytes. in_turn-feeds g.C.Sponge.fed g.C.Sponge.fed_nothing g.C.Sponge.fed_more _ _
+      counted = λ max bytes. in_sequence-feeds g.C.Sponge.fed g.C.Sponge.fed_nothing g.C.Sponge.fed_more _ _
           (bytes-feed g (count_bytes max (length bytes))) (bytes-feed g bytes);
     }

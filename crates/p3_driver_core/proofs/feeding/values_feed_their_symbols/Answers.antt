@@ -1,4 +1,4 @@
-use Rattle.p3_driver_core.specs.FeedingLaws.{observing-feeds, observing_all-feeds}
+use Rattle.p3_driver_core.specs.FeedingLaws.{observing-feeds, observing_list-feeds}
 use Rattle.p3_driver_core.proofs.feeding.values_feed_their_symbols.Goals as goal
 
 pub returns : goal.returns
@@ -6,6 +6,6 @@ returns g c =
     record {
       value = λ x. observing-feeds g.C.Sponge.fed g.C.Sponge.fed_nothing g.C.Sponge.fed_more g.Cdc.Codec.observation
           g.met.Cdc.Codec.is_codec.observes x;
-      list = λ xs. observing_all-feeds g.C.Sponge.fed g.C.Sponge.fed_nothing g.C.Sponge.fed_more
+      list = λ xs. observing_list-feeds g.C.Sponge.fed g.C.Sponge.fed_nothing g.C.Sponge.fed_more
           g.Cdc.Codec.observation g.met.Cdc.Codec.is_codec.observes xs;
     }

@@ -1,6 +1,6 @@
 use Rattle.std.proofs.Common.{◌+◌, ◌-◌, [], refl, ◌∙◌, arith, rules, inr, ap, map}
 use Rattle.p3_challenger_core.specs.DrawLaws.{drew-none, drew-as, drew-values, drew-state, drew-stops}
-use Rattle.p3_driver_core.specs.Bound.{value_of}
+use Rattle.p3_driver_core.specs.Bound.{bound_value}
 use Rattle.p3_driver_core.proofs.BoundLists.{drew-bound}
 use Rattle.p3_driver_core.proofs.lists.draw_values.Goals as goal
 
@@ -9,8 +9,8 @@ loop-init g c =
     let d = g.Cdc.Codec.sampling in
     let start = g.C.Sponge.state c.args.challenger.now in
     record {
-      drew = drew-as d c.args.n start [] (map value_of c.in_ok-bounds.bounds.items)
-          (c.args.n - 0) start start (ap (map value_of) c.in_ok-bounds.ensures.items) refl
+      drew = drew-as d c.args.n start [] (map bound_value c.in_ok-bounds.bounds.items)
+          (c.args.n - 0) start start (ap (map bound_value) c.in_ok-bounds.ensures.items) refl
           (drew-none d c.args.n start);
       count = c.in_ok-bounds.ensures.len;
       room = c.in_ok-bounds.ensures.exact;
@@ -19,7 +19,7 @@ loop-init g c =
 pub returns-in_err-sample-clause-err : goal.returns-in_err-sample-clause-err
 returns-in_err-sample-clause-err g c =
     let d = g.Cdc.Codec.sampling in
-    let stops = drew-stops d c.args.n (g.C.Sponge.state c.args.challenger.now) (map value_of c.loop.bounds.items)
+    let stops = drew-stops d c.args.n (g.C.Sponge.state c.args.challenger.now) (map bound_value c.loop.bounds.items)
     c.loop.counter (g.C.Sponge.state c.loop.challenger) c.loop-test.true c.loop.invariant.drew
     c.in_err-sample.field-0.0 (g.C.Sponge.state c.sample.new.challenger) c.in_err-sample.ensures.err in
     search (rules, stops, inr)
@@ -43,11 +43,11 @@ loop-preserved g c =
 pub returns-clause-drawn : goal.returns-clause-drawn
 returns-clause-drawn g c =
     drew-values g.Cdc.Codec.sampling c.args.n (g.C.Sponge.state c.args.challenger.now)
-    (map value_of c.loop.bounds.items) c.loop.counter
+    (map bound_value c.loop.bounds.items) c.loop.counter
     (g.C.Sponge.state c.loop.challenger) c.loop-test.false c.loop.invariant.drew
 
 pub returns-clause-after : goal.returns-clause-after
 returns-clause-after g c =
     drew-state g.Cdc.Codec.sampling c.args.n (g.C.Sponge.state c.args.challenger.now)
-    (map value_of c.loop.bounds.items) c.loop.counter
+    (map bound_value c.loop.bounds.items) c.loop.counter
     (g.C.Sponge.state c.loop.challenger) c.loop-test.false c.loop.invariant.drew

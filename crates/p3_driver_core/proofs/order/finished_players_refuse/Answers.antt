@@ -1,4 +1,4 @@
-use Rattle.p3_driver_core.specs.TurnLaws.{finished-refused, finished-ends}
+use Rattle.p3_driver_core.specs.TranscriptLaws.{finished-refused, finished-ends}
 use Rattle.p3_driver_core.proofs.order.finished_players_refuse.Goals as goal
 
 pub returns-clause-step : goal.returns-clause-step

@@ -1,4 +1,4 @@
-use Rattle.p3_driver_core.specs.TurnLaws.{listed-next, next-first, next-then}
+use Rattle.p3_driver_core.specs.TranscriptLaws.{listed-next, next-first, next-then}
 use Rattle.p3_driver_core.proofs.order.listed_steps_are_next.Goals as goal
 
 pub returns-clause-listed : goal.returns-clause-listed

@@ -1,4 +1,4 @@
-use Rattle.p3_driver_core.specs.TurnLaws.{next-not_refused, played-ends}
+use Rattle.p3_driver_core.specs.TranscriptLaws.{next-not_refused, played-ends}
 use Rattle.p3_driver_core.proofs.order.next_steps_are_not_wrong.Goals as goal
 
 pub returns-clause-step : goal.returns-clause-step

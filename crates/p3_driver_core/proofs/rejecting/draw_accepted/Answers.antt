@@ -1,5 +1,5 @@
 use Rattle.std.proofs.Common.{◌+◌, [], ◌∷◌, ◌++◌, ◌∙◌, sym, rules, ap, map, inr}
-use Rattle.p3_driver_core.specs.Bound.{value_of}
+use Rattle.p3_driver_core.specs.Bound.{bound_value}
 use Rattle.p3_driver_core.specs.BoundLaws.{values-more}
 use Rattle.p3_driver_core.proofs.Rejections.{keeps-more, keeps-refused, keeps-all}
 use Rattle.p3_driver_core.proofs.rejecting.draw_accepted.Goals as goal
@@ -34,6 +34,6 @@ loop-preserved g c =
 pub returns-clause-kept : goal.returns-clause-kept
 returns-clause-kept g c =
     λ rule computes. keeps-all g.Cdc.Codec.sampling rule c.args.limit c.args.n
-    (g.C.Sponge.state c.args.challenger.now) c.loop.counter c.loop.kept.items (map value_of c.loop.bounds.items)
+    (g.C.Sponge.state c.args.challenger.now) c.loop.counter c.loop.kept.items (map bound_value c.loop.bounds.items)
     (g.C.Sponge.state c.loop.challenger) c.loop-test.false c.loop.invariant.bound
     (c.loop.invariant.keeps rule computes)

@@ -1,5 +1,5 @@
 use Rattle.std.proofs.Common.{◌≡◌, ◌-◌, vec_len, vec_capacity, map}
-use Rattle.p3_driver_core.specs.Bound.{value_of}
+use Rattle.p3_driver_core.specs.Bound.{bound_value}
 use Rattle.p3_driver_core.specs.Rejecting.{Rule, Computes}
 use Rattle.p3_driver_core.proofs.Rejections.{Keeps}
 use Rattle.p3_driver_core.proofs.rejecting.draw_accepted.Given as goal
@@ -11,7 +11,7 @@ invariant-loop g l =
       keeps : (rule : Rule _) → Computes g.R.Fn l.accept rule →
           Keeps g.Cdc.Codec.sampling rule l.limit l.n (g.C.Sponge.state l.initial.challenger) (l.n - l.counter)
           l.kept.items (g.C.Sponge.state l.challenger);
-      bound : map value_of l.bounds.items ≡ l.kept.items;
+      bound : map bound_value l.bounds.items ≡ l.kept.items;
       count : vec_len l.bounds ≡ l.counter;
       room : vec_capacity l.bounds ≡ l.n;
       kept_count : vec_len l.kept ≡ l.counter;

@@ -1,5 +1,5 @@
 use Rattle.std.proofs.Common.{true, ◌+◌, [], ◌∷◌, ◌++◌, ◌∙◌, sym, rules, ap, map, inr}
-use Rattle.p3_driver_core.specs.Bound.{value_of}
+use Rattle.p3_driver_core.specs.Bound.{bound_value}
 use Rattle.p3_driver_core.specs.BoundLaws.{values-more}
 use Rattle.p3_driver_core.proofs.Rejections.{keeps-more, keeps-refused, keeps-all}
 use Rattle.p3_driver_core.proofs.uniform.draw_accepted_numbers.Goals as goal
@@ -37,6 +37,6 @@ loop-preserved g c =
 pub returns-clause-kept : goal.returns-clause-kept
 returns-clause-kept g c =
     λ rule computes. keeps-all (g.C.CanSampleUniformBits.uniform true c.args.width).draw rule c.args.limit c.args.n
-    (g.C.Sponge.state c.args.challenger.now) c.loop.counter c.loop.kept.items (map value_of c.loop.bounds.items)
+    (g.C.Sponge.state c.args.challenger.now) c.loop.counter c.loop.kept.items (map bound_value c.loop.bounds.items)
     (g.C.Sponge.state c.loop.challenger) c.loop-test.false c.loop.invariant.bound
     (c.loop.invariant.keeps rule computes)

@@ -1,5 +1,5 @@
 use Rattle.std.proofs.Common.{true, ◌≡◌, ◌-◌, vec_len, vec_capacity, map}
-use Rattle.p3_driver_core.specs.Bound.{value_of}
+use Rattle.p3_driver_core.specs.Bound.{bound_value}
 use Rattle.p3_driver_core.specs.Rejecting.{Rule, ComputesOfValues}
 use Rattle.p3_driver_core.proofs.Rejections.{Keeps}
 use Rattle.p3_driver_core.proofs.uniform.draw_accepted_numbers.Given as goal
@@ -12,7 +12,7 @@ invariant-loop g l =
           Keeps (g.C.CanSampleUniformBits.uniform true l.width).draw rule l.limit l.n
           (g.C.Sponge.state l.initial.challenger) (l.n - l.counter)
           l.kept.items (g.C.Sponge.state l.challenger);
-      bound : map value_of l.bounds.items ≡ l.kept.items;
+      bound : map bound_value l.bounds.items ≡ l.kept.items;
       count : vec_len l.bounds ≡ l.counter;
       room : vec_capacity l.bounds ≡ l.n;
       kept_count : vec_len l.kept ≡ l.counter;

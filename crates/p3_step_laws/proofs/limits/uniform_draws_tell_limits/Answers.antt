@@ -1,10 +1,10 @@
 use Rattle.std.specs.Prelude.{true}
-use Rattle.p3_step_laws.proofs.LimitLaws.{drawing_all-tells, rejecting-tells}
+use Rattle.p3_step_laws.proofs.LimitLaws.{drawing_list-tells, rejecting-tells}
 use Rattle.p3_step_laws.proofs.limits.uniform_draws_tell_limits.Goals as goal
 
 pub returns-clause-list : goal.returns-clause-list
 returns-clause-list g c = λ width n.
-    drawing_all-tells g.C.Sponge.next (g.C.CanSampleUniformBits.uniform true width).draw
+    drawing_list-tells g.C.Sponge.next (g.C.CanSampleUniformBits.uniform true width).draw
     (g.met.C.CanSampleUniformBits.draws_uniform true width).draws n
 
 pub returns-clause-rejecting : goal.returns-clause-rejecting

@@ -14,7 +14,7 @@ returns-clause-value g c = λ step x.
 pub returns-clause-list : goal.returns-clause-list
 returns-clause-list g c = λ step xs.
     let o = g.Cdc.Codec.observation in
-    only_memory (meaning.observed_all step o xs) (observing-tells (observation.in_row o) xs)
+    only_memory (meaning.observed_list step o xs) (observing-tells (observation.in_row o) xs)
 
 pub returns-clause-counted : goal.returns-clause-counted
 returns-clause-counted g c = λ step max xs.

@@ -14,7 +14,7 @@ returns-clause-fixed g c = λ kind label bytes.
     g.C.CanObserve.slice_may_leave in
     only_memory_to_read (meaning.sent_bytes kind label alphabet bytes)
     (reads.received_bytes kind label alphabet (length bytes)) bytes
-    (c.sent_bytes_are_received.ensures.mirrors kind label bytes) refl (bytes-tell alphabet bytes)
+    (c.sent_bytes_are_received.ensures.read_back kind label bytes) refl (bytes-tell alphabet bytes)
 
 pub returns-clause-counted : goal.returns-clause-counted
 returns-clause-counted g c = λ label max bytes within fits.
@@ -22,5 +22,5 @@ returns-clause-counted g c = λ label max bytes within fits.
     g.C.CanObserve.slice_may_leave in
     only_memory_to_read (meaning.sent_bytes_bounded Message label alphabet max bytes)
     (reads.received_bytes_bounded label alphabet max) bytes
-    (c.sent_counted_bytes_are_received.ensures.mirrors label max bytes within fits) refl
+    (c.sent_counted_bytes_are_received.ensures.read_back label max bytes within fits) refl
     (counted_bytes-tell alphabet (count_bytes max (length bytes)) bytes)

@@ -12,15 +12,15 @@ pub returns-clause-value : goal.returns-clause-value
 returns-clause-value g c = λ step x.
     let codec = g.Cdc.Codec in
     only_memory_to_read (meaning.sent step codec.observation codec.encoding x)
-    (reads.received step codec.observation codec.encoding) x (c.sent_value_is_received.ensures.mirrors step x) refl
+    (reads.received step codec.observation codec.encoding) x (c.sent_value_is_received.ensures.read_back step x) refl
     (observing-tells codec.observation x)
 
 pub returns-clause-list : goal.returns-clause-list
 returns-clause-list g c = λ step xs.
     let codec = g.Cdc.Codec in
-    only_memory_to_read (meaning.sent_all step codec.observation codec.encoding xs)
-    (reads.received_all step codec.observation codec.encoding (length xs)) xs
-    (c.sent_values_are_received.ensures.mirrors step xs) refl
+    only_memory_to_read (meaning.sent_list step codec.observation codec.encoding xs)
+    (reads.received_list step codec.observation codec.encoding (length xs)) xs
+    (c.sent_values_are_received.ensures.read_back step xs) refl
     (observing-tells (observation.in_row codec.observation) xs)
 
 pub returns-clause-counted : goal.returns-clause-counted
@@ -30,5 +30,5 @@ returns-clause-counted g c = λ step max xs within fits.
     let codec = g.Cdc.Codec in
     only_memory_to_read (meaning.sent_bounded step alphabet max codec.observation codec.encoding xs)
     (reads.received_bounded step alphabet max codec.observation codec.encoding) xs
-    (c.sent_counted_values_are_received.ensures.mirrors step max xs within fits) refl
+    (c.sent_counted_values_are_received.ensures.read_back step max xs within fits) refl
     (counted-tell alphabet (count_bytes max (length xs)) (observation.in_row codec.observation) xs)

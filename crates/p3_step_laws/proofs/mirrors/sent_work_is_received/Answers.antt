@@ -13,14 +13,14 @@ spells g =
     is_encoding g.C.Witness.PrimeCharacteristicRing.residues g.met.C.Witness.PrimeCharacteristicRing.are_residues
     g.C.Witness.Field.bit_length g.met.C.Witness.Field.bits_below
 
-pub returns-clause-mirrors : goal.returns-clause-mirrors
-returns-clause-mirrors g c = λ step bits x.
+pub returns-clause-read_back : goal.returns-clause-read_back
+returns-clause-read_back g c = λ step bits x.
     work-mirrored (work_of step g.C.Witness.PrimeCharacteristicRing.residues g.C.PrepareCheck.before_witness
     g.C.CanObserve.observation g.C.CanSampleBits.bits_sampling bits)
     (encoding g.C.Witness.PrimeCharacteristicRing.residues g.C.Witness.Field.bit_length) (spells g) x
 
-pub returns-clause-follows : goal.returns-clause-follows
-returns-clause-follows g c = λ step bits x.
+pub returns-clause-complete : goal.returns-clause-complete
+returns-clause-complete g c = λ step bits x.
     work-followed (work_of step g.C.Witness.PrimeCharacteristicRing.residues g.C.PrepareCheck.before_witness
     g.C.CanObserve.observation g.C.CanSampleBits.bits_sampling bits)
     (check-limit g.C.PrepareCheck.before_witness g.C.CanObserve.observation

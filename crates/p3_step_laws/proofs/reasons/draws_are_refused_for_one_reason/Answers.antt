@@ -1,6 +1,6 @@
 use Rattle.p3_driver_core.specs.Meanings as meaning
 use Rattle.p3_driver_core.specs.Rejecting.{drawn_rejecting}
-use Rattle.p3_step_laws.proofs.LimitLaws.{drawing-tells, drawing_all-tells, rejecting-tells}
+use Rattle.p3_step_laws.proofs.LimitLaws.{drawing-tells, drawing_list-tells, rejecting-tells}
 use Rattle.p3_step_laws.proofs.OneReason.{short-one_reason}
 use Rattle.p3_step_laws.proofs.reasons.draws_are_refused_for_one_reason.Goals as goal
 
@@ -13,8 +13,8 @@ returns-clause-value g c = λ step.
 pub returns-clause-list : goal.returns-clause-list
 returns-clause-list g c = λ step n.
     let d = g.Cdc.Codec.sampling in
-    short-one_reason {Symbol = g.row.C-Symbol.Denot} (meaning.drawn_all step d n)
-    (drawing_all-tells g.C.Sponge.next d g.met.Cdc.Codec.is_codec.samples n) tt
+    short-one_reason {Symbol = g.row.C-Symbol.Denot} (meaning.drawn_list step d n)
+    (drawing_list-tells g.C.Sponge.next d g.met.Cdc.Codec.is_codec.samples n) tt
 
 pub returns-clause-rejecting : goal.returns-clause-rejecting
 returns-clause-rejecting g c = λ step rule limit n.

@@ -16,7 +16,7 @@ returns-clause-observed g c = λ step x.
 
 pub returns-clause-observed_list : goal.returns-clause-observed_list
 returns-clause-observed_list g c = λ step xs.
-    short-one_reason (meaning.observed_all step g.Cdc.Codec.observation xs)
+    short-one_reason (meaning.observed_list step g.Cdc.Codec.observation xs)
     (observing-tells (observation.in_row g.Cdc.Codec.observation) xs) tt
 
 pub returns-clause-observed_counted : goal.returns-clause-observed_counted
@@ -34,7 +34,7 @@ returns-clause-sent g c = λ step x.
 
 pub returns-clause-sent_list : goal.returns-clause-sent_list
 returns-clause-sent_list g c = λ step xs.
-    short-one_reason (meaning.sent_all step g.Cdc.Codec.observation g.Cdc.Codec.encoding xs)
+    short-one_reason (meaning.sent_list step g.Cdc.Codec.observation g.Cdc.Codec.encoding xs)
     (observing-tells (observation.in_row g.Cdc.Codec.observation) xs) tt
 
 pub returns-clause-sent_counted : goal.returns-clause-sent_counted

@@ -6,7 +6,7 @@ use Rattle.p3_patterns.specs.Playing.{next_step}
 use Rattle.p3_driver_core.specs.Counts.{count_bytes}
 use Rattle.p3_driver_core.specs.Effects.{alphabet_of}
 use Rattle.p3_driver_core.specs.Meanings as meaning
-use Rattle.p3_driver_core.specs.Turns.{IsOtherLength, longer_list, another_length}
+use Rattle.p3_driver_core.specs.Transcripts.{IsOtherLength, longer_list, another_length}
 use Rattle.p3_step_laws.proofs.LimitLaws.{observing-tells, counted-tell}
 use Rattle.p3_step_laws.proofs.ListReasons.{carried_list-one_reason}
 use Rattle.p3_step_laws.proofs.OneReason.{short-tells, given-tells}
@@ -23,7 +23,7 @@ returns-clause-within g c = λ step max xs.
 
 pub returns-clause-recorded : goal.returns-clause-recorded
 returns-clause-recorded g c = λ step xs.
-    let m = meaning.observed_all step g.Cdc.Codec.observation xs in
+    let m = meaning.observed_list step g.Cdc.Codec.observation xs in
     let tells = observing-tells (observation.in_row g.Cdc.Codec.observation) xs in
     carried_list-one_reason m (λ _. challenger_refused DrawLimit) (short-tells m.effect tells tt)
     (λ p. IsOtherLength (length xs) (next_step p)) (λ p. IsOtherLength (length xs) (next_step p) → ⊥)

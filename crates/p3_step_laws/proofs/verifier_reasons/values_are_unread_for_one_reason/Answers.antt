@@ -14,7 +14,7 @@ returns-clause-value g c = λ step.
 
 pub returns-clause-list : goal.returns-clause-list
 returns-clause-list g c = λ step n.
-    given-unread_one_reason (reads.received_all step g.Cdc.Codec.observation g.Cdc.Codec.encoding n)
+    given-unread_one_reason (reads.received_list step g.Cdc.Codec.observation g.Cdc.Codec.encoding n)
     (λ xs. observing-tells (observation.in_row g.Cdc.Codec.observation) xs) (λ xs s. (xs, refl))
 
 pub returns-clause-counted : goal.returns-clause-counted

@@ -1,4 +1,4 @@
-use Rattle.std.proofs.Common.{◌==◌, ℕ, true}
+use Rattle.std.proofs.Common.{◌==◌, true}
 use Rattle.std.specs.List.{IsDistinct}
 use Rattle.uses.specs.CommitPhase.{AreKept}
 use Rattle.uses.proofs.commit_phase.query_indices.Given as goal
@@ -7,5 +7,5 @@ use Rattle.uses.proofs.commit_phase.query_indices.Given as goal
 abbrev pub invariant-loop : goal.invariant-loop
 invariant-loop g l =
     IsDistinct (λ x y. x == y) l.queries.items
-    × ((n : ℕ) × AreKept (g.C.CanSampleUniformBits.uniform true l.demands.index_bits).draw n l.queries.items
-    (g.C.Sponge.state l.initial.challenger) (g.C.Sponge.state l.challenger))
+    × AreKept (g.C.CanSampleUniformBits.uniform true l.demands.index_bits).draw l.queries.items
+    (g.C.Sponge.state l.initial.challenger) (g.C.Sponge.state l.challenger)

@@ -10,4 +10,4 @@ invariant-loop l =
     let before = verifying_of (λ s. s) l.initial.verifier in
     let here = verifying_of (λ s. s) l.verifier in
     IsClimbed digests.ghosts.digest_of l.fn.place l.fn.leaf before.bytes l.counter l.place l.node here.bytes
-    × (here.turn.challenger ≡ before.turn.challenger)
+    × (here.transcript.challenger ≡ before.transcript.challenger)

@@ -14,7 +14,7 @@ returns c =
     let in_tree : IsTrue c.in_ok-leaf.leaf.in_tree = search (rules, c.if-not-leaf.false) in
     opened-as digests.ghosts.digest_of _ (observed_all observed) _ _ _ _ _ _ _ _ _ _
     (ap (λ v. v.bytes) c.in_ok-verifier.ensures.ok)
-    (begun-as c.challenger.result verifier.turn.challenger
+    (begun-as c.challenger.result verifier.transcript.challenger
     (seed_of_separator digests.ghosts.digest_of c.args.separator.now)
-    (ap (λ v. v.turn.challenger) c.in_ok-verifier.ensures.ok) c.challenger.ensures)
+    (ap (λ v. v.transcript.challenger) c.in_ok-verifier.ensures.ok) c.challenger.ensures)
     c.in_ok-challenger.ensures.ok.0.whole (sym c.in_ok-challenger.ensures.ok.1) (c.in_ok-leaf.ensures in_tree)

@@ -12,7 +12,7 @@ returns c =
     once-both _ _ _ c.send-sent.result c.finalize.result c.and.result c.and.ensures c.send-sent.ensures
     c.finalize.ensures.ok
     (λ sent proof ends. sent-as _ _ _ _ _ _ _ _ _ _
-    (begun-as c.challenger.result prover.turn.challenger
+    (begun-as c.challenger.result prover.transcript.challenger
     (seed_of_separator digests.ghosts.digest_of c.args.separator.now)
-    (ap (λ p. p.turn.challenger) c.in_ok-prover.ensures.ok) c.challenger.ensures)
+    (ap (λ p. p.transcript.challenger) c.in_ok-prover.ensures.ok) c.challenger.ensures)
     (sent-alone _ _ _ _ (ap (λ p. p.bytes) c.in_ok-prover.ensures.ok) ends.1 sent.1) sent.2)

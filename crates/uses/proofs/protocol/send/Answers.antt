@@ -1,5 +1,5 @@
 use Rattle.std.proofs.Common.{rules}
-use Rattle.p3_challenger.specs.Bound.{value_of}
+use Rattle.p3_challenger.specs.Bound.{bound_value}
 use Rattle.uses.proofs.Runs.{once-written, sent-by}
 use Rattle.uses.proofs.protocol.send.Goals as goal
 
@@ -10,7 +10,7 @@ returns c =
     (record {
       slope = c.args.slope;
       offset = c.args.offset;
-      place = value_of c.in_ok-place.place;
+      place = bound_value c.in_ok-place.place;
       divisor = c.in_ok-divisor.divisor;
       quotient = c.mul-quotient.result;
     })

@@ -1,5 +1,5 @@
 use Rattle.std.proofs.Common.{ap}
-use Rattle.p3_challenger.specs.Bound.{value_of}
+use Rattle.p3_challenger.specs.Bound.{bound_value}
 use Rattle.p3_challenger.specs.Effects.{alphabet_of}
 use Rattle.p3_challenger.specs.SeparatorSeed.{seed_of_separator}
 use Rattle.uses.proofs.SentAndDrawn.{drawn-first}
@@ -12,5 +12,5 @@ returns g c =
     (alphabet_of g.U.Unit.items g.U.Unit.is_too_long g.C.CanObserve.observation g.C.CanObserve.slice_may_leave)
     g.Cdc.Codec.observation g.Cdc.Codec.sampling seed c.args.value.now
     (c.bytes_feed_their_symbols.ensures.fixed seed) (c.values_feed_their_symbols.ensures.value c.args.value.now)
-    value_of (g.C.Sponge.state c.args.challenger) _ _ c.send_and_draw-drawn.result
-    (ap (λ p. p.turn.challenger) c.in_ok-prover.ensures.ok) c.send_and_draw-drawn.ensures.steps
+    bound_value (g.C.Sponge.state c.args.challenger) _ _ c.send_and_draw-drawn.result
+    (ap (λ p. p.transcript.challenger) c.in_ok-prover.ensures.ok) c.send_and_draw-drawn.ensures.steps

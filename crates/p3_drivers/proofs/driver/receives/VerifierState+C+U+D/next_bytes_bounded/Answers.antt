@@ -1,8 +1,8 @@
 use Rattle.std.proofs.Common.{length, inl, inr, subst, ap, ◌∙◌, ◌||◌}
 use Rattle.std.proofs.lemmas.Result.{err_from_is_err_and}
 use Rattle.p3_driver_core.specs.Counts.{count_bytes}
-use Rattle.p3_driver_core.specs.Effects.{alphabet_of, observing_bytes, in_turn}
-use Rattle.p3_driver_core.specs.Turns.{bytes_step}
+use Rattle.p3_driver_core.specs.Effects.{alphabet_of, observing_bytes, in_sequence}
+use Rattle.p3_driver_core.specs.Transcripts.{bytes_step}
 use Rattle.p3_fs_core.specs.declared.step.Kind.TheVariants.{Message}
 use Rattle.p3_fs_core.specs.declared.step.Length.TheVariants.{Bounded}
 use Rattle.p3_drivers.proofs.Refusals.{not-read, refused-after_read}
@@ -42,7 +42,7 @@ returns-in_err-observe_count-clause-exact g c =
     let here = state c.read_counted.new.self.challenger in
     rw (p.1, p.2) (refused-after_read (bytes_step Message c.args.label.now (Bounded c.args.max))
     (reads.read_counted_bytes reads.message_too_long c.args.max)
-    (λ bs. in_turn (observing_bytes alphabet (count_bytes c.args.max (length bs))) (observing_bytes alphabet bs))
+    (λ bs. in_sequence (observing_bytes alphabet (count_bytes c.args.max (length bs))) (observing_bytes alphabet bs))
     before _ bytes c.in_err-observe_count.field-0.0 here
     opened.is_next c.in_ok-bytes.ensures.read
     (ap state kept) (inl c.in_err-observe_count.ensures.does)
@@ -67,7 +67,7 @@ returns-in_err-observe_bytes-clause-exact g c =
     let end = state c.observe_bytes.new.challenger in
     rw (p.1, p.2) (refused-after_read (bytes_step Message c.args.label.now (Bounded c.args.max))
     (reads.read_counted_bytes reads.message_too_long c.args.max)
-    (λ bs. in_turn (observing_bytes alphabet (count_bytes c.args.max (length bs))) (observing_bytes alphabet bs))
+    (λ bs. in_sequence (observing_bytes alphabet (count_bytes c.args.max (length bs))) (observing_bytes alphabet bs))
     before _ bytes e here
     opened.is_next c.in_ok-bytes.ensures.read
     (ap state kept)

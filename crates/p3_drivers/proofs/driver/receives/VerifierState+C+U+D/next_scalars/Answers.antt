@@ -2,7 +2,7 @@ use Rattle.std.proofs.Common.{ap, ◌∙◌, ◌||◌}
 use Rattle.std.proofs.lemmas.Result.{err_from_is_err_and}
 use Rattle.p3_fs_core.specs.declared.step.Kind.TheVariants.{Message}
 use Rattle.p3_fs_core.specs.declared.step.Length.TheVariants.{Fixed}
-use Rattle.p3_driver_core.specs.Turns.{algebra_step}
+use Rattle.p3_driver_core.specs.Transcripts.{algebra_step}
 use Rattle.p3_drivers.proofs.Refusals.{list-refused}
 use Rattle.p3_drivers.specs.Drivers.{verifying_of}
 use Rattle.p3_drivers.proofs.driver.receives.VerifierState+C+U+D.next_scalars.Goals as goal

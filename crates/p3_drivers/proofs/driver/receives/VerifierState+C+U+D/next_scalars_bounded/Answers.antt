@@ -2,11 +2,11 @@ use Rattle.std.proofs.Common.{refl, subst, ap, ◌∙◌, ◌||◌}
 use Rattle.std.proofs.lemmas.Result.{err_from_is_err_and}
 use Rattle.p3_fs_core.specs.declared.step.Kind.TheVariants.{Message}
 use Rattle.p3_fs_core.specs.declared.step.Length.TheVariants.{Bounded}
-use Rattle.p3_driver_core.specs.Bound.{values_of}
+use Rattle.p3_driver_core.specs.Bound.{bound_values}
 use Rattle.p3_driver_core.specs.Opened.{playing_of}
 use Rattle.p3_driver_core.specs.Counts.{count_bytes}
 use Rattle.p3_driver_core.specs.Effects.{alphabet_of, observing_bytes}
-use Rattle.p3_driver_core.specs.Turns.{algebra_step}
+use Rattle.p3_driver_core.specs.Transcripts.{algebra_step}
 use Rattle.p3_drivers.proofs.Refusals.{not-read, count-fails, count-refused, values-refused, values-received}
 use Rattle.p3_driver_core.specs.Reads as reads
 use Rattle.p3_drivers.specs.Drivers.{verifying_of}
@@ -105,7 +105,7 @@ returns-clause-exact g c =
     let kept = c.in_ok-count.ensures.challenger in
     let n = c.in_ok-count.count in
     values-received step o enc alphabet c.args.max before _ n c.read_count.new.self.tape.bytes.now
-    (values_of c.in_ok-bounds.bounds) (state c.observe_count.new.challenger) opened.is_next c.in_ok-count.ensures.read
+    (bound_values c.in_ok-bounds.bounds) (state c.observe_count.new.challenger) opened.is_next c.in_ok-count.ensures.read
     c.in_ok-observe_count.ensures.does.0
     (c.in_ok-observe_count.ensures.does.1
     ∙ ap (λ d. (observing_bytes alphabet (count_bytes c.args.max n)).after (state d)) kept)

@@ -1,7 +1,7 @@
 use Rattle.std.proofs.Common.{◌+◌, ◌-◌, [], inl, refl, sym, ap, ◌∙◌, ◌≡◌, subst, arith, map}
 use Rattle.std.proofs.lemmas.Result.{err_from_is_err_and}
 use Rattle.p3_challenger_core.specs.Observation.{RefusesObserve}
-use Rattle.p3_driver_core.specs.Bound.{value_of}
+use Rattle.p3_driver_core.specs.Bound.{bound_value}
 use Rattle.p3_driver_core.specs.BoundLaws.{values-more}
 use Rattle.p3_driver_core.specs.Reads as reads
 use Rattle.p3_drivers.proofs.ValuesInTurn.{ReadsOn, reads_on-start, reads_on-next, reads_on-all, reads_on-one_left}
@@ -37,7 +37,7 @@ loop-init g c =
     let all : c.args.n ≡ c.args.n - 0 = omega arith in
     record {
       on = subst (λ xs. ReadsOn e o c.args.n bytes s xs (c.args.n - 0) bytes s)
-          (sym (ap (map value_of) c.in_ok-bounds.ensures.items))
+          (sym (ap (map bound_value) c.in_ok-bounds.ensures.items))
           (subst (λ k. ReadsOn e o c.args.n bytes s [] k bytes s) all (reads_on-start e o c.args.n bytes s));
       steps = refl;
       count = c.in_ok-bounds.ensures.len;
@@ -52,7 +52,7 @@ returns-in_err-value-clause-read g c =
     let state = g.C.Sponge.state in
     let bytes = c.args.self.now.tape.bytes.now in
     let s = state c.args.self.now.challenger in
-    let xs = map value_of c.loop.bounds.items in
+    let xs = map bound_value c.loop.bounds.items in
     let here = c.loop.self.tape.bytes.now in
     let t = state c.loop.self.challenger in
     rw (p.1, p.2) (fails-in_list e o c.args.n bytes s xs (c.args.n - (c.loop.counter + 1)) here t
@@ -70,7 +70,7 @@ returns-in_err-observe-clause-read g c =
     let state = g.C.Sponge.state in
     let bytes = c.args.self.now.tape.bytes.now in
     let s = state c.args.self.now.challenger in
-    let xs = map value_of c.loop.bounds.items in
+    let xs = map bound_value c.loop.bounds.items in
     let here = c.loop.self.tape.bytes.now in
     let t = state c.loop.self.challenger in
     let u = state c.observe.new.challenger in
@@ -91,7 +91,7 @@ loop-preserved g c =
     let state = g.C.Sponge.state in
     let bytes = c.args.self.now.tape.bytes.now in
     let s = state c.args.self.now.challenger in
-    let xs = map value_of c.loop.bounds.items in
+    let xs = map bound_value c.loop.bounds.items in
     let here = c.loop.self.tape.bytes.now in
     let t = state c.loop.self.challenger in
     let x = c.in_ok-value.value in
@@ -121,7 +121,7 @@ returns-clause-read g c =
     let state = g.C.Sponge.state in
     let bytes = c.args.self.now.tape.bytes.now in
     let s = state c.args.self.now.challenger in
-    let xs = map value_of c.loop.bounds.items in
+    let xs = map bound_value c.loop.bounds.items in
     let here = c.loop.self.tape.bytes.now in
     let t = state c.loop.self.challenger in
     let on = reads_on-none_left e o c.args.n bytes s xs c.loop.counter here t c.loop-test.false c.loop.invariant.on in (

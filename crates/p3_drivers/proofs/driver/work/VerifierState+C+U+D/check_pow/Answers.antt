@@ -3,7 +3,7 @@ use Rattle.std.proofs.lemmas.Result.{err_from_is_err_and}
 use Rattle.p3_fs_core.specs.Scalar.{encoding}
 use Rattle.p3_fs_core.specs.declared.step.Kind.TheVariants.{Pow}
 use Rattle.p3_fs_core.specs.declared.step.Length.TheVariants.{Fixed}
-use Rattle.p3_driver_core.specs.Turns.{algebra_step}
+use Rattle.p3_driver_core.specs.Transcripts.{algebra_step}
 use Rattle.p3_driver_core.specs.Working.{work_of}
 use Rattle.p3_drivers.proofs.Refusals.{not-read}
 use Rattle.p3_driver_core.specs.Reads as reads

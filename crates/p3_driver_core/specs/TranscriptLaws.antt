@@ -16,7 +16,7 @@ use Rattle.p3_fs_core.specs.declared.error.TranscriptError.TheVariants.{MissingE
 use Rattle.p3_fs_core.specs.declared.error.TranscriptError.TheVariants.{Challenger, LabelTooLong, OutOfMemory}
 use Rattle.p3_patterns.specs.Playing.{Playing, RefusesToPlay, IsNotNext, IsPlayed, IsPatternError, FaultOfPlayEnd}
 use Rattle.p3_patterns.specs.Playing.{next_step}
-use Rattle.p3_driver_core.specs.Turns.{Meaning, Turn, Plays, Refuses, GivesUp, IsNext, AreNext, step_on, steps_on}
+use Rattle.p3_driver_core.specs.Transcripts.{Meaning, Transcript, PlaysStep, RefusesStep, Abandons, IsNext, AreNext, step_on, steps_on}
 
 not_both : {b : Bool} → b ≡ true → b ≡ false → ⊥
 not_both on off = absurd (cc)
@@ -84,15 +84,15 @@ finished-refused before after s LabelTooLong finished refuses = absurd refuses.f
 finished-refused before after s OutOfMemory finished refuses = absurd refuses.fault
 
 -- whatever the step means
-module _ {S Symbol A : Type 0} (m : Meaning S Symbol A) (before after : Turn S) where
-  pub finished-not_played : (x : A) → before.playing.finished ≡ true → Plays m before x after → ⊥
+module _ {S Symbol A : Type 0} (m : Meaning S Symbol A) (before after : Transcript S) where
+  pub finished-not_played : (x : A) → before.playing.finished ≡ true → PlaysStep m before x after → ⊥
   finished-not_played x finished plays = not_both finished plays.is_next.0
 
-  gave_up : (Leaves : S → S → Type 0) → before.playing.finished ≡ true → GivesUp m.interaction before Leaves after → ⊥
+  gave_up : (Leaves : S → S → Type 0) → before.playing.finished ≡ true → Abandons m.interaction before Leaves after → ⊥
   gave_up Leaves finished given = not_both finished given.is_next.0
 
   -- it is refused as finished, with nothing done
-  pub finished-refuses : (e : TranscriptError) → before.playing.finished ≡ true → Refuses m before e after →
+  pub finished-refuses : (e : TranscriptError) → before.playing.finished ≡ true → RefusesStep m before e after →
       (e ≡ Pattern Finished) × (after ≡ before)
   finished-refuses (MissingBegin info) finished refuses = absurd refuses
   finished-refuses (InvalidKind info) finished refuses = absurd refuses
@@ -111,7 +111,7 @@ module _ {S Symbol A : Type 0} (m : Meaning S Symbol A) (before after : Turn S) 
 
   -- ---- a step that is refused is the last one
 
-  pub refused-last : (e : TranscriptError) → Refuses m before e after → after.playing.finished ≡ true
+  pub refused-last : (e : TranscriptError) → RefusesStep m before e after → after.playing.finished ≡ true
   refused-last (MissingBegin info) refuses = absurd refuses
   refused-last (InvalidKind info) refuses = absurd refuses
   refused-last (MismatchedBeginEnd info) refuses = absurd refuses

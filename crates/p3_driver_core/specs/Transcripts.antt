@@ -52,7 +52,7 @@ without_wire interaction effect = record { interaction = interaction; effect = e
 -- ---- what both drivers are between two steps
 
 -- a challenger, and the pattern as far as it was played
-pub record Turn (S : Type 0) : Type 0 where
+pub record Transcript (S : Type 0) : Type 0 where
   pub challenger : S
   pub playing : Playing
 
@@ -79,11 +79,11 @@ abbrev pub halted_player : Playing → Playing
 halted_player playing = record { pattern = playing.pattern; position = playing.position; finished = true }
 
 -- the same of a driver: its challenger stays too
-abbrev pub halted : {S : Type 0} → Turn S → Turn S
-halted turn = record { challenger = turn.challenger; playing = halted_player turn.playing }
+abbrev pub halted : {S : Type 0} → Transcript S → Transcript S
+halted transcript = record { challenger = transcript.challenger; playing = halted_player transcript.playing }
 
 -- the step is played: it was the next one, this comes of it, and the challenger took part in it
-pub record Plays {S Symbol A : Type 0} (m : Meaning S Symbol A) (before : Turn S) (x : A) (after : Turn S) : Type 0
+pub record PlaysStep {S Symbol A : Type 0} (m : Meaning S Symbol A) (before : Transcript S) (x : A) (after : Transcript S) : Type 0
   where
     pub is_next : IsNext before.playing m.interaction
     pub fits : m.effect.fits
@@ -92,27 +92,27 @@ pub record Plays {S Symbol A : Type 0} (m : Meaning S Symbol A) (before : Turn S
     pub playing : after.playing ≡ step_on before.playing
 
 -- the step was not the next one, or one was refused before: nothing was done, and no step may follow
-pub record RefusesTurn {S : Type 0} (s : Step) (before : Turn S) (e : TranscriptError) (after : Turn S) : Type 0 where
+pub record RefusesOrder {S : Type 0} (s : Step) (before : Transcript S) (e : TranscriptError) (after : Transcript S) : Type 0 where
   pub playing : RefusesToPlay before.playing s e after.playing
   pub challenger : after.challenger ≡ before.challenger
 
 -- the step was the next one, and was given up later: the challenger is left so, and no step may follow
-pub record GivesUp {S : Type 0} (s : Step) (before : Turn S) (Leaves : S → S → Type 0) (after : Turn S) : Type 0 where
+pub record Abandons {S : Type 0} (s : Step) (before : Transcript S) (Leaves : S → S → Type 0) (after : Transcript S) : Type 0 where
   pub is_next : IsNext before.playing s
   pub leaves : Leaves before.challenger after.challenger
   pub finished : after.playing.finished ≡ true
 
 -- what want of memory leaves of the challenger: it took no part in the step, or all of it, or a beginning
-abbrev pub LeavesBeginning : {S Symbol A : Type 0} → Effect S Symbol A → S → S → Type 0
-LeavesBeginning effect s t = (t ≡ s) ⊎ (t ≡ effect.after s) ⊎ effect.refuses challenger.OutOfMemory s t
+abbrev pub LeavesPart : {S Symbol A : Type 0} → Effect S Symbol A → S → S → Type 0
+LeavesPart effect s t = (t ≡ s) ⊎ (t ≡ effect.after s) ⊎ effect.refuses challenger.OutOfMemory s t
 
 -- why a step is refused, and what is left: it may not be played, the challenger refused it, or memory was refused
-abbrev pub Refuses : {S Symbol A : Type 0} → Meaning S Symbol A → Turn S → TranscriptError → Turn S → Type 0
-Refuses m before (Pattern e) after = RefusesTurn m.interaction before (Pattern e) after
-Refuses m before (Challenger challenger.OutOfMemory) after = ⊥
-Refuses m before (Challenger e) after = GivesUp m.interaction before (m.effect.refuses e) after
-Refuses m before OutOfMemory after = GivesUp m.interaction before (LeavesBeginning m.effect) after
-Refuses m before _ after = ⊥
+abbrev pub RefusesStep : {S Symbol A : Type 0} → Meaning S Symbol A → Transcript S → TranscriptError → Transcript S → Type 0
+RefusesStep m before (Pattern e) after = RefusesOrder m.interaction before (Pattern e) after
+RefusesStep m before (Challenger challenger.OutOfMemory) after = ⊥
+RefusesStep m before (Challenger e) after = Abandons m.interaction before (m.effect.refuses e) after
+RefusesStep m before OutOfMemory after = Abandons m.interaction before (LeavesPart m.effect) after
+RefusesStep m before _ after = ⊥
 
 -- a list that is longer than its step lets it be, or any list once a step was refused: nothing was done, and no step
 -- may follow
@@ -145,17 +145,17 @@ pub record RefusesCarried (IsWrong : Type 0) (reason : List ℕ) (before : Playi
   pub finished : after.finished ≡ true
 
 -- the step is played, and the answer is what came of it; or it is refused
-abbrev pub PlaysOrRefuses : {S Symbol A R : Type 0} → Meaning S Symbol A → Turn S → (R → A) → Result R TranscriptError →
-    Turn S → Type 0
+abbrev pub PlaysOrRefuses : {S Symbol A R : Type 0} → Meaning S Symbol A → Transcript S → (R → A) → Result R TranscriptError →
+    Transcript S → Type 0
 PlaysOrRefuses m before value result after =
-    MatchResult result (λ r. Plays m before (value r) after) (λ e. Refuses m before e after)
+    MatchResult result (λ r. PlaysStep m before (value r) after) (λ e. RefusesStep m before e after)
 
 -- Whatever comes of the step: an answer only where it was the next one, and it is passed then; else a refusal, with
 -- nothing done where it was not the next one, and no step may follow.
-abbrev pub KeepsOrder : {S R : Type 0} → Step → Turn S → Result R TranscriptError → Turn S → Type 0
+abbrev pub KeepsOrder : {S R : Type 0} → Step → Transcript S → Result R TranscriptError → Transcript S → Type 0
 KeepsOrder s before result after =
     MatchResult result (λ _. IsNext before.playing s × (after.playing ≡ step_on before.playing))
-    (λ e. RefusesTurn s before e after ⊎ (IsNext before.playing s × (after.playing.finished ≡ true)))
+    (λ e. RefusesOrder s before e after ⊎ (IsNext before.playing s × (after.playing.finished ≡ true)))
 
 -- what a refused step leaves of the bytes written so far: with want of memory a beginning of its own is added
 abbrev pub LeavesWire : List ℕ → TranscriptError → List ℕ → List ℕ → Type 0

@@ -1,0 +1,184 @@
+-- Laws of rounds one after another: what is so of one makes what is so of many.
+use Rattle.std.proofs.Common.{◌≡◌, ℕ, zero, suc, ◌+◌, ◌<◌, ◌≤◌, false, List, [], ◌∷◌, ◌++◌, length, take, get_or, refl}
+use Rattle.std.proofs.Common.{sym, ap, subst, ◌∙◌, arith, add-one, append-nil, append_assoc}
+use Rattle.std.proofs.Math.Seq.{take-suc}
+use Rattle.std.proofs.lemmas.List.{length-append}
+use Rattle.std.specs.List.{flat_map}
+use Rattle.p3_fs_core.specs.Steps.{Step}
+use Rattle.p3_patterns.specs.Playing.{Playing, IsPlayed}
+use Rattle.p3_driver_core.specs.Transcripts.{Transcript, AreNext, step_on, steps_on}
+use Rattle.p3_driver_core.specs.Driving.{Driving}
+use Rattle.p3_step_laws.specs.Rounds.{AreRounds, CompletesSoFar, StandsBefore, steps_of_rounds}
+
+module _ {V X : Type 0} (IsRound : V → X → V → Type 0) where
+  -- rounds, and others after them
+  pub rounds-then : (before : V) (xs : List X) (here : V) (ys : List X) (after : V) → AreRounds IsRound before xs here →
+      AreRounds IsRound here ys after → AreRounds IsRound before (xs ++ ys) after
+  rounds-then before [] here ys after first then = subst (λ v. AreRounds IsRound v ys after) first then
+  rounds-then before (x ∷ xs) here ys after first then =
+      (first.0, first.1, rounds-then first.0 xs here ys after first.2 then)
+
+  -- a round more
+  pub rounds-more : (before : V) (xs : List X) (here : V) (x : X) (after : V) → AreRounds IsRound before xs here →
+      IsRound here x after → AreRounds IsRound before (xs ++ (x ∷ [])) after
+  rounds-more before xs here x after so_far more =
+      rounds-then before xs here (x ∷ []) after so_far (after, more, refl)
+
+  -- a list is gone through, and its next item makes a round more
+  pub rounds-taken : (before : V) (xs : List X) (i : ℕ) (here : V) (x : X) (after : V) → i < length xs →
+      x ≡ get_or xs i x → AreRounds IsRound before (take i xs) here → IsRound here x after →
+      AreRounds IsRound before (take (i + 1) xs) after
+  rounds-taken before xs i here x after below is so_far more =
+      let taken : take (i + 1) xs ≡ take i xs ++ (x ∷ [])
+      = ap (λ n. take n xs) (add-one i) ∙ take-suc xs i x below ∙ ap (λ z. take i xs ++ (z ∷ [])) (sym is) in
+      subst (λ rounds. AreRounds IsRound before rounds after) (sym taken)
+      (rounds-more before (take i xs) here x after so_far more)
+
+  -- what is seen of each round, through a part of the states, is seen of all
+  pub rounds-seen : {W : Type 0} (seen : V → W) (IsSeen : W → X → W → Type 0) → ((before : V) (x : X) (after : V) →
+      IsRound before x after → IsSeen (seen before) x (seen after)) → (before : V) (xs : List X) (after : V) →
+      AreRounds IsRound before xs after → AreRounds IsSeen (seen before) xs (seen after)
+  rounds-seen seen IsSeen each before [] after rounds = ap seen rounds
+  rounds-seen seen IsSeen each before (x ∷ xs) after rounds =
+      (seen rounds.0, each before x rounds.0 rounds.1, rounds-seen seen IsSeen each rounds.0 xs after rounds.2)
+
+  -- what each round writes, all write in order
+  pub rounds-written : {A : Type 0} (written : V → List A) (wire : X → List A) → ((before : V) (x : X) (after : V) →
+      IsRound before x after → written after ≡ written before ++ wire x) → (before : V) (xs : List X) (after : V) →
+      AreRounds IsRound before xs after → written after ≡ written before ++ flat_map wire xs
+  rounds-written written wire each before [] after rounds = ap written rounds ∙ sym (append-nil (written before))
+  rounds-written written wire each before (x ∷ xs) after rounds =
+      rounds-written written wire each rounds.0 xs after rounds.2
+      ∙ ap (λ bytes. bytes ++ flat_map wire xs) (each before x rounds.0 rounds.1)
+      ∙ append_assoc (written before) (wire x) (flat_map wire xs)
+
+  -- what each round reads, all read in order; what this takes of a state, as that what it has left are bytes, each keeps
+  pub rounds-read : {A : Type 0} (Is : V → Type 0) (unread : V → List A) (wire : X → List A) → ((before : V) (x : X)
+      (after : V) → Is before → IsRound before x after → (unread before ≡ wire x ++ unread after) × Is after) →
+      (before : V) (xs : List X) (after : V) → Is before → AreRounds IsRound before xs after →
+      (unread before ≡ flat_map wire xs ++ unread after) × Is after
+  rounds-read Is unread wire each before [] after is rounds = (ap unread (sym rounds), subst Is (sym rounds) is)
+  rounds-read Is unread wire each before (x ∷ xs) after is rounds =
+      let first = each before x rounds.0 is rounds.1 in
+      let then = rounds-read Is unread wire each rounds.0 xs after first.1 rounds.2 in (
+        first.0 ∙ ap (λ bytes. wire x ++ bytes) then.0 ∙ sym (append_assoc (wire x) (flat_map wire xs) (unread after)),
+        then.1,
+      )
+
+-- ---- two sides, where something is so of them before rounds that are left
+
+module _ {V W X : Type 0} (IsRound : V → X → V → Type 0) (IsOther : W → X → W → Type 0)
+    (IsBefore : V → List X → W → Type 0) where
+  -- where the other side can play each round that the one played, it can play all of them
+  pub rounds-matched : ((v : V) (x : X) (xs : List X) (after : V) (w : W) → IsBefore v (x ∷ xs) w →
+      IsRound v x after → (u : W) × IsOther w x u × IsBefore after xs u) → (v : V) (xs : List X) (end : V) (w : W) →
+      IsBefore v xs w → AreRounds IsRound v xs end → (u : W) × AreRounds IsOther w xs u × IsBefore end [] u
+  rounds-matched each v [] end w before rounds = (w, refl, subst (λ t. IsBefore t [] w) (sym rounds) before)
+  rounds-matched each v (x ∷ xs) end w before rounds =
+      let first = each v x xs rounds.0 w before rounds.1 in
+      let then = rounds-matched each rounds.0 xs end first.0 first.2 rounds.2 in
+      (then.0, (first.0, first.1, then.1), then.2)
+
+  -- where it can play no other
+  module _ (each : (v : V) (x : X) (xs : List X) (after : V) (w : W) (y : X) (u : W) → IsBefore v (x ∷ xs) w →
+      IsRound v x after → IsOther w y u → (y ≡ x) × IsBefore after xs u) where
+    -- no more rounds than the one played are the first ones of these
+    pub rounds-completed : (v : V) (xs : List X) (end : V) (w : W) (ys : List X) (u : W) → IsBefore v xs w →
+        AreRounds IsRound v xs end → AreRounds IsOther w ys u → length ys ≤ length xs →
+        CompletesSoFar IsRound IsBefore xs end ys u
+    rounds-completed v xs end w [] u before rounds others few =
+        record {
+          start = v;
+          left = xs;
+          split = refl;
+          plays = rounds;
+          before = subst (IsBefore v xs) (sym others) before;
+        }
+    rounds-completed v [] end w (y ∷ ys) u before rounds others few = absurd (omega (arith, few))
+    rounds-completed v (x ∷ xs) end w (y ∷ ys) u before rounds others few =
+        let first = each v x xs rounds.0 w y others.0 before rounds.1 others.1 in
+        let then = rounds-completed rounds.0 xs end others.0 ys u first.1 rounds.2 others.2 (omega (arith, few)) in
+        let same = first.0 in
+        let split = then.split in
+        record {
+          start = then.start;
+          left = then.left;
+          split = λ i. sym same i ∷ split i;
+          plays = then.plays;
+          before = then.before;
+        }
+
+    none-left : (xs : List X) (end : V) (ys : List X) (u : W) (start : V) (left : List X) → xs ≡ ys ++ left →
+        AreRounds IsRound start left end → IsBefore start left u → length ys ≡ length xs →
+        (ys ≡ xs) × IsBefore end [] u
+    none-left xs end ys u start [] split plays before many =
+        (sym (split ∙ append-nil ys), subst (λ t. IsBefore t [] u) (sym plays) before)
+    none-left xs end ys u start (x ∷ left) split plays before many =
+        absurd (omega (arith, many, ap length split, length-append ys (x ∷ left)))
+
+    -- and as many are these
+    pub rounds-same : (v : V) (xs : List X) (end : V) (w : W) (ys : List X) (u : W) → IsBefore v xs w →
+        AreRounds IsRound v xs end → AreRounds IsOther w ys u → length ys ≡ length xs → (ys ≡ xs) × IsBefore end [] u
+    rounds-same v xs end w ys u before rounds others many =
+        let so_far = rounds-completed v xs end w ys u before rounds others (omega (arith, many)) in
+        none-left xs end ys u so_far.start so_far.left so_far.split so_far.plays so_far.before many
+
+-- a verifier that stands before rounds has the bytes of the first one next
+pub StandsBefore-first : {S X : Type 0} (wire : X → List ℕ) (rest : List ℕ) (transcript : Transcript S) (x : X) (xs : List X)
+    (v : Driving S) → StandsBefore wire rest transcript (x ∷ xs) v →
+    v ≡ record { transcript = transcript; bytes = wire x ++ (flat_map wire xs ++ rest) }
+StandsBefore-first wire rest transcript x xs v stands =
+    let bytes = append_assoc (wire x) (flat_map wire xs) rest in
+    stands ∙ (λ i. record { transcript = transcript; bytes = bytes i })
+
+-- ---- the steps of a pattern
+
+next-append : (first then : List Step) (playing : Playing) → AreNext first playing →
+    AreNext then (steps_on first playing) → AreNext (first ++ then) playing
+next-append [] then playing one other = other
+next-append (s ∷ first) then playing one other = (one.0, next-append first then (step_on playing) one.1 other)
+
+steps_on-append : (first then : List Step) (playing : Playing) →
+    steps_on (first ++ then) playing ≡ steps_on then (steps_on first playing)
+steps_on-append [] then playing = refl
+steps_on-append (s ∷ first) then playing = steps_on-append first then (step_on playing)
+
+-- where each round has its steps next and passes them, all do
+pub rounds-steps : {V X : Type 0} (IsRound : V → X → V → Type 0) (playing : V → Playing) (steps : X → List Step) →
+    ((before : V) (x : X) (after : V) → IsRound before x after →
+    AreNext (steps x) (playing before) × (playing after ≡ steps_on (steps x) (playing before))) →
+    (before : V) (xs : List X) (after : V) → AreRounds IsRound before xs after →
+    AreNext (flat_map steps xs) (playing before) × (playing after ≡ steps_on (flat_map steps xs) (playing before))
+rounds-steps IsRound playing steps each before [] after rounds = (tt, ap playing rounds)
+rounds-steps IsRound playing steps each before (x ∷ xs) after rounds =
+    let first = each before x rounds.0 rounds.1 in
+    let then = rounds-steps IsRound playing steps each rounds.0 xs after rounds.2 in (
+      next-append (steps x) (flat_map steps xs) (playing before) first.0
+          (subst (AreNext (flat_map steps xs)) first.1 then.0),
+      then.1 ∙ ap (steps_on (flat_map steps xs)) first.1
+          ∙ sym (steps_on-append (steps x) (flat_map steps xs) (playing before)),
+    )
+
+-- the steps of rounds that have the same ones
+pub steps_of_rounds-flat : {X : Type 0} (steps : List Step) (xs : List X) →
+    flat_map (λ _. steps) xs ≡ steps_of_rounds steps (length xs)
+steps_of_rounds-flat steps [] = refl
+steps_of_rounds-flat steps (x ∷ xs) = ap (λ others. steps ++ others) (steps_of_rounds-flat steps xs)
+
+-- those of some rounds, and of others after them
+pub steps_of_rounds-then : (steps : List Step) (n k : ℕ) →
+    steps_of_rounds steps (n + k) ≡ steps_of_rounds steps n ++ steps_of_rounds steps k
+steps_of_rounds-then steps zero k = ap (steps_of_rounds steps) (omega arith)
+steps_of_rounds-then steps (suc n) k =
+    let next : suc n + k ≡ suc (n + k) = omega arith in
+    ap (steps_of_rounds steps) next ∙ ap (λ others. steps ++ others) (steps_of_rounds-then steps n k)
+    ∙ sym (append_assoc steps (steps_of_rounds steps n) (steps_of_rounds steps k))
+
+-- a player that passes the last steps of its pattern has played it
+pub listed-played : (before steps : List Step) (playing : Playing) → playing.pattern.steps ≡ before ++ steps →
+    playing.position ≡ length before → playing.finished ≡ false → IsPlayed (steps_on steps playing)
+listed-played before [] playing has at going =
+    record { going = going; end = at ∙ sym (ap length (has ∙ append-nil before)) }
+listed-played before (s ∷ steps) playing has at going =
+    listed-played (before ++ (s ∷ [])) steps (step_on playing) (has ∙ sym (append_assoc before (s ∷ []) steps))
+    (omega (arith, at, length-append before (s ∷ []))) refl
