@@ -1,5 +1,5 @@
 // The steps that draw.
-use crate::small_world::{Prover, Scalars, Verifier, World, scalars};
+use crate::small_world::{Prover, Scalars, World, scalars};
 use p3_challenger_core::CanSampleBits;
 use p3_driver_core::TranscriptBound;
 use p3_field::{F257, PrimeField64};
@@ -106,73 +106,6 @@ fn prover_draws_uniform_bits(
         }
         Draw::UniformAtLeastFour(n, limit) => {
             let bounds = prover.challenge_uniform_bits_rejecting::<F257, _>(
-                "x",
-                width,
-                n,
-                &at_least_four,
-                limit,
-            )?;
-            Ok(wide(alloc, &bounds)?)
-        }
-        _ => Ok(Vec::new(alloc)),
-    }
-}
-
-/// Has a verifier draw, and gives the numbers of what it drew.
-pub fn verifier_draws(
-    verifier: &mut Verifier<'_, World>,
-    alloc: Global,
-    draw: Draw,
-) -> Result<Vec<u64>, TranscriptError> {
-    match draw {
-        Draw::Scalar => {
-            let bound = verifier.challenge_scalar::<F257, Scalars>("x")?;
-            Ok(numbers(alloc, &[bound])?)
-        }
-        Draw::Scalars(n) => {
-            let bounds = verifier.challenge_scalars::<F257, Scalars>("x", n)?;
-            Ok(numbers(alloc, &bounds)?)
-        }
-        Draw::Extension => {
-            let bound = verifier.challenge_extension::<F257, F257, Scalars>("x")?;
-            Ok(numbers(alloc, &[bound])?)
-        }
-        Draw::Extensions(n) => {
-            let bounds = verifier.challenge_extensions::<F257, F257, Scalars>("x", n)?;
-            Ok(numbers(alloc, &bounds)?)
-        }
-        Draw::ThreeBits(n) => {
-            let width = World::max_bits().min(3);
-            let bounds = verifier.challenge_bits("x", width, n)?;
-            Ok(wide(alloc, &bounds)?)
-        }
-        Draw::AtLeastEight(n, limit) => {
-            let bounds = verifier.challenge_extensions_rejecting::<F257, F257, Scalars, _>(
-                "x",
-                n,
-                &at_least_eight,
-                limit,
-            )?;
-            Ok(numbers(alloc, &bounds)?)
-        }
-        uniform => verifier_draws_uniform_bits(verifier, alloc, uniform),
-    }
-}
-
-// Has a verifier draw uniform bits.
-fn verifier_draws_uniform_bits(
-    verifier: &mut Verifier<'_, World>,
-    alloc: Global,
-    draw: Draw,
-) -> Result<Vec<u64>, TranscriptError> {
-    let width = World::max_bits().min(3);
-    match draw {
-        Draw::UniformThreeBits(n) => {
-            let bounds = verifier.challenge_uniform_bits::<F257>("x", width, n)?;
-            Ok(wide(alloc, &bounds)?)
-        }
-        Draw::UniformAtLeastFour(n, limit) => {
-            let bounds = verifier.challenge_uniform_bits_rejecting::<F257, _>(
                 "x",
                 width,
                 n,

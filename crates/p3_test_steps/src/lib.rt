@@ -13,13 +13,13 @@ mod small_world;
 mod work;
 
 pub use alike::{alike_steps, play_alike};
-pub use draws::{Draw, prover_draws, verifier_draws};
+pub use draws::{Draw, prover_draws};
 pub use extensions::{
     Coefficients, Wide, WideAlphabet, WideSeparator, WideWorld, push_numbers, wide, wide_draws,
     wide_observed, wide_separator, wide_world,
 };
 pub use known::{Known, prover_observes, verifier_observes};
-pub use markers::{Marker, prover_marks, verifier_marks};
+pub use markers::{Marker, prover_marks};
 pub use messages::{Message, receive, send};
 pub use rows::{
     DrawRow, KnownRow, MessageRow, WorkedRow, containers, draw_rows, known_rows, message_rows,

@@ -1,5 +1,5 @@
 // The steps that open and close containers.
-use crate::small_world::{Prover, Verifier, World};
+use crate::small_world::{Prover, World};
 use p3_fs_core::{Hierarchy, Interaction, Kind, TranscriptError};
 
 /// A step that opens or closes a container.
@@ -36,18 +36,5 @@ pub fn prover_marks(prover: &mut Prover<World>, marker: Marker) -> Result<(), Tr
         Marker::End(kind) => prover.end::<()>("x", kind),
         Marker::BeginProtocol => prover.begin_protocol::<()>("x"),
         Marker::EndProtocol => prover.end_protocol::<()>("x"),
-    }
-}
-
-/// Has a verifier open or close the container.
-pub fn verifier_marks(
-    verifier: &mut Verifier<'_, World>,
-    marker: Marker,
-) -> Result<(), TranscriptError> {
-    match marker {
-        Marker::Begin(kind) => verifier.begin::<()>("x", kind),
-        Marker::End(kind) => verifier.end::<()>("x", kind),
-        Marker::BeginProtocol => verifier.begin_protocol::<()>("x"),
-        Marker::EndProtocol => verifier.end_protocol::<()>("x"),
     }
 }

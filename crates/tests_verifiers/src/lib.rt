@@ -17,8 +17,6 @@ mod played;
 #[cfg(test)]
 mod reads;
 #[cfg(test)]
-mod rejecting;
-#[cfg(test)]
 mod serializing;
 #[cfg(test)]
 mod too_long;

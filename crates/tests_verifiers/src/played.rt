@@ -1,9 +1,8 @@
 // Each step as it is to be: what is read, and the symbols that the challenger is fed.
 use p3_drivers::VerifierState;
 use p3_test_steps::{
-    after, alike_steps, containers, draw_rows, drawn, known_rows, message_rows, noted,
-    noting_verifier, play_alike, receive, separator, verifier_draws, verifier_marks,
-    verifier_observes, verifier_of, world,
+    after, alike_steps, drawn, known_rows, message_rows, noted, noting_verifier, play_alike,
+    receive, separator, verifier_observes, world,
 };
 use p3_test_support::element;
 use std::test::Fail;
@@ -39,35 +38,6 @@ fn what_both_sides_know_is_observed(rt: HostRuntime) -> Result<(), Fail> {
             "{known:?}"
         );
     }
-    Ok(())
-}
-
-#[test]
-fn draws_are_those_after_the_seed(rt: HostRuntime) -> Result<(), Fail> {
-    for (draw, numbers, next) in draw_rows() {
-        let mut verifier = verifier_of(rt.alloc(), draw.step(), b"")?;
-        let given = verifier_draws(&mut verifier, rt.alloc(), draw);
-        let mut challenger = verifier.finish()?;
-        assert_eq!(rt; given?.as_slice(), numbers, "{draw:?}");
-        assert_eq!(rt; drawn(&mut challenger)?, next, "{draw:?}");
-    }
-    Ok(())
-}
-
-#[test]
-fn containers_leave_no_trace(rt: HostRuntime) -> Result<(), Fail> {
-    let mut steps = Vec::new(rt.alloc());
-    for marker in containers() {
-        steps.push(marker.step())?;
-    }
-    let separator = separator(rt.alloc(), steps)?;
-    let mut verifier = VerifierState::new(rt.alloc(), world(), &separator, b"")?;
-    for marker in containers() {
-        let marked = verifier_marks(&mut verifier, marker);
-        assert_eq!(rt; marked, Ok(()), "{marker:?}");
-    }
-    let mut challenger = verifier.finish()?;
-    assert_eq!(rt; drawn(&mut challenger)?, 2);
     Ok(())
 }
 

@@ -3,9 +3,8 @@ use p3_drivers::VerifierState;
 use p3_field::F257;
 use p3_fs_core::{Hierarchy, Interaction, Kind, Length, PatternError, TranscriptError};
 use p3_test_steps::{
-    Scalars, Verifier, World, bytes, challenge, containers, draw_rows, drawn, known_rows,
-    message_rows, receive, separator, verifier_draws, verifier_marks, verifier_observes,
-    verifier_of, world,
+    Scalars, Verifier, World, bytes, challenge, drawn, known_rows, message_rows, receive,
+    separator, verifier_observes, verifier_of, world,
 };
 use p3_test_support::element;
 use std::process::Abort;
@@ -63,28 +62,6 @@ fn known_values_in_another_place_are_refused(rt: HostRuntime) -> Result<(), Fail
         let mut verifier = verifier_of(rt.alloc(), other_step(), PROOF)?;
         let observed = verifier_observes(&mut verifier, known);
         assert_eq!(rt; observed.err(), refusal(known.step()), "{known:?}");
-        assert_finished(&rt, verifier)?;
-    }
-    Ok(())
-}
-
-#[test]
-fn draws_in_another_place_are_refused(rt: HostRuntime) -> Result<(), Fail> {
-    for (draw, _, _) in draw_rows() {
-        let mut verifier = verifier_of(rt.alloc(), other_step(), PROOF)?;
-        let given = verifier_draws(&mut verifier, rt.alloc(), draw);
-        assert_eq!(rt; given.err(), refusal(draw.step()), "{draw:?}");
-        assert_finished(&rt, verifier)?;
-    }
-    Ok(())
-}
-
-#[test]
-fn containers_in_another_place_are_refused(rt: HostRuntime) -> Result<(), Fail> {
-    for marker in containers() {
-        let mut verifier = verifier_of(rt.alloc(), other_step(), PROOF)?;
-        let marked = verifier_marks(&mut verifier, marker);
-        assert_eq!(rt; marked.err(), refusal(marker.step()), "{marker:?}");
         assert_finished(&rt, verifier)?;
     }
     Ok(())
