@@ -7,7 +7,8 @@ use Rattle.std.proofs.lemmas.Grind.{flat_map-append}
 use Rattle.p3_challenger_core.specs.Reading.{IsPrefixCodeOn}
 use Rattle.p3_fs_core.specs.BigEndian.{big_endian, in_bytes}
 use Rattle.p3_fs_core.specs.BigEndianLaws.{length-in_bytes, drop-front, front-prefix_code, big_endian-in_bytes}
-use Rattle.p3_domain_separator.specs.Seed.{identifier, counted, label_of, FitsCount, SeedParts, AreSeedParts, seed_of_parts}
+use Rattle.p3_domain_separator.specs.Seed.{identifier, counted, label_of, FitsCount, SeedParts, AreSeedParts}
+use Rattle.p3_domain_separator.specs.Seed.{seed_of_parts}
 
 -- ---- counted byte strings
 

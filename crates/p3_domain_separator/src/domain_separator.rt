@@ -15,7 +15,8 @@ ghost use Rattle.p3_patterns.specs.PatternSteps.{steps_of};
 ghost use Rattle.p3_challenger_core.specs.Reading.{IsPrefixCodeOn};
 ghost use Rattle.p3_domain_separator.specs.SeparatorLaws.{IsIdentifier-prop, IsLabel-prop};
 ghost use Rattle.p3_domain_separator.specs.Separators.{IsIdentifier, IsLabel};
-ghost use Rattle.p3_domain_separator.specs.Seed.{identifier, counted, label_of, FitsCount, RefusesChunk, seed_of, RefusesSeed};
+ghost use Rattle.p3_domain_separator.specs.Seed.{identifier, counted, label_of, FitsCount, RefusesChunk, seed_of};
+ghost use Rattle.p3_domain_separator.specs.Seed.{RefusesSeed};
 ghost use Rattle.p3_domain_separator.specs.Seed.{AreSeedParts, parts_of, seed_of_parts};
 
 use p3_challenger_core::CanObserve;

@@ -5,8 +5,8 @@ use Rattle.p3_fs_core.specs.declared.error.TranscriptError.{TranscriptError}
 use Rattle.p3_fs_core.specs.declared.error.TranscriptError.TheVariants.{Challenger, OutOfMemory}
 use Rattle.p3_driver_core.specs.Transcripts.{Meaning, Transcript, PlaysOrRefuses}
 
--- its challenger and its pattern as it is played, and the bytes of the proof: those that a prover has written so far, or
--- that a verifier has left to read
+-- its challenger and its pattern as it is played, and the bytes of the proof: those that a prover has written so far,
+-- or that a verifier has left to read
 pub record Driving (S : Type 0) : Type 0 where
   pub transcript : Transcript S
   pub bytes : List ℕ

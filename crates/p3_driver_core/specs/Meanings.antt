@@ -53,7 +53,8 @@ observed_list interaction o xs = without_wire interaction (observing_list o xs)
 abbrev pub observed_bounded : {S Symbol I A : Type 0} → Step → Alphabet S Symbol I → ℕ → Observation S Symbol A →
     List A → Meaning S Symbol (List A)
 observed_bounded interaction alphabet max o xs =
-    without_wire interaction (in_sequence (observing_bytes alphabet (count_bytes max (length xs))) (observing_list o xs))
+    without_wire interaction (in_sequence (observing_bytes alphabet (count_bytes max (length xs)))
+      (observing_list o xs))
 
 -- the values of a list are sent
 abbrev pub sent_list : {S Symbol A : Type 0} → Step → Observation S Symbol A → Encoding A → List A →

@@ -16,7 +16,8 @@ use Rattle.p3_fs_core.specs.declared.error.TranscriptError.TheVariants.{MissingE
 use Rattle.p3_fs_core.specs.declared.error.TranscriptError.TheVariants.{Challenger, LabelTooLong, OutOfMemory}
 use Rattle.p3_patterns.specs.Playing.{Playing, RefusesToPlay, IsNotNext, IsPlayed, IsPatternError, FaultOfPlayEnd}
 use Rattle.p3_patterns.specs.Playing.{next_step}
-use Rattle.p3_driver_core.specs.Transcripts.{Meaning, Transcript, PlaysStep, RefusesStep, Abandons, IsNext, AreNext, step_on, steps_on}
+use Rattle.p3_driver_core.specs.Transcripts.{Meaning, Transcript, PlaysStep, RefusesStep, Abandons, IsNext, AreNext}
+use Rattle.p3_driver_core.specs.Transcripts.{step_on, steps_on}
 
 not_both : {b : Bool} → b ≡ true → b ≡ false → ⊥
 not_both on off = absurd (cc)

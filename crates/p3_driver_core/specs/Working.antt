@@ -107,7 +107,8 @@ module _ {S Symbol W : Type 0} (work : Work S Symbol W) where
   RefusesToGrind may_run_out before _ after = ⊥
 
   -- the step is played, with the least witness that passes; or it is refused
-  abbrev pub GrindsOrRefuses : {R : Type 0} → (S → Type 0) → Transcript S → (R → W) → Result R TranscriptError → Transcript S →
+  abbrev pub GrindsOrRefuses : {R : Type 0} → (S → Type 0) → Transcript S → (R → W) → Result R TranscriptError →
+    Transcript S →
       Type 0
   GrindsOrRefuses may_run_out before value result after =
       MatchResult result

@@ -4,7 +4,8 @@ ghost use Rattle.p3_fs_core.specs.Steps.{marker_of};
 ghost use Rattle.p3_driver_core.specs.Bound.{bound_value, bound_values};
 ghost use Rattle.p3_driver_core.specs.Meanings as meaning;
 ghost use Rattle.p3_driver_core.specs.Rejecting.{Rule, Computes, drawn_rejecting};
-ghost use Rattle.p3_driver_core.specs.Transcripts.{Transcript, PlaysOrRefuses, KeepsOrder, IsNext, halted, algebra_step};
+ghost use Rattle.p3_driver_core.specs.Transcripts.{Transcript, PlaysOrRefuses, KeepsOrder, IsNext, halted};
+ghost use Rattle.p3_driver_core.specs.Transcripts.{algebra_step};
 ghost use Rattle.p3_driver_core.specs.Transcripts.{opaque_step, uniform_bits_step};
 
 use crate::TranscriptBound;

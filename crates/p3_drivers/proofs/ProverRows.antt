@@ -221,6 +221,7 @@ hopeless =
     (λ _. unrefused_draw (λ s. Some 1) (λ s. 0 ∷ s)) 1
 
 none_found : (playing : Playing) → IsNext playing hopeless.interaction →
-    RefusesToGrind hopeless (λ _. ⊥) (before playing).transcript (Challenger NoWitness) (before (closed playing)).transcript
+    RefusesToGrind hopeless (λ _. ⊥) (before playing).transcript (Challenger NoWitness)
+      (before (closed playing)).transcript
 none_found playing next =
     record { is_next = next; leaves = (λ n h e. differs e, refl); finished = refl }

@@ -24,7 +24,8 @@ use Rattle.p3_driver_core.specs.Verifying.{Receives, RefusesToRead}
 -- nothing was read, and nothing done
 pub not-read : {S Symbol A : Type 0} (r : Reading S Symbol A) (before after : Driving S) (e : TranscriptError) →
     IsNext before.transcript.playing r.interaction → FailsFor (r.read before.bytes) after.bytes e →
-    after.transcript.challenger ≡ before.transcript.challenger → after.transcript.playing.finished ≡ true → RefusesToRead r before e after
+    after.transcript.challenger ≡ before.transcript.challenger → after.transcript.playing.finished ≡ true →
+      RefusesToRead r before e after
 not-read r before after (MissingBegin info) is_next fails same finished = absurd fails
 not-read r before after (InvalidKind info) is_next fails same finished = absurd fails
 not-read r before after (MismatchedBeginEnd info) is_next fails same finished = absurd fails
@@ -46,7 +47,8 @@ not-read r before after OutOfMemory is_next fails same finished = absurd fails
 
 by_error : {S Symbol A : Type 0} (interaction : Step) (read : List ℕ → Read S A)
     (effect : A → Effect S Symbol A) (before after : Driving S) (x : A) (e : ChallengerError) →
-    read before.bytes ≡ Ok (x, after.bytes) → Abandons interaction before.transcript ((effect x).refuses e) after.transcript →
+    read before.bytes ≡ Ok (x, after.bytes) → Abandons interaction before.transcript
+      ((effect x).refuses e) after.transcript →
     RefusesToRead (reading_first interaction read effect) before (transcript_error e) after
 by_error interaction read effect before after x challenger.OutOfMemory found given =
     record { is_next = given.is_next; leaves = (x, found, inr (inr given.leaves)); finished = given.finished }
@@ -121,7 +123,8 @@ module _ {S Symbol A : Type 0} (interaction : Step) (o : Observation S Symbol A)
         (found : read_count {S = S} message_too_long max before.bytes ≡ Ok (n, rest)) where
       -- the count is refused for memory
       pub count-refused : after.bytes ≡ rest → (e : ChallengerError) → e ≡ challenger.OutOfMemory →
-          (observing_bytes alphabet (count_bytes max n)).refuses e before.transcript.challenger after.transcript.challenger →
+          (observing_bytes alphabet (count_bytes max n)).refuses e before.transcript.challenger
+            after.transcript.challenger →
           RefusesToRead (received_bounded interaction alphabet max o enc) before (transcript_error e) after
       count-refused left challenger.OutOfMemory is refuses =
           record { is_next = is_next; leaves = (n, rest, found, inl (left, refuses)); finished = finished }
@@ -175,7 +178,8 @@ pub values-received : {S Symbol I A : Type 0} (interaction : Step) (o : Observat
     read_count {S = S} message_too_long max before.bytes ≡ Ok (n, rest) →
     (alphabet.is_too_long (length (count_bytes max n)) → ⊥) →
     here ≡ (observing_bytes alphabet (count_bytes max n)).after before.transcript.challenger →
-    read_values enc o.observed n rest ≡ Ok (xs, after.bytes) → after.transcript.challenger ≡ observed_all o.observed here
+    read_values enc o.observed n rest ≡ Ok (xs, after.bytes) →
+      after.transcript.challenger ≡ observed_all o.observed here
     xs →
     after.transcript.playing ≡ step_on before.transcript.playing →
     Receives (received_bounded interaction alphabet max o enc) before xs after

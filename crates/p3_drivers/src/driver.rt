@@ -55,7 +55,8 @@ use std::marker::PhantomData;
 /// [`PatternError::WrongStep`](p3_fs_core::PatternError::WrongStep) where it has another one next. Nothing is absorbed
 /// then, and nothing written or read. A step that the pattern has next is refused with [`TranscriptError::Challenger`],
 /// as the challenger or the alphabet refuses it; and with [`TranscriptError::OutOfMemory`], which leaves a beginning of
-/// the step's values absorbed or drawn. So it is of every step of either side; what a step says of errors comes besides.
+/// the step's values absorbed or drawn. So it is of every step of either side; what a step says of errors comes
+/// besides.
 ///
 /// A step that is refused leaves the driver finished. It must be spent all the same, by `finalize`, by `finish` or by
 /// [`abort`](DriverState::abort).
@@ -83,8 +84,8 @@ pub type ProverState<C, U, D> = DriverState<C, U, D, Written>;
 
 /// The verifier's side of a transcript: it plays a pattern step by step, and reads the proof.
 ///
-/// The proof is the caller's: steps that read bytes lend them of it. What is read is observed by the challenger, but for
-/// hints: of a list each value before the next one is read.
+/// The proof is the caller's: steps that read bytes lend them of it. What is read is observed by the challenger, but
+/// for hints: of a list each value before the next one is read.
 ///
 /// Beside what [`DriverState`] says: a step that the pattern has next is refused with
 /// [`TranscriptError::BadProofShape`], where the proof has not what it reads: bytes that are not there are not passed,
@@ -221,7 +222,8 @@ impl<C: Sponge, U, D: DigestHasher, P: Tape> DriverState<C, U, D, P> {
     /// Each step, and the end, is refused with [`PatternError::Finished`](p3_fs_core::PatternError::Finished) from then
     /// on. The challenger stays as it is, and the bytes of the proof. Not in the Rust crate.
     pub fn halt(&mut self)
-        ensures transcript { (driving_of C.state P.bytes self.new).transcript ≡ halted (driving_of C.state P.bytes self.old).transcript }
+        ensures transcript { (driving_of C.state P.bytes self.new).transcript ≡ halted
+          (driving_of C.state P.bytes self.old).transcript }
         ensures bytes { (driving_of C.state P.bytes self.new).bytes ≡ (driving_of C.state P.bytes self.old).bytes }
     {
         self.steps.halt();

@@ -11,7 +11,8 @@ use Rattle.p3_driver_core.specs.Meanings.{sent, sent_list, sent_bounded, sent_by
 use Rattle.p3_driver_core.specs.Meanings.{hinted_bounded}
 use Rattle.p3_step_laws.proofs.ReadBack.{bytes-back, value-back, values-back, counted_bytes-back, counted_values-back}
 use Rattle.p3_step_laws.specs.ReadBack.{ReadsBack}
-use Rattle.p3_driver_core.specs.Reads.{received, received_list, received_bounded, received_bytes, received_bytes_bounded}
+use Rattle.p3_driver_core.specs.Reads.{received, received_list, received_bounded, received_bytes}
+use Rattle.p3_driver_core.specs.Reads.{received_bytes_bounded}
 use Rattle.p3_driver_core.specs.Reads.{hint_received, hint_received_bounded, message_too_long, hint_too_long}
 
 module _ {S Symbol A : Type 0} (step : Step) (o : Observation S Symbol A) (e : Encoding A) (encodes : IsEncoding e)

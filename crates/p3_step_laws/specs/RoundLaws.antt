@@ -52,7 +52,8 @@ module _ {V X : Type 0} (IsRound : V → X → V → Type 0) where
       ∙ ap (λ bytes. bytes ++ flat_map wire xs) (each before x rounds.0 rounds.1)
       ∙ append_assoc (written before) (wire x) (flat_map wire xs)
 
-  -- what each round reads, all read in order; what this takes of a state, as that what it has left are bytes, each keeps
+  -- what each round reads, all read in order; what this takes of a state, as that what it has left are bytes, each
+  -- keeps
   pub rounds-read : {A : Type 0} (Is : V → Type 0) (unread : V → List A) (wire : X → List A) → ((before : V) (x : X)
       (after : V) → Is before → IsRound before x after → (unread before ≡ wire x ++ unread after) × Is after) →
       (before : V) (xs : List X) (after : V) → Is before → AreRounds IsRound before xs after →
@@ -124,7 +125,8 @@ module _ {V W X : Type 0} (IsRound : V → X → V → Type 0) (IsOther : W → 
         none-left xs end ys u so_far.start so_far.left so_far.split so_far.plays so_far.before many
 
 -- a verifier that stands before rounds has the bytes of the first one next
-pub StandsBefore-first : {S X : Type 0} (wire : X → List ℕ) (rest : List ℕ) (transcript : Transcript S) (x : X) (xs : List X)
+pub StandsBefore-first : {S X : Type 0} (wire : X → List ℕ) (rest : List ℕ) (transcript : Transcript S) (x : X)
+  (xs : List X)
     (v : Driving S) → StandsBefore wire rest transcript (x ∷ xs) v →
     v ≡ record { transcript = transcript; bytes = wire x ++ (flat_map wire xs ++ rest) }
 StandsBefore-first wire rest transcript x xs v stands =

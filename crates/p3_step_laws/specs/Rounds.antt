@@ -19,8 +19,8 @@ steps_of_rounds steps (suc n) = steps ++ steps_of_rounds steps n
 abbrev pub StandsBefore : {S X : Type 0} → (X → List ℕ) → List ℕ → Transcript S → List X → Driving S → Type 0
 StandsBefore wire rest transcript xs v = v ≡ record { transcript = transcript; bytes = flat_map wire xs ++ rest }
 
--- Of rounds that one side has played to its end, another side has played these, and is here now: they are the first ones.
--- And this is so of the two sides before those that are left.
+-- Of rounds that one side has played to its end, another side has played these, and is here now: they are the first
+-- ones. And this is so of the two sides before those that are left.
 pub record CompletesSoFar {V W X : Type 0} (IsRound : V → X → V → Type 0) (IsBefore : V → List X → W → Type 0)
     (rounds : List X) (end : V) (so_far : List X) (here : W) : Type 0 where
   pub start : V

@@ -1,8 +1,9 @@
 //! Where a prover has played a step, a verifier that stands at the same state is refused its step for want of memory
 //! alone.
 //!
-//! The laws of mirrors and agreements say what comes of the verifier's step where it is played, and that no fault of the pattern
-//! or of the proof refuses it. These say that no limit does either. Its laws on proof of work say so themselves.
+//! The laws of mirrors and agreements say what comes of the verifier's step where it is played, and that no fault of
+//! the pattern or of the proof refuses it. These say that no limit does either. Its laws on proof of work say so
+//! themselves.
 ghost use Rattle.std.specs.Prelude.{◌^◌, ◌<◌, ◌≤◌, ℕ, List, length, true};
 ghost use Rattle.p3_fs_core.specs.Steps.{Step};
 ghost use Rattle.p3_driver_core.specs.Effects.{alphabet_of};

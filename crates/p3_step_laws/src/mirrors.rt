@@ -2,8 +2,8 @@
 //!
 //! Each law is a function with an empty body: a caller calls it, and cites its clauses. `mirrors` says what is written
 //! and read. `follows` is what a caller wants of the two calls: where the prover's step was played, and the verifier
-//! stands at the state before it with the step's bytes next, its step reads the prover's value, leaves what follows, and
-//! ends at the prover's state; or it is refused for the sake of the challenger or of memory alone.
+//! stands at the state before it with the step's bytes next, its step reads the prover's value, leaves what follows,
+//! and ends at the prover's state; or it is refused for the sake of the challenger or of memory alone.
 ghost use Rattle.std.specs.Prelude.{◌^◌, ◌<◌, ◌≤◌, ℕ, List, length};
 ghost use Rattle.p3_fs_core.specs.Steps.{Step};
 ghost use Rattle.p3_driver_core.specs.Effects.{alphabet_of};
@@ -84,7 +84,8 @@ pub fn sent_counted_bytes_are_received<U: Unit, C: CanObserve<U::Item>>()
 ///
 /// A law: the body is empty, and a caller cites the clauses.
 pub fn hint_is_received<C: Sponge>()
-    ensures read_back { (label bytes : List ℕ) → ReadsBack {S = C.State} {Symbol = C.Symbol} (meaning.hinted label bytes)
+    ensures read_back { (label bytes : List ℕ) → ReadsBack {S = C.State} {Symbol = C.Symbol}
+      (meaning.hinted label bytes)
         (reads.hint_received label (length bytes)) bytes }
     ensures complete { (label bytes : List ℕ) → Completes {S = C.State} {Symbol = C.Symbol} (meaning.hinted label bytes)
         (reads.hint_received label (length bytes)) bytes }

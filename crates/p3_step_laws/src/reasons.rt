@@ -1,5 +1,5 @@
-//! A step is refused for one reason: what an error says follows from the state before the step. Want of memory alone may
-//! come in its place. Here the steps that leave the proof as it is, and those that a prover writes.
+//! A step is refused for one reason: what an error says follows from the state before the step. Want of memory alone
+//! may come in its place. Here the steps that leave the proof as it is, and those that a prover writes.
 ghost use Rattle.std.specs.Prelude.{◌≤◌, ◌⊎◌, ℕ, List, length, true};
 ghost use Rattle.p3_fs_core.specs.Steps.{Step};
 ghost use Rattle.p3_driver_core.specs.Effects.{alphabet_of};
@@ -112,5 +112,6 @@ pub fn uniform_draws_are_refused_for_one_reason<F, C: CanSampleUniformBits<F>>()
     ensures list { (step : Step) (width n : ℕ) →
         TellOneReason (RefusesStep {Symbol = C.Symbol} (meaning.drawn_list step (C.uniform true width).draw n)) }
     ensures rejecting { (step : Step) (width : ℕ) (rule : Rule ℕ) (limit n : ℕ) →
-        TellOneReason (RefusesStep {Symbol = C.Symbol} (drawn_rejecting step (C.uniform true width).draw rule limit n)) }
+        TellOneReason (RefusesStep {Symbol = C.Symbol}
+          (drawn_rejecting step (C.uniform true width).draw rule limit n)) }
 {}

@@ -4,7 +4,8 @@ ghost use Rattle.p3_driver_core.specs.Bound.{bound_value, bound_values};
 ghost use Rattle.p3_driver_core.specs.Driving.{KeepsOrRefuses};
 ghost use Rattle.p3_driver_core.specs.Meanings as meaning;
 ghost use Rattle.p3_driver_core.specs.Rejecting.{Rule, Computes, ComputesOfValues, drawn_rejecting};
-ghost use Rattle.p3_driver_core.specs.Transcripts.{PlaysOrRefuses, KeepsOrder, algebra_step, bits_step, uniform_bits_step};
+ghost use Rattle.p3_driver_core.specs.Transcripts.{PlaysOrRefuses, KeepsOrder, algebra_step, bits_step};
+ghost use Rattle.p3_driver_core.specs.Transcripts.{uniform_bits_step};
 ghost use Rattle.p3_drivers.specs.Drivers.{driving_of};
 
 use crate::DriverState;
@@ -130,11 +131,13 @@ impl<C: Sponge, U, D: DigestHasher, P: Tape> DriverState<C, U, D, P> {
             EF.name_bytes (Length.Fixed n) in
             PlaysOrRefuses (drawn_rejecting {Symbol = C.Symbol} step
             ⟦<ExtensionFieldCodec<F, EF, Cdc> as Codec<C, EF>>⟧.sampling rule limit n)
-            (driving_of C.state P.bytes self.old).transcript bound_values result (driving_of C.state P.bytes self.new).transcript }
+            (driving_of C.state P.bytes self.old).transcript bound_values result
+              (driving_of C.state P.bytes self.new).transcript }
         ensures bytes { (driving_of C.state P.bytes self.new).bytes ≡ (driving_of C.state P.bytes self.old).bytes }
         ensures order { let step = algebra_step Kind.Challenge label.now F.residues.order EF.DIMENSION
             (D.digest_of EF.identity) EF.name_bytes (Length.Fixed n) in
-            KeepsOrder step (driving_of C.state P.bytes self.old).transcript result (driving_of C.state P.bytes self.new).transcript }
+            KeepsOrder step (driving_of C.state P.bytes self.old).transcript result
+              (driving_of C.state P.bytes self.new).transcript }
         ensures spent { IfErr result (λ _. (driving_of C.state P.bytes self.new).transcript.playing.finished ≡ true) }
         ensures count { IfOk result (λ bounds. vec_len bounds ≡ n) }
     {
@@ -225,7 +228,8 @@ impl<C: Sponge, U, D: DigestHasher, P: Tape> DriverState<C, U, D, P> {
         ensures played { (rule : Rule ℕ) → ComputesOfValues R.Fn accept.now rule → PlaysOrRefuses
             (drawn_rejecting {Symbol = C.Symbol} (uniform_bits_step label.now width (Length.Fixed n))
             (C.uniform true width).draw rule limit n)
-            (driving_of C.state P.bytes self.old).transcript bound_values result (driving_of C.state P.bytes self.new).transcript }
+            (driving_of C.state P.bytes self.old).transcript bound_values result
+              (driving_of C.state P.bytes self.new).transcript }
         ensures bytes { (driving_of C.state P.bytes self.new).bytes ≡ (driving_of C.state P.bytes self.old).bytes }
         ensures order { KeepsOrder (uniform_bits_step label.now width (Length.Fixed n))
             (driving_of C.state P.bytes self.old).transcript result (driving_of C.state P.bytes self.new).transcript }
@@ -309,11 +313,13 @@ impl<C: Sponge, U, D: DigestHasher, P: Tape> DriverState<C, U, D, P> {
             let step = algebra_step Kind.Challenge label.now F.residues.order A.DIMENSION
             (D.digest_of A.identity) A.name_bytes (Length.Fixed n) in
             PlaysOrRefuses (drawn_rejecting {Symbol = C.Symbol} step Cdc.sampling rule limit n)
-            (driving_of C.state P.bytes self.old).transcript bound_values result (driving_of C.state P.bytes self.new).transcript }
+            (driving_of C.state P.bytes self.old).transcript bound_values result
+              (driving_of C.state P.bytes self.new).transcript }
         ensures bytes { (driving_of C.state P.bytes self.new).bytes ≡ (driving_of C.state P.bytes self.old).bytes }
         ensures order { let step = algebra_step Kind.Challenge label.now F.residues.order A.DIMENSION
             (D.digest_of A.identity) A.name_bytes (Length.Fixed n) in
-            KeepsOrder step (driving_of C.state P.bytes self.old).transcript result (driving_of C.state P.bytes self.new).transcript }
+            KeepsOrder step (driving_of C.state P.bytes self.old).transcript result
+              (driving_of C.state P.bytes self.new).transcript }
         ensures spent { IfErr result (λ _. (driving_of C.state P.bytes self.new).transcript.playing.finished ≡ true) }
         ensures count { IfOk result (λ bounds. vec_len bounds ≡ n) }
     {

@@ -7,7 +7,8 @@ use Rattle.uses.proofs.opening.climb.Goals as goal
 
 pub loop-init : goal.loop-init
 loop-init c =
-    (climbed-none digests.ghosts.digest_of c.args.place c.args.leaf (verifying_of (λ s. s) c.args.verifier.now).bytes, refl)
+    (climbed-none digests.ghosts.digest_of c.args.place c.args.leaf
+      (verifying_of (λ s. s) c.args.verifier.now).bytes, refl)
 
 pub loop-preserved : goal.loop-preserved
 loop-preserved c =
