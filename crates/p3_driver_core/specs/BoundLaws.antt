@@ -9,4 +9,4 @@ pub values-more : {T : Type 0} (bounds new : List (TranscriptBound T)) (b : Tran
     new ≡ bounds ++ (b ∷ []) → bound_value b ≡ x → map bound_value new ≡ map bound_value bounds ++ (x ∷ [])
 values-more bounds new b x grown is =
     ap (map bound_value) grown ∙ map-append bound_value bounds (b ∷ []) ∙
-      ap (λ y. map bound_value bounds ++ (y ∷ [])) is
+    ap (λ y. map bound_value bounds ++ (y ∷ [])) is

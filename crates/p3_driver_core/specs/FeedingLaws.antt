@@ -350,7 +350,7 @@ module _ {S : Type 0} (next : S → S) where
   beginning-drawn effect is s t (inr (inr part)) = is.leaves challenger.OutOfMemory s t part
 
   module _ {Symbol A : Type 0} (m : Meaning S Symbol A) (is : OnlyDraws next m.effect)
-    (before after : Transcript S) where
+      (before after : Transcript S) where
     -- a step that is played has made some number of the smallest draws
     pub played-drawn : (x : A) → PlaysStep m before x after → IsStepsOn next before.challenger after.challenger
     played-drawn x plays =

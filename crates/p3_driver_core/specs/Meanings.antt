@@ -54,7 +54,7 @@ abbrev pub observed_bounded : {S Symbol I A : Type 0} → Step → Alphabet S Sy
     List A → Meaning S Symbol (List A)
 observed_bounded interaction alphabet max o xs =
     without_wire interaction (in_sequence (observing_bytes alphabet (count_bytes max (length xs)))
-      (observing_list o xs))
+    (observing_list o xs))
 
 -- the values of a list are sent
 abbrev pub sent_list : {S Symbol A : Type 0} → Step → Observation S Symbol A → Encoding A → List A →

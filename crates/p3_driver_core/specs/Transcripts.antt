@@ -84,7 +84,7 @@ halted transcript = record { challenger = transcript.challenger; playing = halte
 
 -- the step is played: it was the next one, this comes of it, and the challenger took part in it
 pub record PlaysStep {S Symbol A : Type 0} (m : Meaning S Symbol A) (before : Transcript S) (x : A)
-  (after : Transcript S) : Type 0
+    (after : Transcript S) : Type 0
   where
     pub is_next : IsNext before.playing m.interaction
     pub fits : m.effect.fits
@@ -94,13 +94,13 @@ pub record PlaysStep {S Symbol A : Type 0} (m : Meaning S Symbol A) (before : Tr
 
 -- the step was not the next one, or one was refused before: nothing was done, and no step may follow
 pub record RefusesOrder {S : Type 0} (s : Step) (before : Transcript S) (e : TranscriptError) (after : Transcript S)
-  : Type 0 where
+    : Type 0 where
   pub playing : RefusesToPlay before.playing s e after.playing
   pub challenger : after.challenger ≡ before.challenger
 
 -- the step was the next one, and was given up later: the challenger is left so, and no step may follow
 pub record Abandons {S : Type 0} (s : Step) (before : Transcript S) (Leaves : S → S → Type 0) (after : Transcript S)
-  : Type 0 where
+    : Type 0 where
   pub is_next : IsNext before.playing s
   pub leaves : Leaves before.challenger after.challenger
   pub finished : after.playing.finished ≡ true
@@ -111,7 +111,7 @@ LeavesPart effect s t = (t ≡ s) ⊎ (t ≡ effect.after s) ⊎ effect.refuses 
 
 -- why a step is refused, and what is left: it may not be played, the challenger refused it, or memory was refused
 abbrev pub RefusesStep : {S Symbol A : Type 0} → Meaning S Symbol A → Transcript S → TranscriptError →
-  Transcript S → Type 0
+    Transcript S → Type 0
 RefusesStep m before (Pattern e) after = RefusesOrder m.interaction before (Pattern e) after
 RefusesStep m before (Challenger challenger.OutOfMemory) after = ⊥
 RefusesStep m before (Challenger e) after = Abandons m.interaction before (m.effect.refuses e) after
@@ -150,7 +150,7 @@ pub record RefusesCarried (IsWrong : Type 0) (reason : List ℕ) (before : Playi
 
 -- the step is played, and the answer is what came of it; or it is refused
 abbrev pub PlaysOrRefuses : {S Symbol A R : Type 0} → Meaning S Symbol A → Transcript S → (R → A) →
-  Result R TranscriptError →
+    Result R TranscriptError →
     Transcript S → Type 0
 PlaysOrRefuses m before value result after =
     MatchResult result (λ r. PlaysStep m before (value r) after) (λ e. RefusesStep m before e after)

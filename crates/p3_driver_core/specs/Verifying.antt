@@ -85,7 +85,7 @@ ChecksAndKeeps work x before result after =
 
 -- a list of a wrong length is refused first: nothing was done then
 pub record RefusesCarriedList {S : Type 0} (IsWrong : Type 0) (reason : List ℕ) (before : Driving S)
-  (e : TranscriptError)
+    (e : TranscriptError)
     (after : Driving S) : Type 0 where
   pub playing : RefusesCarried IsWrong reason before.transcript.playing e after.transcript.playing
   pub challenger : after.transcript.challenger ≡ before.transcript.challenger
@@ -96,7 +96,7 @@ abbrev pub CarriesWithin : {S Symbol A R : Type 0} → ℕ → ℕ → Meaning S
 CarriesWithin len max m before value result after =
     MatchResult result (λ r. (len ≤ max) × PlaysStep m before.transcript (value r) after.transcript)
     (λ e. RefusesCarriedList (max < len) longer_list before e after ⊎
-      ((len ≤ max) × RefusesStep m before.transcript e after.transcript))
+    ((len ≤ max) × RefusesStep m before.transcript e after.transcript))
     × (after.bytes ≡ before.bytes)
 
 -- a list that has as many elements as the next step says, where it says so
@@ -106,7 +106,7 @@ CarriesAsRecorded len m before value result after =
     MatchResult result (λ r. PlaysStep m before.transcript (value r) after.transcript)
     (λ e. RefusesCarriedList (IsOtherLength len (next_step before.transcript.playing)) another_length before e after
     ⊎ ((IsOtherLength len (next_step before.transcript.playing) → ⊥) ×
-      RefusesStep m before.transcript e after.transcript))
+    RefusesStep m before.transcript e after.transcript))
     × (after.bytes ≡ before.bytes)
 
 -- all steps are played, none was refused, and no byte is left

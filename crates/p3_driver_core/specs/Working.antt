@@ -108,7 +108,7 @@ module _ {S Symbol W : Type 0} (work : Work S Symbol W) where
 
   -- the step is played, with the least witness that passes; or it is refused
   abbrev pub GrindsOrRefuses : {R : Type 0} → (S → Type 0) → Transcript S → (R → W) → Result R TranscriptError →
-    Transcript S →
+      Transcript S →
       Type 0
   GrindsOrRefuses may_run_out before value result after =
       MatchResult result

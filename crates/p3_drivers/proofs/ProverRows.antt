@@ -222,6 +222,6 @@ hopeless =
 
 none_found : (playing : Playing) → IsNext playing hopeless.interaction →
     RefusesToGrind hopeless (λ _. ⊥) (before playing).transcript (Challenger NoWitness)
-      (before (closed playing)).transcript
+    (before (closed playing)).transcript
 none_found playing next =
     record { is_next = next; leaves = (λ n h e. differs e, refl); finished = refl }

@@ -25,7 +25,7 @@ use Rattle.p3_driver_core.specs.Verifying.{Receives, RefusesToRead}
 pub not-read : {S Symbol A : Type 0} (r : Reading S Symbol A) (before after : Driving S) (e : TranscriptError) →
     IsNext before.transcript.playing r.interaction → FailsFor (r.read before.bytes) after.bytes e →
     after.transcript.challenger ≡ before.transcript.challenger → after.transcript.playing.finished ≡ true →
-      RefusesToRead r before e after
+    RefusesToRead r before e after
 not-read r before after (MissingBegin info) is_next fails same finished = absurd fails
 not-read r before after (InvalidKind info) is_next fails same finished = absurd fails
 not-read r before after (MismatchedBeginEnd info) is_next fails same finished = absurd fails
@@ -48,7 +48,7 @@ not-read r before after OutOfMemory is_next fails same finished = absurd fails
 by_error : {S Symbol A : Type 0} (interaction : Step) (read : List ℕ → Read S A)
     (effect : A → Effect S Symbol A) (before after : Driving S) (x : A) (e : ChallengerError) →
     read before.bytes ≡ Ok (x, after.bytes) → Abandons interaction before.transcript
-      ((effect x).refuses e) after.transcript →
+    ((effect x).refuses e) after.transcript →
     RefusesToRead (reading_first interaction read effect) before (transcript_error e) after
 by_error interaction read effect before after x challenger.OutOfMemory found given =
     record { is_next = given.is_next; leaves = (x, found, inr (inr given.leaves)); finished = given.finished }
@@ -124,7 +124,7 @@ module _ {S Symbol A : Type 0} (interaction : Step) (o : Observation S Symbol A)
       -- the count is refused for memory
       pub count-refused : after.bytes ≡ rest → (e : ChallengerError) → e ≡ challenger.OutOfMemory →
           (observing_bytes alphabet (count_bytes max n)).refuses e before.transcript.challenger
-            after.transcript.challenger →
+          after.transcript.challenger →
           RefusesToRead (received_bounded interaction alphabet max o enc) before (transcript_error e) after
       count-refused left challenger.OutOfMemory is refuses =
           record { is_next = is_next; leaves = (n, rest, found, inl (left, refuses)); finished = finished }
@@ -179,7 +179,7 @@ pub values-received : {S Symbol I A : Type 0} (interaction : Step) (o : Observat
     (alphabet.is_too_long (length (count_bytes max n)) → ⊥) →
     here ≡ (observing_bytes alphabet (count_bytes max n)).after before.transcript.challenger →
     read_values enc o.observed n rest ≡ Ok (xs, after.bytes) →
-      after.transcript.challenger ≡ observed_all o.observed here
+    after.transcript.challenger ≡ observed_all o.observed here
     xs →
     after.transcript.playing ≡ step_on before.transcript.playing →
     Receives (received_bounded interaction alphabet max o enc) before xs after

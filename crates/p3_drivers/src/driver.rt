@@ -223,7 +223,7 @@ impl<C: Sponge, U, D: DigestHasher, P: Tape> DriverState<C, U, D, P> {
     /// on. The challenger stays as it is, and the bytes of the proof. Not in the Rust crate.
     pub fn halt(&mut self)
         ensures transcript { (driving_of C.state P.bytes self.new).transcript ≡ halted
-          (driving_of C.state P.bytes self.old).transcript }
+            (driving_of C.state P.bytes self.old).transcript }
         ensures bytes { (driving_of C.state P.bytes self.new).bytes ≡ (driving_of C.state P.bytes self.old).bytes }
     {
         self.steps.halt();

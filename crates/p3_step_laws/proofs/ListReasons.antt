@@ -27,18 +27,18 @@ First playing IsRight said e =
 
 module _ {S Symbol A : Type 0} (m : Meaning S Symbol A) (told : S → Refusal) (tells : Tells m.effect told) where
   module _ {V : Type 0} (transcript : V → Transcript S) (RefusedFirst : V → TranscriptError → V → Type 0)
-    (IsRight : V → Type 0)
+      (IsRight : V → Type 0)
       (said : Refusal)
       (first : (v w : V) (e : TranscriptError) → RefusedFirst v e w →
-        First (transcript v).playing (IsRight v) said e) where
+      First (transcript v).playing (IsRight v) said e) where
     abbrev pub Refused : V → TranscriptError → V → Type 0
     Refused before e after =
         RefusedFirst before e after ⊎ (IsRight before × RefusesStep m (transcript before) e (transcript after))
 
     first_and_step : (start other : V) (e f : TranscriptError) →
-      First (transcript start).playing (IsRight start) said e →
+        First (transcript start).playing (IsRight start) said e →
         IsRight start → RefusesStep m (transcript start) f (transcript other) → (f ≡ OutOfMemory → ⊥) →
-          refusal_of e ≡ refusal_of f
+        refusal_of e ≡ refusal_of f
     first_and_step start other e f (inl late) right refuses q =
         late.1
         ∙ sym (finished-told (transcript start).playing m.interaction (told (transcript start).challenger) f late.0
@@ -100,5 +100,5 @@ module _ {S Symbol A : Type 0} (m : Meaning S Symbol A) (told : S → Refusal) (
         RefusesLength len max before.playing e after.playing ⊎ ((len ≤ max) × RefusesStep m before e after))
     length-one_reason =
         first-one_reason (λ (v : Transcript S). v)
-          (λ before e after. RefusesLength len max before.playing e after.playing)
+        (λ before e after. RefusesLength len max before.playing e after.playing)
         (λ _. len ≤ max) (misfit (OverCap len max)) length-first

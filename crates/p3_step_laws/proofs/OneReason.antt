@@ -158,7 +158,7 @@ module _ {S Symbol A : Type 0} (m : Meaning S Symbol A) (told : S → Refusal) (
   pub refused-one_reason : TellOneReason (RefusesStep m)
   refused-one_reason =
       one_reason (RefusesStep m) (λ (v : Transcript S). v.playing) m.interaction
-        (λ (v : Transcript S). told v.challenger)
+      (λ (v : Transcript S). told v.challenger)
       refused-cause
 
 module _ {S Symbol A : Type 0} (m : Meaning S Symbol A) (tells : TellsLimits m.effect) where
@@ -185,7 +185,7 @@ module _ {S Symbol A : Type 0} (r : Reading S Symbol A) (told : A → S → Refu
   of_value : (before after : Driving S) (d : ChallengerError) (x : A) →
       r.read before.bytes ≡ Ok (x, after.bytes) →
       (r.effect x).refuses d before.transcript.challenger after.transcript.challenger →
-        (d ≡ challenger.OutOfMemory → ⊥) →
+      (d ≡ challenger.OutOfMemory → ⊥) →
       challenger_refused d ≡ told_here before
   of_value before after d x read refuses other =
       tells x d before.transcript.challenger after.transcript.challenger refuses other

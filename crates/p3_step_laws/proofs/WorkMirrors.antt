@@ -67,7 +67,7 @@ module _ {S Symbol W : Type 0} (work : Work S Symbol W) (limits : (x : W) → Li
       own_refusal : (e : TranscriptError) → RefusesToRead (received_work work enc) start e end → IsOwnRefusal e
       own_refusal e refuses =
           (read_back-completes _ _ _ (work-mirrored work enc encodes x)).refuses before after rest start end e plays
-            at refuses
+          at refuses
 
       only_memory : (e : TranscriptError) → RefusesToRead (received_work work enc) start e end → e ≡ OutOfMemory
       only_memory (MissingBegin info) refuses = absurd refuses
@@ -103,7 +103,7 @@ module _ {S Symbol W : Type 0} (work : Work S Symbol W) (limits : (x : W) → Li
   -- ---- a witness that the caller carries
 
   module _ (before after start end : Transcript S) (plays : PlaysStep (observed_work work x) before x after)
-    (at : start ≡ before)
+      (at : start ≡ before)
     where
       carried-passes : (work.check x).sampled start.challenger ≡ Some true
       carried-passes =

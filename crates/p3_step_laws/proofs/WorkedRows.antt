@@ -43,7 +43,7 @@ only_these_read bytes left reads many =
 
 before_two : {S : Type 0} (transcript : Transcript S) →
     StandsBefore (λ x. x ∷ []) (9 ∷ []) transcript (5 ∷ 7 ∷ [])
-      (record { transcript = transcript; bytes = 5 ∷ 7 ∷ 9 ∷ [] })
+    (record { transcript = transcript; bytes = 5 ∷ 7 ∷ 9 ∷ [] })
 before_two transcript = refl
 
 two_rounds : (message challenge : Step) →

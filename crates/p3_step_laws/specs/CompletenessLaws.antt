@@ -19,9 +19,9 @@ use Rattle.p3_driver_core.specs.Verifying.{Receives, RefusesToRead, EndsReading,
 -- ---- a step that is mirrored
 
 module _ {S Symbol A : Type 0} (m : Meaning S Symbol A) (r : Reading S Symbol A) (x : A)
-  (mirrors : ReadsBack m r x) where
+    (mirrors : ReadsBack m r x) where
   mirror-receives : (before after : Transcript S) (rest : List ℕ) (start end : Driving S) (y : A) →
-    PlaysStep m before x after →
+      PlaysStep m before x after →
       start ≡ record { transcript = before; bytes = m.wire ++ rest } → Receives r start y end →
       (y ≡ x) × (end ≡ record { transcript = after; bytes = rest })
   mirror-receives before after rest start end y plays at receives =
@@ -43,7 +43,7 @@ module _ {S Symbol A : Type 0} (m : Meaning S Symbol A) (r : Reading S Symbol A)
 
   mirror-refuses : (before after : Transcript S) (rest : List ℕ) (start end : Driving S) (e : TranscriptError) →
       PlaysStep m before x after → start ≡ record { transcript = before; bytes = m.wire ++ rest } →
-        RefusesToRead r start e end →
+      RefusesToRead r start e end →
       IsOwnRefusal e
   mirror-refuses before after rest start end (MissingBegin info) plays at refuses = refuses
   mirror-refuses before after rest start end (InvalidKind info) plays at refuses = refuses

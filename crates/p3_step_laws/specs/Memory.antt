@@ -12,7 +12,7 @@ use Rattle.p3_driver_core.specs.Verifying.{RefusesToRead}
 abbrev pub OnlyMemoryRefusesToRead : {S Symbol A : Type 0} → Meaning S Symbol A → Reading S Symbol A → A → Type 0
 OnlyMemoryRefusesToRead {S} m r x =
     (before after : Transcript S) (rest : List ℕ) (start end : Driving S) (e : TranscriptError) →
-      PlaysStep m before x after →
+    PlaysStep m before x after →
     start ≡ record { transcript = before; bytes = m.wire ++ rest } → RefusesToRead r start e end → e ≡ OutOfMemory
 
 -- The same of a step that both play alike, from one state: where one has played it, the other is refused for want of
@@ -20,5 +20,5 @@ OnlyMemoryRefusesToRead {S} m r x =
 abbrev pub OnlyMemoryRefuses : {S Symbol A : Type 0} → Meaning S Symbol A → Type 0
 OnlyMemoryRefuses {S} {Symbol} {A} m =
     (before after start end : Transcript S) (x : A) (e : TranscriptError) → PlaysStep m before x after →
-      start ≡ before →
+    start ≡ before →
     RefusesStep m start e end → e ≡ OutOfMemory

@@ -126,7 +126,7 @@ module _ {V W X : Type 0} (IsRound : V → X → V → Type 0) (IsOther : W → 
 
 -- a verifier that stands before rounds has the bytes of the first one next
 pub StandsBefore-first : {S X : Type 0} (wire : X → List ℕ) (rest : List ℕ) (transcript : Transcript S) (x : X)
-  (xs : List X)
+    (xs : List X)
     (v : Driving S) → StandsBefore wire rest transcript (x ∷ xs) v →
     v ≡ record { transcript = transcript; bytes = wire x ++ (flat_map wire xs ++ rest) }
 StandsBefore-first wire rest transcript x xs v stands =

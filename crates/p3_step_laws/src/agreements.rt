@@ -42,7 +42,7 @@ pub fn observed_values_agree<A, C: Sponge, Cdc: Codec<C, A>>()
 pub fn observed_counted_values_agree<A, U: Unit, C: CanObserve<U::Item>, Cdc: Codec<C, A>>()
     ensures { let alphabet = alphabet_of U.items U.is_too_long C.observation C.slice_may_leave in
         (step : Step) (max : ℕ) (xs : List A) → CompletesAlike
-          (meaning.observed_bounded step alphabet max Cdc.observation xs) }
+        (meaning.observed_bounded step alphabet max Cdc.observation xs) }
 {}
 
 /// A value is observed alike as the challenger itself knows how.
@@ -96,7 +96,7 @@ pub fn carried_work_agrees<C: GrindingChallenger>()
 pub fn carried_lists_are_let_through<C: Sponge>()
     ensures within { (len max : ℕ) (start end : Driving C.State) (e : TranscriptError) →
         start.transcript.playing.finished ≡ false → len ≤ max →
-          RefusesCarriedList (max < len) longer_list start e end → ⊥ }
+        RefusesCarriedList (max < len) longer_list start e end → ⊥ }
     ensures recorded { (len : ℕ) (step : Step) (start end : Driving C.State) (e : TranscriptError) →
         IsNext start.transcript.playing step → step.length ≡ Length.Fixed len →
         RefusesCarriedList (IsOtherLength len (next_step start.transcript.playing)) another_length start e end → ⊥ }

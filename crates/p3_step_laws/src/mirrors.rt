@@ -85,7 +85,7 @@ pub fn sent_counted_bytes_are_received<U: Unit, C: CanObserve<U::Item>>()
 /// A law: the body is empty, and a caller cites the clauses.
 pub fn hint_is_received<C: Sponge>()
     ensures read_back { (label bytes : List ℕ) → ReadsBack {S = C.State} {Symbol = C.Symbol}
-      (meaning.hinted label bytes)
+        (meaning.hinted label bytes)
         (reads.hint_received label (length bytes)) bytes }
     ensures complete { (label bytes : List ℕ) → Completes {S = C.State} {Symbol = C.Symbol} (meaning.hinted label bytes)
         (reads.hint_received label (length bytes)) bytes }

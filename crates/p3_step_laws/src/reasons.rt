@@ -113,5 +113,5 @@ pub fn uniform_draws_are_refused_for_one_reason<F, C: CanSampleUniformBits<F>>()
         TellOneReason (RefusesStep {Symbol = C.Symbol} (meaning.drawn_list step (C.uniform true width).draw n)) }
     ensures rejecting { (step : Step) (width : ℕ) (rule : Rule ℕ) (limit n : ℕ) →
         TellOneReason (RefusesStep {Symbol = C.Symbol}
-          (drawn_rejecting step (C.uniform true width).draw rule limit n)) }
+        (drawn_rejecting step (C.uniform true width).draw rule limit n)) }
 {}

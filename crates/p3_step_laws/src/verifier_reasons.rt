@@ -68,10 +68,10 @@ pub fn carried_lists_are_refused_for_one_reason<
         RefusesCarriedList (max < length xs) longer_list before e after
         ⊎ (length xs ≤ max
         × RefusesStep (meaning.observed_bounded step alphabet max Cdc.observation xs) before.transcript e
-          after.transcript)) }
+        after.transcript)) }
     ensures recorded { (step : Step) (xs : List A) → TellOneReason (λ before e after.
         RefusesCarriedList (IsOtherLength (length xs)
-          (next_step before.transcript.playing)) another_length before e after
+        (next_step before.transcript.playing)) another_length before e after
         ⊎ ((IsOtherLength (length xs) (next_step before.transcript.playing) → ⊥)
         × RefusesStep (meaning.observed_list step Cdc.observation xs) before.transcript e after.transcript)) }
 {}

@@ -33,7 +33,7 @@ use Rattle.uses.specs.declared.protocol.Claim.{Claim}
 -- A step that a verifier reads, where it is next, with its bytes, and would be played: it is, or memory is refused.
 module _ {S Symbol A : Type 0} (m : Meaning S Symbol A) (r : Reading S Symbol A) (x : A) (completes : Completes m r x)
     (memory : OnlyMemoryRefusesToRead m r x) (transcript after : Transcript S) (plays : PlaysStep m transcript x after)
-      (rest : List ℕ)
+    (rest : List ℕ)
     (before : Driving S) (at : before ≡ record { transcript = transcript; bytes = m.wire ++ rest }) where
   pub reads : (y : A) (end : Driving S) → Receives r before y end →
       (y ≡ x) × (end ≡ record { transcript = after; bytes = rest })
@@ -44,7 +44,7 @@ module _ {S Symbol A : Type 0} (m : Meaning S Symbol A) (r : Reading S Symbol A)
 
 -- the same of one that leaves the bytes as they are
 module _ {S Symbol A : Type 0} (m : Meaning S Symbol A) (x : A) (memory : OnlyMemoryRefuses m)
-  (transcript after : Transcript S)
+    (transcript after : Transcript S)
     (plays : PlaysStep m transcript x after) (rest : List ℕ) (before : Driving S)
     (at : before ≡ record { transcript = transcript; bytes = rest }) where
   start : before.transcript ≡ transcript
@@ -59,7 +59,7 @@ module _ {S Symbol A : Type 0} (m : Meaning S Symbol A) (x : A) (memory : OnlyMe
       (alike.0, λ i. record { transcript = then i; bytes = left i })
 
   pub plays-or_memory : (e : TranscriptError) (end : Transcript S) → RefusesStep m before.transcript e end →
-    e ≡ OutOfMemory
+      e ≡ OutOfMemory
   plays-or_memory e end refuses = memory transcript after before.transcript end x e plays start refuses
 
 -- ---- a draw of one value that a rule may reject
@@ -72,11 +72,14 @@ module _ {S T : Type 0} (d : Sampling S T) (rule : Rule T) (limit : ℕ) (s : S)
       ap (λ g. (go_on (λ y t. keeps d rule limit 0 (y ∷ []) t) g (taken d rule limit [] s).after).gives) is
 
   pub draws-one : {Symbol : Type 0} (step : Step) (transcript : Transcript S) → transcript.challenger ≡ s →
-    IsNext transcript.playing step →
+      IsNext transcript.playing step →
       (taken d rule limit [] s).gives ≡ Some x →
       PlaysStep {Symbol = Symbol} (drawn_rejecting step d rule limit 1) transcript (x ∷ [])
-      (record { challenger = (keeps d rule limit 1 [] transcript.challenger).after; playing = step_on
-        transcript.playing })
+      (record {
+        challenger = (keeps d rule limit 1 [] transcript.challenger).after;
+        playing = step_on
+            transcript.playing;
+      })
   draws-one step transcript at is_next is =
       record {
         is_next = is_next;
@@ -124,13 +127,13 @@ module _ {S Symbol : Type 0} (o : Observation S Symbol BabyBear) (places divisor
       λ i. record { transcript = v.transcript; bytes = spelled i }
 
   line_at : (k : ℕ) (p : Playing) → p.pattern ≡ v.transcript.playing.pattern → p.position ≡ k → p.finished ≡ false →
-    (s : Step) →
+      (s : Step) →
       slice_get (steps_of_line digest) k ≡ Some s → IsNext p s
   line_at k p same position going s at =
       next-at p (steps_of_line digest) k s (ap (λ it. it.steps) same ∙ ahead.steps) position going at
 
   pub sends-slope : PlaysStep (sent (element_step digest Message (codes "slope") Scalar) o e claim.slope) v.transcript
-    claim.slope
+      claim.slope
       after_slope
   sends-slope =
       record {
@@ -168,11 +171,11 @@ module _ {S Symbol : Type 0} (o : Observation S Symbol BabyBear) (places divisor
       IsNext transcript.playing (element_step digest Challenge (codes "divisor") (Fixed 1))
   divisor-next transcript at =
       subst (λ (t : Transcript S). IsNext t.playing (element_step digest Challenge (codes "divisor") (Fixed 1)))
-        (sym at)
+      (sym at)
       (line_at 3 after_place.playing refl (ap (λ k. k + 1 + 1 + 1) ahead.position) refl _ refl)
 
   pub divisor-drawn : (transcript : Transcript S) → transcript ≡ after_place →
-    IsDivisor divisors transcript.challenger claim.divisor
+      IsDivisor divisors transcript.challenger claim.divisor
   divisor-drawn transcript at =
       subst (λ (t : Transcript S). IsDivisor divisors t.challenger claim.divisor) (sym at) ahead.run.divisor
 
@@ -212,7 +215,7 @@ module _ {S Symbol : Type 0} (o : Observation S Symbol BabyBear) (places divisor
 
 -- steps that were recorded one after another
 pub recorded-five : (start one two three four end : Recording) (a b c d f : Step) → Records start a one →
-  Records one b two →
+    Records one b two →
     Records two c three → Records three d four → Records four f end →
     end.steps ≡ start.steps ++ (a ∷ b ∷ c ∷ d ∷ f ∷ [])
 recorded-five start one two three four end a b c d f first second third fourth last =
@@ -239,7 +242,7 @@ one-given {A = A} given x y is other = let both : ◌≡◌ {A = Option A} (Some
 -- a hint of so many bytes
 module _ {S Symbol : Type 0} (label bytes : List ℕ) (n : ℕ) (wide : length bytes ≡ n) where
   pub completing-of : Completes {S = S} {Symbol = Symbol} (hinted label bytes)
-    (hint_received label (length bytes)) bytes →
+      (hint_received label (length bytes)) bytes →
       Completes {S = S} {Symbol = Symbol} (hinted label bytes) (hint_received label n) bytes
   completing-of completes =
       subst (λ k. Completes {S = S} {Symbol = Symbol} (hinted label bytes) (hint_received label k) bytes) wide completes

@@ -89,16 +89,16 @@ module _ {S Symbol : Type 0} (o : Observation S Symbol BabyBear) (places divisor
 
   -- a prover's steps one after another
   pub sent-by : (s after_slope after_offset after_place : S) (claim : Claim)
-    (before with_slope with_offset drawn divided
+      (before with_slope with_offset drawn divided
       after hint : List ℕ) → after_slope ≡ o.observed s claim.slope →
-        after_offset ≡ o.observed after_slope claim.offset →
+      after_offset ≡ o.observed after_slope claim.offset →
       places.sampled after_offset ≡ Some claim.place → after_place ≡ places.after after_offset →
       IsDivisor divisors after_place claim.divisor → claim.quotient ≡ quotient_of claim →
       with_slope ≡ before ++ e.wire claim.slope → with_offset ≡ with_slope ++ e.wire claim.offset →
       drawn ≡ with_offset → divided ≡ drawn → after ≡ divided ++ hint → hint ≡ e.wire claim.quotient →
       (bytes : List ℕ) × (after ≡ before ++ bytes) × IsSent o places divisors e s claim.slope claim.offset bytes
   sent-by s after_slope after_offset after_place claim before with_slope with_offset drawn divided after hint
-    slope offset
+      slope offset
       place then divisor quotient first second kept still last is =
       let bytes : List ℕ = bytes_of e claim in (
         bytes,
@@ -122,7 +122,7 @@ answered false claim found is exact =
 
 -- bytes that were written behind none are all that is there
 pub sent-alone : (before after bytes proof : List ℕ) → before ≡ [] → proof ≡ after → after ≡ before ++ bytes →
-  bytes ≡ proof
+    bytes ≡ proof
 sent-alone before after bytes proof empty same is = sym (same ∙ is ∙ ap (λ l. l ++ bytes) empty)
 
 -- bytes that were read, and left none, are all that was there

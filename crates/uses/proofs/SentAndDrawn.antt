@@ -19,7 +19,7 @@ module _ {S Symbol A : Type 0} (fed : S → List Symbol → S) (fed_nothing : (s
   pub sent-refused : (after : Driving S) (e : TranscriptError) → RefusesToWrite sent before e after →
       LeavesRound fed next sent.effect.symbols before.transcript.challenger after.transcript.challenger
   sent-refused after e h = inl (refused-fed fed fed_nothing fed_more sent feeds before.transcript after.transcript e
-    h.refuses)
+      h.refuses)
 
   pub drawn-refused : {B R : Type 0} (drawn : Meaning S Symbol B) → OnlyDraws next drawn.effect →
       (here after : Driving S) (x : A) (value : R → B) (result : Result R TranscriptError) →

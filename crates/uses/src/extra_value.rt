@@ -32,7 +32,7 @@ pub fn send_after<F: ScalarField, T, U, C: CanObserve<T> + Drop, D: DigestHasher
         F.name_bytes Length.Scalar in
         IfOk result (λ bound. Writes (meaning.sent step Cdc.observation Cdc.encoding value.now)
         (record { transcript = after_value C.observation extra before.transcript; bytes = before.bytes })
-          (bound_value bound)
+        (bound_value bound)
         (proving_of C.state prover.new)) }
 {
     prover.challenger_mut().observe(extra)?;
@@ -60,7 +60,7 @@ pub fn receive_after<
         F.name_bytes Length.Scalar in
         IfOk result (λ bound. Receives (reads.received step Cdc.observation Cdc.encoding)
         (record { transcript = after_value C.observation extra before.transcript; bytes = before.bytes })
-          (bound_value bound)
+        (bound_value bound)
         (verifying_of C.state verifier.new)) }
 {
     verifier.challenger_mut().observe(extra)?;

@@ -77,7 +77,7 @@ pub fn receive_and_draw<
     requires { 128 ≤ Cdc.SECURITY_BITS }
     ensures { IfOk result (λ round. DrawsAfter C.fed Cdc.sampling (Cdc.observation.symbols round.sent) round.drawn
         (verifying_of C.state verifier.old).transcript.challenger
-          (verifying_of C.state verifier.new).transcript.challenger) }
+        (verifying_of C.state verifier.new).transcript.challenger) }
 {
     values_feed_their_symbols::<F, C, Cdc>();
     let sent = verifier.next_scalar::<F, Cdc>("sent")?;

@@ -132,12 +132,12 @@ impl<C: Sponge, U, D: DigestHasher, P: Tape> DriverState<C, U, D, P> {
             PlaysOrRefuses (drawn_rejecting {Symbol = C.Symbol} step
             ⟦<ExtensionFieldCodec<F, EF, Cdc> as Codec<C, EF>>⟧.sampling rule limit n)
             (driving_of C.state P.bytes self.old).transcript bound_values result
-              (driving_of C.state P.bytes self.new).transcript }
+            (driving_of C.state P.bytes self.new).transcript }
         ensures bytes { (driving_of C.state P.bytes self.new).bytes ≡ (driving_of C.state P.bytes self.old).bytes }
         ensures order { let step = algebra_step Kind.Challenge label.now F.residues.order EF.DIMENSION
             (D.digest_of EF.identity) EF.name_bytes (Length.Fixed n) in
             KeepsOrder step (driving_of C.state P.bytes self.old).transcript result
-              (driving_of C.state P.bytes self.new).transcript }
+            (driving_of C.state P.bytes self.new).transcript }
         ensures spent { IfErr result (λ _. (driving_of C.state P.bytes self.new).transcript.playing.finished ≡ true) }
         ensures count { IfOk result (λ bounds. vec_len bounds ≡ n) }
     {
@@ -229,7 +229,7 @@ impl<C: Sponge, U, D: DigestHasher, P: Tape> DriverState<C, U, D, P> {
             (drawn_rejecting {Symbol = C.Symbol} (uniform_bits_step label.now width (Length.Fixed n))
             (C.uniform true width).draw rule limit n)
             (driving_of C.state P.bytes self.old).transcript bound_values result
-              (driving_of C.state P.bytes self.new).transcript }
+            (driving_of C.state P.bytes self.new).transcript }
         ensures bytes { (driving_of C.state P.bytes self.new).bytes ≡ (driving_of C.state P.bytes self.old).bytes }
         ensures order { KeepsOrder (uniform_bits_step label.now width (Length.Fixed n))
             (driving_of C.state P.bytes self.old).transcript result (driving_of C.state P.bytes self.new).transcript }
@@ -314,12 +314,12 @@ impl<C: Sponge, U, D: DigestHasher, P: Tape> DriverState<C, U, D, P> {
             (D.digest_of A.identity) A.name_bytes (Length.Fixed n) in
             PlaysOrRefuses (drawn_rejecting {Symbol = C.Symbol} step Cdc.sampling rule limit n)
             (driving_of C.state P.bytes self.old).transcript bound_values result
-              (driving_of C.state P.bytes self.new).transcript }
+            (driving_of C.state P.bytes self.new).transcript }
         ensures bytes { (driving_of C.state P.bytes self.new).bytes ≡ (driving_of C.state P.bytes self.old).bytes }
         ensures order { let step = algebra_step Kind.Challenge label.now F.residues.order A.DIMENSION
             (D.digest_of A.identity) A.name_bytes (Length.Fixed n) in
             KeepsOrder step (driving_of C.state P.bytes self.old).transcript result
-              (driving_of C.state P.bytes self.new).transcript }
+            (driving_of C.state P.bytes self.new).transcript }
         ensures spent { IfErr result (λ _. (driving_of C.state P.bytes self.new).transcript.playing.finished ≡ true) }
         ensures count { IfOk result (λ bounds. vec_len bounds ≡ n) }
     {

@@ -66,7 +66,7 @@ impl<C: Sponge, U, D: DigestHasher, P: Tape> DriverState<C, U, D, P> {
         label: Label,
     ) -> Result<(), TranscriptError>
         ensures exact { KeepsOrRefuses (meaning.marked {Symbol = C.Symbol}
-          (marker_of hierarchy kind label.now T.name_bytes))
+            (marker_of hierarchy kind label.now T.name_bytes))
             (driving_of C.state P.bytes self.old) (λ _. tt {0}) result (driving_of C.state P.bytes self.new) }
         ensures only { IsNext (driving_of C.state P.bytes self.old).transcript.playing
             (marker_of hierarchy kind label.now T.name_bytes) → IsOk result }

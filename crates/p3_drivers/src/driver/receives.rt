@@ -342,7 +342,7 @@ impl<'a, C: Sponge, U, D: DigestHasher> VerifierState<'a, C, U, D> {
     // Reads so many bytes. Where there are fewer, none is passed.
     pub(super) fn read_bytes(&mut self, len: usize) -> Result<&'a [u8], TranscriptError>
         ensures read { AnswersRead (reads.read_bytes {S = C.State} len self.old.tape.bytes.now)
-          (λ bytes. bytes.now) result
+            (λ bytes. bytes.now) result
             self.new.tape.bytes.now }
         ensures steps { self.new.steps ≡ self.old.steps }
         ensures challenger { self.new.challenger ≡ self.old.challenger }

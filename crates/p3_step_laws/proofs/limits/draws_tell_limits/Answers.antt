@@ -6,7 +6,7 @@ returns-clause-value g c = drawing-tells g.C.Sponge.next g.Cdc.Codec.sampling g.
 
 pub returns-clause-list : goal.returns-clause-list
 returns-clause-list g c = λ n. drawing_list-tells g.C.Sponge.next g.Cdc.Codec.sampling
-  g.met.Cdc.Codec.is_codec.samples n
+    g.met.Cdc.Codec.is_codec.samples n
 
 pub returns-clause-rejecting : goal.returns-clause-rejecting
 returns-clause-rejecting g c = λ rule limit n.

@@ -6,9 +6,11 @@ use Rattle.uses.proofs.MerkleOpening.{climbed-none, climbed-more, climbed-end}
 use Rattle.uses.proofs.opening.climb.Goals as goal
 
 pub loop-init : goal.loop-init
-loop-init c =
-    (climbed-none digests.ghosts.digest_of c.args.place c.args.leaf
-      (verifying_of (λ s. s) c.args.verifier.now).bytes, refl)
+loop-init c = (
+  climbed-none digests.ghosts.digest_of c.args.place c.args.leaf
+      (verifying_of (λ s. s) c.args.verifier.now).bytes,
+  refl,
+)
 
 pub loop-preserved : goal.loop-preserved
 loop-preserved c =

@@ -33,9 +33,9 @@ returns-clause-read c are =
     let quotient = spelled-whole elements _ c.in_ok-quotient.quotient of_hint.1 c.in_ok-quotient.ensures.found in
     rw (c.into_inner.ensures, c.into_inner-2.ensures)
     (read _ _ _ _ _ _ (elements.wire (bound_value c.in_ok-slope.slope))
-      (elements.wire (bound_value c.in_ok-offset.offset))
+    (elements.wire (bound_value c.in_ok-offset.offset))
     (elements.wire c.in_ok-quotient.quotient) of_slope.0 of_offset.0 c.in_ok-place.ensures.1
-      c.in_ok-divisor.ensures.bytes
+    c.in_ok-divisor.ensures.bytes
     (of_hint.0 ∙ ap (λ l. l ++ c.next_hint.new.self.tape.bytes.now) quotient))
 
 pub returns-clause-length : goal.returns-clause-length
@@ -122,7 +122,7 @@ returns-in_err-next_hint-clause-accepted c claim rest ahead =
     (reads-or_memory _ _ _ (completing-of _ _ 4 wide (c.hint_is_received.ensures.complete _ _))
     (memory-of _ _ 4 wide (c.only_memory_refuses_hints.ensures.fixed _ _)) _ _
     (sends-quotient _ _ _ _ _ _ _ _ ahead transcript played wide) _ _
-      (λ i. record { transcript = transcript; bytes = left i }) _ _
+    (λ i. record { transcript = transcript; bytes = left i }) _ _
     c.in_err-next_hint.ensures.exact)
 
 pub returns-in_err-quotient-clause-accepted : goal.returns-in_err-quotient-clause-accepted
@@ -147,7 +147,7 @@ returns-in_err-quotient-clause-accepted c claim rest ahead =
     let hint = reads _ _ _ (completing-of _ _ 4 wide (c.hint_is_received.ensures.complete _ _))
     (memory-of _ _ 4 wide (c.only_memory_refuses_hints.ensures.fixed _ _)) _ _
     (sends-quotient _ _ _ _ _ _ _ _ ahead transcript played wide) _ _
-      (λ i. record { transcript = transcript; bytes = left i }) _ _
+    (λ i. record { transcript = transcript; bytes = left i }) _ _
     c.in_ok-next_hint.ensures.exact in
     let p = err_from_is_err_and c.from_residual-in_err-quotient.result c.from_residual-in_err-quotient.ensures.1 in
     rw (p.1, p.2)
@@ -175,7 +175,7 @@ returns-clause-accepted c claim rest ahead =
     let hint = reads _ _ _ (completing-of _ _ 4 wide (c.hint_is_received.ensures.complete _ _))
     (memory-of _ _ 4 wide (c.only_memory_refuses_hints.ensures.fixed _ _)) _ _
     (sends-quotient _ _ _ _ _ _ _ _ ahead transcript played wide) _ _
-      (λ i. record { transcript = transcript; bytes = left i }) _ _
+    (λ i. record { transcript = transcript; bytes = left i }) _ _
     c.in_ok-next_hint.ensures.exact in
     let quotient : c.in_ok-quotient.quotient ≡ claim.quotient
     = let same = c.in_ok-quotient.ensures.only claim.quotient [] (hint.0 ∙ sym (append-nil _)) in cc in (

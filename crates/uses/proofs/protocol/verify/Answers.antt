@@ -18,7 +18,7 @@ returns-clause-run c =
     let verifier = verifying_of (λ s. s) c.in_ok-verifier.verifier in
     let start = begun-as c.challenger.result verifier.transcript.challenger
     (seed_of_separator digests.ghosts.digest_of c.args.separator.now)
-      (ap (λ v. v.transcript.challenger) c.in_ok-verifier.ensures.ok)
+    (ap (λ v. v.transcript.challenger) c.in_ok-verifier.ensures.ok)
     c.challenger.ensures in
     let are : AreBytes verifier.bytes = subst AreBytes (sym (ap (λ v. v.bytes) c.in_ok-verifier.ensures.ok))
     (λ i. omega (arith, c.type_inv.proof i)) in
@@ -43,7 +43,7 @@ pub returns-in_err-claim-clause-accepted : goal.returns-in_err-claim-clause-acce
 returns-in_err-claim-clause-accepted c claim steps run =
     let start = begun-as c.challenger.result (verifying_of (λ s. s) c.in_ok-verifier.verifier).transcript.challenger
     (seed_of_separator digests.ghosts.digest_of c.args.separator.now)
-      (ap (λ v. v.transcript.challenger) c.in_ok-verifier.ensures.ok)
+    (ap (λ v. v.transcript.challenger) c.in_ok-verifier.ensures.ok)
     c.challenger.ensures in
     let ahead = ahead-of _ _ _ _ _ _ _ (pattern_of c.args.separator.now) _ _ claim c.in_ok-verifier.ensures.ok refl refl
     steps start run in
@@ -54,7 +54,7 @@ pub returns-in_err-end-clause-accepted : goal.returns-in_err-end-clause-accepted
 returns-in_err-end-clause-accepted c claim steps run =
     let start = begun-as c.challenger.result (verifying_of (λ s. s) c.in_ok-verifier.verifier).transcript.challenger
     (seed_of_separator digests.ghosts.digest_of c.args.separator.now)
-      (ap (λ v. v.transcript.challenger) c.in_ok-verifier.ensures.ok)
+    (ap (λ v. v.transcript.challenger) c.in_ok-verifier.ensures.ok)
     c.challenger.ensures in
     let ahead = ahead-of _ _ _ _ _ _ _ (pattern_of c.args.separator.now) _ _ claim c.in_ok-verifier.ensures.ok refl refl
     steps start run in
@@ -66,7 +66,7 @@ pub returns-clause-accepted : goal.returns-clause-accepted
 returns-clause-accepted c claim steps run =
     let start = begun-as c.challenger.result (verifying_of (λ s. s) c.in_ok-verifier.verifier).transcript.challenger
     (seed_of_separator digests.ghosts.digest_of c.args.separator.now)
-      (ap (λ v. v.transcript.challenger) c.in_ok-verifier.ensures.ok)
+    (ap (λ v. v.transcript.challenger) c.in_ok-verifier.ensures.ok)
     c.challenger.ensures in
     let ahead = ahead-of _ _ _ _ _ _ _ (pattern_of c.args.separator.now) _ _ claim c.in_ok-verifier.ensures.ok refl refl
     steps start run in

@@ -106,7 +106,7 @@ returns-clause-exact g c =
     let n = c.in_ok-count.count in
     values-received step o enc alphabet c.args.max before _ n c.read_count.new.self.tape.bytes.now
     (bound_values c.in_ok-bounds.bounds) (state c.observe_count.new.challenger) opened.is_next
-      c.in_ok-count.ensures.read
+    c.in_ok-count.ensures.read
     c.in_ok-observe_count.ensures.does.0
     (c.in_ok-observe_count.ensures.does.1
     ∙ ap (λ d. (observing_bytes alphabet (count_bytes c.args.max n)).after (state d)) kept)
