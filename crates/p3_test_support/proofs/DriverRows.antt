@@ -1,11 +1,11 @@
 -- Worked rows of steps over a duplex challenger, computed on the definitions: three cells of the field of order 257, of
--- which two are the rate, under a state by two places, which makes (c + 1, a + 2, b + 3) of the cells (a, b, c). The
+-- which two are the rate, under a turn by two places, which makes (c + 1, a + 2, b + 3) of the cells (a, b, c). The
 -- cells are (6, 2, 131), and both outputs are left: so a separator with no chunk leaves them, of any name and pattern.
 use Rattle.std.proofs.Common.{◌≡◌, ◌≤◌, ◌==◌, ◌||◌, ℕ, Bool, false, not, List, [], ◌∷◌, map, replicate, codes}
 use Rattle.std.proofs.Common.{Option, Some, None, refl}
 use Rattle.std.specs.Option.{option_map}
 use Rattle.p3_small_primes.specs.F257Residues.{F257, residues}
-use Rattle.p3_symmetric.specs.Transcript.{turned}
+use Rattle.p3_symmetric.specs.Turn.{turned}
 use Rattle.p3_challenger_core.specs.Observation.{Observation, unrefused_observe}
 use Rattle.p3_challenger_core.specs.Sampling.{Sampling, unrefused_draw, draws, after_draws}
 use Rattle.p3_fs_core.specs.Encoding.{Encoding}
