@@ -20,7 +20,7 @@ use Rattle.p3_duplex.specs.DuplexCalls as duplex
 use Rattle.p3_duplex.specs.DuplexCalls.{DuplexSponge}
 use Rattle.p3_driver_core.specs.Counts.{count_width}
 use Rattle.p3_driver_core.specs.Effects.{Alphabet, alphabet_of}
-use Rattle.p3_driver_core.specs.Meanings.{observed_all, observed_bounded, sent, sent_bounded, sent_bytes, hinted}
+use Rattle.p3_driver_core.specs.Meanings.{observed_list, observed_bounded, sent, sent_bounded, sent_bytes, hinted}
 use Rattle.p3_driver_core.specs.Meanings.{drawn_list}
 use Rattle.p3_driver_core.specs.Rejecting.{Rule, taken, keeps, drawn_rejecting}
 use Rattle.p3_driver_core.specs.Transcripts.{Meaning, algebra_step}
@@ -85,7 +85,7 @@ unfolding count_width first_chunks
 two_carried = refl
 
 -- without their count the first draw is the same, and the second one is not
-two_with_no_count : goes (observed_all (step_of Message (Fixed 2)) value (numbers (5 ∷ 256 ∷ []))) ≡ ([], 7, 134)
+two_with_no_count : goes (observed_list (step_of Message (Fixed 2)) value (numbers (5 ∷ 256 ∷ []))) ≡ ([], 7, 134)
 two_with_no_count = refl
 
 none_of_three : goes (sent_bounded (step_of Message (Bounded 3)) in_field 3 value spelled []) ≡ (0 ∷ [], 3, 134)
