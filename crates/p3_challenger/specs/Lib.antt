@@ -47,10 +47,13 @@ pub use Rattle.p3_multi_field.specs.MultiFieldState
 pub use Rattle.p3_multi_field.specs.MultiFieldStateLaws
 pub use Rattle.p3_multi_field.specs.MultiFieldSymbolLaws
 pub use Rattle.p3_multi_field.specs.Refusals
+pub use Rattle.p3_fs_core.specs.Algebras
 pub use Rattle.p3_fs_core.specs.Alphabet
 pub use Rattle.p3_fs_core.specs.AlphabetLaws
 pub use Rattle.p3_fs_core.specs.BigEndian
 pub use Rattle.p3_fs_core.specs.BigEndianLaws
+pub use Rattle.p3_fs_core.specs.CountLaws
+pub use Rattle.p3_fs_core.specs.Counts
 pub use Rattle.p3_fs_core.specs.DecodingLaws
 pub use Rattle.p3_fs_core.specs.Encoding
 pub use Rattle.p3_fs_core.specs.Errors
@@ -89,8 +92,6 @@ pub use Rattle.p3_domain_separator.specs.SeparatorSeed
 pub use Rattle.p3_domain_separator.specs.SeparatorSeedLaws
 pub use Rattle.p3_driver_core.specs.Bound
 pub use Rattle.p3_driver_core.specs.BoundLaws
-pub use Rattle.p3_driver_core.specs.CountLaws
-pub use Rattle.p3_driver_core.specs.Counts
 pub use Rattle.p3_driver_core.specs.Driving
 pub use Rattle.p3_driver_core.specs.Effects
 pub use Rattle.p3_driver_core.specs.Feeding
@@ -154,3 +155,4 @@ pub use Rattle.p3_fs_core.specs.declared.step.Kind
 pub use Rattle.p3_fs_core.specs.declared.step.Length
 pub use Rattle.p3_fs_core.specs.declared.step.TypeTag
 pub use Rattle.p3_patterns.specs.declared.sequence.InteractionPattern
+pub use Rattle.p3_domain_separator.specs.declared.domain_separator.DomainSeparator

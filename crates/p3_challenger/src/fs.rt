@@ -8,6 +8,7 @@
 //!
 //! `CALLING.md` of this crate lists the steps: what each is called on either side, and how it is recorded.
 
+pub use p3_codecs::AlphabetOf;
 pub use p3_codecs::BytesToFieldCodec;
 pub use p3_codecs::Codec;
 pub use p3_codecs::EXTRA_BYTES;
@@ -47,6 +48,7 @@ pub use p3_drivers::ProverState;
 pub use p3_drivers::VerifierState;
 pub use p3_duplex::duplex_elements_are_prefix_code;
 pub use p3_fs_core::Alternate;
+pub use p3_fs_core::Declared;
 pub use p3_fs_core::Hierarchy;
 pub use p3_fs_core::Interaction;
 pub use p3_fs_core::InvalidKindInfo;

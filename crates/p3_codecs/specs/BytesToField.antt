@@ -2,7 +2,6 @@
 -- from more bytes than a spelling has.
 use Rattle.std.specs.Prelude.{ℕ, ◌+◌, List}
 use Rattle.p3_field_core.specs.Residues.{Residues}
-use Rattle.p3_challenger_core.specs.Observation as observation
 use Rattle.p3_challenger_core.specs.Observation.{Observation, in_slice, observed_as}
 use Rattle.p3_challenger_core.specs.Sampling as sampling
 use Rattle.p3_challenger_core.specs.Sampling.{Sampling, made_of}

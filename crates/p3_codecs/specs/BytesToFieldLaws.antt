@@ -1,5 +1,5 @@
 -- Laws of an element through a challenger of bytes.
-use Rattle.std.proofs.Common.{◌≡◌, ℕ, suc, ◌<◌, ◌≤◌, ◌^◌, List, [], ◌∷◌, ◌++◌, length, sym, ap, ◌∙◌, arith}
+use Rattle.std.proofs.Common.{ℕ, ◌<◌, ◌≤◌, ◌^◌, List, [], ◌∷◌, ◌++◌, length, sym, ap, ◌∙◌, arith}
 use Rattle.std.specs.List.{flat_map}
 use Rattle.p3_field_core.specs.Residues.{Residues, IsResidues}
 use Rattle.p3_challenger_core.specs.Sponge.{IsNonEmpty}

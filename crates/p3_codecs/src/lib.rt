@@ -16,4 +16,4 @@ pub use bytes_to_field::{BytesToFieldCodec, EXTRA_BYTES};
 pub use codec::{Codec, MIN_CHALLENGE_SECURITY_BITS, ScalarCodec};
 pub use extension::ExtensionFieldCodec;
 pub use field_to_field::FieldToFieldCodec;
-pub use unit::{FieldUnit, Unit, symbols_begin};
+pub use unit::{AlphabetOf, FieldUnit, Unit, symbols_begin};

@@ -5,7 +5,7 @@ ghost use Rattle.p3_challenger_core.specs.Observation.{observed_all, LeavesInCal
 ghost use Rattle.p3_challenger_core.specs.Sponge.{IsFed};
 ghost use Rattle.p3_challenger_core.specs.Reading.{AreBytes, IsByte, OneBegins, IsPrefixCodeOn};
 ghost use Rattle.p3_fs_core.specs.Packing.{packed, chunk_bytes, IsPackable};
-ghost use Rattle.p3_fs_core.specs.Alphabet.{RefusesBytes, LeavesItems, AreItems};
+ghost use Rattle.p3_fs_core.specs.Alphabet.{Alphabet, RefusesBytes, LeavesItems, AreItems, alphabet_of};
 
 use p3_challenger_core::{CanObserve, ChallengerError};
 use p3_field_core::PrimeField64;
@@ -160,6 +160,17 @@ impl<F: PrimeField64> Unit for FieldUnit<F> {
     {
         F::observe_seed(challenger, bytes)
     }
+}
+
+/// An alphabet as the challenger `C` observes it. Every alphabet has it, so that no function needs the bound.
+///
+/// Not in the Rust crate.
+pub trait AlphabetOf<C: CanObserve<Self::Item>>: Unit {
+    ghost alphabet: { Alphabet C.State C.Symbol Self.Item };
+}
+
+impl<U: Unit, C: CanObserve<U::Item>> AlphabetOf<C> for U {
+    ghost alphabet = { alphabet_of U.items U.is_too_long C.observation C.slice_may_leave };
 }
 
 /// Byte strings are told apart by their symbols, in every alphabet and for every challenger that feeds its items

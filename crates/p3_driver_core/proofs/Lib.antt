@@ -1,4 +1,3 @@
 pub mod BoundLists
 pub mod Rejections
-pub mod Widths
 pub mod WorkedRows

@@ -11,12 +11,14 @@ use Rattle.p3_fs_core.specs.Scalar as scalar
 use Rattle.p3_fs_core.specs.Steps.{Step}
 use Rattle.p3_fs_core.specs.declared.step.Kind.TheVariants.{Message, Salt}
 use Rattle.p3_fs_core.specs.declared.step.Length.TheVariants.{Fixed, Bounded}
-use Rattle.p3_driver_core.specs.Counts.{count_width, count_bytes}
-use Rattle.p3_driver_core.specs.Effects.{Effect, Alphabet, alphabet_of, drawing, drawing_list}
+use Rattle.p3_fs_core.specs.Counts.{count_width, count_bytes}
+use Rattle.p3_fs_core.specs.Alphabet.{Alphabet, alphabet_of}
+use Rattle.p3_driver_core.specs.Effects.{Effect, drawing, drawing_list}
 use Rattle.p3_driver_core.specs.Meanings.{sent, sent_bounded, observed_bounded, sent_bytes_bounded, hinted}
 use Rattle.p3_driver_core.specs.Meanings.{hinted_bounded, sent_bytes}
 use Rattle.p3_driver_core.specs.Rejecting.{Rule, taken, keeps, drawing_rejecting}
-use Rattle.p3_driver_core.specs.Transcripts.{Meaning, IsOtherLength, algebra_step, bytes_step}
+use Rattle.p3_fs_core.specs.Algebras.{algebra_of, algebra_step}
+use Rattle.p3_driver_core.specs.Transcripts.{Meaning, IsOtherLength, bytes_step}
 
 -- ---- counts
 
@@ -51,7 +53,7 @@ abbrev as_they_are : Alphabet (List ℕ) ℕ ℕ
 as_they_are = alphabet_of (λ bytes. bytes) (λ _. ⊥) kept (λ _ _ _. ⊥)
 
 abbrev list_step : Step
-list_step = algebra_step Message (codes "xs") 257 1 (codes "prime:257") (codes "F257") (Bounded 3)
+list_step = algebra_step Message (codes "xs") (algebra_of 257 1 (codes "prime:257") (codes "F257")) (Bounded 3)
 
 -- what a step feeds a challenger that was fed 9 before, and its bytes in the proof
 abbrev after_nine : {A : Type 0} → Meaning (List ℕ) ℕ A → List ℕ

@@ -4,7 +4,7 @@ use Rattle.p3_challenger_core.specs.Observation as observation
 use Rattle.p3_challenger_core.specs.Observation.{Observation, RefusesObserve}
 use Rattle.p3_challenger_core.specs.Sampling.{Sampling, RefusesDraw, RefusesDrawVec, draws, after_draws}
 use Rattle.p3_challenger_core.specs.declared.error.ChallengerError.{ChallengerError}
-use Rattle.p3_fs_core.specs.Alphabet.{RefusesBytes, LeavesItems}
+use Rattle.p3_fs_core.specs.Alphabet.{Alphabet, RefusesBytes, LeavesItems}
 
 -- What a step feeds, and that none of it is too long for the alphabet; what comes of it, which is none where a draw
 -- meets its limit; the state after it; and, where an error refuses it, what is left of a state.
@@ -34,19 +34,6 @@ observing o x =
 -- the values of a list are observed one after another
 abbrev pub observing_list : {S Symbol A : Type 0} → Observation S Symbol A → List A → Effect S Symbol (List A)
 observing_list o xs = observing (observation.in_row o) xs
-
--- an alphabet: what a byte string is in it, the lengths that are too long for it, and what observing an item, or
--- items as one slice, does
-pub record Alphabet (S Symbol I : Type 0) : Type 1 where
-  pub items : List ℕ → List I
-  pub is_too_long : ℕ → Type 0
-  pub item : Observation S Symbol I
-  pub slice_may_leave : S → List I → S → Type 0
-
-abbrev pub alphabet_of : {S Symbol I : Type 0} → (List ℕ → List I) → (ℕ → Type 0) → Observation S Symbol I →
-    (S → List I → S → Type 0) → Alphabet S Symbol I
-alphabet_of items is_too_long item slice_may_leave =
-    record { items = items; is_too_long = is_too_long; item = item; slice_may_leave = slice_may_leave }
 
 -- a byte string is observed
 abbrev pub observing_bytes : {S Symbol I : Type 0} → Alphabet S Symbol I → List ℕ → Effect S Symbol (List ℕ)

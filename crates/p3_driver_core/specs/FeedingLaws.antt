@@ -18,7 +18,8 @@ use Rattle.p3_fs_core.specs.declared.error.TranscriptError.{TranscriptError}
 use Rattle.p3_fs_core.specs.declared.error.TranscriptError.TheVariants.{MissingBegin, InvalidKind, MismatchedBeginEnd}
 use Rattle.p3_fs_core.specs.declared.error.TranscriptError.TheVariants.{MissingEnd, BadProofShape, Pattern}
 use Rattle.p3_fs_core.specs.declared.error.TranscriptError.TheVariants.{Challenger, LabelTooLong, OutOfMemory}
-use Rattle.p3_driver_core.specs.Effects.{Effect, Alphabet, untouched, observing, observing_list, observing_bytes}
+use Rattle.p3_fs_core.specs.Alphabet.{Alphabet}
+use Rattle.p3_driver_core.specs.Effects.{Effect, untouched, observing, observing_list, observing_bytes}
 use Rattle.p3_driver_core.specs.Effects.{drawing, drawing_list, in_sequence}
 use Rattle.p3_driver_core.specs.Feeding.{Feeds, OnlyDraws}
 use Rattle.p3_driver_core.specs.Rejecting.{Rule, Outcome, given, go_on, taken, RefusesTaken, keeps, RefusesKeeps}

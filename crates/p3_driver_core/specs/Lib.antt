@@ -1,7 +1,5 @@
 pub mod Bound
 pub mod BoundLaws
-pub mod CountLaws
-pub mod Counts
 pub mod Driving
 pub mod Effects
 pub mod Feeding

@@ -7,8 +7,9 @@ use Rattle.p3_fs_core.specs.Steps.{Step}
 use Rattle.p3_fs_core.specs.declared.step.Kind.{Kind}
 use Rattle.p3_fs_core.specs.declared.step.Kind.TheVariants.{Hint}
 use Rattle.p3_fs_core.specs.declared.step.Length.TheVariants.{Fixed, Bounded}
-use Rattle.p3_driver_core.specs.Counts.{count_bytes}
-use Rattle.p3_driver_core.specs.Effects.{Alphabet, untouched, observing, observing_list, observing_bytes, drawing}
+use Rattle.p3_fs_core.specs.Counts.{count_bytes}
+use Rattle.p3_fs_core.specs.Alphabet.{Alphabet}
+use Rattle.p3_driver_core.specs.Effects.{untouched, observing, observing_list, observing_bytes, drawing}
 use Rattle.p3_driver_core.specs.Effects.{drawing_list, in_sequence}
 use Rattle.p3_driver_core.specs.Transcripts.{Meaning, without_wire, bytes_step}
 

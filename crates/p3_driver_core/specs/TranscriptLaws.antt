@@ -1,10 +1,10 @@
 -- Laws of the order in which steps are played.
-use Rattle.std.proofs.Common.{◌≡◌, ℕ, ◌+◌, Bool, true, false, List, [], ◌∷◌, ◌++◌, length, Option, Some, inl, inr, refl}
+use Rattle.std.proofs.Common.{◌≡◌, ℕ, Bool, true, false, List, [], ◌∷◌, ◌++◌, length, Option, Some, inl, inr, refl}
 use Rattle.std.proofs.Common.{sym, ap, ◌∙◌, append_assoc, slice_get, arith}
 use Rattle.std.proofs.lemmas.List.{length-append}
 use Rattle.std.proofs.lemmas.Option.{slice_get_within}
 use Rattle.p3_challenger_core.specs.declared.error.ChallengerError.TheVariants as challenger
-use Rattle.p3_fs_core.specs.Errors.{misfit_of}
+use Rattle.p3_fs_core.specs.Errors.{pattern_error_of}
 use Rattle.p3_fs_core.specs.Steps.{Step}
 use Rattle.p3_fs_core.specs.declared.interaction.Interaction.{Interaction}
 use Rattle.p3_fs_core.specs.declared.error.PatternError.{PatternError}
@@ -36,7 +36,7 @@ next-not_wrong : (before after : Playing) (s : Step) (e : PatternError Interacti
     RefusesToPlay before s (Pattern e) after → ⊥
 next-not_wrong before after s e is_next refuses = elim refuses.fault [
   | inl late ↦ not_both late.0 is_next.0
-  | inr other ↦ next-is_next (next_step before) s (misfit_of e) is_next.1 other.1
+  | inr other ↦ next-is_next (next_step before) s (pattern_error_of e) is_next.1 other.1
 ]
 
 pub next-not_refused : (before after : Playing) (s : Step) (e : TranscriptError) → IsNext before s →
@@ -53,12 +53,12 @@ next-not_refused before after s OutOfMemory is_next refuses = refuses.fault
 
 -- ---- once a step was refused, each is
 
-finished-misfit : (e : PatternError Interaction) → misfit_of e ≡ Finished → e ≡ Finished
-finished-misfit Finished is = refl
-finished-misfit (NoMoreSteps received) is = absurd (cc)
-finished-misfit (WrongStep received expected) is = absurd (cc)
-finished-misfit (Unplayed expected) is = absurd (cc)
-finished-misfit (OverCap len max) is = absurd (cc)
+finished-pattern_error : (e : PatternError Interaction) → pattern_error_of e ≡ Finished → e ≡ Finished
+finished-pattern_error Finished is = refl
+finished-pattern_error (NoMoreSteps received) is = absurd (cc)
+finished-pattern_error (WrongStep received expected) is = absurd (cc)
+finished-pattern_error (Unplayed expected) is = absurd (cc)
+finished-pattern_error (OverCap len max) is = absurd (cc)
 
 same-player : (before after : Playing) → before.finished ≡ true →
     after ≡ record { pattern = before.pattern; position = before.position; finished = true } → after ≡ before
@@ -68,7 +68,7 @@ same-player before after finished is =
 finished-wrong : (before after : Playing) (s : Step) (e : PatternError Interaction) → before.finished ≡ true →
     RefusesToPlay before s (Pattern e) after → (Pattern e ≡ Pattern Finished) × (after ≡ before)
 finished-wrong before after s e finished refuses = elim refuses.fault [
-  | inl late ↦ (ap Pattern (finished-misfit e late.1), same-player before after finished refuses.finished)
+  | inl late ↦ (ap Pattern (finished-pattern_error e late.1), same-player before after finished refuses.finished)
   | inr other ↦ absurd (not_both finished other.0)
 ]
 
@@ -132,44 +132,44 @@ none-left : (steps : List Step) (position : ℕ) (s : Step) → position ≡ len
     slice_get steps position ≡ Some s → ⊥
 none-left steps position s end is = let within = slice_get_within steps position s is in omega arith
 
-played-misfit : (playing : Playing) (e : PatternError Step) → IsPlayed playing → FaultOfPlayEnd playing e → ⊥
-played-misfit playing Finished played fault = not_both fault played.going
-played-misfit playing (NoMoreSteps received) played fault = fault
-played-misfit playing (WrongStep received expected) played fault = fault
-played-misfit playing (Unplayed expected) played fault =
+played-pattern_error : (playing : Playing) (e : PatternError Step) → IsPlayed playing → FaultOfPlayEnd playing e → ⊥
+played-pattern_error playing Finished played fault = not_both fault played.going
+played-pattern_error playing (NoMoreSteps received) played fault = fault
+played-pattern_error playing (WrongStep received expected) played fault = fault
+played-pattern_error playing (Unplayed expected) played fault =
     none-left playing.pattern.steps playing.position expected played.end fault.1
-played-misfit playing (OverCap len max) played fault = fault
+played-pattern_error playing (OverCap len max) played fault = fault
 
 -- a player whose steps are all played is not refused the end
 pub played-ends : (playing : Playing) (e : TranscriptError) → IsPlayed playing →
-    IsPatternError (λ m. FaultOfPlayEnd playing (misfit_of m)) e → ⊥
+    IsPatternError (λ m. FaultOfPlayEnd playing (pattern_error_of m)) e → ⊥
 played-ends playing (MissingBegin info) played fault = fault
 played-ends playing (InvalidKind info) played fault = fault
 played-ends playing (MismatchedBeginEnd info) played fault = fault
 played-ends playing (MissingEnd info) played fault = fault
 played-ends playing (BadProofShape reason) played fault = fault
-played-ends playing (Pattern e) played fault = played-misfit playing (misfit_of e) played fault
+played-ends playing (Pattern e) played fault = played-pattern_error playing (pattern_error_of e) played fault
 played-ends playing (Challenger e) played fault = fault
 played-ends playing LabelTooLong played fault = fault
 played-ends playing OutOfMemory played fault = fault
 
-finished-end_misfit : (playing : Playing) (e : PatternError Interaction) → playing.finished ≡ true →
-    FaultOfPlayEnd playing (misfit_of e) → e ≡ Finished
-finished-end_misfit playing Finished finished fault = refl
-finished-end_misfit playing (NoMoreSteps received) finished fault = absurd fault
-finished-end_misfit playing (WrongStep received expected) finished fault = absurd fault
-finished-end_misfit playing (Unplayed expected) finished fault = absurd (not_both finished fault.0)
-finished-end_misfit playing (OverCap len max) finished fault = absurd fault
+finished-end_pattern_error : (playing : Playing) (e : PatternError Interaction) → playing.finished ≡ true →
+    FaultOfPlayEnd playing (pattern_error_of e) → e ≡ Finished
+finished-end_pattern_error playing Finished finished fault = refl
+finished-end_pattern_error playing (NoMoreSteps received) finished fault = absurd fault
+finished-end_pattern_error playing (WrongStep received expected) finished fault = absurd fault
+finished-end_pattern_error playing (Unplayed expected) finished fault = absurd (not_both finished fault.0)
+finished-end_pattern_error playing (OverCap len max) finished fault = absurd fault
 
 -- one of which a step was refused is refused the end as finished
 pub finished-ends : (playing : Playing) (e : TranscriptError) → playing.finished ≡ true →
-    IsPatternError (λ m. FaultOfPlayEnd playing (misfit_of m)) e → e ≡ Pattern Finished
+    IsPatternError (λ m. FaultOfPlayEnd playing (pattern_error_of m)) e → e ≡ Pattern Finished
 finished-ends playing (MissingBegin info) finished fault = absurd fault
 finished-ends playing (InvalidKind info) finished fault = absurd fault
 finished-ends playing (MismatchedBeginEnd info) finished fault = absurd fault
 finished-ends playing (MissingEnd info) finished fault = absurd fault
 finished-ends playing (BadProofShape reason) finished fault = absurd fault
-finished-ends playing (Pattern e) finished fault = ap Pattern (finished-end_misfit playing e finished fault)
+finished-ends playing (Pattern e) finished fault = ap Pattern (finished-end_pattern_error playing e finished fault)
 finished-ends playing (Challenger e) finished fault = absurd fault
 finished-ends playing LabelTooLong finished fault = absurd fault
 finished-ends playing OutOfMemory finished fault = absurd fault

@@ -12,7 +12,7 @@ use Rattle.p3_fs_core.specs.declared.step.Kind.TheVariants as kind
 use Rattle.p3_fs_core.specs.declared.step.Length.{Length}
 use Rattle.p3_fs_core.specs.declared.step.Length.TheVariants.{Fixed}
 use Rattle.p3_fs_core.specs.Errors.{IsBadShape}
-use Rattle.p3_fs_core.specs.declared.step.TypeTag.TheVariants.{Algebra, Bytes, Opaque, Bits, UniformBits}
+use Rattle.p3_fs_core.specs.declared.step.TypeTag.TheVariants.{Bytes, Opaque, Bits, UniformBits}
 use Rattle.p3_patterns.specs.Playing.{Playing, RefusesToPlay, next_step}
 use Rattle.p3_driver_core.specs.Effects.{Effect}
 
@@ -21,12 +21,6 @@ pub record Meaning (S Symbol A : Type 0) : Type 1 where
   pub interaction : Step
   pub effect : Effect S Symbol A
   pub wire : List ℕ
-
--- the step that carries elements of an algebra, of which it names the order of the field, how many coefficients an
--- element has, the digest of its identity, and its name in the program
-abbrev pub algebra_step : Kind → List ℕ → ℕ → ℕ → List ℕ → List ℕ → Length → Step
-algebra_step kind label order degree digest name length =
-    step_with Atomic kind label (Algebra order degree digest) name length
 
 -- the step that carries bytes
 abbrev pub bytes_step : Kind → List ℕ → Length → Step

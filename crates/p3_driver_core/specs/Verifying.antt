@@ -9,7 +9,7 @@ use Rattle.p3_driver_core.specs.Transcripts.{step_on}
 use Rattle.p3_driver_core.specs.Working.{Work, FailsCheck, ChecksOrRefuses}
 use Rattle.p3_driver_core.specs.Transcripts.{RefusesCarried, IsOtherLength, longer_list, another_length}
 use Rattle.p3_fs_core.specs.Encoding.{Encoding}
-use Rattle.p3_fs_core.specs.Errors.{misfit_of}
+use Rattle.p3_fs_core.specs.Errors.{pattern_error_of}
 use Rattle.p3_patterns.specs.Playing.{FaultOfPlayEnd, IsPlayed, next_step}
 use Rattle.p3_driver_core.specs.Reads.{Reading, Unreadable, trailing_bytes, received_work}
 
@@ -116,7 +116,7 @@ pub record EndsReading {S : Type 0} (v : Driving S) : Type 0 where
 
 -- why a verifier does not end: a step was refused, or is left; or all were played, and bytes are left
 abbrev pub RefusesEnd : {S : Type 0} → Driving S → TranscriptError → Type 0
-RefusesEnd v (Pattern e) = FaultOfPlayEnd v.transcript.playing (misfit_of e)
+RefusesEnd v (Pattern e) = FaultOfPlayEnd v.transcript.playing (pattern_error_of e)
 RefusesEnd v (BadProofShape reason) =
     IsPlayed v.transcript.playing × (v.bytes ≡ [] → ⊥) × (reason.now ≡ trailing_bytes)
 RefusesEnd v _ = ⊥

@@ -1,11 +1,11 @@
 //! The algebras that steps were of: the identities of the first four are hashed once each.
 ghost use Rattle.std.specs.Prelude.{◌≡◌, IsTrue, IfSome};
+ghost use Rattle.p3_fs_core.specs.Algebras.{tag_of};
 ghost use Rattle.p3_fs_core.specs.Interactions.{step_of};
-ghost use Rattle.p3_fs_core.specs.Steps.{step_with};
 ghost use Rattle.p3_fs_core.specs.declared.step.TypeTag.TheVariants.{Algebra};
 
 use p3_field_core::{AlgebraIdentity, Named};
-use p3_fs_core::{Hierarchy, Interaction, Kind, Label, Length, TranscriptField};
+use p3_fs_core::{Declared, Hierarchy, Interaction, Kind, Label, Length, TranscriptField};
 use p3_symmetric::DigestHasher;
 use std::alloc::{AllocError, Global};
 use std::marker::PhantomData;
@@ -48,8 +48,7 @@ impl<D: DigestHasher> Algebras<D> {
         label: Label,
         length: Length,
     ) -> Interaction
-        ensures { step_of result ≡ step_with Hierarchy.Atomic kind label.now
-            (Algebra F.residues.order A.DIMENSION (D.digest_of A.identity)) A.name_bytes length }
+        ensures { step_of result ≡ ⟦<A as Declared<F, D>>⟧.step kind label.now length }
     {
         for known in &self.known {
             if known.is_of::<F, A>() {
@@ -81,7 +80,7 @@ impl<D: DigestHasher> KnownAlgebra<D> {
     // It is this algebra.
     fn is_of<F: TranscriptField, A: AlgebraIdentity<F> + Named>(&self) -> bool
         ensures tag { IsTrue result → (step_of self.now.step).type_tag
-            ≡ Algebra F.residues.order A.DIMENSION (D.digest_of A.identity) }
+            ≡ tag_of ⟦<A as Declared<F, D>>⟧.algebra }
         ensures name { IsTrue result → (step_of self.now.step).type_name ≡ A.name_bytes }
     {
         self.identity == A::algebra_id()

@@ -1,21 +1,12 @@
 //! The count of a bounded step.
 ghost use Rattle.std.specs.Prelude.{◌≡◌, ℕ, ◌≤◌, ◌<◌, ◌^◌, length, take, IfErr};
 ghost use Rattle.p3_challenger_core.specs.Reading.{AreBytes};
-ghost use Rattle.p3_driver_core.specs.Counts.{count_width, count_bytes};
-ghost use Rattle.p3_driver_core.specs.Effects.{alphabet_of, observing_bytes, Does};
+ghost use Rattle.p3_fs_core.specs.Counts.{count_width, count_bytes};
+ghost use Rattle.p3_driver_core.specs.Effects.{observing_bytes, Does};
 
 use p3_challenger_core::{CanObserve, ChallengerError};
-use p3_codecs::Unit;
+use p3_codecs::{AlphabetOf, Unit};
 use p3_fs_core::{bound_byte_width, counts_are_prefix_code, encode_len_be};
-
-/// How many bytes the count of a step takes that carries at most so many values. Not in the Rust crate.
-pub fn count_width(max: usize) -> usize
-    ensures width { result ≡ count_width max }
-    ensures enough { max < 256 ^ result }
-    ensures most { result ≤ 8 }
-{
-    bound_byte_width(max)
-}
 
 /// The count of a step that carries so many values of at most so many, and how many of the bytes it takes.
 ///
@@ -25,7 +16,7 @@ pub fn counted(count: usize, max: usize) -> ([u8; 8], usize)
     ensures bytes { take result.1 result.0 ≡ count_bytes max count }
     ensures most { result.1 ≤ 8 }
 {
-    let width = count_width(max);
+    let width = bound_byte_width(max);
     (encode_len_be(count, width), width)
 }
 
@@ -41,8 +32,8 @@ pub fn observe_count<U: Unit, C: CanObserve<U::Item>>(
 ) -> Result<(), ChallengerError>
     requires alphabet { U.is_alphabet }
     requires within { count ≤ max }
-    ensures does { Does (observing_bytes (alphabet_of U.items U.is_too_long C.observation C.slice_may_leave)
-        (count_bytes max count)) (C.state challenger.old) result (C.state challenger.new) }
+    ensures does { Does (observing_bytes ⟦<U as AlphabetOf<C>>⟧.alphabet (count_bytes max count))
+        (C.state challenger.old) result (C.state challenger.new) }
     ensures memory { IfErr result (λ e. e ≡ ChallengerError.OutOfMemory) }
 {
     let (bytes, width) = counted(count, max);
@@ -65,7 +56,8 @@ pub fn counts_take_the_least_width()
 pub fn counts_are_told()
     ensures told { (max count other : ℕ) → max < 2 ^ 64 → count ≤ max → other ≤ max →
         count_bytes max count ≡ count_bytes max other → count ≡ other }
-    ensures as_long { (max count other : ℕ) → length (count_bytes max count) ≡ length (count_bytes max other) }
+    ensures as_long { (max count other : ℕ) →
+        length (count_bytes max count) ≡ length (count_bytes max other) }
     ensures short { (max count : ℕ) → length (count_bytes max count) ≤ 8 }
     ensures bytes { (max count : ℕ) → AreBytes (count_bytes max count) }
 {

@@ -1,7 +1,7 @@
 //! Each step feeds just the symbols that its meaning names: laws, of every challenger, codec and alphabet.
 ghost use Rattle.std.specs.Prelude.{◌≡◌, ℕ, true, Some, List, length};
-ghost use Rattle.p3_driver_core.specs.Counts.{count_bytes};
-ghost use Rattle.p3_driver_core.specs.Effects.{alphabet_of, untouched, observing, observing_list, observing_bytes};
+ghost use Rattle.p3_fs_core.specs.Counts.{count_bytes};
+ghost use Rattle.p3_driver_core.specs.Effects.{untouched, observing, observing_list, observing_bytes};
 ghost use Rattle.p3_driver_core.specs.Effects.{drawing, drawing_list, in_sequence};
 ghost use Rattle.p3_driver_core.specs.Feeding.{Feeds, OnlyDraws, FeedsItsWitness};
 ghost use Rattle.p3_driver_core.specs.Rejecting.{Rule, drawing_rejecting};
@@ -9,7 +9,7 @@ ghost use Rattle.p3_driver_core.specs.Working.{work_of, checking};
 ghost use Rattle.p3_fs_core.specs.Steps.{Step};
 
 use p3_challenger_core::{CanObserve, CanSampleBits, ChallengerError, Sponge};
-use p3_codecs::{Codec, Unit};
+use p3_codecs::{AlphabetOf, Codec, Unit};
 use p3_grinding::{CanSampleUniformBits, GrindingChallenger};
 
 /// A step of one value feeds just the value's symbols, and a step of a list those of its values in order. Where it is
@@ -35,10 +35,10 @@ pub fn opaque_values_feed_their_symbols<T, C: CanObserve<T>>()
 /// A law: the body is empty, and a caller cites the clause.
 pub fn bytes_feed_their_symbols<U: Unit, C: CanObserve<U::Item>>()
     ensures fixed { (bytes : List ℕ) → Feeds C.fed
-        (observing_bytes (alphabet_of U.items U.is_too_long C.observation C.slice_may_leave) bytes) }
-    ensures counted { (max : ℕ) (bytes : List ℕ) →
-        let alphabet = alphabet_of U.items U.is_too_long C.observation C.slice_may_leave in Feeds C.fed
-        (in_sequence (observing_bytes alphabet (count_bytes max (length bytes))) (observing_bytes alphabet bytes)) }
+        (observing_bytes ⟦<U as AlphabetOf<C>>⟧.alphabet bytes) }
+    ensures counted { (max : ℕ) (bytes : List ℕ) → let alphabet = ⟦<U as AlphabetOf<C>>⟧.alphabet in
+        Feeds C.fed (in_sequence (observing_bytes alphabet (count_bytes max (length bytes)))
+        (observing_bytes alphabet bytes)) }
 {}
 
 /// A step of a list that comes after its count feeds just the symbols of the count's items, and then those of the
@@ -46,9 +46,9 @@ pub fn bytes_feed_their_symbols<U: Unit, C: CanObserve<U::Item>>()
 ///
 /// A law: the body is empty, and a caller cites the clause.
 pub fn counted_values_feed_their_symbols<A, U: Unit, C: CanObserve<U::Item>, Cdc: Codec<C, A>>()
-    ensures { (max : ℕ) (xs : List A) → Feeds C.fed (in_sequence
-        (observing_bytes (alphabet_of U.items U.is_too_long C.observation C.slice_may_leave)
-        (count_bytes max (length xs))) (observing_list Cdc.observation xs)) }
+    ensures { (max : ℕ) (xs : List A) → Feeds C.fed
+        (in_sequence (observing_bytes ⟦<U as AlphabetOf<C>>⟧.alphabet (count_bytes max (length xs)))
+        (observing_list Cdc.observation xs)) }
 {}
 
 /// A step that draws feeds nothing, and makes some number of the challenger's smallest draws, also where it is refused:
@@ -67,7 +67,8 @@ pub fn draws_feed_nothing<A, C: Sponge, Cdc: Codec<C, A>>()
 ///
 /// A law: the body is empty, and a caller cites the clause.
 pub fn bit_draws_feed_nothing<C: CanSampleBits<usize>>()
-    ensures { (width n : ℕ) → OnlyDraws {Symbol = C.Symbol} C.next (drawing_list (C.bits_sampling width) n) }
+    ensures { (width n : ℕ) → OnlyDraws {Symbol = C.Symbol} C.next
+        (drawing_list (C.bits_sampling width) n) }
 {}
 
 /// A step that draws numbers of so many uniform bits feeds nothing, and makes some number of the challenger's smallest
@@ -78,7 +79,8 @@ pub fn uniform_draws_feed_nothing<F, C: CanSampleUniformBits<F>>()
     ensures list { (width n : ℕ) →
         OnlyDraws {Symbol = C.Symbol} C.next (drawing_list (C.uniform true width).draw n) }
     ensures rejecting { (width : ℕ) (rule : Rule ℕ) (limit n : ℕ) →
-        OnlyDraws {Symbol = C.Symbol} C.next (drawing_rejecting (C.uniform true width).draw rule limit n) }
+        OnlyDraws {Symbol = C.Symbol} C.next
+        (drawing_rejecting (C.uniform true width).draw rule limit n) }
 {}
 
 /// A step of a proof of work feeds just the symbols of its witness, with draws before them and after them. Where it is
@@ -90,7 +92,8 @@ pub fn work_feeds_its_witness<C: GrindingChallenger>()
     ensures feeds { (step : Step) (bits : ℕ) (x : C.Witness) → FeedsItsWitness C.next C.fed
         (work_of step C.Witness.residues C.before_witness C.observation C.bits_sampling bits) x }
     ensures free { (step : Step) (x : C.Witness) (s : C.State) →
-        let work = work_of step C.Witness.residues C.before_witness C.observation C.bits_sampling 0 in
+        let work = work_of step C.Witness.residues C.before_witness C.observation C.bits_sampling 0
+        in
         ((checking work x).gives s ≡ Some x) × ((checking work x).after s ≡ s) }
 {}
 

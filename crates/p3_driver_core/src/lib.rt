@@ -19,9 +19,7 @@ mod work;
 
 pub use bound::{TranscriptBound, bind};
 pub use bytes::slices_are_bytes;
-pub use counts::{
-    count_width, counted, counts_are_told, counts_take_the_least_width, observe_count,
-};
+pub use counts::{counted, counts_are_told, counts_take_the_least_width, observe_count};
 pub use feeding::{
     bit_draws_feed_nothing, bytes_feed_their_symbols, counted_values_feed_their_symbols,
     draws_feed_nothing, markers_and_hints_feed_nothing, opaque_values_feed_their_symbols,

@@ -19,7 +19,8 @@ fn draw_taken<T: Copy, C: Sponge, Cdc: Codec<C, T>, R: Fn(&T, &[T]) -> bool>(
     requires secure { 128 ≤ Cdc.SECURITY_BITS }
     requires callable { R.IsAlwaysCallable accept.now }
     ensures { (rule : Rule T) → Computes R.Fn accept.now rule →
-        Takes Cdc.sampling rule limit kept.now (C.state challenger.old) result (C.state challenger.new) }
+        Takes Cdc.sampling rule limit kept.now (C.state challenger.old) result
+        (C.state challenger.new) }
 {
     for _ in 0..limit {
         let candidate = Cdc::sample(challenger)?;
@@ -50,7 +51,8 @@ pub fn draw_accepted<T: Copy, C: Sponge, Cdc: Codec<C, T>, R: Fn(&T, &[T]) -> bo
     requires secure { 128 ≤ Cdc.SECURITY_BITS }
     requires callable { R.IsAlwaysCallable accept.now }
     ensures kept { (rule : Rule T) → Computes R.Fn accept.now rule →
-        TakesAll Cdc.sampling rule limit n bound_values (C.state challenger.old) result (C.state challenger.new) }
+        TakesAll Cdc.sampling rule limit n bound_values (C.state challenger.old) result
+        (C.state challenger.new) }
     ensures count { IfOk result (λ bounds. vec_len bounds ≡ n) }
 {
     let mut bounds = Vec::with_capacity(alloc, n)?;
@@ -70,5 +72,6 @@ pub fn draw_accepted<T: Copy, C: Sponge, Cdc: Codec<C, T>, R: Fn(&T, &[T]) -> bo
 /// A law: the body is empty, and a caller cites the clause.
 pub fn rejecting_draws_keep_the_first_accepted<A, C: Sponge, Cdc: Codec<C, A>>()
     ensures { (rule : Rule A) (limit n : ℕ) (s t : C.State) (xs : List A) →
-        (keeps Cdc.sampling rule limit n [] s ≡ given xs t ↔ KeepsFirst Cdc.sampling rule limit n s xs t) }
+        (keeps Cdc.sampling rule limit n [] s ≡ given xs t
+        ↔ KeepsFirst Cdc.sampling rule limit n s xs t) }
 {}

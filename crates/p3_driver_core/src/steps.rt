@@ -1,19 +1,20 @@
 //! The pattern as a driver plays it: each step is held against the next one before anything else is done.
 ghost use Rattle.std.specs.Prelude.{◌≡◌, ◌≤◌, ◌<◌, ◌↔◌, false, IfErr, IfOk, OnOk, IsOk, IsTrue};
 ghost use Rattle.std.specs.Option.{option_map};
-ghost use Rattle.p3_fs_core.specs.Errors.{misfit_of};
+ghost use Rattle.p3_fs_core.specs.Errors.{pattern_error_of};
 ghost use Rattle.p3_fs_core.specs.Interactions.{step_of};
 ghost use Rattle.p3_fs_core.specs.Steps.{step_with};
 ghost use Rattle.p3_patterns.specs.Playing.{RefusesToPlay, FaultOfPlayEnd, IsPatternError, IsPlayed, next_step};
 ghost use Rattle.p3_driver_core.specs.Opened.{playing_of, Opens};
-ghost use Rattle.p3_driver_core.specs.Transcripts.{algebra_step, bytes_step, uniform_bits_step, halted_player};
+ghost use Rattle.p3_driver_core.specs.Transcripts.{bytes_step, uniform_bits_step, halted_player};
 ghost use Rattle.p3_driver_core.specs.Transcripts.{RefusesLength, RefusesCarried};
 ghost use Rattle.p3_driver_core.specs.Transcripts.{IsOtherLength, longer_list, another_length};
 
 use crate::algebras::Algebras;
 use p3_field_core::{AlgebraIdentity, Named};
 use p3_fs_core::{
-    Hierarchy, Interaction, Kind, Label, Length, PatternError, TranscriptError, TranscriptField,
+    Declared, Hierarchy, Interaction, Kind, Label, Length, PatternError, TranscriptError,
+    TranscriptField,
 };
 use p3_patterns::{InteractionPattern, Pattern, PatternPlayer};
 use p3_symmetric::DigestHasher;
@@ -74,11 +75,10 @@ impl<D: DigestHasher> Steps<D> {
         label: Label,
         length: Length,
     ) -> Result<(), TranscriptError>
-        ensures ok { OnOk result (Opens self.old (algebra_step kind label.now F.residues.order A.DIMENSION
-            (D.digest_of A.identity) A.name_bytes length) self.new) }
+        ensures ok { OnOk result (Opens self.old
+            (⟦<A as Declared<F, D>>⟧.step kind label.now length) self.new) }
         ensures err { IfErr result (λ e. RefusesToPlay (playing_of self.old)
-            (algebra_step kind label.now F.residues.order A.DIMENSION
-            (D.digest_of A.identity) A.name_bytes length) e (playing_of self.new)) }
+            (⟦<A as Declared<F, D>>⟧.step kind label.now length) e (playing_of self.new)) }
     {
         let interaction = self.algebras.step::<F, A>(kind, label, length);
         self.take(interaction)
@@ -92,8 +92,8 @@ impl<D: DigestHasher> Steps<D> {
         length: Length,
     ) -> Result<(), TranscriptError>
         ensures ok { OnOk result (Opens self.old (bytes_step kind label.now length) self.new) }
-        ensures err { IfErr result (λ e. RefusesToPlay (playing_of self.old) (bytes_step kind label.now length) e
-            (playing_of self.new)) }
+        ensures err { IfErr result (λ e. RefusesToPlay (playing_of self.old)
+            (bytes_step kind label.now length) e (playing_of self.new)) }
     {
         self.take(Interaction::bytes(Hierarchy::Atomic, kind, label, length))
     }
@@ -105,9 +105,10 @@ impl<D: DigestHasher> Steps<D> {
         width: usize,
         length: Length,
     ) -> Result<(), TranscriptError>
-        ensures ok { OnOk result (Opens self.old (uniform_bits_step label.now width length) self.new) }
-        ensures err { IfErr result (λ e. RefusesToPlay (playing_of self.old) (uniform_bits_step label.now width length)
-            e (playing_of self.new)) }
+        ensures ok { OnOk result (Opens self.old (uniform_bits_step label.now width length)
+            self.new) }
+        ensures err { IfErr result (λ e. RefusesToPlay (playing_of self.old)
+            (uniform_bits_step label.now width length) e (playing_of self.new)) }
     {
         self.take(Interaction::uniform_bits(
             Hierarchy::Atomic,
@@ -124,7 +125,8 @@ impl<D: DigestHasher> Steps<D> {
     /// where the list is longer. None is taken from then on.
     pub fn within(&mut self, len: usize, max: usize) -> Result<(), TranscriptError>
         ensures ok { OnOk result ((len ≤ max) × (self.new ≡ self.old)) }
-        ensures err { IfErr result (λ e. RefusesLength len max (playing_of self.old) e (playing_of self.new)) }
+        ensures err { IfErr result (λ e. RefusesLength len max (playing_of self.old) e
+            (playing_of self.new)) }
     {
         if self.is_finished() {
             return Err(TranscriptError::Pattern(PatternError::Finished));
@@ -142,8 +144,8 @@ impl<D: DigestHasher> Steps<D> {
     /// [`TranscriptError::BadProofShape`] where the list is longer. None is taken from then on.
     pub fn carried_within(&mut self, len: usize, max: usize) -> Result<(), TranscriptError>
         ensures ok { OnOk result ((len ≤ max) × (self.new ≡ self.old)) }
-        ensures err { IfErr result (λ e. RefusesCarried (max < len) longer_list (playing_of self.old) e
-            (playing_of self.new)) }
+        ensures err { IfErr result (λ e. RefusesCarried (max < len) longer_list
+            (playing_of self.old) e (playing_of self.new)) }
     {
         if self.is_finished() {
             return Err(TranscriptError::Pattern(PatternError::Finished));
@@ -162,9 +164,11 @@ impl<D: DigestHasher> Steps<D> {
     /// The errors are [`PatternError::Finished`] where a step was refused before, and then
     /// [`TranscriptError::BadProofShape`] where the next step has another length. None is taken from then on.
     pub fn carried_as_recorded(&mut self, len: usize) -> Result<(), TranscriptError>
-        ensures ok { OnOk result ((IsOtherLength len (next_step (playing_of self.old)) → ⊥) × (self.new ≡ self.old)) }
-        ensures err { IfErr result (λ e. RefusesCarried (IsOtherLength len (next_step (playing_of self.old)))
-            another_length (playing_of self.old) e (playing_of self.new)) }
+        ensures ok { OnOk result ((IsOtherLength len (next_step (playing_of self.old)) → ⊥) ×
+            (self.new ≡ self.old)) }
+        ensures err { IfErr result (λ e. RefusesCarried
+            (IsOtherLength len (next_step (playing_of self.old))) another_length
+            (playing_of self.old) e (playing_of self.new)) }
     {
         if self.is_finished() {
             return Err(TranscriptError::Pattern(PatternError::Finished));
@@ -204,7 +208,8 @@ impl<D: DigestHasher> Steps<D> {
     /// next step where there is one. It takes no memory.
     pub fn finalize(self) -> Result<(), TranscriptError>
         ensures ok { OnOk result (IsPlayed (playing_of self)) }
-        ensures err { IfErr result (λ e. IsPatternError (λ m. FaultOfPlayEnd (playing_of self) (misfit_of m)) e) }
+        ensures err { IfErr result (λ e. IsPatternError
+            (λ m. FaultOfPlayEnd (playing_of self) (pattern_error_of m)) e) }
         ensures only { IsPlayed (playing_of self) → IsOk result }
     {
         let Steps {

@@ -5,14 +5,15 @@ ghost use Rattle.p3_driver_core.specs.Bound.{bound_value, bound_values};
 ghost use Rattle.p3_driver_core.specs.Meanings as meaning;
 ghost use Rattle.p3_driver_core.specs.Rejecting.{Rule, Computes, drawn_rejecting};
 ghost use Rattle.p3_driver_core.specs.Transcripts.{Transcript, PlaysOrRefuses, KeepsOrder, IsNext, halted};
-ghost use Rattle.p3_driver_core.specs.Transcripts.{algebra_step};
 ghost use Rattle.p3_driver_core.specs.Transcripts.{opaque_step, uniform_bits_step};
+ghost use Rattle.p3_fs_core.specs.declared.step.Kind.TheVariants.{Challenge, Message, Protocol};
+ghost use Rattle.p3_fs_core.specs.declared.step.Length.TheVariants.{Fixed, Scalar};
 
 use crate::TranscriptBound;
 use p3_challenger_core::{CanObserve, Sponge};
 use p3_codecs::{Codec, ExtensionFieldCodec, ScalarCodec};
 use p3_field_core::{AlgebraIdentity, Named};
-use p3_fs_core::{Hierarchy, Kind, Label, Length, TranscriptError, TranscriptField};
+use p3_fs_core::{Declared, Hierarchy, Kind, Label, TranscriptError, TranscriptField};
 use p3_grinding::CanSampleUniformBits;
 use p3_symmetric::DigestHasher;
 
@@ -49,20 +50,20 @@ pub trait SymmetricSteps: Driver {
     /// Opens a container that may hold steps of any kind. It takes no memory.
     fn begin_protocol<T: Named>(&mut self, label: Label) -> Result<(), TranscriptError>
         ensures played { PlaysOrRefuses (meaning.marked {Symbol = Self.Challenger.Symbol}
-            (marker_of Hierarchy.Begin Kind.Protocol label.now T.name_bytes))
+            (marker_of Hierarchy.Begin Protocol label.now T.name_bytes))
             (transcript self.old) (λ _. tt {0}) result (transcript self.new) }
         ensures bytes { bytes self.new ≡ bytes self.old }
         ensures only { IsNext (transcript self.old).playing
-            (marker_of Hierarchy.Begin Kind.Protocol label.now T.name_bytes) → IsOk result };
+            (marker_of Hierarchy.Begin Protocol label.now T.name_bytes) → IsOk result };
 
     /// Closes a container that may hold steps of any kind. It takes no memory.
     fn end_protocol<T: Named>(&mut self, label: Label) -> Result<(), TranscriptError>
         ensures played { PlaysOrRefuses (meaning.marked {Symbol = Self.Challenger.Symbol}
-            (marker_of Hierarchy.End Kind.Protocol label.now T.name_bytes))
+            (marker_of Hierarchy.End Protocol label.now T.name_bytes))
             (transcript self.old) (λ _. tt {0}) result (transcript self.new) }
         ensures bytes { bytes self.new ≡ bytes self.old }
         ensures only { IsNext (transcript self.old).playing
-            (marker_of Hierarchy.End Kind.Protocol label.now T.name_bytes) → IsOk result };
+            (marker_of Hierarchy.End Protocol label.now T.name_bytes) → IsOk result };
 
     /// Observes a value as the challenger itself knows how.
     ///
@@ -75,8 +76,8 @@ pub trait SymmetricSteps: Driver {
     where
         Self::Challenger: CanObserve<T>,
         requires { (copy : T) → T.is_clone value copy → copy ≡ value }
-        ensures played { PlaysOrRefuses
-            (meaning.observed (opaque_step Kind.Message label.now Length.Scalar) Self.Challenger.observation value)
+        ensures played { PlaysOrRefuses (meaning.observed
+            (opaque_step Message label.now Scalar) Self.Challenger.observation value)
             (transcript self.old) bound_value result (transcript self.new) }
         ensures bytes { bytes self.new ≡ bytes self.old };
 
@@ -86,10 +87,10 @@ pub trait SymmetricSteps: Driver {
         EF: AlgebraIdentity<F> + Named,
         Cdc: ScalarCodec<Self::Challenger, F>,
     >(&mut self, label: Label, value: &EF) -> Result<TranscriptBound<EF>, TranscriptError>
-        ensures played { let step = algebra_step Kind.Message label.now F.residues.order EF.DIMENSION
-            (Self.Digest.digest_of EF.identity) EF.name_bytes Length.Scalar in
-            PlaysOrRefuses (meaning.observed step
-            ⟦<ExtensionFieldCodec<F, EF, Cdc> as Codec<Self::Challenger, EF>>⟧.observation value.now)
+        ensures played { let step = ⟦<EF as Declared<F, Self::Digest>>⟧.step Message label.now
+            Scalar in
+            let codec = ⟦<ExtensionFieldCodec<F, EF, Cdc> as Codec<Self::Challenger, EF>>⟧ in
+            PlaysOrRefuses (meaning.observed step codec.observation value.now)
             (transcript self.old) bound_value result (transcript self.new) }
         ensures bytes { bytes self.new ≡ bytes self.old };
 
@@ -103,10 +104,10 @@ pub trait SymmetricSteps: Driver {
         Cdc: ScalarCodec<Self::Challenger, F>,
     >(&mut self, label: Label) -> Result<TranscriptBound<EF>, TranscriptError>
         requires { 128 ≤ Cdc.SECURITY_BITS }
-        ensures played { let step = algebra_step Kind.Challenge label.now F.residues.order EF.DIMENSION
-            (Self.Digest.digest_of EF.identity) EF.name_bytes Length.Scalar in
-            PlaysOrRefuses (meaning.drawn {Symbol = Self.Challenger.Symbol} step
-            ⟦<ExtensionFieldCodec<F, EF, Cdc> as Codec<Self::Challenger, EF>>⟧.sampling)
+        ensures played { let step = ⟦<EF as Declared<F, Self::Digest>>⟧.step Challenge label.now
+            Scalar in
+            let codec = ⟦<ExtensionFieldCodec<F, EF, Cdc> as Codec<Self::Challenger, EF>>⟧ in
+            PlaysOrRefuses (meaning.drawn {Symbol = Self.Challenger.Symbol} step codec.sampling)
             (transcript self.old) bound_value result (transcript self.new) }
         ensures bytes { bytes self.new ≡ bytes self.old };
 
@@ -136,13 +137,13 @@ pub trait SymmetricSteps: Driver {
         requires secure { 128 ≤ Cdc.SECURITY_BITS }
         requires callable { R.IsAlwaysCallable accept.now }
         ensures played { (rule : Rule EF) → Computes R.Fn accept.now rule →
-            let step = algebra_step Kind.Challenge label.now F.residues.order EF.DIMENSION
-            (Self.Digest.digest_of EF.identity) EF.name_bytes (Length.Fixed n) in
-            PlaysOrRefuses (drawn_rejecting {Symbol = Self.Challenger.Symbol} step
-            ⟦<ExtensionFieldCodec<F, EF, Cdc> as Codec<Self::Challenger, EF>>⟧.sampling rule limit n)
+            let step = ⟦<EF as Declared<F, Self::Digest>>⟧.step Challenge label.now (Fixed n) in
+            let codec = ⟦<ExtensionFieldCodec<F, EF, Cdc> as Codec<Self::Challenger, EF>>⟧ in
+            PlaysOrRefuses (drawn_rejecting {Symbol = Self.Challenger.Symbol} step codec.sampling
+            rule limit n)
             (transcript self.old) bound_values result (transcript self.new) }
-        ensures order { let step = algebra_step Kind.Challenge label.now F.residues.order EF.DIMENSION
-            (Self.Digest.digest_of EF.identity) EF.name_bytes (Length.Fixed n) in
+        ensures order { let step = ⟦<EF as Declared<F, Self::Digest>>⟧.step Challenge label.now
+            (Fixed n) in
             KeepsOrder step (transcript self.old) result (transcript self.new) }
         ensures count { IfOk result (λ bounds. vec_len bounds ≡ n) }
         ensures bytes { bytes self.new ≡ bytes self.old }
@@ -160,8 +161,8 @@ pub trait SymmetricSteps: Driver {
     where
         Self::Challenger: CanSampleUniformBits<F>,
         requires { width ≤ Self.Challenger.most_bits }
-        ensures played { PlaysOrRefuses
-            (meaning.drawn_list {Symbol = Self.Challenger.Symbol} (uniform_bits_step label.now width (Length.Fixed n))
+        ensures played { PlaysOrRefuses (meaning.drawn_list {Symbol = Self.Challenger.Symbol}
+            (uniform_bits_step label.now width (Fixed n))
             (Self.Challenger.uniform true width).draw n)
             (transcript self.old) bound_values result (transcript self.new) }
         ensures count { IfOk result (λ bounds. vec_len bounds ≡ n) }

@@ -16,11 +16,13 @@ fn draw_uniform<F, C: CanSampleUniformBits<F>>(
     width: usize,
 ) -> Result<usize, ChallengerError>
     requires { width ≤ C.most_bits }
-    ensures drawn { IfOk result (λ x. (C.uniform true width).draw.sampled (C.state challenger.old) ≡ Some x) }
+    ensures drawn { IfOk result (λ x. (C.uniform true width).draw.sampled (C.state challenger.old)
+        ≡ Some x) }
     ensures after { OnOk result (
         C.state challenger.new ≡ (C.uniform true width).draw.after (C.state challenger.old)) }
     ensures err { IfErr result (λ e.
-        RefusesDraw (C.uniform true width).draw e (C.state challenger.old) (C.state challenger.new)) }
+        RefusesDraw (C.uniform true width).draw e (C.state challenger.old)
+        (C.state challenger.new)) }
 {
     match challenger.sample_uniform_bits(width, true) {
         Ok(number) => Ok(number),
@@ -44,9 +46,11 @@ pub fn draw_uniform_numbers<F, C: CanSampleUniformBits<F>>(
     ensures drawn { IfOk result (λ bounds.
         draws (C.uniform true width).draw n (C.state challenger.old) ≡ Some (bound_values bounds)) }
     ensures after { OnOk result (
-        C.state challenger.new ≡ after_draws (C.uniform true width).draw n (C.state challenger.old)) }
+        C.state challenger.new ≡ after_draws (C.uniform true width).draw n
+        (C.state challenger.old)) }
     ensures err { IfErr result (λ e.
-        RefusesDrawVec (C.uniform true width).draw n e (C.state challenger.old) (C.state challenger.new)) }
+        RefusesDrawVec (C.uniform true width).draw n e (C.state challenger.old)
+        (C.state challenger.new)) }
     ensures count { IfOk result (λ bounds. vec_len bounds ≡ n) }
 {
     let mut bounds = Vec::with_capacity(alloc, n)?;
@@ -66,7 +70,8 @@ fn draw_taken_number<F, C: CanSampleUniformBits<F>, R: Fn(usize, &[usize]) -> bo
 ) -> Result<usize, ChallengerError>
     requires within { width ≤ C.most_bits }
     requires callable { R.IsAlwaysCallable accept.now }
-    ensures { (rule : Rule ℕ) → ComputesOfValues R.Fn accept.now rule → Takes (C.uniform true width).draw rule limit
+    ensures { (rule : Rule ℕ) → ComputesOfValues R.Fn accept.now rule →
+        Takes (C.uniform true width).draw rule limit
         kept.now (C.state challenger.old) result (C.state challenger.new) }
 {
     for _ in 0..limit {
@@ -95,7 +100,8 @@ pub fn draw_accepted_numbers<F, C: CanSampleUniformBits<F>, R: Fn(usize, &[usize
 ) -> Result<Vec<TranscriptBound<usize>>, ChallengerError>
     requires within { width ≤ C.most_bits }
     requires callable { R.IsAlwaysCallable accept.now }
-    ensures kept { (rule : Rule ℕ) → ComputesOfValues R.Fn accept.now rule → TakesAll (C.uniform true width).draw rule
+    ensures kept { (rule : Rule ℕ) → ComputesOfValues R.Fn accept.now rule →
+        TakesAll (C.uniform true width).draw rule
         limit n bound_values (C.state challenger.old) result (C.state challenger.new) }
     ensures count { IfOk result (λ bounds. vec_len bounds ≡ n) }
 {

@@ -17,10 +17,11 @@ use Rattle.p3_fs_core.specs.declared.step.Kind.TheVariants.{Message, Pow}
 use Rattle.p3_fs_core.specs.declared.step.Length.TheVariants.{Bounded, Fixed}
 use Rattle.p3_grinding.specs.Checks.{draws_nothing, IsLeast}
 use Rattle.p3_patterns.specs.Playing.{Playing, next_step}
-use Rattle.p3_driver_core.specs.Counts.{count_width}
-use Rattle.p3_driver_core.specs.Effects.{Alphabet, alphabet_of}
+use Rattle.p3_fs_core.specs.Counts.{count_width}
+use Rattle.p3_fs_core.specs.Alphabet.{Alphabet, alphabet_of}
 use Rattle.p3_driver_core.specs.Meanings.{sent_bounded, sent_bytes_bounded, hinted}
-use Rattle.p3_driver_core.specs.Transcripts.{Meaning, IsNext, step_on, algebra_step}
+use Rattle.p3_fs_core.specs.Algebras.{algebra_of, algebra_step}
+use Rattle.p3_driver_core.specs.Transcripts.{Meaning, IsNext, step_on}
 use Rattle.p3_driver_core.specs.Working.{Work, work_of, sent_work, RefusesToGrind}
 use Rattle.p3_driver_core.specs.Driving.{Driving}
 use Rattle.p3_driver_core.specs.Proving.{Writes, RefusesToWrite, RefusesLongList, Unwritten}
@@ -42,7 +43,7 @@ in_field = alphabet_of (packed numbers 1) (λ len. 257 ≤ len) kept (λ _ _ _. 
 -- 5 and 256, in a list of at most three
 abbrev two_numbers : Meaning (List ℕ) ℕ (List ℕ)
 two_numbers =
-    sent_bounded (algebra_step Message (codes "xs") 257 1 (replicate 32 0) (codes "F257") (Bounded 3)) in_field 3 kept
+    sent_bounded (algebra_step Message (codes "xs") (algebra_of 257 1 (replicate 32 0) (codes "F257")) (Bounded 3)) in_field 3 kept
     spelled (5 ∷ 256 ∷ [])
 
 -- a prover whose challenger was fed 9, and which has written the byte aa; and one later
@@ -162,7 +163,7 @@ next_bits bits = unrefused_draw (λ s. Some (total s % 2 ^ bits)) (λ s. 0 ∷ s
 
 abbrev work : ℕ → Work (List ℕ) ℕ ℕ
 work bits =
-    work_of (algebra_step Pow (codes "w") 257 1 (replicate 32 0) (codes "F257") (Fixed bits)) numbers draws_nothing kept
+    work_of (algebra_step Pow (codes "w") (algebra_of 257 1 (replicate 32 0) (codes "F257")) (Fixed bits)) numbers draws_nothing kept
     next_bits bits
 
 differs : Some false ≡ Some true → ⊥
@@ -217,7 +218,7 @@ zero_written playing next =
 -- where each draw gives 1, no witness passes
 abbrev hopeless : Work (List ℕ) ℕ ℕ
 hopeless =
-    work_of (algebra_step Pow (codes "w") 257 1 (replicate 32 0) (codes "F257") (Fixed 1)) numbers draws_nothing kept
+    work_of (algebra_step Pow (codes "w") (algebra_of 257 1 (replicate 32 0) (codes "F257")) (Fixed 1)) numbers draws_nothing kept
     (λ _. unrefused_draw (λ s. Some 1) (λ s. 0 ∷ s)) 1
 
 none_found : (playing : Playing) → IsNext playing hopeless.interaction →

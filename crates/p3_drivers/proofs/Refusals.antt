@@ -10,8 +10,9 @@ use Rattle.p3_fs_core.specs.declared.error.TranscriptError.TheVariants.{MissingE
 use Rattle.p3_fs_core.specs.declared.error.TranscriptError.TheVariants.{Challenger, LabelTooLong, OutOfMemory}
 use Rattle.p3_challenger_core.specs.Observation.{Observation, observed_all}
 use Rattle.p3_fs_core.specs.Encoding.{Encoding}
-use Rattle.p3_driver_core.specs.Counts.{count_bytes}
-use Rattle.p3_driver_core.specs.Effects.{Effect, Alphabet, observing_bytes}
+use Rattle.p3_fs_core.specs.Counts.{count_bytes}
+use Rattle.p3_fs_core.specs.Alphabet.{Alphabet}
+use Rattle.p3_driver_core.specs.Effects.{Effect, observing_bytes}
 use Rattle.p3_driver_core.specs.Transcripts.{IsNext, Abandons, step_on}
 use Rattle.p3_drivers.proofs.ValuesInTurn.{values-as_many}
 use Rattle.p3_driver_core.specs.Reads.{Read, Reading, FailsFor, FailsForList, reading_first, then_read}

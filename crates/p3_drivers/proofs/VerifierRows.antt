@@ -14,9 +14,10 @@ use Rattle.p3_fs_core.specs.declared.step.Kind.TheVariants.{Message, Pow}
 use Rattle.p3_fs_core.specs.declared.step.Length.{Length}
 use Rattle.p3_fs_core.specs.declared.step.Length.TheVariants.{Scalar, Fixed, Bounded}
 use Rattle.p3_patterns.specs.Playing.{Playing, IsPlayed}
-use Rattle.p3_driver_core.specs.Counts.{count_width}
-use Rattle.p3_driver_core.specs.Effects.{Alphabet, alphabet_of}
-use Rattle.p3_driver_core.specs.Transcripts.{IsNext, step_on, algebra_step}
+use Rattle.p3_fs_core.specs.Counts.{count_width}
+use Rattle.p3_fs_core.specs.Alphabet.{Alphabet, alphabet_of}
+use Rattle.p3_fs_core.specs.Algebras.{algebra_of, algebra_step}
+use Rattle.p3_driver_core.specs.Transcripts.{IsNext, step_on}
 use Rattle.p3_driver_core.specs.Working.{Work, work_of}
 use Rattle.p3_driver_core.specs.Reads.{Read, Reading, read_each, received, received_list, received_bounded}
 use Rattle.p3_driver_core.specs.Reads.{received_bytes, received_bytes_bounded, hint_received_bounded, received_work}
@@ -39,7 +40,7 @@ as_they_are = alphabet_of (λ bytes. bytes) (λ _. ⊥) kept (λ _ _ _. ⊥)
 
 -- a step of elements, whose label and digest show nowhere
 abbrev step_of : Length → Step
-step_of length = algebra_step Message (codes "xs") 2013265921 1 (replicate 32 0) (codes "BabyBear") length
+step_of length = algebra_step Message (codes "xs") (algebra_of 2013265921 1 (replicate 32 0) (codes "BabyBear")) length
 
 -- nothing is read for this reason; this is left, and this was absorbed
 abbrev nothing_read : {A : Type 0} → List ℕ → List ℕ → (List ℕ → List ℕ) → Read (List ℕ) A
@@ -251,7 +252,7 @@ next_bits bits = unrefused_draw (λ s. Some (total s % 2 ^ bits)) (λ s. 0 ∷ s
 
 abbrev work : ℕ → Work (List ℕ) ℕ ℕ
 work bits =
-    work_of (algebra_step Pow (codes "w") 2013265921 1 (replicate 32 0) (codes "BabyBear") (Fixed bits)) numbers
+    work_of (algebra_step Pow (codes "w") (algebra_of 2013265921 1 (replicate 32 0) (codes "BabyBear")) (Fixed bits)) numbers
     draws_nothing kept next_bits bits
 
 -- of three bits: 9 and 15 are 24, though 9 and 7 would do

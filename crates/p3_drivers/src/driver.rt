@@ -23,7 +23,7 @@ ghost use Rattle.p3_driver_core.specs.Transcripts.{halted};
 ghost use Rattle.p3_driver_core.specs.Verifying.{EndsReading, RefusesEnd};
 ghost use Rattle.p3_drivers.specs.DriverLends.{lends_challenger};
 ghost use Rattle.p3_drivers.specs.Drivers.{driving_of, proving_of, verifying_of};
-ghost use Rattle.p3_fs_core.specs.Errors.{misfit_of, IsBadShape};
+ghost use Rattle.p3_fs_core.specs.Errors.{pattern_error_of, IsBadShape};
 ghost use Rattle.p3_patterns.specs.Playing.{FaultOfPlayEnd, IsPatternError, IsPlayed};
 
 mod draws;
@@ -116,8 +116,10 @@ impl<U: Unit, C: CanObserve<U::Item> + Drop, D: DigestHasher> ProverState<C, U, 
         ensures ok { let seed = seed_of_separator D.digest_of separator.now in
             IfOk result (λ prover. proving_of C.state prover ≡ record {
               transcript = record {
-                challenger = observed_all C.observation.observed (C.state challenger) (U.items seed);
-                playing = record { pattern = pattern_of separator.now; position = 0; finished = false };
+                challenger =
+                    observed_all C.observation.observed (C.state challenger) (U.items seed);
+                playing =
+                    record { pattern = pattern_of separator.now; position = 0; finished = false };
               };
               bytes = [];
             }) }
@@ -148,8 +150,10 @@ impl<'a, U: Unit, C: CanObserve<U::Item> + Drop, D: DigestHasher> VerifierState<
         ensures ok { let seed = seed_of_separator D.digest_of separator.now in
             IfOk result (λ verifier. verifying_of C.state verifier ≡ record {
               transcript = record {
-                challenger = observed_all C.observation.observed (C.state challenger) (U.items seed);
-                playing = record { pattern = pattern_of separator.now; position = 0; finished = false };
+                challenger =
+                    observed_all C.observation.observed (C.state challenger) (U.items seed);
+                playing =
+                    record { pattern = pattern_of separator.now; position = 0; finished = false };
               };
               bytes = narg.now;
             }) }
@@ -174,8 +178,10 @@ impl<U: Unit, C: CanObserve<U::Item> + Drop, D: DigestHasher, P: Tape> DriverSta
         ensures ok { let seed = seed_of_separator D.digest_of separator.now in
             IfOk result (λ driver. driving_of C.state P.bytes driver ≡ record {
               transcript = record {
-                challenger = observed_all C.observation.observed (C.state challenger) (U.items seed);
-                playing = record { pattern = pattern_of separator.now; position = 0; finished = false };
+                challenger =
+                    observed_all C.observation.observed (C.state challenger) (U.items seed);
+                playing =
+                    record { pattern = pattern_of separator.now; position = 0; finished = false };
               };
               bytes = P.bytes tape;
             }) }
@@ -210,8 +216,10 @@ impl<C: Sponge, U, D: DigestHasher, P: Tape> DriverState<C, U, D, P> {
     /// step is played from there, the pattern's order is kept, and the bytes of the proof are those of its steps. The
     /// two sides draw the same challenges only if both callers made the same changes between the same steps.
     pub fn challenger_mut(&mut self) -> &mut C
-        ensures* writes_back { sem 𝓛 (lends_challenger C.row U.row D.row P.row D.DigestHasher self.entry result) }
-        ensures lent { C.state result.now ≡ (driving_of C.state P.bytes self.old).transcript.challenger }
+        ensures* writes_back { sem 𝓛
+            (lends_challenger C.row U.row D.row P.row D.DigestHasher self.entry result) }
+        ensures lent { C.state result.now
+            ≡ (driving_of C.state P.bytes self.old).transcript.challenger }
     {
         &mut self.challenger
     }
@@ -224,7 +232,8 @@ impl<C: Sponge, U, D: DigestHasher, P: Tape> DriverState<C, U, D, P> {
     pub fn halt(&mut self)
         ensures transcript { (driving_of C.state P.bytes self.new).transcript ≡ halted
             (driving_of C.state P.bytes self.old).transcript }
-        ensures bytes { (driving_of C.state P.bytes self.new).bytes ≡ (driving_of C.state P.bytes self.old).bytes }
+        ensures bytes { (driving_of C.state P.bytes self.new).bytes
+            ≡ (driving_of C.state P.bytes self.old).bytes }
     {
         self.steps.halt();
     }
@@ -265,7 +274,8 @@ impl<C: Sponge + Drop, U, D: DigestHasher> ProverState<C, U, D> {
         ensures ok { IfOk result (λ narg. IsPlayed (proving_of C.state self).transcript.playing
             × (narg.items ≡ (proving_of C.state self).bytes)) }
         ensures err { IfErr result (λ e.
-            IsPatternError (λ m. FaultOfPlayEnd (proving_of C.state self).transcript.playing (misfit_of m)) e) }
+            IsPatternError (λ m. FaultOfPlayEnd (proving_of C.state self).transcript.playing
+            (pattern_error_of m)) e) }
         ensures only { IsPlayed (proving_of C.state self).transcript.playing → IsOk result }
     {
         let (narg, _challenger) = self.finish()?;
@@ -280,7 +290,8 @@ impl<C: Sponge + Drop, U, D: DigestHasher> ProverState<C, U, D> {
             × (end.0.items ≡ (proving_of C.state self).bytes)
             × (C.state end.1 ≡ (proving_of C.state self).transcript.challenger)) }
         ensures err { IfErr result (λ e.
-            IsPatternError (λ m. FaultOfPlayEnd (proving_of C.state self).transcript.playing (misfit_of m)) e) }
+            IsPatternError (λ m. FaultOfPlayEnd (proving_of C.state self).transcript.playing
+            (pattern_error_of m)) e) }
         ensures only { IsPlayed (proving_of C.state self).transcript.playing → IsOk result }
     {
         let DriverState {

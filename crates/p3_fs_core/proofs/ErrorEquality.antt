@@ -13,7 +13,7 @@ use Rattle.p3_fs_core.specs.declared.error.MissingEndInfo.{MissingEndInfo}
 use Rattle.p3_fs_core.specs.declared.interaction.Interaction.{Interaction}
 use Rattle.p3_fs_core.specs.contracts.interaction.Interaction as interaction_type
 use Rattle.p3_fs_core.specs.contracts.interaction.InteractionPartialEq.TheImpl as interactions
-use Rattle.p3_fs_core.specs.contracts.error.PatternError as misfits
+use Rattle.p3_fs_core.specs.contracts.error.PatternError as pattern_errors
 use denote.Enum.Declared.{Choice}
 use Rattle.p3_fs_core.specs.contracts.error.PatternErrorPartialEq.TheImpl as pattern_errors_compared
 use Rattle.p3_fs_core.specs.contracts.error.TranscriptError as refusals
@@ -25,8 +25,8 @@ use Rattle.p3_fs_core.specs.contracts.error.MissingEndInfoPartialEq.TheImpl as m
 use Rattle.std.specs.contracts.prelude.RefStrPartialEq.TheImpl as texts
 use Rattle.std.specs.contracts.prelude.UsizePartialEq.TheImpl as numbers
 use Rattle.p3_fs_core.specs.Errors.{missing_begin, invalid_kind, mismatched_begin_end, missing_end, Refusal, fault}
-use Rattle.p3_fs_core.specs.Errors.{bad_proof_shape, misfit, challenger_refused, label_too_long, out_of_memory}
-use Rattle.p3_fs_core.specs.Errors.{misfit_of, refusal_of}
+use Rattle.p3_fs_core.specs.Errors.{bad_proof_shape, pattern_error, challenger_refused, label_too_long, out_of_memory}
+use Rattle.p3_fs_core.specs.Errors.{pattern_error_of, refusal_of}
 use Rattle.p3_fs_core.specs.Interactions.{step_of}
 use Rattle.p3_fs_core.specs.Steps.{Step}
 use Rattle.std.proofs.lemmas.Bool.Decides.{Decides-and, Decides-like, Decides-eqb}
@@ -35,21 +35,21 @@ use Rattle.p3_fs_core.proofs.Variants.{SeenFrom, compared_as_seen}
 
 -- ---- why a step does not fit
 
-misfit_place : PatternError Step → ℕ
-misfit_place Finished = 0
-misfit_place (NoMoreSteps received) = 1
-misfit_place (WrongStep received expected) = 2
-misfit_place (Unplayed expected) = 3
-misfit_place (OverCap len max) = 4
+pattern_error_place : PatternError Step → ℕ
+pattern_error_place Finished = 0
+pattern_error_place (NoMoreSteps received) = 1
+pattern_error_place (WrongStep received expected) = 2
+pattern_error_place (Unplayed expected) = 3
+pattern_error_place (OverCap len max) = 4
 
 numbers-equal : (m n : ℕ) → (numbers.ghosts.eq m n ≡ true ↔ m ≡ n)
 numbers-equal = Decides-eqb
 
-misfit_seen : Choice (misfits.the_parts interaction_type.the_row) → PatternError Step
-misfit_seen c = misfit_of (misfits.the_make interaction_type.the_row c)
+pattern_error_seen : Choice (pattern_errors.the_parts interaction_type.the_row) → PatternError Step
+pattern_error_seen c = pattern_error_of (pattern_errors.the_make interaction_type.the_row c)
 
-misfits-seen :
-    SeenFrom misfit_place 0 (misfits.the_parts interaction_type.the_row) (
+pattern_errors-seen :
+    SeenFrom pattern_error_place 0 (pattern_errors.the_parts interaction_type.the_row) (
       λ a b. true,
       (
         λ a b. interactions.ghosts.eq a.0 b.0,
@@ -61,9 +61,9 @@ misfits-seen :
           ),
         ),
       ),
-    ) misfit_seen
-unfolding misfit_place misfit_seen
-misfits-seen = (
+    ) pattern_error_seen
+unfolding pattern_error_place pattern_error_seen
+pattern_errors-seen = (
   λ x y. (λ e. refl, λ e. refl),
   λ x. refl,
   (
@@ -86,17 +86,17 @@ misfits-seen = (
   ),
 )
 
-pub equal_misfits : (a b : PatternError Interaction) →
+pub equal_pattern_errors : (a b : PatternError Interaction) →
     ((pattern_errors_compared.ghosts interaction_type.the_row interactions.ghosts interactions.dict).eq a b ≡ true
-    ↔ misfit_of a ≡ misfit_of b)
-unfolding misfit_seen
-equal_misfits a b =
+    ↔ pattern_error_of a ≡ pattern_error_of b)
+unfolding pattern_error_seen
+equal_pattern_errors a b =
     let row = interaction_type.the_row in
-    let first = ap misfit_of (misfits.the_eta row a) in
-    let second = ap misfit_of (misfits.the_eta row b) in
+    let first = ap pattern_error_of (pattern_errors.the_eta row a) in
+    let second = ap pattern_error_of (pattern_errors.the_eta row b) in
     Decides-like _ (λ e. sym first ∙ e ∙ second) (λ e. first ∙ e
-    ∙ sym second) (compared_as_seen misfit_place 0 (misfits.the_parts row) _ misfit_seen misfits-seen
-    (misfits.as_values row a) (misfits.as_values row b))
+    ∙ sym second) (compared_as_seen pattern_error_place 0 (pattern_errors.the_parts row) _ pattern_error_seen pattern_errors-seen
+    (pattern_errors.as_values row a) (pattern_errors.as_values row b))
 
 -- ---- why a transcript was refused
 
@@ -106,7 +106,7 @@ place (fault (invalid_kind begin_position opener position s)) = 1
 place (fault (mismatched_begin_end begin_position opener position closer)) = 2
 place (fault (missing_end position opener)) = 3
 place (bad_proof_shape reason) = 4
-place (misfit m) = 5
+place (pattern_error m) = 5
 place (challenger_refused e) = 6
 place label_too_long = 7
 place out_of_memory = 8
@@ -197,7 +197,7 @@ refusals-seen = (
           λ x y. Decides-like _ (λ e. ap bad_proof_shape e) (λ e. cc) (equal_texts x.0 y.0),
           λ x. refl,
           (
-            λ x y. Decides-like _ (λ e. ap misfit e) (λ e. cc) (equal_misfits x.0 y.0),
+            λ x y. Decides-like _ (λ e. ap pattern_error e) (λ e. cc) (equal_pattern_errors x.0 y.0),
             λ x. refl,
             (
               λ x y. (λ e. ap challenger_refused (challenger-same x.0 y.0 e), λ e. challenger-self x.0 y.0 (cc)),

@@ -1,5 +1,5 @@
--- What an alphabet's observation of a byte string may be refused for.
-use Rattle.std.specs.Prelude.{◌≡◌, ◌⊎◌, List, [], ◌∷◌}
+-- Alphabets of a challenger, and what the observation of a byte string may be refused for.
+use Rattle.std.specs.Prelude.{◌≡◌, ℕ, ◌⊎◌, List, [], ◌∷◌}
 use Rattle.p3_challenger_core.specs.Observation.{Observation, LeavesInCalls}
 use Rattle.p3_challenger_core.specs.declared.error.ChallengerError.{ChallengerError}
 use Rattle.p3_challenger_core.specs.declared.error.ChallengerError.TheVariants.{OutOfMemory, TooLong}
@@ -20,3 +20,16 @@ LeavesItems o slice_may_leave s items t = slice_may_leave s items t ⊎ LeavesIn
 abbrev pub AreItems : {T : Type 0} → (T → Type 0) → List T → Type 0
 AreItems IsItem [] = Unit {0}
 AreItems IsItem (x ∷ xs) = IsItem x × AreItems IsItem xs
+
+-- an alphabet: what a byte string is in it, the lengths that are too long for it, and what observing an item, or
+-- items as one slice, does
+pub record Alphabet (S Symbol I : Type 0) : Type 1 where
+  pub items : List ℕ → List I
+  pub is_too_long : ℕ → Type 0
+  pub item : Observation S Symbol I
+  pub slice_may_leave : S → List I → S → Type 0
+
+abbrev pub alphabet_of : {S Symbol I : Type 0} → (List ℕ → List I) → (ℕ → Type 0) → Observation S Symbol I →
+    (S → List I → S → Type 0) → Alphabet S Symbol I
+alphabet_of items is_too_long item slice_may_leave =
+    record { items = items; is_too_long = is_too_long; item = item; slice_may_leave = slice_may_leave }

@@ -42,18 +42,18 @@ pub data Fault : Type 0 where
   missing_end : (position : ℕ) (opener : Step) → Fault
 
 -- why a step does not fit a pattern, with its steps wherever their texts lie
-abbrev pub misfit_of : PatternError Interaction → PatternError Step
-misfit_of Finished = Finished
-misfit_of (NoMoreSteps received) = NoMoreSteps (step_of received)
-misfit_of (WrongStep received expected) = WrongStep (step_of received) (step_of expected)
-misfit_of (Unplayed expected) = Unplayed (step_of expected)
-misfit_of (OverCap len max) = OverCap len max
+abbrev pub pattern_error_of : PatternError Interaction → PatternError Step
+pattern_error_of Finished = Finished
+pattern_error_of (NoMoreSteps received) = NoMoreSteps (step_of received)
+pattern_error_of (WrongStep received expected) = WrongStep (step_of received) (step_of expected)
+pattern_error_of (Unplayed expected) = Unplayed (step_of expected)
+pattern_error_of (OverCap len max) = OverCap len max
 
 -- why a transcript was refused
 pub data Refusal : Type 0 where
   fault : Fault → Refusal
   bad_proof_shape : (reason : List ℕ) → Refusal
-  misfit : PatternError Step → Refusal
+  pattern_error : PatternError Step → Refusal
   challenger_refused : ChallengerError → Refusal
   label_too_long : Refusal
   out_of_memory : Refusal
@@ -67,7 +67,7 @@ refusal_of (MismatchedBeginEnd info) =
     fault (mismatched_begin_end info.begin_position (step_of info.begin) info.end_position (step_of info.end))
 refusal_of (MissingEnd info) = fault (missing_end info.position (step_of info.begin))
 refusal_of (BadProofShape reason) = bad_proof_shape reason.now
-refusal_of (Pattern e) = misfit (misfit_of e)
+refusal_of (Pattern e) = pattern_error (pattern_error_of e)
 refusal_of (Challenger e) = challenger_refused e
 refusal_of LabelTooLong = label_too_long
 refusal_of OutOfMemory = out_of_memory

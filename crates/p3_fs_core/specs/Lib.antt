@@ -1,7 +1,10 @@
+pub mod Algebras
 pub mod Alphabet
 pub mod AlphabetLaws
 pub mod BigEndian
 pub mod BigEndianLaws
+pub mod CountLaws
+pub mod Counts
 pub mod DecodingLaws
 pub mod InteractionLaws
 pub mod Interactions

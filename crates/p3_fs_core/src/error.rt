@@ -183,16 +183,16 @@ impl<T: Drop> From<AllocFailed<T>> for TranscriptError {
 
 impl PatternError {
     ghost use Rattle.std.specs.Prelude.{◌≡◌, ◌↔◌, true};
-    ghost use Rattle.p3_fs_core.specs.Errors.{misfit_of};
+    ghost use Rattle.p3_fs_core.specs.Errors.{pattern_error_of};
 
     /// Two errors compare equal exactly where they say the same: that of one variant, with the same steps and numbers,
     /// wherever the steps' texts lie.
     ///
     /// A law: the body is empty, and a caller cites the clause.
-    #[tactic(auto, using(crate::proofs::ErrorEquality::equal_misfits))]
+    #[tactic(auto, using(crate::proofs::ErrorEquality::equal_pattern_errors))]
     pub fn compared_by_parts()
         ensures { (a b : PatternError Interaction) →
-            (⟦<PatternError as PartialEq>⟧.eq a b ≡ true ↔ misfit_of a ≡ misfit_of b) }
+            (⟦<PatternError as PartialEq>⟧.eq a b ≡ true ↔ pattern_error_of a ≡ pattern_error_of b) }
     {}
 }
 

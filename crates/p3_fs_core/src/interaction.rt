@@ -1,10 +1,11 @@
 //! One step of an interactive protocol.
 ghost use Rattle.std.specs.Prelude.{◌≡◌, ◌↔◌, ℕ, true, Some, codes, IsTrue};
+ghost use Rattle.p3_fs_core.specs.Algebras.{tag_of};
 ghost use Rattle.p3_fs_core.specs.StepFits.{FitsLength, IsEnd, FitsTag, IsProgramStep};
 ghost use Rattle.p3_fs_core.specs.StepFitLaws.{IsProgramStep-prop};
 ghost use Rattle.p3_fs_core.specs.Steps.{step_with, marker_of, Closes, carried_by, plain_text, alternate_text};
 
-use crate::{Hierarchy, Kind, Length, TranscriptField, TypeTag};
+use crate::{Declared, Hierarchy, Kind, Length, TranscriptField, TypeTag};
 use p3_field_core::{AlgebraIdentity, Named};
 use p3_symmetric::DigestHasher;
 use std::fmt;
@@ -66,8 +67,8 @@ impl Interaction {
         label: Label,
         length: Length,
     ) -> Self
-        ensures { step_of result ≡ step_with hierarchy kind label.now
-            (TypeTag.Algebra F.residues.order A.DIMENSION (D.digest_of A.identity)) A.name_bytes length }
+        ensures { let algebra = ⟦<A as Declared<F, D>>⟧.algebra in
+            step_of result ≡ step_with hierarchy kind label.now (tag_of algebra) algebra.name length }
     {
         let type_tag = F::algebra_tag(A::DIMENSION, D::digest(A::algebra_id()));
         Self::with_parts(hierarchy, kind, label, type_tag, A::type_name(), length)

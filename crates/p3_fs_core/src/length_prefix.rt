@@ -1,12 +1,14 @@
 //! The count of a bounded step: how many bytes it takes, and those bytes.
 ghost use Rattle.std.specs.Prelude.{◌≡◌, ℕ, ◌-◌, ◌^◌, ◌<◌, ◌≤◌, ◌++◌, length, take, replicate};
 ghost use Rattle.p3_fs_core.specs.BigEndian.{big_endian, in_bytes};
+ghost use Rattle.p3_fs_core.specs.Counts.{count_width};
 ghost use Rattle.p3_challenger_core.specs.Reading.{IsPrefixCodeOn};
 
 use crate::big_endian::{leading_bytes, number_of_bytes};
 
 /// The least number of bytes that hold every number up to `max`: 0 bytes for 0. Private in the Rust crate.
 pub fn bound_byte_width(max: usize) -> usize
+    ensures width { result ≡ count_width max }
     ensures enough { max < 256 ^ result }
     ensures least { (width : ℕ) → max < 256 ^ width → result ≤ width }
     ensures most { result ≤ 8 }

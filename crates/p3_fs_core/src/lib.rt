@@ -5,7 +5,7 @@
 #![tactic(auto)]
 
 mod big_endian;
-mod decode_field;
+mod declared;
 mod error;
 mod interaction;
 mod length_prefix;
@@ -14,6 +14,7 @@ mod packing;
 mod step;
 mod transcript_field;
 
+pub use declared::Declared;
 pub use error::{
     InvalidKindInfo, MismatchedBeginEndInfo, MissingBeginInfo, MissingEndInfo, PatternError,
     TranscriptError,

@@ -10,7 +10,7 @@ ghost use Rattle.p3_fs_core.specs.Encoding.{IsEncoding};
 ghost use Rattle.p3_fs_core.specs.Scalar.{encoding};
 ghost use Rattle.p3_fs_core.specs.Errors.{Decodes};
 
-use crate::decode_field::{decode_field_be_canonical, encode_field_be, field_byte_size};
+use crate::big_endian::number_of_bytes;
 use crate::packing::observe_packed;
 use crate::{TranscriptError, TypeTag};
 use p3_challenger_core::{CanObserve, ChallengerError};
@@ -70,7 +70,7 @@ pub trait TranscriptField: PrimeField64 {
         ensures width { result ≡ (encoding Self.residues Self.bit_length).width }
         ensures most { result ≤ 8 }
     {
-        field_byte_size::<Self>()
+        Self::bits().div_ceil(8)
     }
 
     /// Adds the spelling of an element at the end of `out`.
@@ -84,7 +84,9 @@ pub trait TranscriptField: PrimeField64 {
         ensures left { OnErr result ((n : ℕ) × (out.new.items
             ≡ out.old.items ++ take n ((encoding Self.residues Self.bit_length).wire value.now))) }
     {
-        encode_field_be(value, out)
+        let number = value.as_canonical_u64().to_be_bytes();
+        out.extend_from_slice(&number[8 - Self::wire_len()..])?;
+        Ok(())
     }
 
     /// The element whose spelling `bytes` begin with: their first
@@ -101,7 +103,19 @@ pub trait TranscriptField: PrimeField64 {
         ensures only { (x : Self) (rest : List ℕ) →
             bytes.now ≡ (encoding Self.residues Self.bit_length).wire x ++ rest → result ≡ Ok x }
     {
-        decode_field_be_canonical(bytes)
+        let width = Self::wire_len();
+        if bytes.len() < width {
+            return Err(TranscriptError::BadProofShape {
+                reason: "not enough bytes for a canonical field encoding",
+            });
+        }
+        let number = number_of_bytes(&bytes[..width]);
+        let Some(value) = Self::from_canonical_checked(number) else {
+            return Err(TranscriptError::BadProofShape {
+                reason: "field encoding outside canonical range",
+            });
+        };
+        Ok(value)
     }
 
     // Elements are encoded, as a prefix code.

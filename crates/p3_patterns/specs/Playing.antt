@@ -5,7 +5,7 @@ use Rattle.p3_fs_core.specs.declared.error.TranscriptError.TheVariants.{Pattern}
 use Rattle.p3_fs_core.specs.declared.error.PatternError.{PatternError}
 use Rattle.p3_fs_core.specs.declared.error.PatternError.TheVariants.{Finished, NoMoreSteps, WrongStep, Unplayed}
 use Rattle.p3_fs_core.specs.declared.interaction.Interaction.{Interaction}
-use Rattle.p3_fs_core.specs.Errors.{misfit_of}
+use Rattle.p3_fs_core.specs.Errors.{pattern_error_of}
 use Rattle.p3_fs_core.specs.Steps.{Step}
 use Rattle.p3_patterns.specs.PatternSteps.{PatternSteps}
 
@@ -60,5 +60,5 @@ IsPatternError Is _ = ⊥
 
 -- the step is refused: position and next step stay, and nothing may follow
 pub record RefusesToPlay (before : Playing) (s : Step) (e : TranscriptError) (after : Playing) : Type 0 where
-  pub fault : IsPatternError (λ m. FaultOfPlay before s (misfit_of m)) e
+  pub fault : IsPatternError (λ m. FaultOfPlay before s (pattern_error_of m)) e
   pub finished : after ≡ record { pattern = before.pattern; position = before.position; finished = true }

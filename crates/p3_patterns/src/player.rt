@@ -1,7 +1,7 @@
 //! Playing a pattern step by step.
 ghost use Rattle.std.specs.Prelude.{◌≡◌, ◌↔◌, ◌+◌, [], false, Some, length, option_copied, IsTrue, IfErr, OnOk, IsOk};
 ghost use Rattle.std.specs.Option.{option_map};
-ghost use Rattle.p3_fs_core.specs.Errors.{misfit_of};
+ghost use Rattle.p3_fs_core.specs.Errors.{pattern_error_of};
 ghost use Rattle.p3_fs_core.specs.Interactions.{step_of};
 ghost use Rattle.p3_patterns.specs.PatternSteps.{steps_of};
 ghost use Rattle.p3_patterns.specs.Playing.{Plays, RefusesToPlay, FaultOfPlay, FaultOfPlayEnd, IsPatternError};
@@ -108,7 +108,7 @@ impl PatternPlayer {
     /// next step where there is one. The player is spent then too. The Rust crate panics in place of both.
     pub fn finalize(self) -> Result<(), TranscriptError>
         ensures ok { OnOk result (IsPlayed self) }
-        ensures err { IfErr result (λ e. IsPatternError (λ m. FaultOfPlayEnd self (misfit_of m)) e) }
+        ensures err { IfErr result (λ e. IsPatternError (λ m. FaultOfPlayEnd self (pattern_error_of m)) e) }
         ensures only { IsPlayed self → IsOk result }
     {
         let checked = self.check_end();
@@ -133,7 +133,7 @@ impl PatternPlayer {
     // Why the step may not be taken.
     fn fault_of(&self, received: Interaction) -> PatternError
         requires { (self.now.finished ≡ false) × (next_step self.now ≡ Some (step_of received)) → ⊥ }
-        ensures fault { FaultOfPlay self.now (step_of received) (misfit_of result) }
+        ensures fault { FaultOfPlay self.now (step_of received) (pattern_error_of result) }
         ensures received { CarriesReceived received result }
     {
         if self.finished {
@@ -148,7 +148,7 @@ impl PatternPlayer {
     // All steps are taken, and none was refused.
     fn check_end(&self) -> Result<(), PatternError>
         ensures ok { OnOk result (IsPlayed self.now) }
-        ensures err { IfErr result (λ e. FaultOfPlayEnd self.now (misfit_of e)) }
+        ensures err { IfErr result (λ e. FaultOfPlayEnd self.now (pattern_error_of e)) }
     {
         if self.finished {
             return Err(PatternError::Finished);

@@ -6,7 +6,8 @@ use Rattle.p3_challenger_core.specs.Sampling.{Sampling, IsSampling, RefusesDrawV
 use Rattle.p3_challenger_core.specs.SamplingLaws.{in_row-is_sampling, refused-in_row}
 use Rattle.p3_challenger_core.specs.declared.error.ChallengerError.TheVariants.{DrawLimit, NoWitness, TooLong}
 use Rattle.p3_grinding.specs.CheckLaws.{LimitGivesNone}
-use Rattle.p3_driver_core.specs.Effects.{Alphabet, untouched, observing, observing_bytes}
+use Rattle.p3_fs_core.specs.Alphabet.{Alphabet}
+use Rattle.p3_driver_core.specs.Effects.{untouched, observing, observing_bytes}
 use Rattle.p3_driver_core.specs.Effects.{drawing, drawing_list, in_sequence}
 use Rattle.p3_driver_core.specs.Rejecting.{Rule, given, go_on, taken, RefusesTaken, keeps, RefusesKeeps}
 use Rattle.p3_driver_core.specs.Rejecting.{drawing_rejecting}

@@ -1,6 +1,6 @@
 -- From one state, a step is refused for one reason that may be refused first for the length of a list.
 use Rattle.std.proofs.Common.{◌≡◌, ◌⊎◌, ◌≤◌, ℕ, List, true, false, sym, ap, ◌∙◌, inl, inr, arith}
-use Rattle.p3_fs_core.specs.Errors.{refusal_of, misfit, bad_proof_shape, Refusal}
+use Rattle.p3_fs_core.specs.Errors.{refusal_of, pattern_error, bad_proof_shape, Refusal}
 use Rattle.p3_fs_core.specs.Steps.{Step}
 use Rattle.p3_fs_core.specs.declared.error.PatternError.TheVariants.{Finished, OverCap}
 use Rattle.p3_fs_core.specs.declared.error.TranscriptError.{TranscriptError}
@@ -14,15 +14,15 @@ use Rattle.p3_step_laws.specs.OneReason.{TellOneReason}
 
 -- once a step was refused, nothing else is told
 finished-told : (playing : Playing) (s : Step) (told : Refusal) (e : TranscriptError) → playing.finished ≡ true →
-    Cause playing s told e → refusal_of e ≡ misfit Finished
-finished-told playing s told e finished (inl (p, is, inl fault)) = ap refusal_of is ∙ ap misfit fault.1
+    Cause playing s told e → refusal_of e ≡ pattern_error Finished
+finished-told playing s told e finished (inl (p, is, inl fault)) = ap refusal_of is ∙ ap pattern_error fault.1
 finished-told playing s told e finished (inl (p, is, inr fault)) = absurd (both_ways finished fault.0)
 finished-told playing s told e finished (inr next) = absurd (both_ways finished next.0.0)
 
 -- what is told first: that a step was refused before; or this, and then the length is not right
 abbrev First : Playing → Type 0 → Refusal → TranscriptError → Type 0
 First playing IsRight said e =
-    ((playing.finished ≡ true) × (refusal_of e ≡ misfit Finished))
+    ((playing.finished ≡ true) × (refusal_of e ≡ pattern_error Finished))
     ⊎ ((playing.finished ≡ false) × (IsRight → ⊥) × (refusal_of e ≡ said))
 
 module _ {S Symbol A : Type 0} (m : Meaning S Symbol A) (told : S → Refusal) (tells : Tells m.effect told) where
@@ -89,7 +89,7 @@ module _ {S Symbol A : Type 0} (m : Meaning S Symbol A) (told : S → Refusal) (
   module _ (len max : ℕ) where
     length-first : (before after : Transcript S) (e : TranscriptError) →
         RefusesLength len max before.playing e after.playing →
-        First before.playing (len ≤ max) (misfit (OverCap len max)) e
+        First before.playing (len ≤ max) (pattern_error (OverCap len max)) e
     length-first before after e h =
         elim h.fault [
           | inl late ↦ inl (late.0, ap refusal_of late.1)
@@ -101,4 +101,4 @@ module _ {S Symbol A : Type 0} (m : Meaning S Symbol A) (told : S → Refusal) (
     length-one_reason =
         first-one_reason (λ (v : Transcript S). v)
         (λ before e after. RefusesLength len max before.playing e after.playing)
-        (λ _. len ≤ max) (misfit (OverCap len max)) length-first
+        (λ _. len ≤ max) (pattern_error (OverCap len max)) length-first

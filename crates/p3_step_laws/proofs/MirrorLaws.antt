@@ -5,8 +5,9 @@ use Rattle.p3_fs_core.specs.Encoding.{Encoding, IsEncoding}
 use Rattle.p3_fs_core.specs.Steps.{Step}
 use Rattle.p3_fs_core.specs.declared.step.Kind.{Kind}
 use Rattle.p3_fs_core.specs.declared.step.Kind.TheVariants.{Message}
-use Rattle.p3_driver_core.specs.Counts.{count_bytes}
-use Rattle.p3_driver_core.specs.Effects.{Alphabet, observing_bytes}
+use Rattle.p3_fs_core.specs.Counts.{count_bytes}
+use Rattle.p3_fs_core.specs.Alphabet.{Alphabet}
+use Rattle.p3_driver_core.specs.Effects.{observing_bytes}
 use Rattle.p3_driver_core.specs.Meanings.{sent, sent_list, sent_bounded, sent_bytes, sent_bytes_bounded, hinted}
 use Rattle.p3_driver_core.specs.Meanings.{hinted_bounded}
 use Rattle.p3_step_laws.proofs.ReadBack.{bytes-back, value-back, values-back, counted_bytes-back, counted_values-back}

@@ -4,7 +4,7 @@ use Rattle.std.proofs.Common.{◌∙◌, inl, inr}
 use Rattle.p3_challenger_core.specs.declared.error.ChallengerError.{ChallengerError}
 use Rattle.p3_challenger_core.specs.declared.error.ChallengerError.TheVariants.{DrawLimit, NoWitness, TooLong}
 use Rattle.p3_challenger_core.specs.declared.error.ChallengerError.TheVariants as challenger
-use Rattle.p3_fs_core.specs.Errors.{IsBadShape, misfit_of, Refusal, refusal_of, misfit, challenger_refused}
+use Rattle.p3_fs_core.specs.Errors.{IsBadShape, pattern_error_of, Refusal, refusal_of, pattern_error, challenger_refused}
 use Rattle.p3_fs_core.specs.Errors.{bad_proof_shape}
 use Rattle.p3_fs_core.specs.Steps.{Step}
 use Rattle.p3_fs_core.specs.declared.interaction.Interaction.{Interaction}
@@ -30,20 +30,20 @@ use Rattle.p3_step_laws.specs.OneReason.{TellOneReason}
 pub both_ways : {b : Bool} → b ≡ true → b ≡ false → ⊥
 both_ways on off = absurd (cc)
 
-one_misfit : (next : Option Step) (s : Step) (e f : PatternError Step) → IsNotNext next s e → IsNotNext next s f → e ≡ f
-one_misfit next s Finished f a b = absurd a
-one_misfit next s (Unplayed x) f a b = absurd a
-one_misfit next s (OverCap len max) f a b = absurd a
-one_misfit next s (NoMoreSteps r) Finished a b = absurd b
-one_misfit next s (NoMoreSteps r) (Unplayed x) a b = absurd b
-one_misfit next s (NoMoreSteps r) (OverCap len max) a b = absurd b
-one_misfit next s (NoMoreSteps r) (NoMoreSteps q) a b = ap NoMoreSteps (a.0 ∙ sym b.0)
-one_misfit next s (NoMoreSteps r) (WrongStep q x) a b = let none = a.1 in let some = b.1 in absurd (cc)
-one_misfit next s (WrongStep r x) Finished a b = absurd b
-one_misfit next s (WrongStep r x) (Unplayed y) a b = absurd b
-one_misfit next s (WrongStep r x) (OverCap len max) a b = absurd b
-one_misfit next s (WrongStep r x) (NoMoreSteps q) a b = let some = a.1 in let none = b.1 in absurd (cc)
-one_misfit next s (WrongStep r x) (WrongStep q y) a b =
+one_pattern_error : (next : Option Step) (s : Step) (e f : PatternError Step) → IsNotNext next s e → IsNotNext next s f → e ≡ f
+one_pattern_error next s Finished f a b = absurd a
+one_pattern_error next s (Unplayed x) f a b = absurd a
+one_pattern_error next s (OverCap len max) f a b = absurd a
+one_pattern_error next s (NoMoreSteps r) Finished a b = absurd b
+one_pattern_error next s (NoMoreSteps r) (Unplayed x) a b = absurd b
+one_pattern_error next s (NoMoreSteps r) (OverCap len max) a b = absurd b
+one_pattern_error next s (NoMoreSteps r) (NoMoreSteps q) a b = ap NoMoreSteps (a.0 ∙ sym b.0)
+one_pattern_error next s (NoMoreSteps r) (WrongStep q x) a b = let none = a.1 in let some = b.1 in absurd (cc)
+one_pattern_error next s (WrongStep r x) Finished a b = absurd b
+one_pattern_error next s (WrongStep r x) (Unplayed y) a b = absurd b
+one_pattern_error next s (WrongStep r x) (OverCap len max) a b = absurd b
+one_pattern_error next s (WrongStep r x) (NoMoreSteps q) a b = let some = a.1 in let none = b.1 in absurd (cc)
+one_pattern_error next s (WrongStep r x) (WrongStep q y) a b =
     let first = a.1 in
     let second = b.1 in
     let same : x ≡ y = cc in
@@ -54,7 +54,7 @@ one_fault : (before : Playing) (s : Step) (e f : PatternError Step) → FaultOfP
 one_fault before s e f (inl a) (inl b) = a.1 ∙ sym b.1
 one_fault before s e f (inl a) (inr b) = absurd (both_ways a.0 b.0)
 one_fault before s e f (inr a) (inl b) = absurd (both_ways b.0 a.0)
-one_fault before s e f (inr a) (inr b) = one_misfit (next_step before) s e f a.1 b.1
+one_fault before s e f (inr a) (inr b) = one_pattern_error (next_step before) s e f a.1 b.1
 
 next-no_fault : (before : Playing) (s : Step) (e : PatternError Step) → IsNext before s → FaultOfPlay before s e → ⊥
 next-no_fault before s e is (inl a) = both_ways a.0 is.0
@@ -70,7 +70,7 @@ next-no_fault before s (WrongStep r x) is (inr a) =
 -- the pattern refuses the step; or it is the next one, and the error tells this
 abbrev pub Cause : Playing → Step → Refusal → TranscriptError → Type 0
 Cause playing s told e =
-    ((p : PatternError Interaction) × (e ≡ Pattern p) × FaultOfPlay playing s (misfit_of p))
+    ((p : PatternError Interaction) × (e ≡ Pattern p) × FaultOfPlay playing s (pattern_error_of p))
     ⊎ (IsNext playing s × (refusal_of e ≡ told))
 
 -- what an error tells that names a bad shape
@@ -89,10 +89,10 @@ one_cause : (playing : Playing) (s : Step) (told : Refusal) (e f : TranscriptErr
     Cause playing s told f → refusal_of e ≡ refusal_of f
 one_cause playing s told e f (inl x) (inl y) =
     ap refusal_of x.1
-    ∙ ap misfit (one_fault playing s (misfit_of x.0) (misfit_of y.0) x.2 y.2)
+    ∙ ap pattern_error (one_fault playing s (pattern_error_of x.0) (pattern_error_of y.0) x.2 y.2)
     ∙ sym (ap refusal_of y.1)
-one_cause playing s told e f (inl x) (inr y) = absurd (next-no_fault playing s (misfit_of x.0) y.0 x.2)
-one_cause playing s told e f (inr x) (inl y) = absurd (next-no_fault playing s (misfit_of y.0) x.0 y.2)
+one_cause playing s told e f (inl x) (inr y) = absurd (next-no_fault playing s (pattern_error_of x.0) y.0 x.2)
+one_cause playing s told e f (inr x) (inl y) = absurd (next-no_fault playing s (pattern_error_of y.0) x.0 y.2)
 one_cause playing s told e f (inr x) (inr y) = x.1 ∙ sym y.1
 
 -- what is told of the next step follows from the state before it

@@ -9,7 +9,7 @@ use Rattle.std.specs.List.{flat_map}
 use Rattle.p3_fs_core.specs.BigEndian.{big_endian}
 use Rattle.p3_fs_core.specs.BigEndianLaws.{big_endian-in_bytes, length-in_bytes, take-front, drop-front}
 use Rattle.p3_fs_core.specs.Encoding.{Encoding, IsEncoding}
-use Rattle.p3_driver_core.specs.Counts.{least_width, count_width, count_bytes}
+use Rattle.p3_fs_core.specs.Counts.{least_width, count_width, count_bytes}
 use Rattle.p3_driver_core.specs.Reads.{Read, read_bytes, read_value, value_in, unreadable, ended_early, read_count}
 use Rattle.p3_driver_core.specs.Reads.{then_read, read_counted_bytes, absorbed_first, in_front, read_each, read_values}
 use Rattle.p3_driver_core.specs.Reads.{too_many_values, read_counted_values, message_too_long}

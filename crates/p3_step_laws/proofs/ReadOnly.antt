@@ -8,7 +8,7 @@ use Rattle.p3_fs_core.specs.BigEndian.{big_endian}
 use Rattle.p3_fs_core.specs.BigEndianLaws.{in_bytes-big_endian, AreBytes-take, AreBytes-drop, drop-front}
 use Rattle.p3_fs_core.specs.Encoding.{Encoding, IsEncoding}
 use Rattle.p3_fs_core.specs.ScalarLaws.{chosen, at_least}
-use Rattle.p3_driver_core.specs.Counts.{count_width, count_bytes}
+use Rattle.p3_fs_core.specs.Counts.{count_width, count_bytes}
 use Rattle.p3_driver_core.specs.Reads.{Read, Unreadable, read_bytes, read_value, value_in, ended_early, read_count}
 use Rattle.p3_driver_core.specs.Reads.{then_read, read_counted_bytes, absorbed_first, in_front, read_each, read_values}
 use Rattle.p3_driver_core.specs.Reads.{too_many_values, read_counted_values, message_too_long}

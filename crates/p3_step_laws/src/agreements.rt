@@ -7,7 +7,6 @@ ghost use Rattle.std.specs.Prelude.{◌≡◌, ◌<◌, ◌≤◌, ℕ, List, tr
 ghost use Rattle.p3_fs_core.specs.Steps.{Step};
 ghost use Rattle.p3_fs_core.specs.declared.error.TranscriptError.{TranscriptError};
 ghost use Rattle.p3_patterns.specs.Playing.{next_step};
-ghost use Rattle.p3_driver_core.specs.Effects.{alphabet_of};
 ghost use Rattle.p3_driver_core.specs.Meanings as meaning;
 ghost use Rattle.p3_driver_core.specs.Rejecting.{Rule, drawn_rejecting};
 ghost use Rattle.p3_driver_core.specs.Transcripts.{IsNext, IsOtherLength, longer_list, another_length};
@@ -17,7 +16,7 @@ ghost use Rattle.p3_driver_core.specs.Driving.{Driving};
 ghost use Rattle.p3_driver_core.specs.Verifying.{RefusesCarriedList, EndsReading, RefusesEnd};
 
 use p3_challenger_core::{CanObserve, CanSampleBits, Sponge};
-use p3_codecs::{Codec, Unit};
+use p3_codecs::{AlphabetOf, Codec, Unit};
 use p3_fs_core::Length;
 use p3_grinding::{CanSampleUniformBits, GrindingChallenger};
 
@@ -25,22 +24,25 @@ use p3_grinding::{CanSampleUniformBits, GrindingChallenger};
 ///
 /// A law: the body is empty, and a caller cites the clause.
 pub fn markers_agree<C: Sponge>()
-    ensures { (step : Step) → CompletesAlike {S = C.State} {Symbol = C.Symbol} (meaning.marked step) }
+    ensures { (step : Step) → CompletesAlike {S = C.State} {Symbol = C.Symbol}
+        (meaning.marked step) }
 {}
 
 /// One value, and the values of a list, are observed alike.
 ///
 /// A law: the body is empty, and a caller cites the clauses.
 pub fn observed_values_agree<A, C: Sponge, Cdc: Codec<C, A>>()
-    ensures value { (step : Step) (x : A) → CompletesAlike (meaning.observed step Cdc.observation x) }
-    ensures list { (step : Step) (xs : List A) → CompletesAlike (meaning.observed_list step Cdc.observation xs) }
+    ensures value { (step : Step) (x : A) →
+        CompletesAlike (meaning.observed step Cdc.observation x) }
+    ensures list { (step : Step) (xs : List A) →
+        CompletesAlike (meaning.observed_list step Cdc.observation xs) }
 {}
 
 /// The values of a list of at most so many are observed alike, after their count.
 ///
 /// A law: the body is empty, and a caller cites the clause.
 pub fn observed_counted_values_agree<A, U: Unit, C: CanObserve<U::Item>, Cdc: Codec<C, A>>()
-    ensures { let alphabet = alphabet_of U.items U.is_too_long C.observation C.slice_may_leave in
+    ensures { let alphabet = ⟦<U as AlphabetOf<C>>⟧.alphabet in
         (step : Step) (max : ℕ) (xs : List A) → CompletesAlike
         (meaning.observed_bounded step alphabet max Cdc.observation xs) }
 {}
@@ -56,8 +58,10 @@ pub fn opaque_values_agree<T, C: CanObserve<T>>()
 ///
 /// A law: the body is empty, and a caller cites the clauses.
 pub fn drawn_values_agree<A, C: Sponge, Cdc: Codec<C, A>>()
-    ensures value { (step : Step) → CompletesAlike {Symbol = C.Symbol} (meaning.drawn step Cdc.sampling) }
-    ensures list { (step : Step) (n : ℕ) → CompletesAlike {Symbol = C.Symbol} (meaning.drawn_list step Cdc.sampling n) }
+    ensures value { (step : Step) → CompletesAlike {Symbol = C.Symbol}
+        (meaning.drawn step Cdc.sampling) }
+    ensures list { (step : Step) (n : ℕ) → CompletesAlike {Symbol = C.Symbol}
+        (meaning.drawn_list step Cdc.sampling n) }
     ensures rejecting { (step : Step) (rule : Rule A) (limit n : ℕ) →
         CompletesAlike {Symbol = C.Symbol} (drawn_rejecting step Cdc.sampling rule limit n) }
 {}
@@ -77,7 +81,8 @@ pub fn drawn_uniform_bits_agree<F, C: CanSampleUniformBits<F>>()
     ensures list { (step : Step) (width n : ℕ) →
         CompletesAlike {Symbol = C.Symbol} (meaning.drawn_list step (C.uniform true width).draw n) }
     ensures rejecting { (step : Step) (width : ℕ) (rule : Rule ℕ) (limit n : ℕ) →
-        CompletesAlike {Symbol = C.Symbol} (drawn_rejecting step (C.uniform true width).draw rule limit n) }
+        CompletesAlike {Symbol = C.Symbol}
+        (drawn_rejecting step (C.uniform true width).draw rule limit n) }
 {}
 
 /// A witness that a prover has answered passes the check of a verifier whose caller carries it, which is refused for
@@ -99,7 +104,8 @@ pub fn carried_lists_are_let_through<C: Sponge>()
         RefusesCarriedList (max < len) longer_list start e end → ⊥ }
     ensures recorded { (len : ℕ) (step : Step) (start end : Driving C.State) (e : TranscriptError) →
         IsNext start.transcript.playing step → step.length ≡ Length.Fixed len →
-        RefusesCarriedList (IsOtherLength len (next_step start.transcript.playing)) another_length start e end → ⊥ }
+        RefusesCarriedList (IsOtherLength len (next_step start.transcript.playing)) another_length
+        start e end → ⊥ }
 {}
 
 /// A verifier that has played all steps and has read all bytes is not refused the end.

@@ -1,8 +1,9 @@
 //! A challenger or an alphabet refuses a step only where a limit is met, and the error says which: a draw that meets
 //! its limit, or bytes that are too long for the alphabet. Laws, of every challenger, codec and alphabet.
 ghost use Rattle.std.specs.Prelude.{ℕ, List, length, true};
-ghost use Rattle.p3_driver_core.specs.Counts.{count_bytes};
-ghost use Rattle.p3_driver_core.specs.Effects.{alphabet_of, untouched, observing, observing_list, observing_bytes};
+ghost use Rattle.p3_fs_core.specs.Counts.{count_bytes};
+ghost use Rattle.p3_driver_core.specs.Effects.{untouched, observing, observing_list};
+ghost use Rattle.p3_driver_core.specs.Effects.{observing_bytes};
 ghost use Rattle.p3_driver_core.specs.Effects.{drawing, drawing_list, in_sequence};
 ghost use Rattle.p3_driver_core.specs.Rejecting.{Rule, drawing_rejecting};
 ghost use Rattle.p3_driver_core.specs.Working.{work_of, checking};
@@ -10,7 +11,7 @@ ghost use Rattle.p3_fs_core.specs.Steps.{Step};
 ghost use Rattle.p3_step_laws.specs.Limits.{TellsLimits};
 
 use p3_challenger_core::{CanObserve, CanSampleBits, Sponge};
-use p3_codecs::{Codec, Unit};
+use p3_codecs::{AlphabetOf, Codec, Unit};
 use p3_grinding::{CanSampleUniformBits, GrindingChallenger};
 
 /// A step of one value, and one of a list, meets no limit. One of a list after its count is refused as too long only
@@ -21,8 +22,8 @@ pub fn values_tell_limits<A, U: Unit, C: CanObserve<U::Item>, Cdc: Codec<C, A>>(
     ensures value { (x : A) → TellsLimits (observing Cdc.observation x) }
     ensures list { (xs : List A) → TellsLimits (observing_list Cdc.observation xs) }
     ensures counted { (max : ℕ) (xs : List A) → TellsLimits (in_sequence
-        (observing_bytes (alphabet_of U.items U.is_too_long C.observation C.slice_may_leave)
-        (count_bytes max (length xs))) (observing_list Cdc.observation xs)) }
+        (observing_bytes ⟦<U as AlphabetOf<C>>⟧.alphabet (count_bytes max (length xs)))
+        (observing_list Cdc.observation xs)) }
 {}
 
 /// A step of a value that the challenger itself knows how to observe meets no limit.
@@ -37,10 +38,11 @@ pub fn opaque_values_tell_limits<T, C: CanObserve<T>>()
 /// A law: the body is empty, and a caller cites the clauses.
 pub fn bytes_tell_limits<U: Unit, C: CanObserve<U::Item>>()
     ensures fixed { (bytes : List ℕ) → TellsLimits
-        (observing_bytes (alphabet_of U.items U.is_too_long C.observation C.slice_may_leave) bytes) }
+        (observing_bytes ⟦<U as AlphabetOf<C>>⟧.alphabet bytes) }
     ensures counted { (max : ℕ) (bytes : List ℕ) →
-        let alphabet = alphabet_of U.items U.is_too_long C.observation C.slice_may_leave in TellsLimits
-        (in_sequence (observing_bytes alphabet (count_bytes max (length bytes))) (observing_bytes alphabet bytes)) }
+        let alphabet = ⟦<U as AlphabetOf<C>>⟧.alphabet in
+        TellsLimits (in_sequence (observing_bytes alphabet (count_bytes max (length bytes)))
+        (observing_bytes alphabet bytes)) }
 {}
 
 /// A marker and a hint meet no limit.
@@ -65,7 +67,8 @@ pub fn draws_tell_limits<A, C: Sponge, Cdc: Codec<C, A>>()
 ///
 /// A law: the body is empty, and a caller cites the clauses.
 pub fn bit_draws_tell_limits<C: CanSampleBits<usize>>()
-    ensures list { (width n : ℕ) → TellsLimits {Symbol = C.Symbol} (drawing_list (C.bits_sampling width) n) }
+    ensures list { (width n : ℕ) → TellsLimits {Symbol = C.Symbol}
+        (drawing_list (C.bits_sampling width) n) }
     ensures rejecting { (width : ℕ) (rule : Rule ℕ) (limit n : ℕ) →
         TellsLimits {Symbol = C.Symbol} (drawing_rejecting (C.bits_sampling width) rule limit n) }
 {}
@@ -74,9 +77,11 @@ pub fn bit_draws_tell_limits<C: CanSampleBits<usize>>()
 ///
 /// A law: the body is empty, and a caller cites the clauses.
 pub fn uniform_draws_tell_limits<F, C: CanSampleUniformBits<F>>()
-    ensures list { (width n : ℕ) → TellsLimits {Symbol = C.Symbol} (drawing_list (C.uniform true width).draw n) }
+    ensures list { (width n : ℕ) → TellsLimits {Symbol = C.Symbol}
+        (drawing_list (C.uniform true width).draw n) }
     ensures rejecting { (width : ℕ) (rule : Rule ℕ) (limit n : ℕ) →
-        TellsLimits {Symbol = C.Symbol} (drawing_rejecting (C.uniform true width).draw rule limit n) }
+        TellsLimits {Symbol = C.Symbol}
+        (drawing_rejecting (C.uniform true width).draw rule limit n) }
 {}
 
 /// A check of a witness is refused for the draw limit only where it gives nothing.
@@ -84,5 +89,6 @@ pub fn uniform_draws_tell_limits<F, C: CanSampleUniformBits<F>>()
 /// A law: the body is empty, and a caller cites the clause.
 pub fn work_tells_limits<C: GrindingChallenger>()
     ensures { (step : Step) (bits : ℕ) (x : C.Witness) → TellsLimits
-        (checking (work_of step C.Witness.residues C.before_witness C.observation C.bits_sampling bits) x) }
+        (checking (work_of step C.Witness.residues C.before_witness C.observation C.bits_sampling
+        bits) x) }
 {}

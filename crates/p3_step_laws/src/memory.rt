@@ -6,7 +6,6 @@
 //! themselves.
 ghost use Rattle.std.specs.Prelude.{◌^◌, ◌<◌, ◌≤◌, ℕ, List, length, true};
 ghost use Rattle.p3_fs_core.specs.Steps.{Step};
-ghost use Rattle.p3_driver_core.specs.Effects.{alphabet_of};
 ghost use Rattle.p3_driver_core.specs.Meanings as meaning;
 ghost use Rattle.p3_driver_core.specs.Rejecting.{Rule, drawn_rejecting};
 ghost use Rattle.p3_driver_core.specs.Reads as reads;
@@ -18,7 +17,7 @@ use crate::mirrors::{
     sent_values_are_received,
 };
 use p3_challenger_core::{CanObserve, CanSampleBits, Sponge};
-use p3_codecs::{Codec, Unit};
+use p3_codecs::{AlphabetOf, Codec, Unit};
 use p3_fs_core::Kind;
 use p3_grinding::CanSampleUniformBits;
 
@@ -28,12 +27,14 @@ use p3_grinding::CanSampleUniformBits;
 /// A law: the body does nothing, and a caller cites the clauses. The most is below 2^64, as a `usize` is.
 pub fn only_memory_refuses_sent_values<A, U: Unit, C: CanObserve<U::Item>, Cdc: Codec<C, A>>()
     ensures value { (step : Step) (x : A) → OnlyMemoryRefusesToRead
-        (meaning.sent step Cdc.observation Cdc.encoding x) (reads.received step Cdc.observation Cdc.encoding) x }
+        (meaning.sent step Cdc.observation Cdc.encoding x)
+        (reads.received step Cdc.observation Cdc.encoding) x }
     ensures list { (step : Step) (xs : List A) → OnlyMemoryRefusesToRead
         (meaning.sent_list step Cdc.observation Cdc.encoding xs)
         (reads.received_list step Cdc.observation Cdc.encoding (length xs)) xs }
-    ensures counted { let alphabet = alphabet_of U.items U.is_too_long C.observation C.slice_may_leave in
-        (step : Step) (max : ℕ) (xs : List A) → length xs ≤ max → max < 2 ^ 64 → OnlyMemoryRefusesToRead
+    ensures counted { let alphabet = ⟦<U as AlphabetOf<C>>⟧.alphabet in
+        (step : Step) (max : ℕ) (xs : List A) → length xs ≤ max → max < 2 ^ 64 →
+        OnlyMemoryRefusesToRead
         (meaning.sent_bounded step alphabet max Cdc.observation Cdc.encoding xs)
         (reads.received_bounded step alphabet max Cdc.observation Cdc.encoding) xs }
 {
@@ -47,11 +48,13 @@ pub fn only_memory_refuses_sent_values<A, U: Unit, C: CanObserve<U::Item>, Cdc: 
 ///
 /// A law: the body does nothing, and a caller cites the clauses. The most is below 2^64, as a `usize` is.
 pub fn only_memory_refuses_sent_bytes<U: Unit, C: CanObserve<U::Item>>()
-    ensures fixed { let alphabet = alphabet_of U.items U.is_too_long C.observation C.slice_may_leave in
-        (kind : Kind) (label bytes : List ℕ) → OnlyMemoryRefusesToRead (meaning.sent_bytes kind label alphabet bytes)
+    ensures fixed { let alphabet = ⟦<U as AlphabetOf<C>>⟧.alphabet in
+        (kind : Kind) (label bytes : List ℕ) →
+        OnlyMemoryRefusesToRead (meaning.sent_bytes kind label alphabet bytes)
         (reads.received_bytes kind label alphabet (length bytes)) bytes }
-    ensures counted { let alphabet = alphabet_of U.items U.is_too_long C.observation C.slice_may_leave in
-        (label : List ℕ) (max : ℕ) (bytes : List ℕ) → length bytes ≤ max → max < 2 ^ 64 → OnlyMemoryRefusesToRead
+    ensures counted { let alphabet = ⟦<U as AlphabetOf<C>>⟧.alphabet in
+        (label : List ℕ) (max : ℕ) (bytes : List ℕ) → length bytes ≤ max → max < 2 ^ 64 →
+        OnlyMemoryRefusesToRead
         (meaning.sent_bytes_bounded Kind.Message label alphabet max bytes)
         (reads.received_bytes_bounded label alphabet max) bytes }
 {
@@ -63,10 +66,13 @@ pub fn only_memory_refuses_sent_bytes<U: Unit, C: CanObserve<U::Item>>()
 ///
 /// A law: the body does nothing, and a caller cites the clauses. The most is below 2^64, as a `usize` is.
 pub fn only_memory_refuses_hints<C: Sponge>()
-    ensures fixed { (label bytes : List ℕ) → OnlyMemoryRefusesToRead {S = C.State} {Symbol = C.Symbol}
+    ensures fixed { (label bytes : List ℕ) →
+        OnlyMemoryRefusesToRead {S = C.State} {Symbol = C.Symbol}
         (meaning.hinted label bytes) (reads.hint_received label (length bytes)) bytes }
-    ensures counted { (label : List ℕ) (max : ℕ) (bytes : List ℕ) → length bytes ≤ max → max < 2 ^ 64 →
-        OnlyMemoryRefusesToRead {S = C.State} {Symbol = C.Symbol} (meaning.hinted_bounded label max bytes)
+    ensures counted { (label : List ℕ) (max : ℕ) (bytes : List ℕ) → length bytes ≤ max →
+        max < 2 ^ 64 →
+        OnlyMemoryRefusesToRead {S = C.State} {Symbol = C.Symbol}
+        (meaning.hinted_bounded label max bytes)
         (reads.hint_received_bounded label max) bytes }
 {
     hint_is_received::<C>();
@@ -77,16 +83,19 @@ pub fn only_memory_refuses_hints<C: Sponge>()
 ///
 /// A law: the body is empty, and a caller cites the clause.
 pub fn only_memory_refuses_markers<C: Sponge>()
-    ensures { (step : Step) → OnlyMemoryRefuses {S = C.State} {Symbol = C.Symbol} (meaning.marked step) }
+    ensures { (step : Step) → OnlyMemoryRefuses {S = C.State} {Symbol = C.Symbol}
+        (meaning.marked step) }
 {}
 
 /// Where one side has observed one value, a list, or a list after its count, want of memory alone refuses the other.
 ///
 /// A law: the body is empty, and a caller cites the clauses.
 pub fn only_memory_refuses_observed_values<A, U: Unit, C: CanObserve<U::Item>, Cdc: Codec<C, A>>()
-    ensures value { (step : Step) (x : A) → OnlyMemoryRefuses (meaning.observed step Cdc.observation x) }
-    ensures list { (step : Step) (xs : List A) → OnlyMemoryRefuses (meaning.observed_list step Cdc.observation xs) }
-    ensures counted { let alphabet = alphabet_of U.items U.is_too_long C.observation C.slice_may_leave in
+    ensures value { (step : Step) (x : A) →
+        OnlyMemoryRefuses (meaning.observed step Cdc.observation x) }
+    ensures list { (step : Step) (xs : List A) →
+        OnlyMemoryRefuses (meaning.observed_list step Cdc.observation xs) }
+    ensures counted { let alphabet = ⟦<U as AlphabetOf<C>>⟧.alphabet in
         (step : Step) (max : ℕ) (xs : List A) →
         OnlyMemoryRefuses (meaning.observed_bounded step alphabet max Cdc.observation xs) }
 {}
@@ -103,7 +112,8 @@ pub fn only_memory_refuses_opaque_values<T, C: CanObserve<T>>()
 ///
 /// A law: the body is empty, and a caller cites the clauses.
 pub fn only_memory_refuses_drawn_values<A, C: Sponge, Cdc: Codec<C, A>>()
-    ensures value { (step : Step) → OnlyMemoryRefuses {Symbol = C.Symbol} (meaning.drawn step Cdc.sampling) }
+    ensures value { (step : Step) → OnlyMemoryRefuses {Symbol = C.Symbol}
+        (meaning.drawn step Cdc.sampling) }
     ensures list { (step : Step) (n : ℕ) →
         OnlyMemoryRefuses {Symbol = C.Symbol} (meaning.drawn_list step Cdc.sampling n) }
     ensures rejecting { (step : Step) (rule : Rule A) (limit n : ℕ) →
@@ -123,7 +133,9 @@ pub fn only_memory_refuses_drawn_bits<C: CanSampleBits<usize>>()
 /// A law: the body is empty, and a caller cites the clauses.
 pub fn only_memory_refuses_drawn_uniform_bits<F, C: CanSampleUniformBits<F>>()
     ensures list { (step : Step) (width n : ℕ) →
-        OnlyMemoryRefuses {Symbol = C.Symbol} (meaning.drawn_list step (C.uniform true width).draw n) }
+        OnlyMemoryRefuses {Symbol = C.Symbol}
+        (meaning.drawn_list step (C.uniform true width).draw n) }
     ensures rejecting { (step : Step) (width : ℕ) (rule : Rule ℕ) (limit n : ℕ) →
-        OnlyMemoryRefuses {Symbol = C.Symbol} (drawn_rejecting step (C.uniform true width).draw rule limit n) }
+        OnlyMemoryRefuses {Symbol = C.Symbol}
+        (drawn_rejecting step (C.uniform true width).draw rule limit n) }
 {}

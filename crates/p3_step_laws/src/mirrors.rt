@@ -6,7 +6,6 @@
 //! and ends at the prover's state; or it is refused for the sake of the challenger or of memory alone.
 ghost use Rattle.std.specs.Prelude.{◌^◌, ◌<◌, ◌≤◌, ℕ, List, length};
 ghost use Rattle.p3_fs_core.specs.Steps.{Step};
-ghost use Rattle.p3_driver_core.specs.Effects.{alphabet_of};
 ghost use Rattle.p3_driver_core.specs.Meanings as meaning;
 ghost use Rattle.p3_driver_core.specs.Working.{work_of, sent_work};
 ghost use Rattle.p3_fs_core.specs.Scalar.{encoding};
@@ -15,7 +14,7 @@ ghost use Rattle.p3_step_laws.specs.ReadBack.{ReadsBack};
 ghost use Rattle.p3_driver_core.specs.Reads as reads;
 
 use p3_challenger_core::{CanObserve, Sponge};
-use p3_codecs::{Codec, Unit};
+use p3_codecs::{AlphabetOf, Codec, Unit};
 use p3_fs_core::Kind;
 use p3_grinding::GrindingChallenger;
 
@@ -24,9 +23,11 @@ use p3_grinding::GrindingChallenger;
 ///
 /// A law: the body is empty, and a caller cites the clauses.
 pub fn sent_value_is_received<A, C: Sponge, Cdc: Codec<C, A>>()
-    ensures read_back { (step : Step) (x : A) → ReadsBack (meaning.sent step Cdc.observation Cdc.encoding x)
+    ensures read_back { (step : Step) (x : A) →
+        ReadsBack (meaning.sent step Cdc.observation Cdc.encoding x)
         (reads.received step Cdc.observation Cdc.encoding) x }
-    ensures complete { (step : Step) (x : A) → Completes (meaning.sent step Cdc.observation Cdc.encoding x)
+    ensures complete { (step : Step) (x : A) →
+        Completes (meaning.sent step Cdc.observation Cdc.encoding x)
         (reads.received step Cdc.observation Cdc.encoding) x }
 {}
 
@@ -34,9 +35,11 @@ pub fn sent_value_is_received<A, C: Sponge, Cdc: Codec<C, A>>()
 ///
 /// A law: the body is empty, and a caller cites the clauses.
 pub fn sent_values_are_received<A, C: Sponge, Cdc: Codec<C, A>>()
-    ensures read_back { (step : Step) (xs : List A) → ReadsBack (meaning.sent_list step Cdc.observation Cdc.encoding xs)
+    ensures read_back { (step : Step) (xs : List A) →
+        ReadsBack (meaning.sent_list step Cdc.observation Cdc.encoding xs)
         (reads.received_list step Cdc.observation Cdc.encoding (length xs)) xs }
-    ensures complete { (step : Step) (xs : List A) → Completes (meaning.sent_list step Cdc.observation Cdc.encoding xs)
+    ensures complete { (step : Step) (xs : List A) →
+        Completes (meaning.sent_list step Cdc.observation Cdc.encoding xs)
         (reads.received_list step Cdc.observation Cdc.encoding (length xs)) xs }
 {}
 
@@ -44,11 +47,11 @@ pub fn sent_values_are_received<A, C: Sponge, Cdc: Codec<C, A>>()
 ///
 /// A law: the body is empty, and a caller cites the clauses. The most is below 2^64, as a `usize` is.
 pub fn sent_counted_values_are_received<A, U: Unit, C: CanObserve<U::Item>, Cdc: Codec<C, A>>()
-    ensures read_back { let alphabet = alphabet_of U.items U.is_too_long C.observation C.slice_may_leave in
+    ensures read_back { let alphabet = ⟦<U as AlphabetOf<C>>⟧.alphabet in
         (step : Step) (max : ℕ) (xs : List A) → length xs ≤ max → max < 2 ^ 64 →
         ReadsBack (meaning.sent_bounded step alphabet max Cdc.observation Cdc.encoding xs)
         (reads.received_bounded step alphabet max Cdc.observation Cdc.encoding) xs }
-    ensures complete { let alphabet = alphabet_of U.items U.is_too_long C.observation C.slice_may_leave in
+    ensures complete { let alphabet = ⟦<U as AlphabetOf<C>>⟧.alphabet in
         (step : Step) (max : ℕ) (xs : List A) → length xs ≤ max → max < 2 ^ 64 →
         Completes (meaning.sent_bounded step alphabet max Cdc.observation Cdc.encoding xs)
         (reads.received_bounded step alphabet max Cdc.observation Cdc.encoding) xs }
@@ -58,11 +61,13 @@ pub fn sent_counted_values_are_received<A, U: Unit, C: CanObserve<U::Item>, Cdc:
 ///
 /// A law: the body is empty, and a caller cites the clauses.
 pub fn sent_bytes_are_received<U: Unit, C: CanObserve<U::Item>>()
-    ensures read_back { let alphabet = alphabet_of U.items U.is_too_long C.observation C.slice_may_leave in
-        (kind : Kind) (label bytes : List ℕ) → ReadsBack (meaning.sent_bytes kind label alphabet bytes)
+    ensures read_back { let alphabet = ⟦<U as AlphabetOf<C>>⟧.alphabet in
+        (kind : Kind) (label bytes : List ℕ) →
+        ReadsBack (meaning.sent_bytes kind label alphabet bytes)
         (reads.received_bytes kind label alphabet (length bytes)) bytes }
-    ensures complete { let alphabet = alphabet_of U.items U.is_too_long C.observation C.slice_may_leave in
-        (kind : Kind) (label bytes : List ℕ) → Completes (meaning.sent_bytes kind label alphabet bytes)
+    ensures complete { let alphabet = ⟦<U as AlphabetOf<C>>⟧.alphabet in
+        (kind : Kind) (label bytes : List ℕ) →
+        Completes (meaning.sent_bytes kind label alphabet bytes)
         (reads.received_bytes kind label alphabet (length bytes)) bytes }
 {}
 
@@ -70,11 +75,11 @@ pub fn sent_bytes_are_received<U: Unit, C: CanObserve<U::Item>>()
 ///
 /// A law: the body is empty, and a caller cites the clauses. The most is below 2^64, as a `usize` is.
 pub fn sent_counted_bytes_are_received<U: Unit, C: CanObserve<U::Item>>()
-    ensures read_back { let alphabet = alphabet_of U.items U.is_too_long C.observation C.slice_may_leave in
+    ensures read_back { let alphabet = ⟦<U as AlphabetOf<C>>⟧.alphabet in
         (label : List ℕ) (max : ℕ) (bytes : List ℕ) → length bytes ≤ max → max < 2 ^ 64 →
         ReadsBack (meaning.sent_bytes_bounded Kind.Message label alphabet max bytes)
         (reads.received_bytes_bounded label alphabet max) bytes }
-    ensures complete { let alphabet = alphabet_of U.items U.is_too_long C.observation C.slice_may_leave in
+    ensures complete { let alphabet = ⟦<U as AlphabetOf<C>>⟧.alphabet in
         (label : List ℕ) (max : ℕ) (bytes : List ℕ) → length bytes ≤ max → max < 2 ^ 64 →
         Completes (meaning.sent_bytes_bounded Kind.Message label alphabet max bytes)
         (reads.received_bytes_bounded label alphabet max) bytes }
@@ -87,7 +92,8 @@ pub fn hint_is_received<C: Sponge>()
     ensures read_back { (label bytes : List ℕ) → ReadsBack {S = C.State} {Symbol = C.Symbol}
         (meaning.hinted label bytes)
         (reads.hint_received label (length bytes)) bytes }
-    ensures complete { (label bytes : List ℕ) → Completes {S = C.State} {Symbol = C.Symbol} (meaning.hinted label bytes)
+    ensures complete { (label bytes : List ℕ) →
+        Completes {S = C.State} {Symbol = C.Symbol} (meaning.hinted label bytes)
         (reads.hint_received label (length bytes)) bytes }
 {}
 
@@ -95,10 +101,12 @@ pub fn hint_is_received<C: Sponge>()
 ///
 /// A law: the body is empty, and a caller cites the clauses. The most is below 2^64, as a `usize` is.
 pub fn counted_hint_is_received<C: Sponge>()
-    ensures read_back { (label : List ℕ) (max : ℕ) (bytes : List ℕ) → length bytes ≤ max → max < 2 ^ 64 →
+    ensures read_back { (label : List ℕ) (max : ℕ) (bytes : List ℕ) → length bytes ≤ max →
+        max < 2 ^ 64 →
         ReadsBack {S = C.State} {Symbol = C.Symbol} (meaning.hinted_bounded label max bytes)
         (reads.hint_received_bounded label max) bytes }
-    ensures complete { (label : List ℕ) (max : ℕ) (bytes : List ℕ) → length bytes ≤ max → max < 2 ^ 64 →
+    ensures complete { (label : List ℕ) (max : ℕ) (bytes : List ℕ) → length bytes ≤ max →
+        max < 2 ^ 64 →
         Completes {S = C.State} {Symbol = C.Symbol} (meaning.hinted_bounded label max bytes)
         (reads.hint_received_bounded label max) bytes }
 {}
@@ -109,10 +117,12 @@ pub fn counted_hint_is_received<C: Sponge>()
 /// A law: the body is empty, and a caller cites the clauses.
 pub fn sent_work_is_received<C: GrindingChallenger>()
     ensures read_back { (step : Step) (bits : ℕ) (x : C.Witness) →
-        let work = work_of step C.Witness.residues C.before_witness C.observation C.bits_sampling bits in
+        let work = work_of step C.Witness.residues C.before_witness C.observation C.bits_sampling
+        bits in
         let spelling = encoding C.Witness.residues C.Witness.bit_length in
         ReadsBack (sent_work work spelling x) (reads.received_work work spelling) x }
     ensures complete { (step : Step) (bits : ℕ) (x : C.Witness) →
-        let work = work_of step C.Witness.residues C.before_witness C.observation C.bits_sampling bits in
+        let work = work_of step C.Witness.residues C.before_witness C.observation C.bits_sampling
+        bits in
         CompletesWork work (encoding C.Witness.residues C.Witness.bit_length) x }
 {}

@@ -2,14 +2,13 @@
 //! may come in its place. Here the steps that leave the proof as it is, and those that a prover writes.
 ghost use Rattle.std.specs.Prelude.{◌≤◌, ◌⊎◌, ℕ, List, length, true};
 ghost use Rattle.p3_fs_core.specs.Steps.{Step};
-ghost use Rattle.p3_driver_core.specs.Effects.{alphabet_of};
 ghost use Rattle.p3_driver_core.specs.Meanings as meaning;
 ghost use Rattle.p3_driver_core.specs.Rejecting.{Rule, drawn_rejecting};
 ghost use Rattle.p3_driver_core.specs.Transcripts.{Transcript, RefusesStep, RefusesLength};
 ghost use Rattle.p3_step_laws.specs.OneReason.{TellOneReason};
 
 use p3_challenger_core::{CanObserve, CanSampleBits, Sponge};
-use p3_codecs::{Codec, Unit};
+use p3_codecs::{AlphabetOf, Codec, Unit};
 use p3_fs_core::Kind;
 use p3_grinding::CanSampleUniformBits;
 
@@ -17,7 +16,8 @@ use p3_grinding::CanSampleUniformBits;
 ///
 /// A law: the body is empty, and a caller cites the clause.
 pub fn markers_are_refused_for_one_reason<C: Sponge>()
-    ensures { (step : Step) → TellOneReason (RefusesStep {S = C.State} {Symbol = C.Symbol} (meaning.marked step)) }
+    ensures { (step : Step) → TellOneReason
+        (RefusesStep {S = C.State} {Symbol = C.Symbol} (meaning.marked step)) }
 {}
 
 /// A step is refused for one reason that observes values which do not stand in the proof, or that a prover sends. So it
@@ -25,40 +25,47 @@ pub fn markers_are_refused_for_one_reason<C: Sponge>()
 ///
 /// A law: the body is empty, and a caller cites the clauses.
 pub fn values_are_refused_for_one_reason<A, U: Unit, C: CanObserve<U::Item>, Cdc: Codec<C, A>>()
-    ensures observed { (step : Step) (x : A) → TellOneReason (RefusesStep (meaning.observed step Cdc.observation x)) }
+    ensures observed { (step : Step) (x : A) →
+        TellOneReason (RefusesStep (meaning.observed step Cdc.observation x)) }
     ensures observed_list { (step : Step) (xs : List A) →
         TellOneReason (RefusesStep (meaning.observed_list step Cdc.observation xs)) }
-    ensures observed_counted { let alphabet = alphabet_of U.items U.is_too_long C.observation C.slice_may_leave in
+    ensures observed_counted { let alphabet = ⟦<U as AlphabetOf<C>>⟧.alphabet in
         (step : Step) (max : ℕ) (xs : List A) →
-        TellOneReason (RefusesStep (meaning.observed_bounded step alphabet max Cdc.observation xs)) }
+        TellOneReason (RefusesStep (meaning.observed_bounded step alphabet max Cdc.observation
+        xs)) }
     ensures sent { (step : Step) (x : A) →
         TellOneReason (RefusesStep (meaning.sent step Cdc.observation Cdc.encoding x)) }
     ensures sent_list { (step : Step) (xs : List A) →
         TellOneReason (RefusesStep (meaning.sent_list step Cdc.observation Cdc.encoding xs)) }
-    ensures sent_counted { let alphabet = alphabet_of U.items U.is_too_long C.observation C.slice_may_leave in
+    ensures sent_counted { let alphabet = ⟦<U as AlphabetOf<C>>⟧.alphabet in
         (step : Step) (max : ℕ) (xs : List A) →
-        TellOneReason (RefusesStep (meaning.sent_bounded step alphabet max Cdc.observation Cdc.encoding xs)) }
-    ensures observed_within { let alphabet = alphabet_of U.items U.is_too_long C.observation C.slice_may_leave in
-        (step : Step) (max : ℕ) (xs : List A) → TellOneReason {V = Transcript C.State} (λ before e after.
+        TellOneReason (RefusesStep (meaning.sent_bounded step alphabet max Cdc.observation
+        Cdc.encoding xs)) }
+    ensures observed_within { let alphabet = ⟦<U as AlphabetOf<C>>⟧.alphabet in
+        (step : Step) (max : ℕ) (xs : List A) →
+        TellOneReason {V = Transcript C.State} (λ before e after.
         RefusesLength (length xs) max before.playing e after.playing ⊎ (length xs ≤ max
-        × RefusesStep (meaning.observed_bounded step alphabet max Cdc.observation xs) before e after)) }
-    ensures sent_within { let alphabet = alphabet_of U.items U.is_too_long C.observation C.slice_may_leave in
-        (step : Step) (max : ℕ) (xs : List A) → TellOneReason {V = Transcript C.State} (λ before e after.
+        × RefusesStep (meaning.observed_bounded step alphabet max Cdc.observation xs) before e
+        after)) }
+    ensures sent_within { let alphabet = ⟦<U as AlphabetOf<C>>⟧.alphabet in
+        (step : Step) (max : ℕ) (xs : List A) →
+        TellOneReason {V = Transcript C.State} (λ before e after.
         RefusesLength (length xs) max before.playing e after.playing ⊎ (length xs ≤ max
-        × RefusesStep (meaning.sent_bounded step alphabet max Cdc.observation Cdc.encoding xs) before e after)) }
+        × RefusesStep (meaning.sent_bounded step alphabet max Cdc.observation Cdc.encoding xs)
+        before e after)) }
 {}
 
 /// A step of bytes is refused to a prover for one reason, also where they may be refused first for being too many.
 ///
 /// A law: the body is empty, and a caller cites the clauses.
 pub fn bytes_are_refused_for_one_reason<U: Unit, C: CanObserve<U::Item>>()
-    ensures fixed { let alphabet = alphabet_of U.items U.is_too_long C.observation C.slice_may_leave in
+    ensures fixed { let alphabet = ⟦<U as AlphabetOf<C>>⟧.alphabet in
         (kind : Kind) (label bytes : List ℕ) →
         TellOneReason (RefusesStep (meaning.sent_bytes kind label alphabet bytes)) }
-    ensures counted { let alphabet = alphabet_of U.items U.is_too_long C.observation C.slice_may_leave in
+    ensures counted { let alphabet = ⟦<U as AlphabetOf<C>>⟧.alphabet in
         (kind : Kind) (label : List ℕ) (max : ℕ) (bytes : List ℕ) →
         TellOneReason (RefusesStep (meaning.sent_bytes_bounded kind label alphabet max bytes)) }
-    ensures within { let alphabet = alphabet_of U.items U.is_too_long C.observation C.slice_may_leave in
+    ensures within { let alphabet = ⟦<U as AlphabetOf<C>>⟧.alphabet in
         (kind : Kind) (label : List ℕ) (max : ℕ) (bytes : List ℕ) →
         TellOneReason {V = Transcript C.State} (λ before e after.
         RefusesLength (length bytes) max before.playing e after.playing ⊎ (length bytes ≤ max
@@ -72,29 +79,34 @@ pub fn hints_are_refused_for_one_reason<C: Sponge>()
     ensures fixed { (label bytes : List ℕ) →
         TellOneReason (RefusesStep {S = C.State} {Symbol = C.Symbol} (meaning.hinted label bytes)) }
     ensures counted { (label : List ℕ) (max : ℕ) (bytes : List ℕ) →
-        TellOneReason (RefusesStep {S = C.State} {Symbol = C.Symbol} (meaning.hinted_bounded label max bytes)) }
+        TellOneReason (RefusesStep {S = C.State} {Symbol = C.Symbol}
+        (meaning.hinted_bounded label max bytes)) }
     ensures within { (label : List ℕ) (max : ℕ) (bytes : List ℕ) →
         TellOneReason {V = Transcript C.State} (λ before e after.
         RefusesLength (length bytes) max before.playing e after.playing ⊎ (length bytes ≤ max
-        × RefusesStep {Symbol = C.Symbol} (meaning.hinted_bounded label max bytes) before e after)) }
+        × RefusesStep {Symbol = C.Symbol} (meaning.hinted_bounded label max bytes) before e
+        after)) }
 {}
 
 /// A step is refused for one reason that observes a value as the challenger itself knows how.
 ///
 /// A law: the body is empty, and a caller cites the clause.
 pub fn opaque_values_are_refused_for_one_reason<T, C: CanObserve<T>>()
-    ensures { (step : Step) (x : T) → TellOneReason (RefusesStep (meaning.observed step C.observation x)) }
+    ensures { (step : Step) (x : T) → TellOneReason
+        (RefusesStep (meaning.observed step C.observation x)) }
 {}
 
 /// A step that draws is refused for one reason: a step of one value, of so many, and of so many that a rule takes.
 ///
 /// A law: the body is empty, and a caller cites the clauses.
 pub fn draws_are_refused_for_one_reason<A, C: Sponge, Cdc: Codec<C, A>>()
-    ensures value { (step : Step) → TellOneReason (RefusesStep {Symbol = C.Symbol} (meaning.drawn step Cdc.sampling)) }
+    ensures value { (step : Step) → TellOneReason
+        (RefusesStep {Symbol = C.Symbol} (meaning.drawn step Cdc.sampling)) }
     ensures list { (step : Step) (n : ℕ) →
         TellOneReason (RefusesStep {Symbol = C.Symbol} (meaning.drawn_list step Cdc.sampling n)) }
     ensures rejecting { (step : Step) (rule : Rule A) (limit n : ℕ) →
-        TellOneReason (RefusesStep {Symbol = C.Symbol} (drawn_rejecting step Cdc.sampling rule limit n)) }
+        TellOneReason (RefusesStep {Symbol = C.Symbol}
+        (drawn_rejecting step Cdc.sampling rule limit n)) }
 {}
 
 /// The same of a step that draws numbers of so many bits.
@@ -102,7 +114,8 @@ pub fn draws_are_refused_for_one_reason<A, C: Sponge, Cdc: Codec<C, A>>()
 /// A law: the body is empty, and a caller cites the clause.
 pub fn bit_draws_are_refused_for_one_reason<C: CanSampleBits<usize>>()
     ensures { (step : Step) (width n : ℕ) →
-        TellOneReason (RefusesStep {Symbol = C.Symbol} (meaning.drawn_list step (C.bits_sampling width) n)) }
+        TellOneReason (RefusesStep {Symbol = C.Symbol}
+        (meaning.drawn_list step (C.bits_sampling width) n)) }
 {}
 
 /// The same of a step that draws numbers of so many uniform bits.
@@ -110,7 +123,8 @@ pub fn bit_draws_are_refused_for_one_reason<C: CanSampleBits<usize>>()
 /// A law: the body is empty, and a caller cites the clauses.
 pub fn uniform_draws_are_refused_for_one_reason<F, C: CanSampleUniformBits<F>>()
     ensures list { (step : Step) (width n : ℕ) →
-        TellOneReason (RefusesStep {Symbol = C.Symbol} (meaning.drawn_list step (C.uniform true width).draw n)) }
+        TellOneReason (RefusesStep {Symbol = C.Symbol}
+        (meaning.drawn_list step (C.uniform true width).draw n)) }
     ensures rejecting { (step : Step) (width : ℕ) (rule : Rule ℕ) (limit n : ℕ) →
         TellOneReason (RefusesStep {Symbol = C.Symbol}
         (drawn_rejecting step (C.uniform true width).draw rule limit n)) }

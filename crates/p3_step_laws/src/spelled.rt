@@ -7,14 +7,13 @@
 ghost use Rattle.std.specs.Prelude.{◌≡◌, ◌≤◌, ℕ, List, length};
 ghost use Rattle.p3_fs_core.specs.Scalar.{encoding};
 ghost use Rattle.p3_fs_core.specs.Steps.{Step};
-ghost use Rattle.p3_driver_core.specs.Effects.{alphabet_of};
 ghost use Rattle.p3_driver_core.specs.Meanings as meaning;
 ghost use Rattle.p3_driver_core.specs.Working.{work_of, sent_work};
 ghost use Rattle.p3_driver_core.specs.Reads as reads;
 ghost use Rattle.p3_step_laws.specs.Spelled.{OnlyReads, AnyValue};
 
 use p3_challenger_core::{CanObserve, Sponge};
-use p3_codecs::{Codec, Unit};
+use p3_codecs::{AlphabetOf, Codec, Unit};
 use p3_fs_core::Kind;
 use p3_grinding::GrindingChallenger;
 
@@ -24,13 +23,17 @@ use p3_grinding::GrindingChallenger;
 ///
 /// A law: the body is empty, and a caller cites the clauses.
 pub fn read_values_are_spelled<A, U: Unit, C: CanObserve<U::Item>, Cdc: Codec<C, A>>()
-    ensures value { (step : Step) → OnlyReads (reads.received step Cdc.observation Cdc.encoding) AnyValue
+    ensures value { (step : Step) → OnlyReads (reads.received step Cdc.observation Cdc.encoding)
+        AnyValue
         (λ x. meaning.sent step Cdc.observation Cdc.encoding x) }
-    ensures list { (step : Step) (n : ℕ) → OnlyReads (reads.received_list step Cdc.observation Cdc.encoding n)
+    ensures list { (step : Step) (n : ℕ) → OnlyReads
+        (reads.received_list step Cdc.observation Cdc.encoding n)
         (λ xs. length xs ≡ n) (λ xs. meaning.sent_list step Cdc.observation Cdc.encoding xs) }
-    ensures counted { let alphabet = alphabet_of U.items U.is_too_long C.observation C.slice_may_leave in
-        (step : Step) (max : ℕ) → OnlyReads (reads.received_bounded step alphabet max Cdc.observation Cdc.encoding)
-        (λ xs. length xs ≤ max) (λ xs. meaning.sent_bounded step alphabet max Cdc.observation Cdc.encoding xs) }
+    ensures counted { let alphabet = ⟦<U as AlphabetOf<C>>⟧.alphabet in
+        (step : Step) (max : ℕ) → OnlyReads
+        (reads.received_bounded step alphabet max Cdc.observation Cdc.encoding)
+        (λ xs. length xs ≤ max) (λ xs. meaning.sent_bounded step alphabet max Cdc.observation
+        Cdc.encoding xs) }
 {}
 
 /// Where a verifier's step reads so many bytes, they are so many, and the proof's bytes begin with them. Where it reads
@@ -38,12 +41,14 @@ pub fn read_values_are_spelled<A, U: Unit, C: CanObserve<U::Item>, Cdc: Codec<C,
 ///
 /// A law: the body is empty, and a caller cites the clauses.
 pub fn read_bytes_are_spelled<U: Unit, C: CanObserve<U::Item>>()
-    ensures fixed { let alphabet = alphabet_of U.items U.is_too_long C.observation C.slice_may_leave in
-        (kind : Kind) (label : List ℕ) (n : ℕ) → OnlyReads (reads.received_bytes kind label alphabet n)
+    ensures fixed { let alphabet = ⟦<U as AlphabetOf<C>>⟧.alphabet in
+        (kind : Kind) (label : List ℕ) (n : ℕ) →
+        OnlyReads (reads.received_bytes kind label alphabet n)
         (λ bytes. length bytes ≡ n) (λ bytes. meaning.sent_bytes kind label alphabet bytes) }
-    ensures counted { let alphabet = alphabet_of U.items U.is_too_long C.observation C.slice_may_leave in
+    ensures counted { let alphabet = ⟦<U as AlphabetOf<C>>⟧.alphabet in
         (label : List ℕ) (max : ℕ) → OnlyReads (reads.received_bytes_bounded label alphabet max)
-        (λ bytes. length bytes ≤ max) (λ bytes. meaning.sent_bytes_bounded Kind.Message label alphabet max bytes) }
+        (λ bytes. length bytes ≤ max)
+        (λ bytes. meaning.sent_bytes_bounded Kind.Message label alphabet max bytes) }
 {}
 
 /// The same of a hint.
@@ -51,7 +56,8 @@ pub fn read_bytes_are_spelled<U: Unit, C: CanObserve<U::Item>>()
 /// A law: the body is empty, and a caller cites the clauses.
 pub fn read_hints_are_spelled<C: Sponge>()
     ensures fixed { (label : List ℕ) (n : ℕ) → OnlyReads {S = C.State} {Symbol = C.Symbol}
-        (reads.hint_received label n) (λ bytes. length bytes ≡ n) (λ bytes. meaning.hinted label bytes) }
+        (reads.hint_received label n) (λ bytes. length bytes ≡ n)
+        (λ bytes. meaning.hinted label bytes) }
     ensures counted { (label : List ℕ) (max : ℕ) → OnlyReads {S = C.State} {Symbol = C.Symbol}
         (reads.hint_received_bounded label max) (λ bytes. length bytes ≤ max)
         (λ bytes. meaning.hinted_bounded label max bytes) }
@@ -62,7 +68,8 @@ pub fn read_hints_are_spelled<C: Sponge>()
 /// A law: the body is empty, and a caller cites the clause.
 pub fn read_work_is_spelled<C: GrindingChallenger>()
     ensures { (step : Step) (bits : ℕ) →
-        let work = work_of step C.Witness.residues C.before_witness C.observation C.bits_sampling bits in
+        let work = work_of step C.Witness.residues C.before_witness C.observation C.bits_sampling
+        bits in
         let spelling = encoding C.Witness.residues C.Witness.bit_length in
         OnlyReads (reads.received_work work spelling) AnyValue (λ x. sent_work work spelling x) }
 {}

@@ -18,12 +18,13 @@ use Rattle.p3_fs_core.specs.declared.step.Length.{Length}
 use Rattle.p3_fs_core.specs.declared.step.Length.TheVariants.{Scalar, Fixed, Bounded}
 use Rattle.p3_duplex.specs.DuplexCalls as duplex
 use Rattle.p3_duplex.specs.DuplexCalls.{DuplexSponge}
-use Rattle.p3_driver_core.specs.Counts.{count_width}
-use Rattle.p3_driver_core.specs.Effects.{Alphabet, alphabet_of}
+use Rattle.p3_fs_core.specs.Counts.{count_width}
+use Rattle.p3_fs_core.specs.Alphabet.{Alphabet, alphabet_of}
 use Rattle.p3_driver_core.specs.Meanings.{observed_list, observed_bounded, sent, sent_bounded, sent_bytes, hinted}
 use Rattle.p3_driver_core.specs.Meanings.{drawn_list}
 use Rattle.p3_driver_core.specs.Rejecting.{Rule, taken, keeps, drawn_rejecting}
-use Rattle.p3_driver_core.specs.Transcripts.{Meaning, algebra_step}
+use Rattle.p3_fs_core.specs.Algebras.{algebra_of, algebra_step}
+use Rattle.p3_driver_core.specs.Transcripts.{Meaning}
 
 abbrev Sponge : Type 0
 Sponge = DuplexSponge F257
@@ -48,7 +49,7 @@ spelled = scalar.encoding residues 9
 
 -- a step of elements, whose label and digest show nowhere
 abbrev step_of : Kind → Length → Step
-step_of kind length = algebra_step kind (codes "x") 257 1 (replicate 32 0) (codes "F257") length
+step_of kind length = algebra_step kind (codes "x") (algebra_of 257 1 (replicate 32 0) (codes "F257")) length
 
 -- the numbers of a list of elements
 abbrev numbers : List ℕ → List F257

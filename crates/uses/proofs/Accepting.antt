@@ -20,7 +20,8 @@ use Rattle.p3_challenger.specs.Sampling.{Sampling}
 use Rattle.p3_challenger.specs.Steps.{Step}
 use Rattle.p3_challenger.specs.TranscriptError.{TranscriptError}
 use Rattle.p3_challenger.specs.TranscriptError.TheVariants.{OutOfMemory}
-use Rattle.p3_challenger.specs.Transcripts.{IsNext, Meaning, PlaysStep, RefusesStep, Transcript, algebra_step}
+use Rattle.p3_challenger.specs.Algebras.{algebra_step}
+use Rattle.p3_challenger.specs.Transcripts.{IsNext, Meaning, PlaysStep, RefusesStep, Transcript}
 use Rattle.p3_challenger.specs.Transcripts.{bytes_step, step_on}
 use Rattle.p3_challenger.specs.Driving.{Driving}
 use Rattle.p3_challenger.specs.Verifying.{EndsReading, Receives, RefusesToRead}

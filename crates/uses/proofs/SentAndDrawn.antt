@@ -3,7 +3,8 @@ use Rattle.std.proofs.Common.{◌≡◌, ℕ, List, [], ◌++◌, inl, inr, Resu
 use Rattle.std.specs.List.{flat_map}
 use Rattle.std.specs.Result.{IfOk, OnErr}
 use Rattle.p3_challenger.specs.TranscriptError.{TranscriptError}
-use Rattle.p3_challenger.specs.Effects.{Alphabet, observing, observing_bytes}
+use Rattle.p3_challenger.specs.Alphabet.{Alphabet}
+use Rattle.p3_challenger.specs.Effects.{observing, observing_bytes}
 use Rattle.p3_challenger.specs.Feeding.{Feeds, OnlyDraws}
 use Rattle.p3_challenger.specs.FeedingLaws.{in_sequence-feeds, played-fed, refused-fed, refused-drawn}
 use Rattle.p3_challenger.specs.Observation.{Observation}

@@ -1,5 +1,6 @@
 -- What a run of the small protocol says.
 use Rattle.std.specs.Prelude.{◌≡◌, ◌==◌, ◌-◌, ℕ, List, [], ◌∷◌, ◌++◌, Bool, true, false, Option, Some, None, not, codes}
+use Rattle.std.specs.Prelude.{Result, MatchResult}
 use Rattle.p3_challenger.specs.BabyBearResidues.{BabyBear, residues}
 use Rattle.p3_challenger.specs.Encoding.{Encoding}
 use Rattle.p3_challenger.specs.Kind.{Kind}
@@ -11,13 +12,17 @@ use Rattle.p3_challenger.specs.Rejecting.{taken}
 use Rattle.p3_challenger.specs.Residues.{sum_of, product_of, power_of}
 use Rattle.p3_challenger.specs.Sampling.{Sampling}
 use Rattle.p3_challenger.specs.Steps.{Step}
-use Rattle.p3_challenger.specs.Transcripts.{algebra_step, bytes_step}
+use Rattle.p3_challenger.specs.Algebras.{algebra_of, algebra_step}
+use Rattle.p3_challenger.specs.Transcripts.{bytes_step}
 use Rattle.p3_challenger.specs.Driving.{Driving}
+use Rattle.p3_challenger.specs.TranscriptError.{TranscriptError}
+use Rattle.p3_challenger.specs.TranscriptError.TheVariants.{OutOfMemory}
 use Rattle.uses.specs.declared.protocol.Claim.{Claim}
 
 -- the step of an element of the field, or of a list of some, where the field's identity has this digest
 abbrev pub element_step : List ℕ → Kind → List ℕ → Length → Step
-element_step digest kind label length = algebra_step kind label residues.order 1 digest (codes "BabyBear") length
+element_step digest kind label length =
+    algebra_step kind label (algebra_of residues.order 1 digest (codes "BabyBear")) length
 
 -- the steps of the protocol in order
 abbrev pub steps_of_line : List ℕ → List Step
@@ -63,6 +68,15 @@ pub record IsRun {S Symbol : Type 0} (o : Observation S Symbol BabyBear) (places
   pub place : places.sampled (after_line o s claim) ≡ Some claim.place
   pub divisor : IsDivisor divisors (places.after (after_line o s claim)) claim.divisor
   pub spelled : bytes ≡ bytes_of e claim
+
+-- the answer of a verifier is that of a run
+abbrev pub AnswersRun : (Claim → Type 0) → Option Claim → Type 0
+AnswersRun IsRunOf found = (claim : Claim) × IsAnswer found claim × IsRunOf claim
+
+-- each run is answered as the run of its claim, or memory is out
+abbrev pub AcceptsRuns : (Claim → Type 0) → Result (Option Claim) TranscriptError → Type 0
+AcceptsRuns IsRunOf result =
+    (claim : Claim) → IsRunOf claim → MatchResult result (λ found. IsAnswer found claim) (λ e. e ≡ OutOfMemory)
 
 -- what a prover hands over: the line's value at the place, times a power of the divisor that divides by it
 abbrev pub quotient_of : Claim → BabyBear

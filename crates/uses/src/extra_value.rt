@@ -5,14 +5,14 @@ ghost use Rattle.p3_challenger.specs.Meanings as meaning;
 ghost use Rattle.p3_challenger.specs.Drivers.{proving_of};
 ghost use Rattle.p3_challenger.specs.Proving.{Writes};
 ghost use Rattle.p3_challenger.specs.Reads as reads;
-ghost use Rattle.p3_challenger.specs.Transcripts.{algebra_step};
 ghost use Rattle.p3_challenger.specs.Drivers.{verifying_of};
 ghost use Rattle.p3_challenger.specs.Verifying.{Receives};
 ghost use Rattle.uses.specs.ExtraValue.{after_value};
 
 use p3_challenger::CanObserve;
 use p3_challenger::fs::{
-    Codec, Kind, Label, Length, ProverState, TranscriptBound, TranscriptError, VerifierState,
+    Codec, Declared, Kind, Label, Length, ProverState, TranscriptBound, TranscriptError,
+    VerifierState,
 };
 use p3_field::ScalarField;
 use p3_symmetric::DigestHasher;
@@ -28,8 +28,7 @@ pub fn send_after<F: ScalarField, T, U, C: CanObserve<T> + Drop, D: DigestHasher
     value: &F,
 ) -> Result<TranscriptBound<F>, TranscriptError>
     ensures { let before = proving_of C.state prover.old in
-        let step = algebra_step Kind.Message label.now F.residues.order F.DIMENSION (D.digest_of F.identity)
-        F.name_bytes Length.Scalar in
+        let step = ⟦<F as Declared<F, D>>⟧.step Kind.Message label.now Length.Scalar in
         IfOk result (λ bound. Writes (meaning.sent step Cdc.observation Cdc.encoding value.now)
         (record { transcript = after_value C.observation extra before.transcript; bytes = before.bytes })
         (bound_value bound)
@@ -56,8 +55,7 @@ pub fn receive_after<
     label: Label,
 ) -> Result<TranscriptBound<F>, TranscriptError>
     ensures { let before = verifying_of C.state verifier.old in
-        let step = algebra_step Kind.Message label.now F.residues.order F.DIMENSION (D.digest_of F.identity)
-        F.name_bytes Length.Scalar in
+        let step = ⟦<F as Declared<F, D>>⟧.step Kind.Message label.now Length.Scalar in
         IfOk result (λ bound. Receives (reads.received step Cdc.observation Cdc.encoding)
         (record { transcript = after_value C.observation extra before.transcript; bytes = before.bytes })
         (bound_value bound)

@@ -2,13 +2,12 @@
 ghost use Rattle.std.specs.Prelude.{◌≡◌, [], ◌∷◌, true, map, IfOk, IfErr};
 ghost use Rattle.p3_challenger.specs.Bound.{bound_value};
 ghost use Rattle.p3_challenger.specs.Reads as reads;
-ghost use Rattle.p3_challenger.specs.Transcripts.{algebra_step};
 ghost use Rattle.p3_challenger.specs.Drivers.{verifying_of};
 ghost use Rattle.p3_challenger.specs.Verifying.{Receives, ReceivesOrRefuses};
 
 use p3_challenger::Sponge;
 use p3_challenger::fs::{
-    Codec, Kind, Label, Length, TranscriptBound, TranscriptError, VerifierState,
+    Codec, Declared, Kind, Label, Length, TranscriptBound, TranscriptError, VerifierState,
 };
 use p3_field::ScalarField;
 use p3_symmetric::DigestHasher;
@@ -22,8 +21,7 @@ pub fn receive_pair<F: ScalarField, U, C: Sponge + Drop, D: DigestHasher, Cdc: C
     verifier: &mut VerifierState<'_, C, U, D>,
     label: Label,
 ) -> Result<(F, F), TranscriptError>
-    ensures { let step = algebra_step Kind.Message label.now F.residues.order F.DIMENSION (D.digest_of F.identity)
-        F.name_bytes (Length.Fixed 2) in
+    ensures { let step = ⟦<F as Declared<F, D>>⟧.step Kind.Message label.now (Length.Fixed 2) in
         ReceivesOrRefuses (reads.received_list step Cdc.observation Cdc.encoding 2)
         (verifying_of C.state verifier.old) (λ pair. pair.0 ∷ pair.1 ∷ []) result
         (verifying_of C.state verifier.new) }
@@ -42,8 +40,7 @@ pub fn receive_list<F: ScalarField, U, C: Sponge + Drop, D: DigestHasher, Cdc: C
     label: Label,
     n: usize,
 ) -> Result<Vec<F>, TranscriptError>
-    ensures read { let step = algebra_step Kind.Message label.now F.residues.order F.DIMENSION (D.digest_of F.identity)
-        F.name_bytes (Length.Fixed n) in
+    ensures read { let step = ⟦<F as Declared<F, D>>⟧.step Kind.Message label.now (Length.Fixed n) in
         IfOk result (λ values. Receives (reads.received_list step Cdc.observation Cdc.encoding n)
         (verifying_of C.state verifier.old) values.items (verifying_of C.state verifier.new)) }
     ensures last { IfErr result (λ _. (verifying_of C.state verifier.new).transcript.playing.finished ≡ true) }

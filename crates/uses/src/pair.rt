@@ -7,7 +7,7 @@ ghost use Rattle.p3_challenger.specs.Bound.{bound_values};
 ghost use Rattle.p3_challenger.specs.Meanings as meaning;
 ghost use Rattle.p3_challenger.specs.Drivers.{proving_of};
 ghost use Rattle.p3_challenger.specs.Proving.{WritesOrRefuses};
-ghost use Rattle.p3_challenger.specs.Transcripts.{algebra_step};
+ghost use Rattle.p3_challenger.specs.Algebras.{algebra_of, algebra_step};
 
 use p3_challenger::Sponge;
 use p3_challenger::fs::{
@@ -25,8 +25,8 @@ pub fn send_pair<F: ScalarField, U, C: Sponge + Drop, D: DigestHasher, Cdc: Code
     first: F,
     second: F,
 ) -> Result<Vec<TranscriptBound<F>>, TranscriptError>
-    ensures { let step = algebra_step Kind.Message label.now F.residues.order 1 (D.digest_of F.identity)
-        F.name_bytes (Length.Fixed 2) in
+    ensures { let algebra = algebra_of F.residues.order 1 (D.digest_of F.identity) F.name_bytes in
+        let step = algebra_step Kind.Message label.now algebra (Length.Fixed 2) in
         WritesOrRefuses (meaning.sent_list step Cdc.observation Cdc.encoding (first ∷ second ∷ []))
         (proving_of C.state prover.old) bound_values result (proving_of C.state prover.new) }
 {

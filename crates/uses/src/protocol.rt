@@ -12,8 +12,11 @@ ghost use Rattle.p3_challenger.specs.Reading.{AreBytes};
 ghost use Rattle.p3_challenger.specs.SeparatorSeed.{pattern_of, seed_of_separator};
 ghost use Rattle.p3_challenger.specs.Transcripts.{IsNext, step_on};
 ghost use Rattle.p3_challenger.specs.Drivers.{verifying_of};
-ghost use Rattle.uses.specs.Protocol.{IsAhead, IsAnswer, IsDivisor, IsPast, IsRun, IsSent, after_line, bytes_of};
-ghost use Rattle.uses.specs.Protocol.{element_step, may_divide, steps_of_line};
+ghost use Rattle.p3_challenger.specs.DomainSeparator.{DomainSeparator};
+ghost use Rattle.p3_challenger.specs.Steps.{Step};
+ghost use Rattle.uses.specs.declared.protocol.Claim.{Claim};
+ghost use Rattle.uses.specs.Protocol.{AcceptsRuns, AnswersRun, IsAhead, IsDivisor, IsPast, IsRun, IsSent};
+ghost use Rattle.uses.specs.Protocol.{after_line, bytes_of, element_step, may_divide, steps_of_line};
 
 use p3_challenger::fs::{
     BytesToFieldCodec, Codec, DomainSeparator, ExtensionFieldCodec, Hierarchy, Interaction,
@@ -56,6 +59,27 @@ pub struct Claim {
     pub quotient: BabyBear,
 }
 
+/// What contracts say of the protocol, at the types that it is played with.
+pub trait Line {
+    // Its steps.
+    ghost steps: { List Step };
+
+    // A claim is that of a run under a separator, of which the bytes are the proof.
+    ghost is_run: { {U D : Type 0} → DomainSeparator U D → List ℕ → Claim → Type 0 };
+}
+
+impl Line for Claim {
+    ghost steps = { steps_of_line (⟦<Sha256Hasher as DigestHasher>⟧.digest_of
+        ⟦<BabyBear as AlgebraIdentity<BabyBear>>⟧.identity) };
+
+    ghost is_run = { λ separator proof claim.
+        let scalars = ⟦<Scalars as Codec<Challenger, BabyBear>>⟧ in
+        let seed = seed_of_separator ⟦<Sha256Hasher as DigestHasher>⟧.digest_of separator in
+        IsRun scalars.observation scalars.sampling
+        ⟦<Coefficient as Codec<Challenger, BabyBear>>⟧.sampling scalars.encoding
+        (record { sponge = absorbing seed; hasher = record {} }) claim proof };
+}
+
 /// Sends the line, and gives the bytes of the proof. The one error in fact is that memory is out.
 pub fn prove(
     alloc: Global,
@@ -64,9 +88,9 @@ pub fn prove(
     offset: BabyBear,
 ) -> Result<Vec<u8>, TranscriptError>
     ensures { let seed = seed_of_separator ⟦<Sha256Hasher as DigestHasher>⟧.digest_of separator.now in
-        IfOk result (λ proof. IsSent ⟦<Scalars as Codec<Challenger, BabyBear>>⟧.observation
-        ⟦<Scalars as Codec<Challenger, BabyBear>>⟧.sampling ⟦<Coefficient as Codec<Challenger, BabyBear>>⟧.sampling
-        ⟦<Scalars as Codec<Challenger, BabyBear>>⟧.encoding
+        let scalars = ⟦<Scalars as Codec<Challenger, BabyBear>>⟧ in
+        IfOk result (λ proof. IsSent scalars.observation scalars.sampling
+        ⟦<Coefficient as Codec<Challenger, BabyBear>>⟧.sampling scalars.encoding
         (record { sponge = absorbing seed; hasher = record {} }) slope offset proof.items) }
 {
     let mut prover = Prover::new(alloc, challenger(alloc), separator)?;
@@ -83,10 +107,11 @@ fn send(
 ) -> Result<(), TranscriptError>
     ensures { let before = proving_of ⟦<Challenger as Sponge>⟧.state prover.old in
         let after = proving_of ⟦<Challenger as Sponge>⟧.state prover.new in
+        let scalars = ⟦<Scalars as Codec<Challenger, BabyBear>>⟧ in
         OnOk result ((bytes : List ℕ) × (after.bytes ≡ before.bytes ++ bytes)
-        × IsSent ⟦<Scalars as Codec<Challenger, BabyBear>>⟧.observation
-        ⟦<Scalars as Codec<Challenger, BabyBear>>⟧.sampling ⟦<Coefficient as Codec<Challenger, BabyBear>>⟧.sampling
-        ⟦<Scalars as Codec<Challenger, BabyBear>>⟧.encoding before.transcript.challenger slope offset bytes) }
+        × IsSent scalars.observation scalars.sampling
+        ⟦<Coefficient as Codec<Challenger, BabyBear>>⟧.sampling scalars.encoding
+        before.transcript.challenger slope offset bytes) }
 {
     prover.add_scalar::<BabyBear, Scalars>("slope", &slope)?;
     prover.add_scalar::<BabyBear, Scalars>("offset", &offset)?;
@@ -110,20 +135,9 @@ pub fn verify(
     proof: &[u8],
 ) -> Result<Option<Claim>, TranscriptError>
     ensures length { OnOk result (length proof.now ≡ 12) }
-    ensures run { let seed = seed_of_separator ⟦<Sha256Hasher as DigestHasher>⟧.digest_of separator.now in
-        IfOk result (λ found. (claim : Claim) × IsAnswer found claim
-        × IsRun ⟦<Scalars as Codec<Challenger, BabyBear>>⟧.observation
-        ⟦<Scalars as Codec<Challenger, BabyBear>>⟧.sampling ⟦<Coefficient as Codec<Challenger, BabyBear>>⟧.sampling
-        ⟦<Scalars as Codec<Challenger, BabyBear>>⟧.encoding
-        (record { sponge = absorbing seed; hasher = record {} }) claim proof.now) }
-    ensures accepted { let seed = seed_of_separator ⟦<Sha256Hasher as DigestHasher>⟧.digest_of separator.now in
-        let digest = ⟦<Sha256Hasher as DigestHasher>⟧.digest_of ⟦<BabyBear as AlgebraIdentity<BabyBear>>⟧.identity in
-        (claim : Claim) → (pattern_of separator.now).steps ≡ steps_of_line digest →
-        IsRun ⟦<Scalars as Codec<Challenger, BabyBear>>⟧.observation
-        ⟦<Scalars as Codec<Challenger, BabyBear>>⟧.sampling ⟦<Coefficient as Codec<Challenger, BabyBear>>⟧.sampling
-        ⟦<Scalars as Codec<Challenger, BabyBear>>⟧.encoding
-        (record { sponge = absorbing seed; hasher = record {} }) claim proof.now →
-        MatchResult result (λ found. IsAnswer found claim) (λ e. e ≡ TranscriptError.OutOfMemory) }
+    ensures run { IfOk result (AnswersRun (⟦<Claim as Line>⟧.is_run separator.now proof.now)) }
+    ensures accepted { (pattern_of separator.now).steps ≡ ⟦<Claim as Line>⟧.steps →
+        AcceptsRuns (⟦<Claim as Line>⟧.is_run separator.now proof.now) result }
 {
     let mut verifier = Verifier::new(alloc, challenger(alloc), separator, proof)?;
     let received = receive(&mut verifier);
@@ -137,14 +151,14 @@ pub fn verify(
 
 fn receive(verifier: &mut Verifier<'_>) -> Result<Claim, TranscriptError>
     ensures place { let before = verifying_of ⟦<Challenger as Sponge>⟧.state verifier.old in
-        let places = ⟦<Scalars as Codec<Challenger, BabyBear>>⟧.sampling in
-        IfOk result (λ claim. places.sampled (after_line ⟦<Scalars as Codec<Challenger, BabyBear>>⟧.observation
-        before.transcript.challenger claim) ≡ Some claim.place) }
+        let scalars = ⟦<Scalars as Codec<Challenger, BabyBear>>⟧ in
+        IfOk result (λ claim. scalars.sampling.sampled
+        (after_line scalars.observation before.transcript.challenger claim) ≡ Some claim.place) }
     ensures divisor { let before = verifying_of ⟦<Challenger as Sponge>⟧.state verifier.old in
-        let places = ⟦<Scalars as Codec<Challenger, BabyBear>>⟧.sampling in
-        IfOk result (λ claim. IsDivisor ⟦<Coefficient as Codec<Challenger, BabyBear>>⟧.sampling (places.after
-        (after_line ⟦<Scalars as Codec<Challenger, BabyBear>>⟧.observation before.transcript.challenger claim))
-        claim.divisor) }
+        let scalars = ⟦<Scalars as Codec<Challenger, BabyBear>>⟧ in
+        IfOk result (λ claim. IsDivisor ⟦<Coefficient as Codec<Challenger, BabyBear>>⟧.sampling
+        (scalars.sampling.after
+        (after_line scalars.observation before.transcript.challenger claim)) claim.divisor) }
     ensures read { let before = verifying_of ⟦<Challenger as Sponge>⟧.state verifier.old in
         let after = verifying_of ⟦<Challenger as Sponge>⟧.state verifier.new in
         IfOk result (λ claim. AreBytes before.bytes →
@@ -154,10 +168,12 @@ fn receive(verifier: &mut Verifier<'_>) -> Result<Claim, TranscriptError>
         OnOk result (length before.bytes ≡ 12 + length after.bytes) }
     ensures accepted { let before = verifying_of ⟦<Challenger as Sponge>⟧.state verifier.old in
         let after = verifying_of ⟦<Challenger as Sponge>⟧.state verifier.new in
-        let digest = ⟦<Sha256Hasher as DigestHasher>⟧.digest_of ⟦<BabyBear as AlgebraIdentity<BabyBear>>⟧.identity in
-        (claim : Claim) (rest : List ℕ) → IsAhead ⟦<Scalars as Codec<Challenger, BabyBear>>⟧.observation
-        ⟦<Scalars as Codec<Challenger, BabyBear>>⟧.sampling ⟦<Coefficient as Codec<Challenger, BabyBear>>⟧.sampling
-        ⟦<Scalars as Codec<Challenger, BabyBear>>⟧.encoding digest before claim rest →
+        let identity = ⟦<BabyBear as AlgebraIdentity<BabyBear>>⟧.identity in
+        let digest = ⟦<Sha256Hasher as DigestHasher>⟧.digest_of identity in
+        let scalars = ⟦<Scalars as Codec<Challenger, BabyBear>>⟧ in
+        (claim : Claim) (rest : List ℕ) → IsAhead scalars.observation scalars.sampling
+        ⟦<Coefficient as Codec<Challenger, BabyBear>>⟧.sampling scalars.encoding
+        digest before claim rest →
         MatchResult result (λ found. (found ≡ claim) × IsPast before rest after)
         (λ e. e ≡ TranscriptError.OutOfMemory) }
 {
@@ -189,11 +205,13 @@ fn draw_divisor<S: SymmetricSteps<Challenger = Challenger, Digest = Sha256Hasher
         (S.transcript side.old).challenger) }
     ensures bytes { OnOk result (S.bytes side.new ≡ S.bytes side.old) }
     ensures accepted { let before = S.transcript side.old in
-        let digest = ⟦<Sha256Hasher as DigestHasher>⟧.digest_of ⟦<BabyBear as AlgebraIdentity<BabyBear>>⟧.identity in
+        let identity = ⟦<BabyBear as AlgebraIdentity<BabyBear>>⟧.identity in
+        let digest = ⟦<Sha256Hasher as DigestHasher>⟧.digest_of identity in
         (divisor : baby_bear.BabyBear) →
         IsNext before.playing (element_step digest Kind.Challenge (codes "divisor") (Length.Fixed 1)) →
         IsDivisor ⟦<Coefficient as Codec<Challenger, BabyBear>>⟧.sampling before.challenger divisor →
-        MatchResult result (λ found. (found ≡ divisor) × ((S.transcript side.new).playing ≡ step_on before.playing))
+        MatchResult result
+        (λ found. (found ≡ divisor) × ((S.transcript side.new).playing ≡ step_on before.playing))
         (λ e. e ≡ TranscriptError.OutOfMemory) }
 {
     // A law, which does nothing: where one side has drawn it, memory alone can be refused to the other.
@@ -218,9 +236,7 @@ fn challenger(alloc: Global) -> Challenger
 ///
 /// The one error in fact is that memory is out.
 pub fn separator(alloc: Global) -> Result<Separator, TranscriptError>
-    ensures { let identity = ⟦<BabyBear as AlgebraIdentity<BabyBear>>⟧.identity in
-        let digest = ⟦<Sha256Hasher as DigestHasher>⟧.digest_of identity in
-        IfOk result (λ separator. (pattern_of separator).steps ≡ steps_of_line digest) }
+    ensures { IfOk result (λ separator. (pattern_of separator).steps ≡ ⟦<Claim as Line>⟧.steps) }
 {
     let mut recorder = PatternState::<u8>::new(alloc);
     let recorded = record(&mut recorder);
@@ -230,9 +246,7 @@ pub fn separator(alloc: Global) -> Result<Separator, TranscriptError>
 
 // The steps in order. Each names its value's type, so that a proof of one type is not read as another.
 fn record(recorder: &mut PatternState<u8>) -> Result<(), TranscriptError>
-    ensures { let identity = ⟦<BabyBear as AlgebraIdentity<BabyBear>>⟧.identity in
-        let digest = ⟦<Sha256Hasher as DigestHasher>⟧.digest_of identity in
-        OnOk result (recorder.new.steps ≡ recorder.old.steps ++ steps_of_line digest) }
+    ensures { OnOk result (recorder.new.steps ≡ recorder.old.steps ++ ⟦<Claim as Line>⟧.steps) }
 {
     let leaf = Hierarchy::Atomic;
     let slope = Interaction::algebra::<BabyBear, BabyBear, Sha256Hasher>(

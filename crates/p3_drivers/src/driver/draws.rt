@@ -4,9 +4,11 @@ ghost use Rattle.p3_driver_core.specs.Bound.{bound_value, bound_values};
 ghost use Rattle.p3_driver_core.specs.Driving.{KeepsOrRefuses};
 ghost use Rattle.p3_driver_core.specs.Meanings as meaning;
 ghost use Rattle.p3_driver_core.specs.Rejecting.{Rule, Computes, ComputesOfValues, drawn_rejecting};
-ghost use Rattle.p3_driver_core.specs.Transcripts.{PlaysOrRefuses, KeepsOrder, algebra_step, bits_step};
+ghost use Rattle.p3_driver_core.specs.Transcripts.{PlaysOrRefuses, KeepsOrder, bits_step};
 ghost use Rattle.p3_driver_core.specs.Transcripts.{uniform_bits_step};
 ghost use Rattle.p3_drivers.specs.Drivers.{driving_of};
+ghost use Rattle.p3_fs_core.specs.declared.step.Kind.TheVariants.{Challenge};
+ghost use Rattle.p3_fs_core.specs.declared.step.Length.TheVariants.{Fixed, Scalar};
 
 use crate::DriverState;
 use crate::tape::Tape;
@@ -17,7 +19,9 @@ use p3_driver_core::{
     draw_uniform_numbers, draw_values,
 };
 use p3_field_core::{AlgebraIdentity, Named, ScalarField};
-use p3_fs_core::{Hierarchy, Interaction, Kind, Label, Length, TranscriptError, TranscriptField};
+use p3_fs_core::{
+    Declared, Hierarchy, Interaction, Kind, Label, Length, TranscriptError, TranscriptField,
+};
 use p3_grinding::CanSampleUniformBits;
 use p3_symmetric::DigestHasher;
 
@@ -31,10 +35,10 @@ impl<C: Sponge, U, D: DigestHasher, P: Tape> DriverState<C, U, D, P> {
         label: Label,
     ) -> Result<TranscriptBound<F>, TranscriptError>
         requires { 128 ≤ Cdc.SECURITY_BITS }
-        ensures { let step = algebra_step Kind.Challenge label.now F.residues.order F.DIMENSION (D.digest_of F.identity)
-            F.name_bytes Length.Scalar in
+        ensures { let step = ⟦<F as Declared<F, D>>⟧.step Challenge label.now Scalar in
             KeepsOrRefuses (meaning.drawn {Symbol = C.Symbol} step Cdc.sampling)
-            (driving_of C.state P.bytes self.old) bound_value result (driving_of C.state P.bytes self.new) }
+            (driving_of C.state P.bytes self.old) bound_value result
+            (driving_of C.state P.bytes self.new) }
     {
         self.draw::<F, F, Cdc>(label)
     }
@@ -49,10 +53,10 @@ impl<C: Sponge, U, D: DigestHasher, P: Tape> DriverState<C, U, D, P> {
         n: usize,
     ) -> Result<Vec<TranscriptBound<F>>, TranscriptError>
         requires { 128 ≤ Cdc.SECURITY_BITS }
-        ensures exact { let step = algebra_step Kind.Challenge label.now F.residues.order F.DIMENSION
-            (D.digest_of F.identity) F.name_bytes (Length.Fixed n) in
+        ensures exact { let step = ⟦<F as Declared<F, D>>⟧.step Challenge label.now (Fixed n) in
             KeepsOrRefuses (meaning.drawn_list {Symbol = C.Symbol} step Cdc.sampling n)
-            (driving_of C.state P.bytes self.old) bound_values result (driving_of C.state P.bytes self.new) }
+            (driving_of C.state P.bytes self.old) bound_values result
+            (driving_of C.state P.bytes self.new) }
         ensures count { IfOk result (λ bounds. vec_len bounds ≡ n) }
     {
         self.draw_list::<F, F, Cdc>(label, n)
@@ -68,11 +72,11 @@ impl<C: Sponge, U, D: DigestHasher, P: Tape> DriverState<C, U, D, P> {
         Cdc: ScalarCodec<C, F>,
     >(&mut self, label: Label) -> Result<TranscriptBound<EF>, TranscriptError>
         requires { 128 ≤ Cdc.SECURITY_BITS }
-        ensures { let step = algebra_step Kind.Challenge label.now F.residues.order EF.DIMENSION
-            (D.digest_of EF.identity) EF.name_bytes Length.Scalar in
-            KeepsOrRefuses (meaning.drawn {Symbol = C.Symbol} step
-            ⟦<ExtensionFieldCodec<F, EF, Cdc> as Codec<C, EF>>⟧.sampling)
-            (driving_of C.state P.bytes self.old) bound_value result (driving_of C.state P.bytes self.new) }
+        ensures { let step = ⟦<EF as Declared<F, D>>⟧.step Challenge label.now Scalar in
+            let codec = ⟦<ExtensionFieldCodec<F, EF, Cdc> as Codec<C, EF>>⟧ in
+            KeepsOrRefuses (meaning.drawn {Symbol = C.Symbol} step codec.sampling)
+            (driving_of C.state P.bytes self.old) bound_value result
+            (driving_of C.state P.bytes self.new) }
     {
         self.draw::<F, EF, ExtensionFieldCodec<F, EF, Cdc>>(label)
     }
@@ -87,11 +91,11 @@ impl<C: Sponge, U, D: DigestHasher, P: Tape> DriverState<C, U, D, P> {
         Cdc: ScalarCodec<C, F>,
     >(&mut self, label: Label, n: usize) -> Result<Vec<TranscriptBound<EF>>, TranscriptError>
         requires { 128 ≤ Cdc.SECURITY_BITS }
-        ensures exact { let step = algebra_step Kind.Challenge label.now F.residues.order EF.DIMENSION
-            (D.digest_of EF.identity) EF.name_bytes (Length.Fixed n) in
-            KeepsOrRefuses (meaning.drawn_list {Symbol = C.Symbol} step
-            ⟦<ExtensionFieldCodec<F, EF, Cdc> as Codec<C, EF>>⟧.sampling n)
-            (driving_of C.state P.bytes self.old) bound_values result (driving_of C.state P.bytes self.new) }
+        ensures exact { let step = ⟦<EF as Declared<F, D>>⟧.step Challenge label.now (Fixed n) in
+            let codec = ⟦<ExtensionFieldCodec<F, EF, Cdc> as Codec<C, EF>>⟧ in
+            KeepsOrRefuses (meaning.drawn_list {Symbol = C.Symbol} step codec.sampling n)
+            (driving_of C.state P.bytes self.old) bound_values result
+            (driving_of C.state P.bytes self.new) }
         ensures count { IfOk result (λ bounds. vec_len bounds ≡ n) }
     {
         self.draw_list::<F, EF, ExtensionFieldCodec<F, EF, Cdc>>(label, n)
@@ -127,18 +131,18 @@ impl<C: Sponge, U, D: DigestHasher, P: Tape> DriverState<C, U, D, P> {
         requires secure { 128 ≤ Cdc.SECURITY_BITS }
         requires callable { R.IsAlwaysCallable accept.now }
         ensures played { (rule : Rule EF) → Computes R.Fn accept.now rule →
-            let step = algebra_step Kind.Challenge label.now F.residues.order EF.DIMENSION (D.digest_of EF.identity)
-            EF.name_bytes (Length.Fixed n) in
-            PlaysOrRefuses (drawn_rejecting {Symbol = C.Symbol} step
-            ⟦<ExtensionFieldCodec<F, EF, Cdc> as Codec<C, EF>>⟧.sampling rule limit n)
+            let step = ⟦<EF as Declared<F, D>>⟧.step Challenge label.now (Fixed n) in
+            let codec = ⟦<ExtensionFieldCodec<F, EF, Cdc> as Codec<C, EF>>⟧ in
+            PlaysOrRefuses (drawn_rejecting {Symbol = C.Symbol} step codec.sampling rule limit n)
             (driving_of C.state P.bytes self.old).transcript bound_values result
             (driving_of C.state P.bytes self.new).transcript }
-        ensures bytes { (driving_of C.state P.bytes self.new).bytes ≡ (driving_of C.state P.bytes self.old).bytes }
-        ensures order { let step = algebra_step Kind.Challenge label.now F.residues.order EF.DIMENSION
-            (D.digest_of EF.identity) EF.name_bytes (Length.Fixed n) in
+        ensures bytes { (driving_of C.state P.bytes self.new).bytes
+            ≡ (driving_of C.state P.bytes self.old).bytes }
+        ensures order { let step = ⟦<EF as Declared<F, D>>⟧.step Challenge label.now (Fixed n) in
             KeepsOrder step (driving_of C.state P.bytes self.old).transcript result
             (driving_of C.state P.bytes self.new).transcript }
-        ensures spent { IfErr result (λ _. (driving_of C.state P.bytes self.new).transcript.playing.finished ≡ true) }
+        ensures spent { IfErr result (λ _.
+            (driving_of C.state P.bytes self.new).transcript.playing.finished ≡ true) }
         ensures count { IfOk result (λ bounds. vec_len bounds ≡ n) }
     {
         self.draw_rejecting::<F, EF, ExtensionFieldCodec<F, EF, Cdc>, R>(label, n, accept, limit)
@@ -157,8 +161,9 @@ impl<C: Sponge, U, D: DigestHasher, P: Tape> DriverState<C, U, D, P> {
         C: CanSampleBits<usize>,
         requires { width ≤ C.most_bits }
         ensures exact { KeepsOrRefuses (meaning.drawn_list {Symbol = C.Symbol}
-            (bits_step label.now width (Length.Fixed n)) (C.bits_sampling width) n)
-            (driving_of C.state P.bytes self.old) bound_values result (driving_of C.state P.bytes self.new) }
+            (bits_step label.now width (Fixed n)) (C.bits_sampling width) n)
+            (driving_of C.state P.bytes self.old) bound_values result
+            (driving_of C.state P.bytes self.new) }
         ensures count { IfOk result (λ bounds. vec_len bounds ≡ n) }
     {
         self.steps.take(Interaction::bits(
@@ -186,8 +191,9 @@ impl<C: Sponge, U, D: DigestHasher, P: Tape> DriverState<C, U, D, P> {
         C: CanSampleUniformBits<F>,
         requires { width ≤ C.most_bits }
         ensures exact { KeepsOrRefuses (meaning.drawn_list {Symbol = C.Symbol}
-            (uniform_bits_step label.now width (Length.Fixed n)) (C.uniform true width).draw n)
-            (driving_of C.state P.bytes self.old) bound_values result (driving_of C.state P.bytes self.new) }
+            (uniform_bits_step label.now width (Fixed n)) (C.uniform true width).draw n)
+            (driving_of C.state P.bytes self.old) bound_values result
+            (driving_of C.state P.bytes self.new) }
         ensures count { IfOk result (λ bounds. vec_len bounds ≡ n) }
     {
         self.steps
@@ -225,15 +231,19 @@ impl<C: Sponge, U, D: DigestHasher, P: Tape> DriverState<C, U, D, P> {
         C: CanSampleUniformBits<F>,
         requires within { width ≤ C.most_bits }
         requires callable { R.IsAlwaysCallable accept.now }
-        ensures played { (rule : Rule ℕ) → ComputesOfValues R.Fn accept.now rule → PlaysOrRefuses
-            (drawn_rejecting {Symbol = C.Symbol} (uniform_bits_step label.now width (Length.Fixed n))
-            (C.uniform true width).draw rule limit n)
+        ensures played { (rule : Rule ℕ) → ComputesOfValues R.Fn accept.now rule →
+            let step = uniform_bits_step label.now width (Fixed n) in
+            PlaysOrRefuses
+            (drawn_rejecting {Symbol = C.Symbol} step (C.uniform true width).draw rule limit n)
             (driving_of C.state P.bytes self.old).transcript bound_values result
             (driving_of C.state P.bytes self.new).transcript }
-        ensures bytes { (driving_of C.state P.bytes self.new).bytes ≡ (driving_of C.state P.bytes self.old).bytes }
-        ensures order { KeepsOrder (uniform_bits_step label.now width (Length.Fixed n))
-            (driving_of C.state P.bytes self.old).transcript result (driving_of C.state P.bytes self.new).transcript }
-        ensures spent { IfErr result (λ _. (driving_of C.state P.bytes self.new).transcript.playing.finished ≡ true) }
+        ensures bytes { (driving_of C.state P.bytes self.new).bytes
+            ≡ (driving_of C.state P.bytes self.old).bytes }
+        ensures order { KeepsOrder (uniform_bits_step label.now width (Fixed n))
+            (driving_of C.state P.bytes self.old).transcript result
+            (driving_of C.state P.bytes self.new).transcript }
+        ensures spent { IfErr result (λ _.
+            (driving_of C.state P.bytes self.new).transcript.playing.finished ≡ true) }
         ensures count { IfOk result (λ bounds. vec_len bounds ≡ n) }
     {
         self.steps
@@ -259,10 +269,10 @@ impl<C: Sponge, U, D: DigestHasher, P: Tape> DriverState<C, U, D, P> {
         label: Label,
     ) -> Result<TranscriptBound<A>, TranscriptError>
         requires { 128 ≤ Cdc.SECURITY_BITS }
-        ensures { let step = algebra_step Kind.Challenge label.now F.residues.order A.DIMENSION
-            (D.digest_of A.identity) A.name_bytes Length.Scalar in
+        ensures { let step = ⟦<A as Declared<F, D>>⟧.step Challenge label.now Scalar in
             KeepsOrRefuses (meaning.drawn {Symbol = C.Symbol} step Cdc.sampling)
-            (driving_of C.state P.bytes self.old) bound_value result (driving_of C.state P.bytes self.new) }
+            (driving_of C.state P.bytes self.old) bound_value result
+            (driving_of C.state P.bytes self.new) }
     {
         self.steps
             .take_algebra::<F, A>(Kind::Challenge, label, Length::Scalar)?;
@@ -281,10 +291,10 @@ impl<C: Sponge, U, D: DigestHasher, P: Tape> DriverState<C, U, D, P> {
         n: usize,
     ) -> Result<Vec<TranscriptBound<A>>, TranscriptError>
         requires { 128 ≤ Cdc.SECURITY_BITS }
-        ensures exact { let step = algebra_step Kind.Challenge label.now F.residues.order A.DIMENSION
-            (D.digest_of A.identity) A.name_bytes (Length.Fixed n) in
+        ensures exact { let step = ⟦<A as Declared<F, D>>⟧.step Challenge label.now (Fixed n) in
             KeepsOrRefuses (meaning.drawn_list {Symbol = C.Symbol} step Cdc.sampling n)
-            (driving_of C.state P.bytes self.old) bound_values result (driving_of C.state P.bytes self.new) }
+            (driving_of C.state P.bytes self.old) bound_values result
+            (driving_of C.state P.bytes self.new) }
         ensures count { IfOk result (λ bounds. vec_len bounds ≡ n) }
     {
         self.steps
@@ -310,17 +320,17 @@ impl<C: Sponge, U, D: DigestHasher, P: Tape> DriverState<C, U, D, P> {
         requires secure { 128 ≤ Cdc.SECURITY_BITS }
         requires callable { R.IsAlwaysCallable accept.now }
         ensures played { (rule : Rule A) → Computes R.Fn accept.now rule →
-            let step = algebra_step Kind.Challenge label.now F.residues.order A.DIMENSION
-            (D.digest_of A.identity) A.name_bytes (Length.Fixed n) in
+            let step = ⟦<A as Declared<F, D>>⟧.step Challenge label.now (Fixed n) in
             PlaysOrRefuses (drawn_rejecting {Symbol = C.Symbol} step Cdc.sampling rule limit n)
             (driving_of C.state P.bytes self.old).transcript bound_values result
             (driving_of C.state P.bytes self.new).transcript }
-        ensures bytes { (driving_of C.state P.bytes self.new).bytes ≡ (driving_of C.state P.bytes self.old).bytes }
-        ensures order { let step = algebra_step Kind.Challenge label.now F.residues.order A.DIMENSION
-            (D.digest_of A.identity) A.name_bytes (Length.Fixed n) in
+        ensures bytes { (driving_of C.state P.bytes self.new).bytes
+            ≡ (driving_of C.state P.bytes self.old).bytes }
+        ensures order { let step = ⟦<A as Declared<F, D>>⟧.step Challenge label.now (Fixed n) in
             KeepsOrder step (driving_of C.state P.bytes self.old).transcript result
             (driving_of C.state P.bytes self.new).transcript }
-        ensures spent { IfErr result (λ _. (driving_of C.state P.bytes self.new).transcript.playing.finished ≡ true) }
+        ensures spent { IfErr result (λ _.
+            (driving_of C.state P.bytes self.new).transcript.playing.finished ≡ true) }
         ensures count { IfOk result (λ bounds. vec_len bounds ≡ n) }
     {
         self.steps

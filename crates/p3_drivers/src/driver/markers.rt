@@ -5,6 +5,7 @@ ghost use Rattle.p3_driver_core.specs.Driving.{KeepsOrRefuses};
 ghost use Rattle.p3_driver_core.specs.Meanings as meaning;
 ghost use Rattle.p3_driver_core.specs.Transcripts.{IsNext};
 ghost use Rattle.p3_drivers.specs.Drivers.{driving_of};
+ghost use Rattle.p3_fs_core.specs.declared.step.Kind.TheVariants.{Protocol};
 
 use crate::DriverState;
 use crate::tape::Tape;
@@ -18,7 +19,8 @@ impl<C: Sponge, U, D: DigestHasher, P: Tape> DriverState<C, U, D, P> {
     pub fn begin<T: Named>(&mut self, label: Label, kind: Kind) -> Result<(), TranscriptError>
         ensures exact { KeepsOrRefuses (meaning.marked {Symbol = C.Symbol}
             (marker_of Hierarchy.Begin kind label.now T.name_bytes))
-            (driving_of C.state P.bytes self.old) (λ _. tt {0}) result (driving_of C.state P.bytes self.new) }
+            (driving_of C.state P.bytes self.old) (λ _. tt {0}) result
+            (driving_of C.state P.bytes self.new) }
         ensures only { IsNext (driving_of C.state P.bytes self.old).transcript.playing
             (marker_of Hierarchy.Begin kind label.now T.name_bytes) → IsOk result }
     {
@@ -29,7 +31,8 @@ impl<C: Sponge, U, D: DigestHasher, P: Tape> DriverState<C, U, D, P> {
     pub fn end<T: Named>(&mut self, label: Label, kind: Kind) -> Result<(), TranscriptError>
         ensures exact { KeepsOrRefuses (meaning.marked {Symbol = C.Symbol}
             (marker_of Hierarchy.End kind label.now T.name_bytes))
-            (driving_of C.state P.bytes self.old) (λ _. tt {0}) result (driving_of C.state P.bytes self.new) }
+            (driving_of C.state P.bytes self.old) (λ _. tt {0}) result
+            (driving_of C.state P.bytes self.new) }
         ensures only { IsNext (driving_of C.state P.bytes self.old).transcript.playing
             (marker_of Hierarchy.End kind label.now T.name_bytes) → IsOk result }
     {
@@ -39,10 +42,11 @@ impl<C: Sponge, U, D: DigestHasher, P: Tape> DriverState<C, U, D, P> {
     /// Opens a container that may hold steps of any kind. It takes no memory.
     pub fn begin_protocol<T: Named>(&mut self, label: Label) -> Result<(), TranscriptError>
         ensures exact { KeepsOrRefuses (meaning.marked {Symbol = C.Symbol}
-            (marker_of Hierarchy.Begin Kind.Protocol label.now T.name_bytes))
-            (driving_of C.state P.bytes self.old) (λ _. tt {0}) result (driving_of C.state P.bytes self.new) }
+            (marker_of Hierarchy.Begin Protocol label.now T.name_bytes))
+            (driving_of C.state P.bytes self.old) (λ _. tt {0}) result
+            (driving_of C.state P.bytes self.new) }
         ensures only { IsNext (driving_of C.state P.bytes self.old).transcript.playing
-            (marker_of Hierarchy.Begin Kind.Protocol label.now T.name_bytes) → IsOk result }
+            (marker_of Hierarchy.Begin Protocol label.now T.name_bytes) → IsOk result }
     {
         self.mark::<T>(Hierarchy::Begin, Kind::Protocol, label)
     }
@@ -50,10 +54,11 @@ impl<C: Sponge, U, D: DigestHasher, P: Tape> DriverState<C, U, D, P> {
     /// Closes a container that may hold steps of any kind. It takes no memory.
     pub fn end_protocol<T: Named>(&mut self, label: Label) -> Result<(), TranscriptError>
         ensures exact { KeepsOrRefuses (meaning.marked {Symbol = C.Symbol}
-            (marker_of Hierarchy.End Kind.Protocol label.now T.name_bytes))
-            (driving_of C.state P.bytes self.old) (λ _. tt {0}) result (driving_of C.state P.bytes self.new) }
+            (marker_of Hierarchy.End Protocol label.now T.name_bytes))
+            (driving_of C.state P.bytes self.old) (λ _. tt {0}) result
+            (driving_of C.state P.bytes self.new) }
         ensures only { IsNext (driving_of C.state P.bytes self.old).transcript.playing
-            (marker_of Hierarchy.End Kind.Protocol label.now T.name_bytes) → IsOk result }
+            (marker_of Hierarchy.End Protocol label.now T.name_bytes) → IsOk result }
     {
         self.mark::<T>(Hierarchy::End, Kind::Protocol, label)
     }
@@ -67,7 +72,8 @@ impl<C: Sponge, U, D: DigestHasher, P: Tape> DriverState<C, U, D, P> {
     ) -> Result<(), TranscriptError>
         ensures exact { KeepsOrRefuses (meaning.marked {Symbol = C.Symbol}
             (marker_of hierarchy kind label.now T.name_bytes))
-            (driving_of C.state P.bytes self.old) (λ _. tt {0}) result (driving_of C.state P.bytes self.new) }
+            (driving_of C.state P.bytes self.old) (λ _. tt {0}) result
+            (driving_of C.state P.bytes self.new) }
         ensures only { IsNext (driving_of C.state P.bytes self.old).transcript.playing
             (marker_of hierarchy kind label.now T.name_bytes) → IsOk result }
     {

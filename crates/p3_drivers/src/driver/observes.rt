@@ -2,18 +2,21 @@
 ghost use Rattle.std.specs.Prelude.{◌≡◌, ◌≤◌, length, IfOk, vec_len};
 ghost use Rattle.p3_driver_core.specs.Bound.{bound_value, bound_values};
 ghost use Rattle.p3_driver_core.specs.Driving.{KeepsOrRefuses};
-ghost use Rattle.p3_driver_core.specs.Effects.{alphabet_of};
 ghost use Rattle.p3_driver_core.specs.Meanings as meaning;
-ghost use Rattle.p3_driver_core.specs.Transcripts.{algebra_step, opaque_step};
+ghost use Rattle.p3_driver_core.specs.Transcripts.{opaque_step};
 ghost use Rattle.p3_drivers.specs.Drivers.{driving_of};
+ghost use Rattle.p3_fs_core.specs.declared.step.Kind.TheVariants.{Message};
+ghost use Rattle.p3_fs_core.specs.declared.step.Length.TheVariants.{Bounded, Fixed, Scalar};
 
 use crate::DriverState;
 use crate::tape::Tape;
 use p3_challenger_core::{CanObserve, Sponge};
-use p3_codecs::{Codec, ExtensionFieldCodec, ScalarCodec, Unit};
+use p3_codecs::{AlphabetOf, Codec, ExtensionFieldCodec, ScalarCodec, Unit};
 use p3_driver_core::{TranscriptBound, bind, bind_all, observe_count, observe_values};
 use p3_field_core::{AlgebraIdentity, Named};
-use p3_fs_core::{Hierarchy, Interaction, Kind, Label, Length, TranscriptError, TranscriptField};
+use p3_fs_core::{
+    Declared, Hierarchy, Interaction, Kind, Label, Length, TranscriptError, TranscriptField,
+};
 use p3_symmetric::DigestHasher;
 
 impl<C: Sponge, U, D: DigestHasher, P: Tape> DriverState<C, U, D, P> {
@@ -23,11 +26,11 @@ impl<C: Sponge, U, D: DigestHasher, P: Tape> DriverState<C, U, D, P> {
         EF: AlgebraIdentity<F> + Named,
         Cdc: ScalarCodec<C, F>,
     >(&mut self, label: Label, value: &EF) -> Result<TranscriptBound<EF>, TranscriptError>
-        ensures { let step = algebra_step Kind.Message label.now F.residues.order EF.DIMENSION (D.digest_of EF.identity)
-            EF.name_bytes Length.Scalar in
-            KeepsOrRefuses (meaning.observed step ⟦<ExtensionFieldCodec<F, EF, Cdc> as Codec<C, EF>>⟧.observation
-            value.now)
-            (driving_of C.state P.bytes self.old) bound_value result (driving_of C.state P.bytes self.new) }
+        ensures { let step = ⟦<EF as Declared<F, D>>⟧.step Message label.now Scalar in
+            let codec = ⟦<ExtensionFieldCodec<F, EF, Cdc> as Codec<C, EF>>⟧ in
+            KeepsOrRefuses (meaning.observed step codec.observation value.now)
+            (driving_of C.state P.bytes self.old) bound_value result
+            (driving_of C.state P.bytes self.new) }
     {
         self.observe_element::<F, EF, ExtensionFieldCodec<F, EF, Cdc>>(Kind::Message, label, value)
     }
@@ -43,9 +46,10 @@ impl<C: Sponge, U, D: DigestHasher, P: Tape> DriverState<C, U, D, P> {
     where
         C: CanObserve<T>,
         requires { (copy : T) → T.is_clone value copy → copy ≡ value }
-        ensures { KeepsOrRefuses (meaning.observed (opaque_step Kind.Message label.now Length.Scalar)
-            C.observation value)
-            (driving_of C.state P.bytes self.old) bound_value result (driving_of C.state P.bytes self.new) }
+        ensures { KeepsOrRefuses
+            (meaning.observed (opaque_step Message label.now Scalar) C.observation value)
+            (driving_of C.state P.bytes self.old) bound_value result
+            (driving_of C.state P.bytes self.new) }
     {
         self.steps.take(Interaction::opaque(
             Hierarchy::Atomic,
@@ -65,10 +69,10 @@ impl<C: Sponge, U, D: DigestHasher, P: Tape> DriverState<C, U, D, P> {
         A: AlgebraIdentity<F> + Named,
         Cdc: Codec<C, A>,
     >(&mut self, kind: Kind, label: Label, value: &A) -> Result<TranscriptBound<A>, TranscriptError>
-        ensures { let step = algebra_step kind label.now F.residues.order A.DIMENSION (D.digest_of A.identity)
-            A.name_bytes Length.Scalar in
+        ensures { let step = ⟦<A as Declared<F, D>>⟧.step kind label.now Scalar in
             KeepsOrRefuses (meaning.observed step Cdc.observation value.now)
-            (driving_of C.state P.bytes self.old) bound_value result (driving_of C.state P.bytes self.new) }
+            (driving_of C.state P.bytes self.old) bound_value result
+            (driving_of C.state P.bytes self.new) }
     {
         self.steps
             .take_algebra::<F, A>(kind, label, Length::Scalar)?;
@@ -84,10 +88,11 @@ impl<C: Sponge, U, D: DigestHasher, P: Tape> DriverState<C, U, D, P> {
         label: Label,
         values: &[A],
     ) -> Result<Vec<TranscriptBound<A>>, TranscriptError>
-        ensures exact { let step = algebra_step kind label.now F.residues.order A.DIMENSION (D.digest_of A.identity)
-            A.name_bytes (Length.Fixed (length values.now)) in
+        ensures exact { let step = ⟦<A as Declared<F, D>>⟧.step kind label.now
+            (Fixed (length values.now)) in
             KeepsOrRefuses (meaning.observed_list step Cdc.observation values.now)
-            (driving_of C.state P.bytes self.old) bound_values result (driving_of C.state P.bytes self.new) }
+            (driving_of C.state P.bytes self.old) bound_values result
+            (driving_of C.state P.bytes self.new) }
         ensures count { IfOk result (λ bounds. vec_len bounds ≡ length values.now) }
     {
         self.steps
@@ -116,11 +121,11 @@ impl<U: Unit, C: CanObserve<U::Item>, D: DigestHasher, P: Tape> DriverState<C, U
     ) -> Result<Vec<TranscriptBound<A>>, TranscriptError>
         requires alphabet { U.is_alphabet }
         requires within { length values.now ≤ max }
-        ensures exact { let step = algebra_step kind label.now F.residues.order A.DIMENSION (D.digest_of A.identity)
-            A.name_bytes (Length.Bounded max) in
-            KeepsOrRefuses (meaning.observed_bounded step
-            (alphabet_of U.items U.is_too_long C.observation C.slice_may_leave) max Cdc.observation values.now)
-            (driving_of C.state P.bytes self.old) bound_values result (driving_of C.state P.bytes self.new) }
+        ensures exact { let step = ⟦<A as Declared<F, D>>⟧.step kind label.now (Bounded max) in
+            let alphabet = ⟦<U as AlphabetOf<C>>⟧.alphabet in
+            KeepsOrRefuses (meaning.observed_bounded step alphabet max Cdc.observation values.now)
+            (driving_of C.state P.bytes self.old) bound_values result
+            (driving_of C.state P.bytes self.new) }
         ensures count { IfOk result (λ bounds. vec_len bounds ≡ length values.now) }
     {
         self.steps

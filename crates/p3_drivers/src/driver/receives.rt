@@ -2,21 +2,24 @@
 ghost use Rattle.std.specs.Prelude.{◌≡◌, ◌≤◌, ◌↔◌, ◌*◌, IsTrue, length, IfOk, IfErr, vec_len};
 ghost use Rattle.p3_challenger_core.specs.Observation.{observed_all};
 ghost use Rattle.p3_driver_core.specs.Bound.{bound_value, bound_values};
-ghost use Rattle.p3_driver_core.specs.Effects.{alphabet_of};
-ghost use Rattle.p3_driver_core.specs.Transcripts.{algebra_step};
 ghost use Rattle.p3_driver_core.specs.Reads as reads;
 ghost use Rattle.p3_driver_core.specs.Reads.{AnswersRead, AnswersList};
 ghost use Rattle.p3_driver_core.specs.Driving.{KeepsOrRefuses};
 ghost use Rattle.p3_driver_core.specs.Meanings as meaning;
-ghost use Rattle.p3_driver_core.specs.Verifying.{ReceivesOrRefuses, CarriesWithin, CarriesAsRecorded};
+ghost use Rattle.p3_driver_core.specs.Verifying.{CarriesAsRecorded, CarriesWithin, ReceivesOrRefuses};
 ghost use Rattle.p3_drivers.specs.Drivers.{verifying_of};
+ghost use Rattle.p3_fs_core.specs.declared.step.Kind.TheVariants.{Message, Public, Salt};
+ghost use Rattle.p3_fs_core.specs.declared.step.Length.TheVariants.{Bounded, Fixed, Scalar};
 
 use crate::VerifierState;
 use p3_challenger_core::{CanObserve, Sponge};
-use p3_codecs::{Codec, ExtensionFieldCodec, ScalarCodec, Unit};
-use p3_driver_core::{TranscriptBound, bind, count_width, observe_count};
+use p3_codecs::{AlphabetOf, Codec, ExtensionFieldCodec, ScalarCodec, Unit};
+use p3_driver_core::{TranscriptBound, bind, observe_count};
 use p3_field_core::{AlgebraIdentity, Named, ScalarField};
-use p3_fs_core::{Kind, Label, Length, TranscriptError, TranscriptField, decode_len_be};
+use p3_fs_core::{
+    Declared, Kind, Label, Length, TranscriptError, TranscriptField, bound_byte_width,
+    decode_len_be,
+};
 use p3_symmetric::DigestHasher;
 
 impl<'a, U: Unit, C: CanObserve<U::Item>, D: DigestHasher> VerifierState<'a, C, U, D> {
@@ -36,11 +39,11 @@ impl<'a, U: Unit, C: CanObserve<U::Item>, D: DigestHasher> VerifierState<'a, C, 
         max: usize,
     ) -> Result<Vec<TranscriptBound<EF>>, TranscriptError>
         requires { U.is_alphabet }
-        ensures exact { let step = algebra_step Kind.Message label.now F.residues.order EF.DIMENSION
-            (D.digest_of EF.identity) EF.name_bytes (Length.Bounded max) in
-            CarriesWithin (length values.now) max (meaning.observed_bounded step
-            (alphabet_of U.items U.is_too_long C.observation C.slice_may_leave) max
-            ⟦<ExtensionFieldCodec<F, EF, Cdc> as Codec<C, EF>>⟧.observation values.now)
+        ensures exact { let step = ⟦<EF as Declared<F, D>>⟧.step Message label.now (Bounded max) in
+            let codec = ⟦<ExtensionFieldCodec<F, EF, Cdc> as Codec<C, EF>>⟧ in
+            let alphabet = ⟦<U as AlphabetOf<C>>⟧.alphabet in
+            CarriesWithin (length values.now) max
+            (meaning.observed_bounded step alphabet max codec.observation values.now)
             (verifying_of C.state self.old) bound_values result (verifying_of C.state self.new) }
         ensures count { IfOk result (λ bounds. vec_len bounds ≡ length values.now) }
     {
@@ -59,9 +62,10 @@ impl<'a, U: Unit, C: CanObserve<U::Item>, D: DigestHasher> VerifierState<'a, C, 
     /// [`ChallengerError::TooLong`](p3_challenger_core::ChallengerError::TooLong), and nothing of them is absorbed.
     pub fn next_salt(&mut self, label: Label, len: usize) -> Result<&'a [u8], TranscriptError>
         requires { U.is_alphabet }
-        ensures exact { ReceivesOrRefuses (reads.received_bytes Kind.Salt label.now
-            (alphabet_of U.items U.is_too_long C.observation C.slice_may_leave) len)
-            (verifying_of C.state self.old) (λ bytes. bytes.now) result (verifying_of C.state self.new) }
+        ensures exact { ReceivesOrRefuses
+            (reads.received_bytes Salt label.now ⟦<U as AlphabetOf<C>>⟧.alphabet len)
+            (verifying_of C.state self.old) (λ bytes. bytes.now) result
+            (verifying_of C.state self.new) }
         ensures count { IfOk result (λ bytes. length bytes.now ≡ len) }
     {
         self.receive_bytes(Kind::Salt, label, len)
@@ -73,9 +77,10 @@ impl<'a, U: Unit, C: CanObserve<U::Item>, D: DigestHasher> VerifierState<'a, C, 
     /// [`ChallengerError::TooLong`](p3_challenger_core::ChallengerError::TooLong), and nothing of them is absorbed.
     pub fn next_bytes(&mut self, label: Label, len: usize) -> Result<&'a [u8], TranscriptError>
         requires { U.is_alphabet }
-        ensures exact { ReceivesOrRefuses (reads.received_bytes Kind.Message label.now
-            (alphabet_of U.items U.is_too_long C.observation C.slice_may_leave) len)
-            (verifying_of C.state self.old) (λ bytes. bytes.now) result (verifying_of C.state self.new) }
+        ensures exact { ReceivesOrRefuses
+            (reads.received_bytes Message label.now ⟦<U as AlphabetOf<C>>⟧.alphabet len)
+            (verifying_of C.state self.old) (λ bytes. bytes.now) result
+            (verifying_of C.state self.new) }
         ensures count { IfOk result (λ bytes. length bytes.now ≡ len) }
     {
         self.receive_bytes(Kind::Message, label, len)
@@ -94,9 +99,10 @@ impl<'a, U: Unit, C: CanObserve<U::Item>, D: DigestHasher> VerifierState<'a, C, 
         max: usize,
     ) -> Result<&'a [u8], TranscriptError>
         requires { U.is_alphabet }
-        ensures exact { ReceivesOrRefuses (reads.received_bytes_bounded label.now
-            (alphabet_of U.items U.is_too_long C.observation C.slice_may_leave) max)
-            (verifying_of C.state self.old) (λ bytes. bytes.now) result (verifying_of C.state self.new) }
+        ensures exact { ReceivesOrRefuses
+            (reads.received_bytes_bounded label.now ⟦<U as AlphabetOf<C>>⟧.alphabet max)
+            (verifying_of C.state self.old) (λ bytes. bytes.now) result
+            (verifying_of C.state self.new) }
         ensures count { IfOk result (λ bytes. length bytes.now ≤ max) }
     {
         self.steps
@@ -121,10 +127,10 @@ impl<'a, U: Unit, C: CanObserve<U::Item>, D: DigestHasher> VerifierState<'a, C, 
         max: usize,
     ) -> Result<Vec<TranscriptBound<F>>, TranscriptError>
         requires { U.is_alphabet }
-        ensures exact { let step = algebra_step Kind.Message label.now F.residues.order F.DIMENSION
-            (D.digest_of F.identity) F.name_bytes (Length.Bounded max) in
-            ReceivesOrRefuses (reads.received_bounded step
-            (alphabet_of U.items U.is_too_long C.observation C.slice_may_leave) max Cdc.observation Cdc.encoding)
+        ensures exact { let step = ⟦<F as Declared<F, D>>⟧.step Message label.now (Bounded max) in
+            let alphabet = ⟦<U as AlphabetOf<C>>⟧.alphabet in
+            ReceivesOrRefuses
+            (reads.received_bounded step alphabet max Cdc.observation Cdc.encoding)
             (verifying_of C.state self.old) bound_values result (verifying_of C.state self.new) }
         ensures count { IfOk result (λ bounds. vec_len bounds ≤ max) }
     {
@@ -145,9 +151,10 @@ impl<'a, U: Unit, C: CanObserve<U::Item>, D: DigestHasher> VerifierState<'a, C, 
         len: usize,
     ) -> Result<&'a [u8], TranscriptError>
         requires { U.is_alphabet }
-        ensures exact { ReceivesOrRefuses (reads.received_bytes kind label.now
-            (alphabet_of U.items U.is_too_long C.observation C.slice_may_leave) len)
-            (verifying_of C.state self.old) (λ bytes. bytes.now) result (verifying_of C.state self.new) }
+        ensures exact { ReceivesOrRefuses
+            (reads.received_bytes kind label.now ⟦<U as AlphabetOf<C>>⟧.alphabet len)
+            (verifying_of C.state self.old) (λ bytes. bytes.now) result
+            (verifying_of C.state self.new) }
         ensures count { IfOk result (λ bytes. length bytes.now ≡ len) }
     {
         self.steps.take_bytes(kind, label, Length::Fixed(len))?;
@@ -165,8 +172,7 @@ impl<'a, C: Sponge, U, D: DigestHasher> VerifierState<'a, C, U, D> {
         label: Label,
         value: &F,
     ) -> Result<TranscriptBound<F>, TranscriptError>
-        ensures { let step = algebra_step Kind.Public label.now F.residues.order F.DIMENSION (D.digest_of F.identity)
-            F.name_bytes Length.Scalar in
+        ensures { let step = ⟦<F as Declared<F, D>>⟧.step Public label.now Scalar in
             KeepsOrRefuses (meaning.observed step Cdc.observation value.now)
             (verifying_of C.state self.old) bound_value result (verifying_of C.state self.new) }
     {
@@ -179,8 +185,8 @@ impl<'a, C: Sponge, U, D: DigestHasher> VerifierState<'a, C, U, D> {
         label: Label,
         values: &[F],
     ) -> Result<Vec<TranscriptBound<F>>, TranscriptError>
-        ensures exact { let step = algebra_step Kind.Public label.now F.residues.order F.DIMENSION
-            (D.digest_of F.identity) F.name_bytes (Length.Fixed (length values.now)) in
+        ensures exact { let step = ⟦<F as Declared<F, D>>⟧.step Public label.now
+            (Fixed (length values.now)) in
             KeepsOrRefuses (meaning.observed_list step Cdc.observation values.now)
             (verifying_of C.state self.old) bound_values result (verifying_of C.state self.new) }
         ensures count { IfOk result (λ bounds. vec_len bounds ≡ length values.now) }
@@ -198,10 +204,11 @@ impl<'a, C: Sponge, U, D: DigestHasher> VerifierState<'a, C, U, D> {
         EF: AlgebraIdentity<F> + Named,
         Cdc: ScalarCodec<C, F>,
     >(&mut self, label: Label, values: &[EF]) -> Result<Vec<TranscriptBound<EF>>, TranscriptError>
-        ensures exact { let step = algebra_step Kind.Message label.now F.residues.order EF.DIMENSION
-            (D.digest_of EF.identity) EF.name_bytes (Length.Fixed (length values.now)) in
-            CarriesAsRecorded (length values.now) (meaning.observed_list step
-            ⟦<ExtensionFieldCodec<F, EF, Cdc> as Codec<C, EF>>⟧.observation values.now)
+        ensures exact { let step = ⟦<EF as Declared<F, D>>⟧.step Message label.now
+            (Fixed (length values.now)) in
+            let codec = ⟦<ExtensionFieldCodec<F, EF, Cdc> as Codec<C, EF>>⟧ in
+            CarriesAsRecorded (length values.now)
+            (meaning.observed_list step codec.observation values.now)
             (verifying_of C.state self.old) bound_values result (verifying_of C.state self.new) }
         ensures count { IfOk result (λ bounds. vec_len bounds ≡ length values.now) }
     {
@@ -214,8 +221,7 @@ impl<'a, C: Sponge, U, D: DigestHasher> VerifierState<'a, C, U, D> {
         &mut self,
         label: Label,
     ) -> Result<TranscriptBound<F>, TranscriptError>
-        ensures { let step = algebra_step Kind.Message label.now F.residues.order F.DIMENSION (D.digest_of F.identity)
-            F.name_bytes Length.Scalar in
+        ensures { let step = ⟦<F as Declared<F, D>>⟧.step Message label.now Scalar in
             ReceivesOrRefuses (reads.received step Cdc.observation Cdc.encoding)
             (verifying_of C.state self.old) bound_value result (verifying_of C.state self.new) }
     {
@@ -231,8 +237,7 @@ impl<'a, C: Sponge, U, D: DigestHasher> VerifierState<'a, C, U, D> {
         label: Label,
         n: usize,
     ) -> Result<Vec<TranscriptBound<F>>, TranscriptError>
-        ensures exact { let step = algebra_step Kind.Message label.now F.residues.order F.DIMENSION
-            (D.digest_of F.identity) F.name_bytes (Length.Fixed n) in
+        ensures exact { let step = ⟦<F as Declared<F, D>>⟧.step Message label.now (Fixed n) in
             ReceivesOrRefuses (reads.received_list step Cdc.observation Cdc.encoding n)
             (verifying_of C.state self.old) bound_values result (verifying_of C.state self.new) }
         ensures count { IfOk result (λ bounds. vec_len bounds ≡ n) }
@@ -250,10 +255,9 @@ impl<'a, C: Sponge, U, D: DigestHasher> VerifierState<'a, C, U, D> {
         EF: AlgebraIdentity<F> + Named,
         Cdc: ScalarCodec<C, F>,
     >(&mut self, label: Label) -> Result<TranscriptBound<EF>, TranscriptError>
-        ensures { let step = algebra_step Kind.Message label.now F.residues.order EF.DIMENSION (D.digest_of EF.identity)
-            EF.name_bytes Length.Scalar in
-            ReceivesOrRefuses (reads.received step ⟦<ExtensionFieldCodec<F, EF, Cdc> as Codec<C, EF>>⟧.observation
-            ⟦<ExtensionFieldCodec<F, EF, Cdc> as Codec<C, EF>>⟧.encoding)
+        ensures { let step = ⟦<EF as Declared<F, D>>⟧.step Message label.now Scalar in
+            let codec = ⟦<ExtensionFieldCodec<F, EF, Cdc> as Codec<C, EF>>⟧ in
+            ReceivesOrRefuses (reads.received step codec.observation codec.encoding)
             (verifying_of C.state self.old) bound_value result (verifying_of C.state self.new) }
     {
         self.receive::<F, EF, ExtensionFieldCodec<F, EF, Cdc>>(label)
@@ -262,7 +266,8 @@ impl<'a, C: Sponge, U, D: DigestHasher> VerifierState<'a, C, U, D> {
     /// Reads `len` bytes in which the challenger takes no part, and lends them. It takes no memory.
     pub fn next_hint(&mut self, label: Label, len: usize) -> Result<&'a [u8], TranscriptError>
         ensures exact { ReceivesOrRefuses (reads.hint_received {Symbol = C.Symbol} label.now len)
-            (verifying_of C.state self.old) (λ bytes. bytes.now) result (verifying_of C.state self.new) }
+            (verifying_of C.state self.old) (λ bytes. bytes.now) result
+            (verifying_of C.state self.new) }
         ensures no_memory { IfErr result (λ e. e ≡ TranscriptError.OutOfMemory → ⊥) }
         ensures count { IfOk result (λ bytes. length bytes.now ≡ len) }
     {
@@ -282,8 +287,10 @@ impl<'a, C: Sponge, U, D: DigestHasher> VerifierState<'a, C, U, D> {
         label: Label,
         max: usize,
     ) -> Result<&'a [u8], TranscriptError>
-        ensures exact { ReceivesOrRefuses (reads.hint_received_bounded {Symbol = C.Symbol} label.now max)
-            (verifying_of C.state self.old) (λ bytes. bytes.now) result (verifying_of C.state self.new) }
+        ensures exact { ReceivesOrRefuses
+            (reads.hint_received_bounded {Symbol = C.Symbol} label.now max)
+            (verifying_of C.state self.old) (λ bytes. bytes.now) result
+            (verifying_of C.state self.new) }
         ensures no_memory { IfErr result (λ e. e ≡ TranscriptError.OutOfMemory → ⊥) }
         ensures count { IfOk result (λ bytes. length bytes.now ≤ max) }
     {
@@ -299,8 +306,7 @@ impl<'a, C: Sponge, U, D: DigestHasher> VerifierState<'a, C, U, D> {
         &mut self,
         label: Label,
     ) -> Result<TranscriptBound<A>, TranscriptError>
-        ensures { let step = algebra_step Kind.Message label.now F.residues.order A.DIMENSION (D.digest_of A.identity)
-            A.name_bytes Length.Scalar in
+        ensures { let step = ⟦<A as Declared<F, D>>⟧.step Message label.now Scalar in
             ReceivesOrRefuses (reads.received step Cdc.observation Cdc.encoding)
             (verifying_of C.state self.old) bound_value result (verifying_of C.state self.new) }
     {
@@ -318,10 +324,11 @@ impl<'a, C: Sponge, U, D: DigestHasher> VerifierState<'a, C, U, D> {
         &mut self,
         n: usize,
     ) -> Result<Vec<TranscriptBound<A>>, TranscriptError>
-        ensures read { AnswersList (reads.read_values Cdc.encoding Cdc.observation.observed n self.old.tape.bytes.now)
-            (observed_all Cdc.observation.observed)
+        ensures read { AnswersList (reads.read_values Cdc.encoding Cdc.observation.observed n
+            self.old.tape.bytes.now) (observed_all Cdc.observation.observed)
             (reads.LeavesValues Cdc.encoding Cdc.observation n self.old.tape.bytes.now) bound_values
-            (C.state self.old.challenger) result self.new.tape.bytes.now (C.state self.new.challenger) }
+            (C.state self.old.challenger) result self.new.tape.bytes.now
+            (C.state self.new.challenger) }
         ensures steps { self.new.steps ≡ self.old.steps }
         ensures count { IfOk result (λ bounds. vec_len bounds ≡ n) }
     {
@@ -360,8 +367,8 @@ impl<'a, C: Sponge, U, D: DigestHasher> VerifierState<'a, C, U, D> {
 
     // Reads a value.
     fn read_value<A, Cdc: Codec<C, A>>(&mut self) -> Result<A, TranscriptError>
-        ensures read { AnswersRead (reads.read_value {S = C.State} Cdc.encoding self.old.tape.bytes.now) (λ x. x) result
-            self.new.tape.bytes.now }
+        ensures read { AnswersRead (reads.read_value {S = C.State} Cdc.encoding
+            self.old.tape.bytes.now) (λ x. x) result self.new.tape.bytes.now }
         ensures steps { self.new.steps ≡ self.old.steps }
         ensures challenger { self.new.challenger ≡ self.old.challenger }
     {
@@ -371,13 +378,13 @@ impl<'a, C: Sponge, U, D: DigestHasher> VerifierState<'a, C, U, D> {
 
     // Reads a count of at most so many. A greater one is refused with this reason, and is passed.
     fn read_count(&mut self, max: usize, over: &'static str) -> Result<usize, TranscriptError>
-        ensures read { AnswersRead (reads.read_count {S = C.State} over.now max self.old.tape.bytes.now) (λ n. n) result
-            self.new.tape.bytes.now }
+        ensures read { AnswersRead (reads.read_count {S = C.State} over.now max
+            self.old.tape.bytes.now) (λ n. n) result self.new.tape.bytes.now }
         ensures within { IfOk result (λ n. n ≤ max) }
         ensures steps { self.new.steps ≡ self.old.steps }
         ensures challenger { self.new.challenger ≡ self.old.challenger }
     {
-        let width = count_width(max);
+        let width = bound_byte_width(max);
         let bytes = self.read_bytes(width)?;
         let count = decode_len_be(bytes, width);
         if count > max {
@@ -388,8 +395,8 @@ impl<'a, C: Sponge, U, D: DigestHasher> VerifierState<'a, C, U, D> {
 
     // Reads at most so many bytes after their count. A greater count is refused with this reason.
     fn read_counted(&mut self, max: usize, over: &'static str) -> Result<&'a [u8], TranscriptError>
-        ensures read { AnswersRead (reads.read_counted_bytes {S = C.State} over.now max self.old.tape.bytes.now)
-            (λ bytes. bytes.now) result self.new.tape.bytes.now }
+        ensures read { AnswersRead (reads.read_counted_bytes {S = C.State} over.now max
+            self.old.tape.bytes.now) (λ bytes. bytes.now) result self.new.tape.bytes.now }
         ensures within { IfOk result (λ bytes. length bytes.now ≤ max) }
         ensures steps { self.new.steps ≡ self.old.steps }
         ensures challenger { self.new.challenger ≡ self.old.challenger }

@@ -1,20 +1,20 @@
 //! The steps of a prover that write into the proof, and those that add what both sides know.
 ghost use Rattle.std.specs.Prelude.{◌≡◌, ◌≤◌, length, IfOk, vec_len};
 ghost use Rattle.p3_driver_core.specs.Bound.{bound_value, bound_values};
-ghost use Rattle.p3_driver_core.specs.Effects.{alphabet_of};
 ghost use Rattle.p3_driver_core.specs.Meanings as meaning;
-ghost use Rattle.p3_driver_core.specs.Transcripts.{algebra_step};
 ghost use Rattle.p3_driver_core.specs.Driving.{KeepsOrRefuses};
 ghost use Rattle.p3_driver_core.specs.Proving.{WritesOrRefuses, WritesWithin, KeepsWithin};
 ghost use Rattle.p3_drivers.specs.Drivers.{proving_of};
+ghost use Rattle.p3_fs_core.specs.declared.step.Kind.TheVariants.{Message, Public, Salt};
+ghost use Rattle.p3_fs_core.specs.declared.step.Length.TheVariants.{Bounded, Fixed, Scalar};
 
 use crate::ProverState;
 use crate::writing::{write_bytes, write_counted_bytes, write_counted_values, write_values};
 use p3_challenger_core::{CanObserve, Sponge};
-use p3_codecs::{Codec, ExtensionFieldCodec, ScalarCodec, Unit};
+use p3_codecs::{AlphabetOf, Codec, ExtensionFieldCodec, ScalarCodec, Unit};
 use p3_driver_core::{TranscriptBound, bind, bind_all, observe_count, observe_values};
 use p3_field_core::{AlgebraIdentity, Named, ScalarField};
-use p3_fs_core::{Kind, Label, Length, TranscriptError, TranscriptField};
+use p3_fs_core::{Declared, Kind, Label, Length, TranscriptError, TranscriptField};
 use p3_symmetric::DigestHasher;
 
 impl<U: Unit, C: CanObserve<U::Item>, D: DigestHasher> ProverState<C, U, D> {
@@ -33,11 +33,11 @@ impl<U: Unit, C: CanObserve<U::Item>, D: DigestHasher> ProverState<C, U, D> {
         max: usize,
     ) -> Result<Vec<TranscriptBound<EF>>, TranscriptError>
         requires { U.is_alphabet }
-        ensures exact { let step = algebra_step Kind.Message label.now F.residues.order EF.DIMENSION
-            (D.digest_of EF.identity) EF.name_bytes (Length.Bounded max) in
-            KeepsWithin (length values.now) max (meaning.observed_bounded step
-            (alphabet_of U.items U.is_too_long C.observation C.slice_may_leave) max
-            ⟦<ExtensionFieldCodec<F, EF, Cdc> as Codec<C, EF>>⟧.observation values.now)
+        ensures exact { let step = ⟦<EF as Declared<F, D>>⟧.step Message label.now (Bounded max) in
+            let codec = ⟦<ExtensionFieldCodec<F, EF, Cdc> as Codec<C, EF>>⟧ in
+            let alphabet = ⟦<U as AlphabetOf<C>>⟧.alphabet in
+            KeepsWithin (length values.now) max
+            (meaning.observed_bounded step alphabet max codec.observation values.now)
             (proving_of C.state self.old) bound_values result (proving_of C.state self.new) }
         ensures count { IfOk result (λ bounds. vec_len bounds ≡ length values.now) }
     {
@@ -56,8 +56,8 @@ impl<U: Unit, C: CanObserve<U::Item>, D: DigestHasher> ProverState<C, U, D> {
     /// [`ChallengerError::TooLong`](p3_challenger_core::ChallengerError::TooLong), and nothing of them is absorbed.
     pub fn add_salt(&mut self, label: Label, bytes: &[u8]) -> Result<(), TranscriptError>
         requires { U.is_alphabet }
-        ensures { WritesOrRefuses (meaning.sent_bytes Kind.Salt label.now
-            (alphabet_of U.items U.is_too_long C.observation C.slice_may_leave) bytes.now)
+        ensures { WritesOrRefuses
+            (meaning.sent_bytes Salt label.now ⟦<U as AlphabetOf<C>>⟧.alphabet bytes.now)
             (proving_of C.state self.old) (λ _. bytes.now) result (proving_of C.state self.new) }
     {
         self.send_bytes(Kind::Salt, label, bytes)
@@ -69,8 +69,8 @@ impl<U: Unit, C: CanObserve<U::Item>, D: DigestHasher> ProverState<C, U, D> {
     /// [`ChallengerError::TooLong`](p3_challenger_core::ChallengerError::TooLong), and nothing of them is absorbed.
     pub fn add_bytes(&mut self, label: Label, bytes: &[u8]) -> Result<(), TranscriptError>
         requires { U.is_alphabet }
-        ensures { WritesOrRefuses (meaning.sent_bytes Kind.Message label.now
-            (alphabet_of U.items U.is_too_long C.observation C.slice_may_leave) bytes.now)
+        ensures { WritesOrRefuses
+            (meaning.sent_bytes Message label.now ⟦<U as AlphabetOf<C>>⟧.alphabet bytes.now)
             (proving_of C.state self.old) (λ _. bytes.now) result (proving_of C.state self.new) }
     {
         self.send_bytes(Kind::Message, label, bytes)
@@ -88,8 +88,9 @@ impl<U: Unit, C: CanObserve<U::Item>, D: DigestHasher> ProverState<C, U, D> {
         max: usize,
     ) -> Result<(), TranscriptError>
         requires { U.is_alphabet }
-        ensures { WritesWithin (length bytes.now) max (meaning.sent_bytes_bounded Kind.Message label.now
-            (alphabet_of U.items U.is_too_long C.observation C.slice_may_leave) max bytes.now)
+        ensures { let alphabet = ⟦<U as AlphabetOf<C>>⟧.alphabet in
+            WritesWithin (length bytes.now) max
+            (meaning.sent_bytes_bounded Message label.now alphabet max bytes.now)
             (proving_of C.state self.old) (λ _. bytes.now) result (proving_of C.state self.new) }
     {
         self.steps.within(bytes.len(), max)?;
@@ -107,11 +108,10 @@ impl<U: Unit, C: CanObserve<U::Item>, D: DigestHasher> ProverState<C, U, D> {
         max: usize,
     ) -> Result<Vec<TranscriptBound<F>>, TranscriptError>
         requires { U.is_alphabet }
-        ensures exact { let step = algebra_step Kind.Message label.now F.residues.order F.DIMENSION
-            (D.digest_of F.identity) F.name_bytes (Length.Bounded max) in
-            WritesWithin (length values.now) max (meaning.sent_bounded step
-            (alphabet_of U.items U.is_too_long C.observation C.slice_may_leave) max Cdc.observation Cdc.encoding
-            values.now)
+        ensures exact { let step = ⟦<F as Declared<F, D>>⟧.step Message label.now (Bounded max) in
+            let alphabet = ⟦<U as AlphabetOf<C>>⟧.alphabet in
+            WritesWithin (length values.now) max
+            (meaning.sent_bounded step alphabet max Cdc.observation Cdc.encoding values.now)
             (proving_of C.state self.old) bound_values result (proving_of C.state self.new) }
         ensures count { IfOk result (λ bounds. vec_len bounds ≡ length values.now) }
     {
@@ -123,8 +123,8 @@ impl<U: Unit, C: CanObserve<U::Item>, D: DigestHasher> ProverState<C, U, D> {
     #[tactic(auto, using(crate::proofs::Pieces::unwritten))]
     fn send_bytes(&mut self, kind: Kind, label: Label, bytes: &[u8]) -> Result<(), TranscriptError>
         requires { U.is_alphabet }
-        ensures { WritesOrRefuses (meaning.sent_bytes kind label.now
-            (alphabet_of U.items U.is_too_long C.observation C.slice_may_leave) bytes.now)
+        ensures { WritesOrRefuses
+            (meaning.sent_bytes kind label.now ⟦<U as AlphabetOf<C>>⟧.alphabet bytes.now)
             (proving_of C.state self.old) (λ _. bytes.now) result (proving_of C.state self.new) }
     {
         self.steps
@@ -145,8 +145,8 @@ impl<U: Unit, C: CanObserve<U::Item>, D: DigestHasher> ProverState<C, U, D> {
     ) -> Result<(), TranscriptError>
         requires alphabet { U.is_alphabet }
         requires within { length bytes.now ≤ max }
-        ensures { WritesOrRefuses (meaning.sent_bytes_bounded Kind.Message label.now
-            (alphabet_of U.items U.is_too_long C.observation C.slice_may_leave) max bytes.now)
+        ensures { let alphabet = ⟦<U as AlphabetOf<C>>⟧.alphabet in
+            WritesOrRefuses (meaning.sent_bytes_bounded Message label.now alphabet max bytes.now)
             (proving_of C.state self.old) (λ _. bytes.now) result (proving_of C.state self.new) }
     {
         self.steps
@@ -168,11 +168,10 @@ impl<U: Unit, C: CanObserve<U::Item>, D: DigestHasher> ProverState<C, U, D> {
     ) -> Result<Vec<TranscriptBound<F>>, TranscriptError>
         requires alphabet { U.is_alphabet }
         requires within { length values.now ≤ max }
-        ensures exact { let step = algebra_step Kind.Message label.now F.residues.order F.DIMENSION
-            (D.digest_of F.identity) F.name_bytes (Length.Bounded max) in
-            WritesOrRefuses (meaning.sent_bounded step
-            (alphabet_of U.items U.is_too_long C.observation C.slice_may_leave) max Cdc.observation Cdc.encoding
-            values.now)
+        ensures exact { let step = ⟦<F as Declared<F, D>>⟧.step Message label.now (Bounded max) in
+            let alphabet = ⟦<U as AlphabetOf<C>>⟧.alphabet in
+            WritesOrRefuses
+            (meaning.sent_bounded step alphabet max Cdc.observation Cdc.encoding values.now)
             (proving_of C.state self.old) bound_values result (proving_of C.state self.new) }
         ensures count { IfOk result (λ bounds. vec_len bounds ≡ length values.now) }
     {
@@ -194,8 +193,7 @@ impl<C: Sponge, U, D: DigestHasher> ProverState<C, U, D> {
         label: Label,
         value: &F,
     ) -> Result<TranscriptBound<F>, TranscriptError>
-        ensures { let step = algebra_step Kind.Public label.now F.residues.order F.DIMENSION (D.digest_of F.identity)
-            F.name_bytes Length.Scalar in
+        ensures { let step = ⟦<F as Declared<F, D>>⟧.step Public label.now Scalar in
             KeepsOrRefuses (meaning.observed step Cdc.observation value.now)
             (proving_of C.state self.old) bound_value result (proving_of C.state self.new) }
     {
@@ -208,8 +206,8 @@ impl<C: Sponge, U, D: DigestHasher> ProverState<C, U, D> {
         label: Label,
         values: &[F],
     ) -> Result<Vec<TranscriptBound<F>>, TranscriptError>
-        ensures exact { let step = algebra_step Kind.Public label.now F.residues.order F.DIMENSION
-            (D.digest_of F.identity) F.name_bytes (Length.Fixed (length values.now)) in
+        ensures exact { let step = ⟦<F as Declared<F, D>>⟧.step Public label.now
+            (Fixed (length values.now)) in
             KeepsOrRefuses (meaning.observed_list step Cdc.observation values.now)
             (proving_of C.state self.old) bound_values result (proving_of C.state self.new) }
         ensures count { IfOk result (λ bounds. vec_len bounds ≡ length values.now) }
@@ -223,10 +221,10 @@ impl<C: Sponge, U, D: DigestHasher> ProverState<C, U, D> {
         EF: AlgebraIdentity<F> + Named,
         Cdc: ScalarCodec<C, F>,
     >(&mut self, label: Label, values: &[EF]) -> Result<Vec<TranscriptBound<EF>>, TranscriptError>
-        ensures exact { let step = algebra_step Kind.Message label.now F.residues.order EF.DIMENSION
-            (D.digest_of EF.identity) EF.name_bytes (Length.Fixed (length values.now)) in
-            KeepsOrRefuses (meaning.observed_list step ⟦<ExtensionFieldCodec<F, EF, Cdc> as Codec<C, EF>>⟧.observation
-            values.now)
+        ensures exact { let step = ⟦<EF as Declared<F, D>>⟧.step Message label.now
+            (Fixed (length values.now)) in
+            let codec = ⟦<ExtensionFieldCodec<F, EF, Cdc> as Codec<C, EF>>⟧ in
+            KeepsOrRefuses (meaning.observed_list step codec.observation values.now)
             (proving_of C.state self.old) bound_values result (proving_of C.state self.new) }
         ensures count { IfOk result (λ bounds. vec_len bounds ≡ length values.now) }
     {
@@ -239,8 +237,7 @@ impl<C: Sponge, U, D: DigestHasher> ProverState<C, U, D> {
         label: Label,
         value: &F,
     ) -> Result<TranscriptBound<F>, TranscriptError>
-        ensures { let step = algebra_step Kind.Message label.now F.residues.order F.DIMENSION (D.digest_of F.identity)
-            F.name_bytes Length.Scalar in
+        ensures { let step = ⟦<F as Declared<F, D>>⟧.step Message label.now Scalar in
             WritesOrRefuses (meaning.sent step Cdc.observation Cdc.encoding value.now)
             (proving_of C.state self.old) bound_value result (proving_of C.state self.new) }
     {
@@ -254,8 +251,8 @@ impl<C: Sponge, U, D: DigestHasher> ProverState<C, U, D> {
         label: Label,
         values: &[F],
     ) -> Result<Vec<TranscriptBound<F>>, TranscriptError>
-        ensures exact { let step = algebra_step Kind.Message label.now F.residues.order F.DIMENSION
-            (D.digest_of F.identity) F.name_bytes (Length.Fixed (length values.now)) in
+        ensures exact { let step = ⟦<F as Declared<F, D>>⟧.step Message label.now
+            (Fixed (length values.now)) in
             WritesOrRefuses (meaning.sent_list step Cdc.observation Cdc.encoding values.now)
             (proving_of C.state self.old) bound_values result (proving_of C.state self.new) }
         ensures count { IfOk result (λ bounds. vec_len bounds ≡ length values.now) }
@@ -275,10 +272,9 @@ impl<C: Sponge, U, D: DigestHasher> ProverState<C, U, D> {
         EF: AlgebraIdentity<F> + Named,
         Cdc: ScalarCodec<C, F>,
     >(&mut self, label: Label, value: &EF) -> Result<TranscriptBound<EF>, TranscriptError>
-        ensures { let step = algebra_step Kind.Message label.now F.residues.order EF.DIMENSION (D.digest_of EF.identity)
-            EF.name_bytes Length.Scalar in
-            WritesOrRefuses (meaning.sent step ⟦<ExtensionFieldCodec<F, EF, Cdc> as Codec<C, EF>>⟧.observation
-            ⟦<ExtensionFieldCodec<F, EF, Cdc> as Codec<C, EF>>⟧.encoding value.now)
+        ensures { let step = ⟦<EF as Declared<F, D>>⟧.step Message label.now Scalar in
+            let codec = ⟦<ExtensionFieldCodec<F, EF, Cdc> as Codec<C, EF>>⟧ in
+            WritesOrRefuses (meaning.sent step codec.observation codec.encoding value.now)
             (proving_of C.state self.old) bound_value result (proving_of C.state self.new) }
     {
         self.send::<F, EF, ExtensionFieldCodec<F, EF, Cdc>>(label, value)
@@ -305,8 +301,8 @@ impl<C: Sponge, U, D: DigestHasher> ProverState<C, U, D> {
         bytes: &[u8],
         max: usize,
     ) -> Result<(), TranscriptError>
-        ensures { WritesWithin (length bytes.now) max (meaning.hinted_bounded {Symbol = C.Symbol} label.now max
-            bytes.now)
+        ensures { WritesWithin (length bytes.now) max
+            (meaning.hinted_bounded {Symbol = C.Symbol} label.now max bytes.now)
             (proving_of C.state self.old) (λ _. bytes.now) result (proving_of C.state self.new) }
     {
         self.steps.within(bytes.len(), max)?;
@@ -324,8 +320,7 @@ impl<C: Sponge, U, D: DigestHasher> ProverState<C, U, D> {
         label: Label,
         value: &A,
     ) -> Result<TranscriptBound<A>, TranscriptError>
-        ensures { let step = algebra_step Kind.Message label.now F.residues.order A.DIMENSION (D.digest_of A.identity)
-            A.name_bytes Length.Scalar in
+        ensures { let step = ⟦<A as Declared<F, D>>⟧.step Message label.now Scalar in
             WritesOrRefuses (meaning.sent step Cdc.observation Cdc.encoding value.now)
             (proving_of C.state self.old) bound_value result (proving_of C.state self.new) }
     {

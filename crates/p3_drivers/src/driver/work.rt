@@ -3,16 +3,17 @@ ghost use Rattle.std.specs.Prelude.{◌≡◌, ◌≤◌};
 ghost use Rattle.p3_driver_core.specs.Proving.{GrindsAndWrites, GrindsAndKeeps};
 ghost use Rattle.p3_driver_core.specs.Reads as reads;
 ghost use Rattle.p3_driver_core.specs.Reads.{AnswersRead};
-ghost use Rattle.p3_driver_core.specs.Transcripts.{algebra_step};
 ghost use Rattle.p3_driver_core.specs.Verifying.{ReceivesWork, ChecksAndKeeps};
 ghost use Rattle.p3_driver_core.specs.Working.{work_of};
 ghost use Rattle.p3_fs_core.specs.Scalar.{encoding};
 ghost use Rattle.p3_drivers.specs.Drivers.{proving_of, verifying_of};
+ghost use Rattle.p3_fs_core.specs.declared.step.Kind.TheVariants.{Pow};
+ghost use Rattle.p3_fs_core.specs.declared.step.Length.TheVariants.{Fixed};
 
 use crate::{ProverState, VerifierState};
 use p3_driver_core::check_work;
 use p3_field_core::{AlgebraIdentity, Named};
-use p3_fs_core::{Kind, Label, Length, TranscriptError, TranscriptField};
+use p3_fs_core::{Declared, Kind, Label, Length, TranscriptError, TranscriptField};
 use p3_grinding::GrindingChallenger;
 use p3_symmetric::DigestHasher;
 
@@ -30,9 +31,9 @@ impl<C: GrindingChallenger, U, D: DigestHasher> ProverState<C, U, D> {
     where
         C::Witness: AlgebraIdentity<C::Witness> + Named,
         requires { bits ≤ C.most_bits }
-        ensures { let step = algebra_step Kind.Pow label.now C.Witness.residues.order C.Witness.DIMENSION
-            (D.digest_of C.Witness.identity) C.Witness.name_bytes (Length.Fixed bits) in
-            GrindsAndWrites (work_of step C.Witness.residues C.before_witness C.observation C.bits_sampling bits)
+        ensures { let step = ⟦<C::Witness as Declared<C::Witness, D>>⟧.step Pow label.now (Fixed bits) in
+            GrindsAndWrites
+            (work_of step C.Witness.residues C.before_witness C.observation C.bits_sampling bits)
             (encoding C.Witness.residues C.Witness.bit_length) C.may_run_out
             (proving_of C.state self.old) result (proving_of C.state self.new) }
     {
@@ -53,10 +54,11 @@ impl<C: GrindingChallenger, U, D: DigestHasher> ProverState<C, U, D> {
     where
         C::Witness: AlgebraIdentity<C::Witness> + Named,
         requires { bits ≤ C.most_bits }
-        ensures { let step = algebra_step Kind.Pow label.now C.Witness.residues.order C.Witness.DIMENSION
-            (D.digest_of C.Witness.identity) C.Witness.name_bytes (Length.Fixed bits) in
-            GrindsAndKeeps (work_of step C.Witness.residues C.before_witness C.observation C.bits_sampling bits)
-            C.may_run_out (proving_of C.state self.old) (λ x. x) result (proving_of C.state self.new) }
+        ensures { let step = ⟦<C::Witness as Declared<C::Witness, D>>⟧.step Pow label.now (Fixed bits) in
+            GrindsAndKeeps
+            (work_of step C.Witness.residues C.before_witness C.observation C.bits_sampling bits)
+            C.may_run_out
+            (proving_of C.state self.old) (λ x. x) result (proving_of C.state self.new) }
     {
         self.steps
             .take_algebra::<C::Witness, C::Witness>(Kind::Pow, label, Length::Fixed(bits))?;
@@ -79,9 +81,9 @@ impl<C: GrindingChallenger, U, D: DigestHasher> VerifierState<'_, C, U, D> {
     where
         C::Witness: AlgebraIdentity<C::Witness> + Named,
         requires { bits ≤ C.most_bits }
-        ensures { let step = algebra_step Kind.Pow label.now C.Witness.residues.order C.Witness.DIMENSION
-            (D.digest_of C.Witness.identity) C.Witness.name_bytes (Length.Fixed bits) in
-            ReceivesWork (work_of step C.Witness.residues C.before_witness C.observation C.bits_sampling bits)
+        ensures { let step = ⟦<C::Witness as Declared<C::Witness, D>>⟧.step Pow label.now (Fixed bits) in
+            ReceivesWork
+            (work_of step C.Witness.residues C.before_witness C.observation C.bits_sampling bits)
             (encoding C.Witness.residues C.Witness.bit_length)
             (verifying_of C.state self.old) result (verifying_of C.state self.new) }
     {
@@ -108,10 +110,10 @@ impl<C: GrindingChallenger, U, D: DigestHasher> VerifierState<'_, C, U, D> {
     where
         C::Witness: AlgebraIdentity<C::Witness> + Named,
         requires { bits ≤ C.most_bits }
-        ensures { let step = algebra_step Kind.Pow label.now C.Witness.residues.order C.Witness.DIMENSION
-            (D.digest_of C.Witness.identity) C.Witness.name_bytes (Length.Fixed bits) in
-            ChecksAndKeeps (work_of step C.Witness.residues C.before_witness C.observation C.bits_sampling bits) witness
-            (verifying_of C.state self.old) result (verifying_of C.state self.new) }
+        ensures { let step = ⟦<C::Witness as Declared<C::Witness, D>>⟧.step Pow label.now (Fixed bits) in
+            ChecksAndKeeps
+            (work_of step C.Witness.residues C.before_witness C.observation C.bits_sampling bits)
+            witness (verifying_of C.state self.old) result (verifying_of C.state self.new) }
     {
         self.steps
             .take_algebra::<C::Witness, C::Witness>(Kind::Pow, label, Length::Fixed(bits))?;
@@ -122,8 +124,9 @@ impl<C: GrindingChallenger, U, D: DigestHasher> VerifierState<'_, C, U, D> {
 
     // Reads a witness.
     fn read_witness(&mut self) -> Result<C::Witness, TranscriptError>
-        ensures read { AnswersRead (reads.read_value {S = C.State} (encoding C.Witness.residues C.Witness.bit_length)
-            self.old.tape.bytes.now) (λ x. x) result self.new.tape.bytes.now }
+        ensures read { AnswersRead (reads.read_value {S = C.State}
+            (encoding C.Witness.residues C.Witness.bit_length) self.old.tape.bytes.now) (λ x. x)
+            result self.new.tape.bytes.now }
         ensures steps { self.new.steps ≡ self.old.steps }
         ensures challenger { self.new.challenger ≡ self.old.challenger }
     {

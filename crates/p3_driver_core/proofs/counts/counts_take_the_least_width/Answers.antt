@@ -1,4 +1,4 @@
-use Rattle.p3_driver_core.specs.CountLaws.{count_width-enough, count_width-least, count_width-most}
+use Rattle.p3_fs_core.specs.CountLaws.{count_width-enough, count_width-least, count_width-most}
 use Rattle.p3_driver_core.proofs.counts.counts_take_the_least_width.Goals as goal
 
 pub returns : goal.returns

@@ -1,6 +1,7 @@
 use Rattle.std.proofs.Common.{ℕ, List, length}
-use Rattle.p3_driver_core.specs.Counts.{count_bytes}
-use Rattle.p3_driver_core.specs.Effects.{alphabet_of, observing_bytes}
+use Rattle.p3_fs_core.specs.Counts.{count_bytes}
+use Rattle.p3_fs_core.specs.Alphabet.{alphabet_of}
+use Rattle.p3_driver_core.specs.Effects.{observing_bytes}
 use Rattle.p3_driver_core.specs.Feeding.{Feeds}
 use Rattle.p3_driver_core.specs.FeedingLaws.{observing_bytes-feeds, in_sequence-feeds}
 use Rattle.p3_driver_core.proofs.feeding.bytes_feed_their_symbols.Given.{Over}

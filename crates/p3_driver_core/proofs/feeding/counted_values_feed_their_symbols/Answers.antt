@@ -1,6 +1,6 @@
 use Rattle.std.proofs.Common.{length}
-use Rattle.p3_driver_core.specs.Counts.{count_bytes}
-use Rattle.p3_driver_core.specs.Effects.{alphabet_of}
+use Rattle.p3_fs_core.specs.Counts.{count_bytes}
+use Rattle.p3_fs_core.specs.Alphabet.{alphabet_of}
 use Rattle.p3_driver_core.specs.FeedingLaws.{observing_bytes-feeds, observing_list-feeds, in_sequence-feeds}
 use Rattle.p3_driver_core.proofs.feeding.counted_values_feed_their_symbols.Goals as goal
 

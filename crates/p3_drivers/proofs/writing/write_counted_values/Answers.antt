@@ -1,7 +1,7 @@
 use Rattle.std.proofs.Common.{length}
 use Rattle.std.specs.List.{flat_map}
 use Rattle.std.proofs.lemmas.Result.{err_from_is_err_and, on_err_weaker}
-use Rattle.p3_driver_core.specs.Counts.{count_bytes}
+use Rattle.p3_fs_core.specs.Counts.{count_bytes}
 use Rattle.p3_drivers.proofs.Pieces.{first-left, second-left}
 use Rattle.p3_drivers.proofs.writing.write_counted_values.Goals as goal
 

@@ -1,7 +1,7 @@
 use Rattle.std.specs.Prelude.{length}
 use Rattle.p3_challenger_core.specs.Observation as observation
-use Rattle.p3_driver_core.specs.Counts.{count_bytes}
-use Rattle.p3_driver_core.specs.Effects.{alphabet_of}
+use Rattle.p3_fs_core.specs.Counts.{count_bytes}
+use Rattle.p3_fs_core.specs.Alphabet.{alphabet_of}
 use Rattle.p3_driver_core.specs.Meanings as meaning
 use Rattle.p3_step_laws.proofs.LimitLaws.{observing-tells, counted-tell}
 use Rattle.p3_step_laws.proofs.OnlyMemory.{only_memory}

@@ -1,4 +1,4 @@
-use Rattle.p3_driver_core.specs.Effects.{alphabet_of}
+use Rattle.p3_fs_core.specs.Alphabet.{alphabet_of}
 use Rattle.p3_step_laws.proofs.MirrorLaws.{counted_bytes-mirrored}
 use Rattle.p3_step_laws.specs.CompletenessLaws.{read_back-completes}
 use Rattle.p3_step_laws.proofs.mirrors.sent_counted_bytes_are_received.Goals as goal

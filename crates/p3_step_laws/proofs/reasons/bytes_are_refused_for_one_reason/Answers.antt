@@ -1,8 +1,8 @@
 use Rattle.std.specs.Prelude.{length, refl}
 use Rattle.p3_challenger_core.specs.declared.error.ChallengerError.TheVariants.{TooLong}
 use Rattle.p3_fs_core.specs.Errors.{challenger_refused}
-use Rattle.p3_driver_core.specs.Counts.{count_bytes}
-use Rattle.p3_driver_core.specs.Effects.{alphabet_of}
+use Rattle.p3_fs_core.specs.Counts.{count_bytes}
+use Rattle.p3_fs_core.specs.Alphabet.{alphabet_of}
 use Rattle.p3_driver_core.specs.Meanings as meaning
 use Rattle.p3_step_laws.proofs.LimitLaws.{bytes-tell, counted_bytes-tell}
 use Rattle.p3_step_laws.proofs.ListReasons.{length-one_reason}

@@ -1,4 +1,4 @@
-use Rattle.p3_driver_core.specs.Effects.{alphabet_of}
+use Rattle.p3_fs_core.specs.Alphabet.{alphabet_of}
 use Rattle.p3_step_laws.proofs.SpelledLaws.{bytes-spelled, counted_bytes-spelled}
 use Rattle.p3_step_laws.proofs.spelled.read_bytes_are_spelled.Goals as goal
 

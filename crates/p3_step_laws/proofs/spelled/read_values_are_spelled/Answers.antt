@@ -1,4 +1,4 @@
-use Rattle.p3_driver_core.specs.Effects.{alphabet_of}
+use Rattle.p3_fs_core.specs.Alphabet.{alphabet_of}
 use Rattle.p3_step_laws.proofs.SpelledLaws.{value-spelled, values-spelled, counted_values-spelled}
 use Rattle.p3_step_laws.proofs.spelled.read_values_are_spelled.Goals as goal
 

@@ -1,6 +1,6 @@
 use Rattle.std.specs.Prelude.{length, refl}
-use Rattle.p3_driver_core.specs.Counts.{count_bytes}
-use Rattle.p3_driver_core.specs.Effects.{alphabet_of}
+use Rattle.p3_fs_core.specs.Counts.{count_bytes}
+use Rattle.p3_fs_core.specs.Alphabet.{alphabet_of}
 use Rattle.p3_driver_core.specs.Reads as reads
 use Rattle.p3_step_laws.proofs.LimitLaws.{bytes-tell, counted_bytes-tell}
 use Rattle.p3_step_laws.proofs.OneReason.{given-unread_one_reason}

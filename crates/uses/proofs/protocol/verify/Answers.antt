@@ -40,7 +40,7 @@ returns-clause-run c =
     )
 
 pub returns-in_err-claim-clause-accepted : goal.returns-in_err-claim-clause-accepted
-returns-in_err-claim-clause-accepted c claim steps run =
+returns-in_err-claim-clause-accepted c steps claim run =
     let start = begun-as c.challenger.result (verifying_of (λ s. s) c.in_ok-verifier.verifier).transcript.challenger
     (seed_of_separator digests.ghosts.digest_of c.args.separator.now)
     (ap (λ v. v.transcript.challenger) c.in_ok-verifier.ensures.ok)
@@ -51,7 +51,7 @@ returns-in_err-claim-clause-accepted c claim steps run =
     rw (p.1, p.2) (c.in_err-claim.ensures.accepted claim _ ahead)
 
 pub returns-in_err-end-clause-accepted : goal.returns-in_err-end-clause-accepted
-returns-in_err-end-clause-accepted c claim steps run =
+returns-in_err-end-clause-accepted c steps claim run =
     let start = begun-as c.challenger.result (verifying_of (λ s. s) c.in_ok-verifier.verifier).transcript.challenger
     (seed_of_separator digests.ghosts.digest_of c.args.separator.now)
     (ap (λ v. v.transcript.challenger) c.in_ok-verifier.ensures.ok)
@@ -63,7 +63,7 @@ returns-in_err-end-clause-accepted c claim steps run =
     absurd (cc)
 
 pub returns-clause-accepted : goal.returns-clause-accepted
-returns-clause-accepted c claim steps run =
+returns-clause-accepted c steps claim run =
     let start = begun-as c.challenger.result (verifying_of (λ s. s) c.in_ok-verifier.verifier).transcript.challenger
     (seed_of_separator digests.ghosts.digest_of c.args.separator.now)
     (ap (λ v. v.transcript.challenger) c.in_ok-verifier.ensures.ok)

@@ -1,7 +1,8 @@
 use Rattle.std.proofs.Common.{length, inl, inr, subst, ap, ◌∙◌, ◌||◌}
 use Rattle.std.proofs.lemmas.Result.{err_from_is_err_and}
-use Rattle.p3_driver_core.specs.Counts.{count_bytes}
-use Rattle.p3_driver_core.specs.Effects.{alphabet_of, observing_bytes, in_sequence}
+use Rattle.p3_fs_core.specs.Counts.{count_bytes}
+use Rattle.p3_fs_core.specs.Alphabet.{alphabet_of}
+use Rattle.p3_driver_core.specs.Effects.{observing_bytes, in_sequence}
 use Rattle.p3_driver_core.specs.Transcripts.{bytes_step}
 use Rattle.p3_fs_core.specs.declared.step.Kind.TheVariants.{Message}
 use Rattle.p3_fs_core.specs.declared.step.Length.TheVariants.{Bounded}

@@ -2,7 +2,7 @@ use Rattle.std.proofs.Common.{ap, ◌∙◌, ◌||◌}
 use Rattle.std.proofs.lemmas.Result.{err_from_is_err_and}
 use Rattle.p3_fs_core.specs.declared.step.Kind.TheVariants.{Message}
 use Rattle.p3_fs_core.specs.declared.step.Length.TheVariants.{Fixed}
-use Rattle.p3_driver_core.specs.Transcripts.{algebra_step}
+use Rattle.p3_fs_core.specs.Algebras.{algebra_of, algebra_step}
 use Rattle.p3_drivers.proofs.Refusals.{list-refused}
 use Rattle.p3_drivers.specs.Drivers.{verifying_of}
 use Rattle.p3_drivers.proofs.driver.receives.VerifierState+C+U+D.next_scalars.Goals as goal
@@ -14,8 +14,8 @@ returns-in_err-bounds-clause-exact g c =
     let opened = c.in_ok-take_algebra.ensures.ok in
     let same = c.in_err-bounds.ensures.steps in
     rw (p.1, p.2) (list-refused
-    (algebra_step Message c.args.label.now g.F.PrimeCharacteristicRing.residues.order
-    g.F.BasedVectorSpace.DIMENSION (g.D.DigestHasher.digest_of g.F.AlgebraIdentity.identity) g.F.Named.name_bytes
+    (algebra_step Message c.args.label.now (algebra_of g.F.PrimeCharacteristicRing.residues.order
+    g.F.BasedVectorSpace.DIMENSION (g.D.DigestHasher.digest_of g.F.AlgebraIdentity.identity) g.F.Named.name_bytes)
     (Fixed c.args.n))
     g.Cdc.Codec.observation g.Cdc.Codec.encoding
     (verifying_of state c.args.self.now) (verifying_of state c.receive_values.new.self)

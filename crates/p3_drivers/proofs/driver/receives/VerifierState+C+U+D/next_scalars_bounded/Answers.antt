@@ -4,9 +4,10 @@ use Rattle.p3_fs_core.specs.declared.step.Kind.TheVariants.{Message}
 use Rattle.p3_fs_core.specs.declared.step.Length.TheVariants.{Bounded}
 use Rattle.p3_driver_core.specs.Bound.{bound_values}
 use Rattle.p3_driver_core.specs.Opened.{playing_of}
-use Rattle.p3_driver_core.specs.Counts.{count_bytes}
-use Rattle.p3_driver_core.specs.Effects.{alphabet_of, observing_bytes}
-use Rattle.p3_driver_core.specs.Transcripts.{algebra_step}
+use Rattle.p3_fs_core.specs.Counts.{count_bytes}
+use Rattle.p3_fs_core.specs.Alphabet.{alphabet_of}
+use Rattle.p3_driver_core.specs.Effects.{observing_bytes}
+use Rattle.p3_fs_core.specs.Algebras.{algebra_of, algebra_step}
 use Rattle.p3_drivers.proofs.Refusals.{not-read, count-fails, count-refused, values-refused, values-received}
 use Rattle.p3_driver_core.specs.Reads as reads
 use Rattle.p3_drivers.specs.Drivers.{verifying_of}
@@ -19,8 +20,8 @@ returns-in_err-count-clause-exact g c =
     let opened = c.in_ok-take_algebra.ensures.ok in
     let alphabet = alphabet_of g.U.Unit.items g.U.Unit.is_too_long g.C.CanObserve.observation
     g.C.CanObserve.slice_may_leave in
-    let step = algebra_step Message c.args.label.now g.F.PrimeCharacteristicRing.residues.order
-    g.F.BasedVectorSpace.DIMENSION (g.D.DigestHasher.digest_of g.F.AlgebraIdentity.identity) g.F.Named.name_bytes
+    let step = algebra_step Message c.args.label.now (algebra_of g.F.PrimeCharacteristicRing.residues.order
+    g.F.BasedVectorSpace.DIMENSION (g.D.DigestHasher.digest_of g.F.AlgebraIdentity.identity) g.F.Named.name_bytes)
     (Bounded c.args.max) in
     let o = g.Cdc.Codec.observation in
     let enc = g.Cdc.Codec.encoding in
@@ -44,8 +45,8 @@ returns-in_err-observe_count-clause-exact g c =
     let opened = c.in_ok-take_algebra.ensures.ok in
     let alphabet = alphabet_of g.U.Unit.items g.U.Unit.is_too_long g.C.CanObserve.observation
     g.C.CanObserve.slice_may_leave in
-    let step = algebra_step Message c.args.label.now g.F.PrimeCharacteristicRing.residues.order
-    g.F.BasedVectorSpace.DIMENSION (g.D.DigestHasher.digest_of g.F.AlgebraIdentity.identity) g.F.Named.name_bytes
+    let step = algebra_step Message c.args.label.now (algebra_of g.F.PrimeCharacteristicRing.residues.order
+    g.F.BasedVectorSpace.DIMENSION (g.D.DigestHasher.digest_of g.F.AlgebraIdentity.identity) g.F.Named.name_bytes)
     (Bounded c.args.max) in
     let o = g.Cdc.Codec.observation in
     let enc = g.Cdc.Codec.encoding in
@@ -69,8 +70,8 @@ returns-in_err-bounds-clause-exact g c =
     let opened = c.in_ok-take_algebra.ensures.ok in
     let alphabet = alphabet_of g.U.Unit.items g.U.Unit.is_too_long g.C.CanObserve.observation
     g.C.CanObserve.slice_may_leave in
-    let step = algebra_step Message c.args.label.now g.F.PrimeCharacteristicRing.residues.order
-    g.F.BasedVectorSpace.DIMENSION (g.D.DigestHasher.digest_of g.F.AlgebraIdentity.identity) g.F.Named.name_bytes
+    let step = algebra_step Message c.args.label.now (algebra_of g.F.PrimeCharacteristicRing.residues.order
+    g.F.BasedVectorSpace.DIMENSION (g.D.DigestHasher.digest_of g.F.AlgebraIdentity.identity) g.F.Named.name_bytes)
     (Bounded c.args.max) in
     let o = g.Cdc.Codec.observation in
     let enc = g.Cdc.Codec.encoding in
@@ -95,8 +96,8 @@ returns-clause-exact g c =
     let opened = c.in_ok-take_algebra.ensures.ok in
     let alphabet = alphabet_of g.U.Unit.items g.U.Unit.is_too_long g.C.CanObserve.observation
     g.C.CanObserve.slice_may_leave in
-    let step = algebra_step Message c.args.label.now g.F.PrimeCharacteristicRing.residues.order
-    g.F.BasedVectorSpace.DIMENSION (g.D.DigestHasher.digest_of g.F.AlgebraIdentity.identity) g.F.Named.name_bytes
+    let step = algebra_step Message c.args.label.now (algebra_of g.F.PrimeCharacteristicRing.residues.order
+    g.F.BasedVectorSpace.DIMENSION (g.D.DigestHasher.digest_of g.F.AlgebraIdentity.identity) g.F.Named.name_bytes)
     (Bounded c.args.max) in
     let o = g.Cdc.Codec.observation in
     let enc = g.Cdc.Codec.encoding in

@@ -1,6 +1,6 @@
 use Rattle.std.proofs.Common.{ap, ◌∙◌, ◌||◌}
 use Rattle.std.proofs.lemmas.Result.{err_from_is_err_and}
-use Rattle.p3_driver_core.specs.Effects.{alphabet_of}
+use Rattle.p3_fs_core.specs.Alphabet.{alphabet_of}
 use Rattle.p3_drivers.proofs.Refusals.{not-read}
 use Rattle.p3_driver_core.specs.Reads as reads
 use Rattle.p3_drivers.specs.Drivers.{verifying_of}

@@ -3,7 +3,7 @@ use Rattle.std.proofs.lemmas.Result.{err_from_is_err_and}
 use Rattle.p3_fs_core.specs.declared.step.Kind.TheVariants.{Pow}
 use Rattle.p3_fs_core.specs.declared.step.Length.TheVariants.{Fixed}
 use Rattle.p3_driver_core.specs.Opened.{transcript_of}
-use Rattle.p3_driver_core.specs.Transcripts.{algebra_step}
+use Rattle.p3_fs_core.specs.Algebras.{algebra_of, algebra_step}
 use Rattle.p3_driver_core.specs.Working.{work_of}
 use Rattle.p3_drivers.proofs.Pieces.{search-refused}
 use Rattle.p3_drivers.proofs.driver.work.ProverState+C+U+D.pow.Goals as goal
@@ -13,9 +13,9 @@ returns-in_err-sent g c =
     let p = err_from_is_err_and c.from_residual-in_err-sent.result c.from_residual-in_err-sent.ensures.1 in
     let state = g.C.Sponge.state in
     let opened = c.in_ok-take_algebra.ensures.ok in
-    let step = algebra_step Pow c.args.label.now g.C.Witness.PrimeCharacteristicRing.residues.order
+    let step = algebra_step Pow c.args.label.now (algebra_of g.C.Witness.PrimeCharacteristicRing.residues.order
     g.C.Witness.BasedVectorSpace.DIMENSION (g.D.DigestHasher.digest_of g.C.Witness.AlgebraIdentity.identity)
-    g.C.Witness.Named.name_bytes (Fixed c.args.bits) in
+    g.C.Witness.Named.name_bytes) (Fixed c.args.bits) in
     rw (p.1, p.2) (inl (
       search-refused
           (work_of step g.C.Witness.PrimeCharacteristicRing.residues g.C.PrepareCheck.before_witness

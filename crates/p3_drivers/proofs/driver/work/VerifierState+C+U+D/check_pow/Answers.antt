@@ -3,7 +3,7 @@ use Rattle.std.proofs.lemmas.Result.{err_from_is_err_and}
 use Rattle.p3_fs_core.specs.Scalar.{encoding}
 use Rattle.p3_fs_core.specs.declared.step.Kind.TheVariants.{Pow}
 use Rattle.p3_fs_core.specs.declared.step.Length.TheVariants.{Fixed}
-use Rattle.p3_driver_core.specs.Transcripts.{algebra_step}
+use Rattle.p3_fs_core.specs.Algebras.{algebra_of, algebra_step}
 use Rattle.p3_driver_core.specs.Working.{work_of}
 use Rattle.p3_drivers.proofs.Refusals.{not-read}
 use Rattle.p3_driver_core.specs.Reads as reads
@@ -18,8 +18,8 @@ returns-in_err-sent g c =
     let same = c.in_err-sent.ensures.steps in
     let kept = c.in_err-sent.ensures.challenger in
     let residues = g.C.Witness.PrimeCharacteristicRing.residues in
-    let step = algebra_step Pow c.args.label.now residues.order g.C.Witness.BasedVectorSpace.DIMENSION
-    (g.D.DigestHasher.digest_of g.C.Witness.AlgebraIdentity.identity) g.C.Witness.Named.name_bytes
+    let step = algebra_step Pow c.args.label.now (algebra_of residues.order g.C.Witness.BasedVectorSpace.DIMENSION
+    (g.D.DigestHasher.digest_of g.C.Witness.AlgebraIdentity.identity) g.C.Witness.Named.name_bytes)
     (Fixed c.args.bits) in
     let work = work_of step residues g.C.PrepareCheck.before_witness g.C.CanObserve.observation
     g.C.CanSampleBits.bits_sampling c.args.bits in
