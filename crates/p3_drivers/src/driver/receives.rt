@@ -64,8 +64,7 @@ impl<'a, U: Unit, C: CanObserve<U::Item>, D: DigestHasher> VerifierState<'a, C, 
         requires { U.is_alphabet }
         ensures exact { ReceivesOrRefuses
             (reads.received_bytes Salt label.now ⟦<U as AlphabetOf<C>>⟧.alphabet len)
-            (verifying_of C.state self.old) (λ bytes. bytes.now) result
-            (verifying_of C.state self.new) }
+            (verifying_of C.state self.old) (λ b. b.now) result (verifying_of C.state self.new) }
         ensures count { IfOk result (λ bytes. length bytes.now ≡ len) }
     {
         self.receive_bytes(Kind::Salt, label, len)
@@ -79,8 +78,7 @@ impl<'a, U: Unit, C: CanObserve<U::Item>, D: DigestHasher> VerifierState<'a, C, 
         requires { U.is_alphabet }
         ensures exact { ReceivesOrRefuses
             (reads.received_bytes Message label.now ⟦<U as AlphabetOf<C>>⟧.alphabet len)
-            (verifying_of C.state self.old) (λ bytes. bytes.now) result
-            (verifying_of C.state self.new) }
+            (verifying_of C.state self.old) (λ b. b.now) result (verifying_of C.state self.new) }
         ensures count { IfOk result (λ bytes. length bytes.now ≡ len) }
     {
         self.receive_bytes(Kind::Message, label, len)
@@ -101,8 +99,7 @@ impl<'a, U: Unit, C: CanObserve<U::Item>, D: DigestHasher> VerifierState<'a, C, 
         requires { U.is_alphabet }
         ensures exact { ReceivesOrRefuses
             (reads.received_bytes_bounded label.now ⟦<U as AlphabetOf<C>>⟧.alphabet max)
-            (verifying_of C.state self.old) (λ bytes. bytes.now) result
-            (verifying_of C.state self.new) }
+            (verifying_of C.state self.old) (λ b. b.now) result (verifying_of C.state self.new) }
         ensures count { IfOk result (λ bytes. length bytes.now ≤ max) }
     {
         self.steps
@@ -153,8 +150,7 @@ impl<'a, U: Unit, C: CanObserve<U::Item>, D: DigestHasher> VerifierState<'a, C, 
         requires { U.is_alphabet }
         ensures exact { ReceivesOrRefuses
             (reads.received_bytes kind label.now ⟦<U as AlphabetOf<C>>⟧.alphabet len)
-            (verifying_of C.state self.old) (λ bytes. bytes.now) result
-            (verifying_of C.state self.new) }
+            (verifying_of C.state self.old) (λ b. b.now) result (verifying_of C.state self.new) }
         ensures count { IfOk result (λ bytes. length bytes.now ≡ len) }
     {
         self.steps.take_bytes(kind, label, Length::Fixed(len))?;
@@ -266,8 +262,7 @@ impl<'a, C: Sponge, U, D: DigestHasher> VerifierState<'a, C, U, D> {
     /// Reads `len` bytes in which the challenger takes no part, and lends them. It takes no memory.
     pub fn next_hint(&mut self, label: Label, len: usize) -> Result<&'a [u8], TranscriptError>
         ensures exact { ReceivesOrRefuses (reads.hint_received {Symbol = C.Symbol} label.now len)
-            (verifying_of C.state self.old) (λ bytes. bytes.now) result
-            (verifying_of C.state self.new) }
+            (verifying_of C.state self.old) (λ b. b.now) result (verifying_of C.state self.new) }
         ensures no_memory { IfErr result (λ e. e ≡ TranscriptError.OutOfMemory → ⊥) }
         ensures count { IfOk result (λ bytes. length bytes.now ≡ len) }
     {
@@ -289,8 +284,7 @@ impl<'a, C: Sponge, U, D: DigestHasher> VerifierState<'a, C, U, D> {
     ) -> Result<&'a [u8], TranscriptError>
         ensures exact { ReceivesOrRefuses
             (reads.hint_received_bounded {Symbol = C.Symbol} label.now max)
-            (verifying_of C.state self.old) (λ bytes. bytes.now) result
-            (verifying_of C.state self.new) }
+            (verifying_of C.state self.old) (λ b. b.now) result (verifying_of C.state self.new) }
         ensures no_memory { IfErr result (λ e. e ≡ TranscriptError.OutOfMemory → ⊥) }
         ensures count { IfOk result (λ bytes. length bytes.now ≤ max) }
     {

@@ -12,7 +12,7 @@ use crate::ProverState;
 use crate::writing::{write_bytes, write_counted_bytes, write_counted_values, write_values};
 use p3_challenger_core::{CanObserve, Sponge};
 use p3_codecs::{AlphabetOf, Codec, ExtensionFieldCodec, ScalarCodec, Unit};
-use p3_driver_core::{TranscriptBound, bind, bind_all, observe_count, observe_values};
+use p3_driver_core::{TranscriptBound, bind, bind_all, counted, observe_values};
 use p3_field_core::{AlgebraIdentity, Named, ScalarField};
 use p3_fs_core::{Declared, Kind, Label, Length, TranscriptError, TranscriptField};
 use p3_symmetric::DigestHasher;
@@ -151,9 +151,10 @@ impl<U: Unit, C: CanObserve<U::Item>, D: DigestHasher> ProverState<C, U, D> {
     {
         self.steps
             .take_bytes(Kind::Message, label, Length::Bounded(max))?;
-        observe_count::<U, C>(&mut self.challenger, bytes.len(), max)?;
+        let (prefix, width) = counted(bytes.len(), max);
+        U::observe_bytes(&mut self.challenger, &prefix[..width])?;
         U::observe_bytes(&mut self.challenger, bytes)?;
-        write_counted_bytes(&mut self.tape.narg, bytes, max)?;
+        write_counted_bytes(&mut self.tape.narg, &prefix[..width], bytes)?;
         self.steps.done();
         Ok(())
     }
@@ -178,9 +179,10 @@ impl<U: Unit, C: CanObserve<U::Item>, D: DigestHasher> ProverState<C, U, D> {
         self.steps
             .take_algebra::<F, F>(Kind::Message, label, Length::Bounded(max))?;
         let bounds = bind_all(self.alloc, values)?;
-        observe_count::<U, C>(&mut self.challenger, values.len(), max)?;
+        let (count, width) = counted(values.len(), max);
+        U::observe_bytes(&mut self.challenger, &count[..width])?;
         observe_values::<F, C, Cdc>(&mut self.challenger, values)?;
-        write_counted_values::<F, C, Cdc>(&mut self.tape.narg, values, max)?;
+        write_counted_values::<F, C, Cdc>(&mut self.tape.narg, &count[..width], values)?;
         self.steps.done();
         Ok(bounds)
     }
@@ -308,7 +310,8 @@ impl<C: Sponge, U, D: DigestHasher> ProverState<C, U, D> {
         self.steps.within(bytes.len(), max)?;
         self.steps
             .take_bytes(Kind::Hint, label, Length::Bounded(max))?;
-        write_counted_bytes(&mut self.tape.narg, bytes, max)?;
+        let (prefix, width) = counted(bytes.len(), max);
+        write_counted_bytes(&mut self.tape.narg, &prefix[..width], bytes)?;
         self.steps.done();
         Ok(())
     }

@@ -31,9 +31,9 @@ impl<C: GrindingChallenger, U, D: DigestHasher> ProverState<C, U, D> {
     where
         C::Witness: AlgebraIdentity<C::Witness> + Named,
         requires { bits ≤ C.most_bits }
-        ensures { let step = ⟦<C::Witness as Declared<C::Witness, D>>⟧.step Pow label.now (Fixed bits) in
-            GrindsAndWrites
-            (work_of step C.Witness.residues C.before_witness C.observation C.bits_sampling bits)
+        ensures { GrindsAndWrites (work_of
+            (⟦<C::Witness as Declared<C::Witness, D>>⟧.step Pow label.now (Fixed bits))
+            C.Witness.residues C.before_witness C.observation C.bits_sampling bits)
             (encoding C.Witness.residues C.Witness.bit_length) C.may_run_out
             (proving_of C.state self.old) result (proving_of C.state self.new) }
     {
@@ -54,9 +54,9 @@ impl<C: GrindingChallenger, U, D: DigestHasher> ProverState<C, U, D> {
     where
         C::Witness: AlgebraIdentity<C::Witness> + Named,
         requires { bits ≤ C.most_bits }
-        ensures { let step = ⟦<C::Witness as Declared<C::Witness, D>>⟧.step Pow label.now (Fixed bits) in
-            GrindsAndKeeps
-            (work_of step C.Witness.residues C.before_witness C.observation C.bits_sampling bits)
+        ensures { GrindsAndKeeps (work_of
+            (⟦<C::Witness as Declared<C::Witness, D>>⟧.step Pow label.now (Fixed bits))
+            C.Witness.residues C.before_witness C.observation C.bits_sampling bits)
             C.may_run_out
             (proving_of C.state self.old) (λ x. x) result (proving_of C.state self.new) }
     {
@@ -81,9 +81,9 @@ impl<C: GrindingChallenger, U, D: DigestHasher> VerifierState<'_, C, U, D> {
     where
         C::Witness: AlgebraIdentity<C::Witness> + Named,
         requires { bits ≤ C.most_bits }
-        ensures { let step = ⟦<C::Witness as Declared<C::Witness, D>>⟧.step Pow label.now (Fixed bits) in
-            ReceivesWork
-            (work_of step C.Witness.residues C.before_witness C.observation C.bits_sampling bits)
+        ensures { ReceivesWork (work_of
+            (⟦<C::Witness as Declared<C::Witness, D>>⟧.step Pow label.now (Fixed bits))
+            C.Witness.residues C.before_witness C.observation C.bits_sampling bits)
             (encoding C.Witness.residues C.Witness.bit_length)
             (verifying_of C.state self.old) result (verifying_of C.state self.new) }
     {
@@ -110,9 +110,9 @@ impl<C: GrindingChallenger, U, D: DigestHasher> VerifierState<'_, C, U, D> {
     where
         C::Witness: AlgebraIdentity<C::Witness> + Named,
         requires { bits ≤ C.most_bits }
-        ensures { let step = ⟦<C::Witness as Declared<C::Witness, D>>⟧.step Pow label.now (Fixed bits) in
-            ChecksAndKeeps
-            (work_of step C.Witness.residues C.before_witness C.observation C.bits_sampling bits)
+        ensures { ChecksAndKeeps (work_of
+            (⟦<C::Witness as Declared<C::Witness, D>>⟧.step Pow label.now (Fixed bits))
+            C.Witness.residues C.before_witness C.observation C.bits_sampling bits)
             witness (verifying_of C.state self.old) result (verifying_of C.state self.new) }
     {
         self.steps

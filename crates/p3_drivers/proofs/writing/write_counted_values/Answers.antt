@@ -1,20 +1,18 @@
-use Rattle.std.proofs.Common.{length}
 use Rattle.std.specs.List.{flat_map}
 use Rattle.std.proofs.lemmas.Result.{err_from_is_err_and, on_err_weaker}
-use Rattle.p3_fs_core.specs.Counts.{count_bytes}
 use Rattle.p3_drivers.proofs.Pieces.{first-left, second-left}
 use Rattle.p3_drivers.proofs.writing.write_counted_values.Goals as goal
 
-pub returns-in_err-write_count-clause-left : goal.returns-in_err-write_count-clause-left
-returns-in_err-write_count-clause-left g c =
+pub returns-in_err-write_bytes-clause-left : goal.returns-in_err-write_bytes-clause-left
+returns-in_err-write_bytes-clause-left g c =
     let p = err_from_is_err_and c.from_residual.result c.from_residual.ensures.1 in
-    rw p.1 (first-left c.args.narg.now.items c.write_count.new.narg.items
-    (count_bytes c.args.max (length c.args.values.now)) (flat_map g.Cdc.Codec.encoding.wire c.args.values.now)
-    c.in_err-write_count.ensures.left)
+    rw p.1 (first-left c.args.narg.now.items c.write_bytes.new.narg.items
+    c.args.count.now (flat_map g.Cdc.Codec.encoding.wire c.args.values.now)
+    c.in_err-write_bytes.ensures.left)
 
 pub returns-clause-left : goal.returns-clause-left
 returns-clause-left g c =
-    on_err_weaker c.write_values.result (second-left c.args.narg.now.items c.write_count.new.narg.items
-    c.write_values.new.narg.items (count_bytes c.args.max (length c.args.values.now))
+    on_err_weaker c.write_values.result (second-left c.args.narg.now.items c.write_bytes.new.narg.items
+    c.write_values.new.narg.items c.args.count.now
     (flat_map g.Cdc.Codec.encoding.wire c.args.values.now)
-    c.in_ok-write_count.ensures.ok) c.write_values.ensures.left
+    c.in_ok-write_bytes.ensures.ok) c.write_values.ensures.left
