@@ -1,15 +1,16 @@
 -- What is written is read back, whatever follows.
-use Rattle.std.proofs.Common.{◌≡◌, ℕ, zero, suc, ◌+◌, ◌*◌, ◌^◌, ◌<◌, ◌≤◌, List, [], ◌∷◌, ◌++◌, length, take, drop, Bool}
-use Rattle.std.proofs.Common.{true, false, nat_lt, if◌then◌else◌, Ok, refl, sym, ap, ◌∙◌, subst, arith, append_assoc}
+use Rattle.std.proofs.Common.{◌≡◌, ℕ, suc, ◌+◌, ◌*◌, ◌^◌, ◌<◌, ◌≤◌, List, [], ◌∷◌, ◌++◌, length, take, drop, Bool}
+use Rattle.std.proofs.Common.{false, nat_lt, if◌then◌else◌, Ok, refl, sym, ap, ◌∙◌, subst, arith, append_assoc}
 use Rattle.std.proofs.Common.{append-nil, length-append}
-use Rattle.std.proofs.Math.Nat.{add-zero, add_comm, zero-mul, suc-mul}
+use Rattle.std.proofs.Math.Nat.{add_comm, zero-mul, suc-mul}
 use Rattle.std.proofs.Math.Seq.{take-append_seam, drop-append_seam}
 use Rattle.std.proofs.lemmas.Bool.Decides.{nat_tests}
 use Rattle.std.specs.List.{flat_map}
 use Rattle.p3_fs_core.specs.BigEndian.{big_endian}
 use Rattle.p3_fs_core.specs.BigEndianLaws.{big_endian-in_bytes, length-in_bytes, take-front, drop-front}
 use Rattle.p3_fs_core.specs.Encoding.{Encoding, IsEncoding}
-use Rattle.p3_fs_core.specs.Counts.{least_width, count_width, count_bytes}
+use Rattle.p3_fs_core.specs.CountLaws.{count_width-enough}
+use Rattle.p3_fs_core.specs.Counts.{count_width, count_bytes}
 use Rattle.p3_driver_core.specs.Reads.{Read, read_bytes, read_value, value_in, unreadable, ended_early, read_count}
 use Rattle.p3_driver_core.specs.Reads.{then_read, read_counted_bytes, absorbed_first, in_front, read_each, read_values}
 use Rattle.p3_driver_core.specs.Reads.{too_many_values, read_counted_values, message_too_long}
@@ -86,26 +87,6 @@ module _ {S A : Type 0} (e : Encoding A) (encodes : IsEncoding e) where
       ∙ each-back observed xs rest
 
 -- ---- counts
-
-is_below : (n m : ℕ) → nat_lt n m ≡ true → n < m
-is_below n m h = grind (arith, nat_tests)
-
-least_width-enough : (more width max : ℕ) → max < 256 ^ (width + more) → max < 256 ^ least_width more width max
-least_width-enough zero width max fits = subst (λ (k : ℕ). max < 256 ^ k) (add-zero width) fits
-least_width-enough (suc more) width max fits =
-    let one_on : width + suc more ≡ width + 1 + more = omega arith in
-    let by_test : (b : Bool) → nat_lt max (256 ^ width) ≡ b →
-    max < 256 ^ (if b then width else least_width more (width + 1) max)
-    = elim [
-      | true ↦ λ test. is_below max (256 ^ width) test
-      | false ↦ λ test. least_width-enough more (width + 1) max (subst (λ (k : ℕ). max < 256 ^ k) one_on fits)
-    ] in
-    by_test (nat_lt max (256 ^ width)) refl
-
--- a count's bytes hold every count up to the greatest
-count_width-enough : (max : ℕ) → max < 2 ^ 64 → max < 256 ^ count_width max
-unfolding count_width
-count_width-enough max fits = least_width-enough 8 0 max fits
 
 module _ {S : Type 0} (over : List ℕ) (max n : ℕ) (within : n ≤ max) (fits : max < 2 ^ 64) where
   count-back : (rest : List ℕ) → read_count {S = S} over max (count_bytes max n ++ rest) ≡ Ok (n, rest)
