@@ -1,5 +1,5 @@
 -- A step that a prover has played is refused for want of memory alone.
-use Rattle.std.proofs.Common.{◌≡◌, ℕ, List, ◌++◌, Some, Ok, refl, sym, ap, ◌∙◌, subst}
+use Rattle.std.proofs.Common.{◌≡◌, ℕ, List, ◌++◌, Some, Ok, is_some, refl, sym, ap, ◌∙◌, subst}
 use Rattle.p3_challenger_core.specs.declared.error.ChallengerError.{ChallengerError}
 use Rattle.p3_challenger_core.specs.declared.error.ChallengerError.TheVariants.{DrawLimit, NoWitness, TooLong}
 use Rattle.p3_challenger_core.specs.declared.error.ChallengerError.TheVariants as challenger
@@ -8,37 +8,25 @@ use Rattle.p3_fs_core.specs.declared.error.TranscriptError.TheVariants.{MissingB
 use Rattle.p3_fs_core.specs.declared.error.TranscriptError.TheVariants.{MissingEnd, BadProofShape, Pattern}
 use Rattle.p3_fs_core.specs.declared.error.TranscriptError.TheVariants.{Challenger, LabelTooLong, OutOfMemory}
 use Rattle.p3_driver_core.specs.Effects.{Effect}
-use Rattle.p3_driver_core.specs.Transcripts.{Meaning, Transcript, PlaysStep}
-use Rattle.p3_step_laws.specs.CompletenessLaws.{read_back-completes, step-completes}
+use Rattle.p3_driver_core.specs.Transcripts.{Meaning, Transcript, PlaysStep, IsNext}
+use Rattle.p3_step_laws.specs.CompletenessLaws.{read_back-completes}
 use Rattle.p3_step_laws.specs.ReadBack.{ReadsBack}
 use Rattle.p3_driver_core.specs.Reads.{Reading}
 use Rattle.p3_driver_core.specs.Driving.{Driving}
 use Rattle.p3_driver_core.specs.Verifying.{RefusesToRead}
 use Rattle.p3_step_laws.proofs.LimitLaws.{some_none}
 use Rattle.p3_step_laws.specs.Limits.{TellsLimits}
+use Rattle.p3_step_laws.specs.MemoryLaws.{next-only_memory}
 use Rattle.p3_step_laws.specs.Memory.{OnlyMemoryRefuses, OnlyMemoryRefusesToRead}
 
 -- ---- a step that both play alike
 
 pub only_memory : {S Symbol A : Type 0} (m : Meaning S Symbol A) → TellsLimits m.effect → OnlyMemoryRefuses m
-only_memory m tells before after start end x (MissingBegin info) plays at refuses = absurd refuses
-only_memory m tells before after start end x (InvalidKind info) plays at refuses = absurd refuses
-only_memory m tells before after start end x (MismatchedBeginEnd info) plays at refuses = absurd refuses
-only_memory m tells before after start end x (MissingEnd info) plays at refuses = absurd refuses
-only_memory m tells before after start end x (BadProofShape reason) plays at refuses = absurd refuses
-only_memory m tells before after start end x (Pattern e) plays at refuses =
-    absurd ((step-completes m).refuses before after start end x (Pattern e) plays at refuses)
-only_memory m tells before after start end x (Challenger challenger.OutOfMemory) plays at refuses = absurd refuses
-only_memory {S} m tells before after start end x (Challenger DrawLimit) plays at refuses =
+only_memory {S} m tells before after start end x e plays at refuses =
+    let next = subst (λ (t : Transcript S). IsNext t.playing m.interaction) (sym at) plays.is_next in
     let gives : m.effect.gives start.challenger ≡ Some x
     = ap (λ (t : Transcript S). m.effect.gives t.challenger) at ∙ plays.gives in
-    absurd (some_none gives (tells.limit start.challenger end.challenger refuses.leaves))
-only_memory m tells before after start end x (Challenger NoWitness) plays at refuses =
-    absurd (tells.witness start.challenger end.challenger refuses.leaves)
-only_memory m tells before after start end x (Challenger TooLong) plays at refuses =
-    absurd (tells.too_long start.challenger end.challenger refuses.leaves plays.fits)
-only_memory m tells before after start end x LabelTooLong plays at refuses = absurd refuses
-only_memory m tells before after start end x OutOfMemory plays at refuses = refl
+    next-only_memory m tells start end e next plays.fits (ap is_some gives) refuses
 
 -- ---- a step that is mirrored
 

@@ -2,6 +2,7 @@ pub mod Completeness
 pub mod CompletenessLaws
 pub mod Limits
 pub mod Memory
+pub mod MemoryLaws
 pub mod OneReason
 pub mod ReadBack
 pub mod RoundLaws

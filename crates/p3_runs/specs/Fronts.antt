@@ -1,0 +1,64 @@
+-- A run of a script under a separator, or a front of one: its first steps.
+use Rattle.std.specs.Prelude.{◌≡◌, ℕ, List, ◌++◌, length, take, flat_map}
+use Rattle.p3_challenger_core.specs.Observation.{observed_all}
+use Rattle.p3_fs_core.specs.Steps.{Step}
+use Rattle.p3_domain_separator.specs.SeparatorSeed.{seed_of_separator, pattern_of}
+use Rattle.p3_domain_separator.specs.declared.domain_separator.DomainSeparator.{DomainSeparator}
+use Rattle.p3_runs.specs.Absorbed.{Absorbed}
+use Rattle.p3_runs.specs.Plays.{Play}
+use Rattle.p3_runs.specs.Rules.{Rules}
+use Rattle.p3_runs.specs.Runs as runs
+use Rattle.p3_runs.specs.Values.{Value, Challenge}
+
+-- the state of a challenger, a separator, and steps with their values, of which one stands at each step
+pub record Run (X F EF S U D : Type 0) : Type 0 where
+  pub challenger : S
+  pub separator : DomainSeparator U D
+  pub steps : List X
+  pub values : List (Value F EF)
+
+-- the steps of the whole pattern
+abbrev pub pattern : {X F EF S U D : Type 0} → Run X F EF S U D → List Step
+pattern run = (pattern_of run.separator).steps
+
+module _ {X S Symbol I F EF O Ac U D : Type 0} (rules : Rules S Symbol I F EF O Ac) (play : X → Play S Symbol F EF O) where
+  -- the bytes of the seed, and the challenger after them
+  abbrev pub seed : Run X F EF S U D → List ℕ
+  seed run = seed_of_separator rules.digest_of run.separator
+
+  abbrev pub seeded : Run X F EF S U D → S
+  seeded run = observed_all rules.alphabet.item.observed run.challenger (rules.alphabet.items (seed run))
+
+  -- what the challenger is fed: the seed's symbols, and then each step's
+  abbrev pub symbols : Run X F EF S U D → List Symbol
+  symbols run =
+      flat_map rules.alphabet.item.symbols (rules.alphabet.items (seed run))
+      ++ runs.symbols play run.steps run.values
+
+  -- the bytes of the proof, the challenges, the final challenger, and what is absorbed at each step
+  abbrev pub wire : Run X F EF S U D → List ℕ
+  wire run = runs.wires play run.steps run.values
+
+  abbrev pub challenges : Run X F EF S U D → List (Challenge F EF)
+  challenges run = runs.challenges play run.steps run.values (seeded run)
+
+  abbrev pub last : Run X F EF S U D → S
+  last run = runs.after play run.steps run.values (seeded run)
+
+  abbrev pub absorbed : Run X F EF S U D → List (Absorbed F O)
+  absorbed run = runs.absorbed play run.steps run.values
+
+  -- The steps are the first ones of the pattern, and a value that fits stands at each of them. The seed and the values
+  -- are not too long for the alphabet, no draw meets a limit, and each witness passes.
+  pub record IsFinished (run : Run X F EF S U D) : Type 0 where
+    pub in_pattern : runs.interactions play run.steps ≡ take (length run.steps) (pattern run)
+    pub seed_fits : rules.alphabet.is_too_long (length (seed run)) → ⊥
+    pub finishes : runs.Finishes play run.steps run.values (seeded run)
+
+  -- the steps are those of the whole pattern
+  abbrev pub IsWhole : Run X F EF S U D → Type 0
+  IsWhole run = runs.interactions play run.steps ≡ pattern run
+
+  -- each witness that a prover finds is the least one that passes there
+  abbrev pub AreLeast : Run X F EF S U D → Type 0
+  AreLeast run = runs.AreChosen play run.steps run.values (seeded run)

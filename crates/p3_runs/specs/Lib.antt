@@ -1,0 +1,16 @@
+pub mod Absorbed
+pub mod FollowingLaws
+pub mod Fronts
+pub mod NoProofLaws
+pub mod Plays
+pub mod ProverOutcomes
+pub mod Provings
+pub mod ProvingLaws
+pub mod RefusalLaws
+pub mod Rules
+pub mod RunLaws
+pub mod Runs
+pub mod Sides
+pub mod Stepping
+pub mod Values
+pub mod Verdicts

@@ -1,0 +1,153 @@
+-- What a step of a script means, computed from the step: few shapes for all kinds of steps.
+use Rattle.std.specs.Prelude.{◌≡◌, ℕ, ◌≤◌, List, [], length, Option, Some, None}
+use Rattle.std.specs.Option.{option_map}
+use Rattle.p3_fs_core.specs.Encoding.{Encoding}
+use Rattle.p3_fs_core.specs.Steps.{Step}
+use Rattle.p3_driver_core.specs.Effects.{Effect, untouched}
+use Rattle.p3_driver_core.specs.Reads.{Reading}
+use Rattle.p3_driver_core.specs.Transcripts.{Meaning, without_wire}
+use Rattle.p3_driver_core.specs.Verifying.{RefusesToRead}
+use Rattle.p3_driver_core.specs.Working.{Work, checking}
+use Rattle.p3_runs.specs.Absorbed.{Absorbed, Nothing}
+use Rattle.p3_runs.specs.Sides.{Sides, Refusal, holds_some, sides_known, sides_sent, sides_ground, sides_carried}
+use Rattle.p3_runs.specs.Sides.{RefusesKept}
+use Rattle.p3_runs.specs.Values.{Value, Challenge, IsNothing, witness_in}
+
+-- where the value of a step stands: it has none; the prover is handed it and the proof carries it; it is a witness,
+-- which the prover finds, and the proof carries it; or it is a witness, which the prover finds, and the caller carries it
+pub data Place : Type 0 where
+  Nowhere : Place
+  Sent : Place
+  Found : Place
+  Carried : Place
+
+-- What a step means: what the pattern must have next; the condition under which it may be played; where its value
+-- stands; the values that fit it; and, of each, its bytes in the proof, what is done to the challenger, of which a
+-- challenge may come, and what is absorbed. And how the two sides refuse it.
+pub record Play (S Symbol F EF O : Type 0) : Type 1 where
+  pub interaction : Step
+  pub admitted : Type 0
+  pub place : Place
+  pub Fits : Value F EF → Type 0
+  pub wire : Value F EF → List ℕ
+  pub effect : Value F EF → Effect S Symbol (Option (Challenge F EF))
+  pub absorbed : Value F EF → Absorbed F O
+  pub sides : Sides S F EF
+
+-- the step with its value, as drivers play it
+abbrev pub meaning : {S Symbol F EF O : Type 0} → Play S Symbol F EF O → Value F EF →
+    Meaning S Symbol (Option (Challenge F EF))
+meaning play v = record { interaction = play.interaction; effect = play.effect v; wire = play.wire v }
+
+-- the same effect, and of what it gives this comes
+abbrev pub giving : {S Symbol A T : Type 0} → (A → T) → Effect S Symbol A → Effect S Symbol T
+giving f e =
+    record {
+      symbols = e.symbols;
+      fits = e.fits;
+      gives = λ s. option_map f (e.gives s);
+      after = e.after;
+      refuses = e.refuses;
+    }
+
+abbrev pub no_challenge : {F EF A : Type 0} → A → Option (Challenge F EF)
+no_challenge x = None
+
+-- the step, which may be played under this condition alone
+abbrev pub only_if : {S Symbol F EF O : Type 0} → Type 0 → Play S Symbol F EF O → Play S Symbol F EF O
+only_if condition play = record play { admitted = condition }
+
+-- ---- the shapes
+
+-- nothing stands in the proof: the step has this effect
+abbrev pub known_with : {S Symbol F EF O A : Type 0} → Step → (Value F EF → Type 0) → (A → Option (Challenge F EF)) →
+    Effect S Symbol A → Absorbed F O → Sides S F EF → Play S Symbol F EF O
+known_with interaction Fits f effect absorbed sides =
+    record {
+      interaction = interaction;
+      admitted = Unit {0};
+      place = Nowhere;
+      Fits = Fits;
+      wire = λ _. [];
+      effect = λ _. giving f effect;
+      absorbed = λ _. absorbed;
+      sides = sides;
+    }
+
+abbrev pub known : {S Symbol F EF O A : Type 0} → Step → (A → Option (Challenge F EF)) → Effect S Symbol A →
+    Absorbed F O → Play S Symbol F EF O
+known interaction f effect absorbed =
+    let refuses = RefusesKept (without_wire interaction effect) in
+    known_with interaction IsNothing f effect absorbed (sides_known refuses refuses)
+
+-- the same of a list that may not be so long
+abbrev pub known_within : {S Symbol F EF O A : Type 0} → Step → ℕ → ℕ → Effect S Symbol A → Absorbed F O →
+    Refusal S → Refusal S → Play S Symbol F EF O
+known_within interaction len max effect absorbed proving verifying =
+    known_with interaction (λ v. IsNothing v × (len ≤ max)) no_challenge effect absorbed
+    (sides_known proving verifying)
+
+-- ---- what is sent
+
+-- of a value of this type, or else of none
+abbrev pub when_some : {A R : Type 0} → R → (A → R) → Option A → R
+when_some other f None = other
+when_some other f (Some x) = f x
+
+abbrev pub effect_some : {S Symbol A T : Type 0} → T → (A → Effect S Symbol T) → Option A → Effect S Symbol T
+effect_some other f None = untouched other
+effect_some other f (Some x) = f x
+
+-- A value of the type that `found` finds is sent, where it is fit: the meaning of each, and how it is read.
+abbrev pub sends : {S Symbol F EF O A : Type 0} → Step → (Value F EF → Option A) → (A → Type 0) → (A → Type 0) →
+    (A → Meaning S Symbol A) → (A → Absorbed F O) → (A → Refusal S) → Reading S Symbol A → Play S Symbol F EF O
+sends interaction found IsHanded IsFit sent absorbed proving reading =
+    record {
+      interaction = interaction;
+      admitted = Unit {0};
+      place = Sent;
+      Fits = λ v. holds_some IsFit (found v);
+      wire = λ v. when_some [] (λ x. (sent x).wire) (found v);
+      effect = λ v. effect_some None (λ x. giving no_challenge (sent x).effect) (found v);
+      absorbed = λ v. when_some Nothing absorbed (found v);
+      sides = sides_sent found IsHanded proving (RefusesToRead reading);
+    }
+
+-- ---- proof of work
+
+abbrev pub works : {S Symbol F EF O : Type 0} → Work S Symbol F → Place → Type 0 → (F → List ℕ) →
+    (F → Absorbed F O) → Sides S F EF → Play S Symbol F EF O
+works work place condition wire absorbed sides =
+    record {
+      interaction = work.interaction;
+      admitted = condition;
+      place = place;
+      Fits = λ v. holds_some (λ _. condition) (witness_in v);
+      wire = λ v. when_some [] wire (witness_in v);
+      effect = λ v. effect_some None (λ x. giving no_challenge (checking work x)) (witness_in v);
+      absorbed = λ v. when_some Nothing absorbed (witness_in v);
+      sides = sides;
+    }
+
+-- a witness that the prover finds, and the proof carries
+abbrev pub sends_witness : {S Symbol F EF O : Type 0} → Work S Symbol F → Type 0 → Encoding F → (S → Type 0) →
+    (F → Absorbed F O) → Play S Symbol F EF O
+sends_witness work condition enc may_run_out absorbed =
+    works work Found condition enc.wire absorbed (sides_ground work enc may_run_out)
+
+-- one that the caller carries
+abbrev pub carries_witness : {S Symbol F EF O : Type 0} → Work S Symbol F → Type 0 → (S → Type 0) →
+    (F → Absorbed F O) → Play S Symbol F EF O
+carries_witness work condition may_run_out absorbed =
+    works work Carried condition (λ _. []) absorbed (sides_carried work may_run_out)
+
+-- ---- fit by their length
+
+abbrev pub Any : {A : Type 0} → A → Type 0
+Any x = Unit {0}
+
+abbrev pub HasLength : {A : Type 0} → ℕ → List A → Type 0
+HasLength n xs = length xs ≡ n
+
+abbrev pub HasAtMost : {A : Type 0} → ℕ → List A → Type 0
+HasAtMost max xs = length xs ≤ max

@@ -1,0 +1,77 @@
+-- What a whole script comes to on the prover's side.
+use Rattle.std.specs.Prelude.{◌≡◌, ℕ, List, [], ◌∷◌, ◌++◌, ◌⊎◌, length}
+use Rattle.p3_fs_core.specs.Errors.{pattern_error_of}
+use Rattle.p3_fs_core.specs.declared.error.TranscriptError.{TranscriptError}
+use Rattle.p3_patterns.specs.Playing.{FaultOfPlayEnd, IsPatternError}
+use Rattle.p3_driver_core.specs.Driving.{Driving, RefusesStart}
+use Rattle.p3_runs.specs.Fronts.{Run, IsFinished, IsWhole, AreLeast, seed}
+use Rattle.p3_runs.specs.Plays.{Play, Place, Nowhere, Sent, Found, Carried}
+use Rattle.p3_runs.specs.Rules.{Rules}
+use Rattle.p3_runs.specs.Runs as runs
+use Rattle.p3_runs.specs.Runs.{if_sent}
+use Rattle.p3_runs.specs.Stepping.{Halts}
+use Rattle.p3_runs.specs.Values.{Value}
+use Rattle.p3_runs.specs.Verdicts.{with_steps, driving_after}
+
+-- the first value is one, and of the others this holds, where the prover is handed a value for a step
+abbrev pub FirstIs : {V : Type 0} → Place → (V → Type 0) → (List V → Type 0) → List V → Type 0
+FirstIs Sent Is Rest [] = ⊥
+FirstIs Sent Is Rest (v ∷ values) = Is v × Rest values
+FirstIs _ Is Rest values = Rest values
+
+module _ {X S Symbol F EF O : Type 0} (play : X → Play S Symbol F EF O) where
+  -- the values are those that a prover is handed for the steps: one for each that has one, of its type and, where the
+  -- step says so, of its length
+  abbrev pub AreHanded : List X → List (Value F EF) → Type 0
+  AreHanded [] values = values ≡ []
+  AreHanded (x ∷ steps) values = FirstIs (play x).place (play x).sides.IsHanded (AreHanded steps) values
+
+module _ {X S Symbol I F EF O Ac U D : Type 0} (rules : Rules S Symbol I F EF O Ac) (play : X → Play S Symbol F EF O) where
+  -- The run of a prover that is handed these values: it is finished and plays the whole pattern, the values stand at
+  -- their steps, and each witness is the least one that passes there.
+  pub record IsProverRun (run : Run X F EF S U D) (sent : List (Value F EF)) : Type 0 where
+    pub finished : IsFinished rules play run
+    pub whole : IsWhole rules play run
+    pub handed : sent ≡ runs.handed play run.steps run.values
+    pub least : AreLeast rules play run
+
+  -- ---- where and why a prover refuses
+
+  -- A step is refused: after a finished front, of which each witness is the least, this step comes, with this value.
+  pub record RefusesToProveStep (script : Run X F EF S U D) (sent : List (Value F EF)) (position : ℕ)
+      (e : TranscriptError) : Type 0 where
+    pub before : List X
+    pub step : X
+    pub later : List X
+    pub steps : script.steps ≡ before ++ (step ∷ later)
+    pub place : position ≡ length before
+    pub values : List (Value F EF)
+    pub finished : IsFinished rules play (with_steps script before values)
+    pub least : AreLeast rules play (with_steps script before values)
+    pub given : Value F EF
+    pub unused : List (Value F EF)
+    pub is_handed : (play step).sides.IsHanded given
+    pub handed : sent ≡ runs.handed play before values ++ (if_sent (play step).place given ++ unused)
+    pub after : Driving S
+    pub refuses : (play step).sides.prover given
+        (driving_after rules play (with_steps script before values) (runs.wires play before values)) e after
+        ⊎ Halts (driving_after rules play (with_steps script before values) (runs.wires play before values)) e after
+
+  -- The end is refused: all steps were played, and steps of the pattern are left.
+  pub record RefusesToProveEnd (script : Run X F EF S U D) (sent : List (Value F EF)) (position : ℕ)
+      (e : TranscriptError) : Type 0 where
+    pub place : position ≡ length script.steps
+    pub values : List (Value F EF)
+    pub finished : IsFinished rules play (with_steps script script.steps values)
+    pub least : AreLeast rules play (with_steps script script.steps values)
+    pub handed : sent ≡ runs.handed play script.steps values
+    pub refuses : IsPatternError (λ m. FaultOfPlayEnd (driving_after rules play
+        (with_steps script script.steps values) (runs.wires play script.steps values)).transcript.playing
+        (pattern_error_of m)) e
+
+  -- the seed is refused; or the first step that is; or the end
+  abbrev pub RefusesToProve : Run X F EF S U D → List (Value F EF) → ℕ → TranscriptError → Type 0
+  RefusesToProve script sent position e =
+      ((position ≡ 0) × RefusesStart (rules.alphabet.is_too_long (length (seed rules play script))) e)
+      ⊎ RefusesToProveStep script sent position e
+      ⊎ RefusesToProveEnd script sent position e

@@ -1,0 +1,126 @@
+-- Lemmas on runs: a step more at the end, and that bytes and carried witnesses tell a run.
+use Rattle.std.proofs.Common.{◌≡◌, ℕ, suc, List, [], ◌∷◌, ◌++◌, Option, Some, None, IsSome, refl, sym, ap, ◌∙◌, subst}
+use Rattle.std.proofs.Common.{append_assoc, append-nil}
+use Rattle.p3_runs.specs.Plays.{Play, Place}
+use Rattle.p3_runs.specs.Runs.{wires, picked, carried, after, challenges, Finishes, AreChosen, if_carried, if_drawn}
+use Rattle.p3_runs.specs.Stepping.{IsCanonical}
+use Rattle.p3_runs.specs.Values.{Value, Challenge}
+
+module _ {X S Symbol F EF O : Type 0} (play : X → Play S Symbol F EF O) where
+  -- as many values as steps
+  abbrev pub AreMatched : List X → List (Value F EF) → Type 0
+  AreMatched [] [] = Unit {0}
+  AreMatched (x ∷ steps) (v ∷ values) = AreMatched steps values
+  AreMatched _ _ = ⊥
+
+  pub finished-matched : (steps : List X) (values : List (Value F EF)) (s : S) → Finishes play steps values s →
+      AreMatched steps values
+  finished-matched [] [] s h = tt
+  finished-matched [] (v ∷ values) s h = absurd h
+  finished-matched (x ∷ steps) [] s h = absurd h
+  finished-matched (x ∷ steps) (v ∷ values) s h = finished-matched steps values _ h.3
+
+  -- ---- a step more
+
+  pub finishes-more : (steps : List X) (values : List (Value F EF)) (s : S) (x : X) (v : Value F EF) →
+      Finishes play steps values s → (play x).Fits v → ((play x).effect v).fits →
+      IsSome (((play x).effect v).gives (after play steps values s)) →
+      Finishes play (steps ++ x ∷ []) (values ++ v ∷ []) s
+  finishes-more [] [] s x v h fits short gives = (fits, short, gives, tt)
+  finishes-more [] (w ∷ values) s x v h fits short gives = absurd h
+  finishes-more (y ∷ steps) [] s x v h fits short gives = absurd h
+  finishes-more (y ∷ steps) (w ∷ values) s x v h fits short gives =
+      (h.0, h.1, h.2, finishes-more steps values _ x v h.3 fits short gives)
+
+  pub wires-more : (steps : List X) (values : List (Value F EF)) (x : X) (v : Value F EF) → AreMatched steps values →
+      wires play (steps ++ x ∷ []) (values ++ v ∷ []) ≡ wires play steps values ++ (play x).wire v
+  wires-more [] [] x v h = append-nil ((play x).wire v)
+  wires-more [] (w ∷ values) x v h = absurd h
+  wires-more (y ∷ steps) [] x v h = absurd h
+  wires-more (y ∷ steps) (w ∷ values) x v h =
+      ap (λ l. (play y).wire w ++ l) (wires-more steps values x v h)
+      ∙ sym (append_assoc ((play y).wire w) (wires play steps values) ((play x).wire v))
+
+  pub picked-more : (pick : Place → Value F EF → List (Value F EF)) (steps : List X) (values : List (Value F EF)) (x : X)
+      (v : Value F EF) → AreMatched steps values →
+      picked play pick (steps ++ x ∷ []) (values ++ v ∷ [])
+      ≡ picked play pick steps values ++ pick (play x).place v
+  picked-more pick [] [] x v h = append-nil (pick (play x).place v)
+  picked-more pick [] (w ∷ values) x v h = absurd h
+  picked-more pick (y ∷ steps) [] x v h = absurd h
+  picked-more pick (y ∷ steps) (w ∷ values) x v h =
+      ap (λ l. pick (play y).place w ++ l) (picked-more pick steps values x v h)
+      ∙ sym (append_assoc (pick (play y).place w) (picked play pick steps values) (pick (play x).place v))
+
+  pub after-more : (steps : List X) (values : List (Value F EF)) (s : S) (x : X) (v : Value F EF) →
+      AreMatched steps values →
+      after play (steps ++ x ∷ []) (values ++ v ∷ []) s ≡ ((play x).effect v).after (after play steps values s)
+  after-more [] [] s x v h = refl
+  after-more [] (w ∷ values) s x v h = absurd h
+  after-more (y ∷ steps) [] s x v h = absurd h
+  after-more (y ∷ steps) (w ∷ values) s x v h = after-more steps values _ x v h
+
+  pub challenges-more : (steps : List X) (values : List (Value F EF)) (s : S) (x : X) (v : Value F EF) →
+      AreMatched steps values →
+      challenges play (steps ++ x ∷ []) (values ++ v ∷ []) s
+      ≡ challenges play steps values s ++ if_drawn (((play x).effect v).gives (after play steps values s))
+  challenges-more [] [] s x v h = append-nil (if_drawn (((play x).effect v).gives s))
+  challenges-more [] (w ∷ values) s x v h = absurd h
+  challenges-more (y ∷ steps) [] s x v h = absurd h
+  challenges-more (y ∷ steps) (w ∷ values) s x v h =
+      ap (λ l. if_drawn (((play y).effect w).gives s) ++ l) (challenges-more steps values _ x v h)
+      ∙ sym (append_assoc (if_drawn (((play y).effect w).gives s)) _ _)
+
+  pub chosen-more : (steps : List X) (values : List (Value F EF)) (s : S) (x : X) (v : Value F EF) →
+      AreMatched steps values → AreChosen play steps values s →
+      (play x).sides.IsChosen (after play steps values s) v →
+      AreChosen play (steps ++ x ∷ []) (values ++ v ∷ []) s
+  chosen-more [] [] s x v h chosen last = (last, tt)
+  chosen-more [] (w ∷ values) s x v h chosen last = absurd h
+  chosen-more (y ∷ steps) [] s x v h chosen last = absurd h
+  chosen-more (y ∷ steps) (w ∷ values) s x v h chosen last =
+      (chosen.0, chosen-more steps values _ x v h chosen.1 last)
+
+  -- ---- a run is told by its bytes and its carried witnesses
+
+  -- each step is told so
+  abbrev pub AreCanonical : List X → Type 0
+  AreCanonical [] = Unit {0}
+  AreCanonical (x ∷ steps) = IsCanonical (play x) × AreCanonical steps
+
+  -- a run goes on from a front
+  pub record GoesOn (front later : List X) (done values : List (Value F EF)) (s : S) (bytes : List ℕ)
+      (unused : List (Value F EF)) : Type 0 where
+    pub more : List (Value F EF)
+    pub split : values ≡ done ++ more
+    pub finishes : Finishes play later more (after play front done s)
+    pub rest : bytes ≡ wires play later more
+    pub carries : unused ≡ carried play later more
+
+  -- Of a run that finishes, the first values are those of a finished front over the same bytes and carried witnesses.
+  pub front-of_run : (front later : List X) (done values : List (Value F EF)) (s : S) (bytes : List ℕ)
+      (unused : List (Value F EF)) → AreCanonical front → Finishes play front done s →
+      Finishes play (front ++ later) values s →
+      wires play front done ++ bytes ≡ wires play (front ++ later) values →
+      carried play front done ++ unused ≡ carried play (front ++ later) values →
+      GoesOn front later done values s bytes unused
+  front-of_run [] later [] values s bytes unused canonical h run wire carries =
+      record { more = values; split = refl; finishes = run; rest = wire; carries = carries }
+  front-of_run [] later (w ∷ done) values s bytes unused canonical h run wire carries = absurd h
+  front-of_run (x ∷ front) later [] values s bytes unused canonical h run wire carries = absurd h
+  front-of_run (x ∷ front) later (w ∷ done) [] s bytes unused canonical h run wire carries = absurd run
+  front-of_run (x ∷ front) later (w ∷ done) (v ∷ values) s bytes unused canonical h run wire carries =
+      let one = canonical.0.one_way w v (wires play front done ++ bytes) (wires play (front ++ later) values)
+      (carried play front done ++ unused) (carried play (front ++ later) values) h.0 run.0
+      (sym (append_assoc ((play x).wire w) (wires play front done) bytes) ∙ wire)
+      (sym (append_assoc (if_carried (play x).place w) (carried play front done) unused) ∙ carries) in
+      let rest = front-of_run front later done values _ bytes unused canonical.1 h.3
+      (subst (λ (u : Value F EF). Finishes play (front ++ later) values (((play x).effect u).after s)) (sym one.0) run.3)
+      one.1 one.2 in
+      record {
+        more = rest.more;
+        split = ap (λ l. v ∷ l) rest.split ∙ ap (λ u. u ∷ (done ++ rest.more)) (sym one.0);
+        finishes = rest.finishes;
+        rest = rest.rest;
+        carries = rest.carries;
+      }

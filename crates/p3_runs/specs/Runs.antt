@@ -1,0 +1,111 @@
+-- Runs of scripts: steps, each with its value.
+use Rattle.std.specs.Prelude.{◌≡◌, ℕ, ◌+◌, List, [], ◌∷◌, ◌++◌, length, map, Option, Some, None, IsSome}
+use Rattle.p3_fs_core.specs.Steps.{Step}
+use Rattle.p3_runs.specs.Absorbed.{Absorbed}
+use Rattle.p3_runs.specs.Plays.{Play, Place, Nowhere, Sent, Found, Carried}
+use Rattle.p3_runs.specs.Values.{Value, Challenge, witness_in}
+
+-- a value where the proof carries it; where the prover is handed it; where the caller carries it; and where it is a
+-- witness that the prover finds
+abbrev pub if_in_proof : {V : Type 0} → Place → V → List V
+if_in_proof Nowhere v = []
+if_in_proof Sent v = v ∷ []
+if_in_proof Found v = v ∷ []
+if_in_proof Carried v = []
+
+abbrev pub if_sent : {V : Type 0} → Place → V → List V
+if_sent Nowhere v = []
+if_sent Sent v = v ∷ []
+if_sent Found v = []
+if_sent Carried v = []
+
+abbrev pub if_carried : {V : Type 0} → Place → V → List V
+if_carried Nowhere v = []
+if_carried Sent v = []
+if_carried Found v = []
+if_carried Carried v = v ∷ []
+
+abbrev pub if_witness : {V : Type 0} → Place → V → List V
+if_witness Nowhere v = []
+if_witness Sent v = []
+if_witness Found v = v ∷ []
+if_witness Carried v = v ∷ []
+
+-- the challenge that a step gave, if it gave one
+abbrev pub if_drawn : {A : Type 0} → Option (Option A) → List A
+if_drawn None = []
+if_drawn (Some None) = []
+if_drawn (Some (Some x)) = x ∷ []
+
+module _ {X S Symbol F EF O : Type 0} (play : X → Play S Symbol F EF O) where
+  -- what the pattern must be
+  abbrev pub interactions : List X → List Step
+  interactions steps = map (λ x. (play x).interaction) steps
+
+  -- each step may be played
+  abbrev pub AreAdmitted : List X → Type 0
+  AreAdmitted [] = Unit {0}
+  AreAdmitted (x ∷ steps) = (play x).admitted × AreAdmitted steps
+
+  -- the bytes of the proof: each step's in order
+  abbrev pub wires : List X → List (Value F EF) → List ℕ
+  wires (x ∷ steps) (v ∷ values) = (play x).wire v ++ wires steps values
+  wires _ _ = []
+
+  -- what the challenger is fed: each step's symbols in order
+  abbrev pub symbols : List X → List (Value F EF) → List Symbol
+  symbols (x ∷ steps) (v ∷ values) = ((play x).effect v).symbols ++ symbols steps values
+  symbols _ _ = []
+
+  -- what is absorbed at each step
+  abbrev pub absorbed : List X → List (Value F EF) → List (Absorbed F O)
+  absorbed (x ∷ steps) (v ∷ values) = (play x).absorbed v ∷ absorbed steps values
+  absorbed _ _ = []
+
+  -- of the values: those of the proof, those that the prover is handed, those that the caller carries, and all witnesses
+  abbrev pub picked : (Place → Value F EF → List (Value F EF)) → List X → List (Value F EF) → List (Value F EF)
+  picked pick (x ∷ steps) (v ∷ values) = pick (play x).place v ++ picked pick steps values
+  picked pick _ _ = []
+
+  abbrev pub in_proof : List X → List (Value F EF) → List (Value F EF)
+  in_proof steps values = picked if_in_proof steps values
+
+  abbrev pub handed : List X → List (Value F EF) → List (Value F EF)
+  handed steps values = picked if_sent steps values
+
+  abbrev pub carried : List X → List (Value F EF) → List (Value F EF)
+  carried steps values = picked if_carried steps values
+
+  abbrev pub witnesses : List X → List (Value F EF) → List (Value F EF)
+  witnesses steps values = picked if_witness steps values
+
+  -- the challenger after the steps
+  abbrev pub after : List X → List (Value F EF) → S → S
+  after (x ∷ steps) (v ∷ values) s = after steps values (((play x).effect v).after s)
+  after _ _ s = s
+
+  -- the challenges that it gives
+  abbrev pub challenges : List X → List (Value F EF) → S → List (Challenge F EF)
+  challenges (x ∷ steps) (v ∷ values) s =
+      if_drawn (((play x).effect v).gives s) ++ challenges steps values (((play x).effect v).after s)
+  challenges _ _ s = []
+
+  -- there is one value for each step, which fits it; none is too long for the alphabet, no draw meets a limit, and
+  -- each witness passes
+  abbrev pub Finishes : List X → List (Value F EF) → S → Type 0
+  Finishes [] [] s = Unit {0}
+  Finishes (x ∷ steps) (v ∷ values) s =
+      (play x).Fits v × ((play x).effect v).fits × IsSome (((play x).effect v).gives s)
+      × Finishes steps values (((play x).effect v).after s)
+  Finishes _ _ s = ⊥
+
+  -- each witness that a prover finds is the least one that passes there
+  abbrev pub AreChosen : List X → List (Value F EF) → S → Type 0
+  AreChosen (x ∷ steps) (v ∷ values) s =
+      (play x).sides.IsChosen s v × AreChosen steps values (((play x).effect v).after s)
+  AreChosen _ _ s = Unit {0}
+
+  -- how many witnesses the caller carries
+  abbrev pub carried_count : List X → ℕ
+  carried_count [] = 0
+  carried_count (x ∷ steps) = length (if_carried (play x).place (tt {0})) + carried_count steps

@@ -1,0 +1,134 @@
+-- How the two sides of a transcript refuse a step of a script.
+use Rattle.std.specs.Prelude.{◌≡◌, ℕ, ◌<◌, ◌≤◌, ◌⊎◌, Option, Some, None}
+use Rattle.p3_fs_core.specs.Encoding.{Encoding}
+use Rattle.p3_fs_core.specs.declared.error.TranscriptError.{TranscriptError}
+use Rattle.p3_grinding.specs.Checks.{IsLeast}
+use Rattle.p3_patterns.specs.Playing.{next_step}
+use Rattle.p3_driver_core.specs.Driving.{Driving}
+use Rattle.p3_driver_core.specs.Proving.{RefusesToWrite, RefusesLongList, Unwritten}
+use Rattle.p3_driver_core.specs.Reads.{Reading, received_work}
+use Rattle.p3_driver_core.specs.Transcripts.{Meaning, RefusesStep, IsOtherLength, longer_list, another_length}
+use Rattle.p3_driver_core.specs.Verifying.{RefusesToRead, RefusesCarriedList, FailsWork}
+use Rattle.p3_driver_core.specs.Working.{Work, RefusesToGrind, RefusesToCheck}
+use Rattle.p3_runs.specs.Values.{Value, IsNothing, witness_in}
+
+-- of a side at a step: its state before, the error, and its state after
+abbrev pub Refusal : Type 0 → Type 1
+Refusal S = Driving S → TranscriptError → Driving S → Type 0
+
+-- What a prover is handed for a step, what it then chooses where it has a choice, and why it refuses the step, by what
+-- it was handed; and why a verifier refuses the step, by the witness that its caller carries, if it does.
+pub record Sides (S F EF : Type 0) : Type 1 where
+  pub IsHanded : Value F EF → Type 0
+  pub IsChosen : S → Value F EF → Type 0
+  pub prover : Value F EF → Refusal S
+  pub verifier : Option F → Refusal S
+
+-- of what was found, if anything was
+abbrev pub refuses_some : {S A : Type 0} → (A → Refusal S) → Option A → Refusal S
+refuses_some refuses None before e after = ⊥
+refuses_some refuses (Some x) before e after = refuses x before e after
+
+abbrev pub holds_some : {A : Type 0} → (A → Type 0) → Option A → Type 0
+holds_some P None = ⊥
+holds_some P (Some x) = P x
+
+-- ---- why a side refuses
+
+-- the step is refused, and the bytes of the proof stay as they are
+abbrev pub RefusesKept : {S Symbol A : Type 0} → Meaning S Symbol A → Refusal S
+RefusesKept m before e after =
+    RefusesStep m before.transcript e after.transcript × (after.bytes ≡ before.bytes)
+
+-- the same of a list that may not be so long, on the prover's side
+abbrev pub RefusesWithin : {S Symbol A : Type 0} → ℕ → ℕ → Meaning S Symbol A → Refusal S
+RefusesWithin len max m before e after =
+    (RefusesLongList len max before e after
+    ⊎ ((len ≤ max) × RefusesStep m before.transcript e after.transcript))
+    × (after.bytes ≡ before.bytes)
+
+-- and on the verifier's
+abbrev pub RefusesCarriedWithin : {S Symbol A : Type 0} → ℕ → ℕ → Meaning S Symbol A → Refusal S
+RefusesCarriedWithin len max m before e after =
+    (RefusesCarriedList (max < len) longer_list before e after
+    ⊎ ((len ≤ max) × RefusesStep m before.transcript e after.transcript))
+    × (after.bytes ≡ before.bytes)
+
+-- the same of a list that has as many elements as the next step says
+abbrev pub RefusesAsRecorded : {S Symbol A : Type 0} → ℕ → Meaning S Symbol A → Refusal S
+RefusesAsRecorded len m before e after =
+    (RefusesCarriedList (IsOtherLength len (next_step before.transcript.playing)) another_length before e after
+    ⊎ ((IsOtherLength len (next_step before.transcript.playing) → ⊥)
+    × RefusesStep m before.transcript e after.transcript))
+    × (after.bytes ≡ before.bytes)
+
+-- a prover does not write what is sent, where it may be so long
+abbrev pub RefusesToWriteWithin : {S Symbol A : Type 0} → ℕ → ℕ → Meaning S Symbol A → Refusal S
+RefusesToWriteWithin len max m before e after =
+    RefusesLongList len max before e after ⊎ ((len ≤ max) × RefusesToWrite m before e after)
+
+-- a prover finds no witness, or does not write it
+abbrev pub RefusesToGrindAndWrite : {S Symbol W : Type 0} → Work S Symbol W → Encoding W → (S → Type 0) → Refusal S
+RefusesToGrindAndWrite work enc may_run_out before e after =
+    (RefusesToGrind work may_run_out before.transcript e after.transcript × (after.bytes ≡ before.bytes))
+    ⊎ Unwritten work enc before e after
+
+abbrev pub RefusesToGrindAndKeep : {S Symbol W : Type 0} → Work S Symbol W → (S → Type 0) → Refusal S
+RefusesToGrindAndKeep work may_run_out before e after =
+    RefusesToGrind work may_run_out before.transcript e after.transcript × (after.bytes ≡ before.bytes)
+
+-- a verifier reads no witness, or it does not pass
+abbrev pub RefusesToReadWork : {S Symbol W : Type 0} → Work S Symbol W → Encoding W → Refusal S
+RefusesToReadWork work enc before e after =
+    RefusesToRead (received_work work enc) before e after ⊎ FailsWork work enc before e after
+
+-- a witness that its caller carries does not pass
+abbrev pub RefusesCarriedWork : {S Symbol W : Type 0} → Work S Symbol W → W → Refusal S
+RefusesCarriedWork work x before e after =
+    RefusesToCheck work x before.transcript e after.transcript × (after.bytes ≡ before.bytes)
+
+-- ---- the sides of a step
+
+-- nothing is chosen
+abbrev pub NoChoice : {S F EF : Type 0} → S → Value F EF → Type 0
+NoChoice s v = Unit {0}
+
+-- what both sides know
+abbrev pub sides_known : {S F EF : Type 0} → Refusal S → Refusal S → Sides S F EF
+sides_known proving verifying =
+    record { IsHanded = IsNothing; IsChosen = NoChoice; prover = λ _. proving; verifier = λ _. verifying }
+
+-- what the prover is handed and sends, and the verifier reads
+abbrev pub sides_sent : {S F EF A : Type 0} → (Value F EF → Option A) → (A → Type 0) → (A → Refusal S) → Refusal S →
+    Sides S F EF
+sides_sent found IsHanded proving verifying =
+    record {
+      IsHanded = λ v. holds_some IsHanded (found v);
+      IsChosen = NoChoice;
+      prover = λ v. refuses_some proving (found v);
+      verifier = λ _. verifying;
+    }
+
+-- the least witness that passes
+abbrev pub IsLeastWitness : {S Symbol F EF : Type 0} → Work S Symbol F → S → Value F EF → Type 0
+IsLeastWitness work s v = holds_some (IsLeast work.residues work.check s) (witness_in v)
+
+-- a witness that the prover finds, and the verifier reads
+abbrev pub sides_ground : {S Symbol F EF : Type 0} → Work S Symbol F → Encoding F → (S → Type 0) → Sides S F EF
+sides_ground work enc may_run_out =
+    record {
+      IsHanded = IsNothing;
+      IsChosen = IsLeastWitness work;
+      prover = λ _. RefusesToGrindAndWrite work enc may_run_out;
+      verifier = λ _. RefusesToReadWork work enc;
+    }
+
+-- a witness that the prover finds, and the verifier's caller carries
+abbrev pub sides_carried : {S Symbol F EF : Type 0} → Work S Symbol F → (S → Type 0) → Sides S F EF
+sides_carried work may_run_out =
+    record {
+      IsHanded = IsNothing;
+      IsChosen = IsLeastWitness work;
+      prover = λ _. RefusesToGrindAndKeep work may_run_out;
+      verifier = λ carried. refuses_some (RefusesCarriedWork work) carried;
+    }

@@ -1,0 +1,49 @@
+-- What stands at the steps of a script besides what the script itself says, and what is drawn there.
+use Rattle.std.specs.Prelude.{ℕ, List, Option, Some, None}
+
+-- what stands at a step: nothing, or a value that the proof or the caller carries
+pub data Value (F EF : Type 0) : Type 0 where
+  Nothing : Value F EF
+  Bytes : List ℕ → Value F EF
+  Scalar : F → Value F EF
+  Scalars : List F → Value F EF
+  Extension : EF → Value F EF
+  Witness : F → Value F EF
+
+-- what is drawn at a step
+pub data Challenge (F EF : Type 0) : Type 0 where
+  OfScalars : List F → Challenge F EF
+  OfExtensions : List EF → Challenge F EF
+  OfBits : List ℕ → Challenge F EF
+
+-- ---- the values of each type
+
+abbrev pub bytes_in : {F EF : Type 0} → Value F EF → Option (List ℕ)
+bytes_in (Bytes bytes) = Some bytes
+bytes_in _ = None
+
+abbrev pub scalar_in : {F EF : Type 0} → Value F EF → Option F
+scalar_in (Scalar x) = Some x
+scalar_in _ = None
+
+abbrev pub scalars_in : {F EF : Type 0} → Value F EF → Option (List F)
+scalars_in (Scalars xs) = Some xs
+scalars_in _ = None
+
+abbrev pub extension_in : {F EF : Type 0} → Value F EF → Option EF
+extension_in (Extension x) = Some x
+extension_in _ = None
+
+abbrev pub witness_in : {F EF : Type 0} → Value F EF → Option F
+witness_in (Witness x) = Some x
+witness_in _ = None
+
+-- there is no value
+abbrev pub IsNothing : {F EF : Type 0} → Value F EF → Type 0
+IsNothing Nothing = Unit {0}
+IsNothing _ = ⊥
+
+-- a witness, where there is one
+abbrev pub as_witness : {F EF : Type 0} → Option F → Value F EF
+as_witness None = Nothing
+as_witness (Some x) = Witness x

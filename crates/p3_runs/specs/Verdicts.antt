@@ -1,0 +1,108 @@
+-- What a whole script comes to on the verifier's side.
+use Rattle.std.specs.Prelude.{◌≡◌, ℕ, List, [], ◌∷◌, ◌++◌, ◌⊎◌, Option, length, false}
+use Rattle.p3_fs_core.specs.declared.error.TranscriptError.{TranscriptError}
+use Rattle.p3_domain_separator.specs.SeparatorSeed.{pattern_of}
+use Rattle.p3_domain_separator.specs.declared.domain_separator.DomainSeparator.{DomainSeparator}
+use Rattle.p3_driver_core.specs.Driving.{Driving, RefusesStart}
+use Rattle.p3_driver_core.specs.Verifying.{RefusesEnd}
+use Rattle.p3_runs.specs.Fronts.{Run, IsFinished, IsWhole, seed, wire, challenges, last}
+use Rattle.p3_runs.specs.Plays.{Play}
+use Rattle.p3_runs.specs.Rules.{Rules}
+use Rattle.p3_runs.specs.Runs as runs
+use Rattle.p3_runs.specs.Stepping.{Halts, one_witness, all_witnesses, IsCarriedTo}
+use Rattle.p3_runs.specs.Values.{Value, Challenge}
+
+-- these values at these steps, under the same separator and from the same challenger
+abbrev pub with_steps : {X F EF S U D : Type 0} → Run X F EF S U D → List X → List (Value F EF) → Run X F EF S U D
+with_steps run steps values = record run { steps = steps; values = values }
+
+-- a script under a separator, from a state of a challenger, with no values yet
+abbrev pub script_of : {X F EF S U D : Type 0} → S → DomainSeparator U D → List X → Run X F EF S U D
+script_of challenger separator steps =
+    record { challenger = challenger; separator = separator; steps = steps; values = [] }
+
+module _ {X S Symbol I F EF O Ac U D : Type 0} (rules : Rules S Symbol I F EF O Ac) (play : X → Play S Symbol F EF O) where
+  -- A proof of the run: it is finished and plays the whole pattern, these bytes are its wire with nothing after it, and
+  -- its carried witnesses are these.
+  pub record IsProof (run : Run X F EF S U D) (bytes : List ℕ) (carried : List F) : Type 0 where
+    pub finished : IsFinished rules play run
+    pub whole : IsWhole rules play run
+    pub wire_is : bytes ≡ wire rules play run
+    pub carries : all_witnesses carried ≡ runs.carried play run.steps run.values
+
+  -- the run's values that stand in the proof, its challenges and its final challenger
+  pub record IsOutcome (run : Run X F EF S U D) (received : List (Value F EF)) (drawn : List (Challenge F EF)) (end : S) :
+      Type 0 where
+    pub received_is : received ≡ runs.in_proof play run.steps run.values
+    pub drawn_is : drawn ≡ challenges rules play run
+    pub end_is : end ≡ last rules play run
+
+  -- The proof is accepted: there is one list of values whose run has it, and the answer is that run's.
+  pub record Accepts (script : Run X F EF S U D) (bytes : List ℕ) (carried : List F) (received : List (Value F EF))
+      (drawn : List (Challenge F EF)) (end : S) : Type 0 where
+    pub values : List (Value F EF)
+    pub proof : IsProof (with_steps script script.steps values) bytes carried
+    pub outcome : IsOutcome (with_steps script script.steps values) received drawn end
+    pub only : (others : List (Value F EF)) → IsProof (with_steps script script.steps others) bytes carried →
+        others ≡ values
+
+  -- no list of values has such a run
+  abbrev pub HasNoProof : Run X F EF S U D → List ℕ → List F → Type 0
+  HasNoProof script bytes carried =
+      (values : List (Value F EF)) → IsProof (with_steps script script.steps values) bytes carried → ⊥
+
+  -- a driver after a front of the script, with these bytes
+  abbrev pub driving_after : Run X F EF S U D → List ℕ → Driving S
+  driving_after front bytes =
+      record {
+        transcript = record {
+          challenger = last rules play front;
+          playing = record {
+            pattern = pattern_of front.separator;
+            position = length front.steps;
+            finished = false;
+          };
+        };
+        bytes = bytes;
+      }
+
+  -- ---- where and why a verifier refuses a proof
+
+  -- A step is refused: the proof begins with the bytes of a finished front, and the carried witnesses with those of the
+  -- front; then comes this step, and it is refused there.
+  pub record RefusesAtStep (script : Run X F EF S U D) (bytes : List ℕ) (carried : List F) (position : ℕ)
+      (e : TranscriptError) : Type 0 where
+    pub before : List X
+    pub step : X
+    pub later : List X
+    pub steps : script.steps ≡ before ++ (step ∷ later)
+    pub place : position ≡ length before
+    pub values : List (Value F EF)
+    pub finished : IsFinished rules play (with_steps script before values)
+    pub left : List ℕ
+    pub read : bytes ≡ runs.wires play before values ++ left
+    pub witness : Option F
+    pub unused : List (Value F EF)
+    pub brought : IsCarriedTo (play step).place witness
+    pub carries : all_witnesses carried ≡ runs.carried play before values ++ (one_witness witness ++ unused)
+    pub after : Driving S
+    pub refuses : (play step).sides.verifier witness (driving_after (with_steps script before values) left) e after
+        ⊎ Halts (driving_after (with_steps script before values) left) e after
+
+  -- The end is refused: all steps were played, and steps of the pattern are left, or bytes.
+  pub record RefusesAtEnd (script : Run X F EF S U D) (bytes : List ℕ) (carried : List F) (position : ℕ)
+      (e : TranscriptError) : Type 0 where
+    pub place : position ≡ length script.steps
+    pub values : List (Value F EF)
+    pub finished : IsFinished rules play (with_steps script script.steps values)
+    pub left : List ℕ
+    pub read : bytes ≡ runs.wires play script.steps values ++ left
+    pub carries : all_witnesses carried ≡ runs.carried play script.steps values
+    pub refuses : RefusesEnd (driving_after (with_steps script script.steps values) left) e
+
+  -- the seed is refused; or the first step that is; or the end
+  abbrev pub RefusesProof : Run X F EF S U D → List ℕ → List F → ℕ → TranscriptError → Type 0
+  RefusesProof script bytes carried position e =
+      ((position ≡ 0) × RefusesStart (rules.alphabet.is_too_long (length (seed rules play script))) e)
+      ⊎ RefusesAtStep script bytes carried position e
+      ⊎ RefusesAtEnd script bytes carried position e

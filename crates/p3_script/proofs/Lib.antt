@@ -1,0 +1,3 @@
+pub mod Canonical
+pub mod Lawful
+pub mod Possible

@@ -1,0 +1,5 @@
+pub mod Accepting
+pub mod Draws
+pub mod GroupLaws
+pub mod ScriptLaws
+pub mod Scripts

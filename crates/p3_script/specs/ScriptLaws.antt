@@ -1,0 +1,24 @@
+-- What holds of every step of every script of a suite.
+use Rattle.p3_fs_core.specs.StepFits.{FitsLength}
+use Rattle.p3_runs.specs.Rules.{Rules}
+use Rattle.p3_runs.specs.Stepping.{IsCanonical, IsTakenWherePossible, IsSentWherePossible}
+use Rattle.p3_script.specs.Scripts.{play_of}
+use Rattle.p3_script.specs.declared.steps.Step as script
+
+module _ {S Symbol I F EF O Ac : Type 0} (Su U C K D G It St Sy : Type 0) (rules : Rules S Symbol I F EF O Ac) where
+  -- a step whose length a pattern can have is told by its bytes and its carried witness
+  abbrev pub AreAllCanonical : Type 0
+  AreAllCanonical =
+      (x : script.Step Su F EF U O C K Ac D G It St Sy) → FitsLength (play_of rules x).interaction.length →
+      IsCanonical (play_of rules x)
+
+  -- and each side refuses it for want of memory alone, where it is admitted and may be played
+  abbrev pub AreTakenWherePossible : Type 0
+  AreTakenWherePossible =
+      (x : script.Step Su F EF U O C K Ac D G It St Sy) → FitsLength (play_of rules x).interaction.length →
+      (play_of rules x).admitted → IsTakenWherePossible (play_of rules x)
+
+  abbrev pub AreSentWherePossible : Type 0
+  AreSentWherePossible =
+      (x : script.Step Su F EF U O C K Ac D G It St Sy) → FitsLength (play_of rules x).interaction.length →
+      (play_of rules x).admitted → IsSentWherePossible (play_of rules x)

@@ -1,0 +1,281 @@
+-- What the steps of a script mean, and what is sent, received and drawn at them, without the suite's types.
+use Rattle.std.specs.Prelude.{◌≡◌, ℕ, ◌<◌, ◌≤◌, List, [], ◌∷◌, map, Option, Some, None, true}
+use Rattle.std.specs.Prelude as list
+use Rattle.p3_challenger_core.specs.Sampling.{Sampling}
+use Rattle.p3_fs_core.specs.Algebras.{algebra_step}
+use Rattle.p3_fs_core.specs.Steps.{Step, marker_of}
+use Rattle.p3_fs_core.specs.declared.step.Hierarchy.{Hierarchy}
+use Rattle.p3_fs_core.specs.declared.step.Hierarchy.TheVariants.{Begin, End}
+use Rattle.p3_fs_core.specs.declared.step.Kind.{Kind}
+use Rattle.p3_fs_core.specs.declared.step.Kind.TheVariants as kind
+use Rattle.p3_fs_core.specs.declared.step.Length.TheVariants as length
+use Rattle.p3_driver_core.specs.Effects.{untouched, observing, drawing, drawing_list}
+use Rattle.p3_driver_core.specs.Meanings as meaning
+use Rattle.p3_driver_core.specs.Proving.{RefusesToWrite}
+use Rattle.p3_driver_core.specs.Reads as reads
+use Rattle.p3_driver_core.specs.Rejecting.{drawing_rejecting}
+use Rattle.p3_driver_core.specs.Transcripts.{Meaning, bytes_step, opaque_step, bits_step, uniform_bits_step}
+use Rattle.p3_driver_core.specs.Working.{Work, work_of}
+use Rattle.p3_runs.specs.Absorbed.{Absorbed, Nothing, Bytes, Elements, Own, witness_of}
+use Rattle.p3_runs.specs.Plays.{Play, known, known_with, known_within, sends, sends_witness, carries_witness}
+use Rattle.p3_runs.specs.Plays.{only_if, no_challenge, Any, HasLength, HasAtMost}
+use Rattle.p3_runs.specs.Rules.{Rules, Coding}
+use Rattle.p3_runs.specs.Sides.{RefusesKept, RefusesWithin, RefusesCarriedWithin, RefusesAsRecorded}
+use Rattle.p3_runs.specs.Sides.{RefusesToWriteWithin, sides_known}
+use Rattle.p3_runs.specs.Values.{Value, Challenge, IsNothing, bytes_in, scalar_in, scalars_in, extension_in}
+use Rattle.p3_runs.specs.Values as value
+use Rattle.p3_script.specs.declared.steps.Drawn.{Drawn}
+use Rattle.p3_script.specs.declared.steps.Drawn.TheVariants as drawn
+use Rattle.p3_script.specs.declared.steps.Received.{Received}
+use Rattle.p3_script.specs.declared.steps.Received.TheVariants as received
+use Rattle.p3_script.specs.declared.steps.Sent.{Sent}
+use Rattle.p3_script.specs.declared.steps.Sent.TheVariants as sent
+use Rattle.p3_script.specs.declared.steps.Step as script
+use Rattle.p3_script.specs.declared.steps.Step.TheVariants as step
+
+module _ {S Symbol I F EF O Ac : Type 0} (rules : Rules S Symbol I F EF O Ac) where
+  -- a container is opened or closed
+  abbrev pub marks : Hierarchy → List ℕ → Kind → Play S Symbol F EF O
+  marks hierarchy label kind =
+      known (marker_of hierarchy kind label rules.marker_name) no_challenge (untouched (tt {0})) Nothing
+
+  -- a value is observed as the challenger itself knows how
+  abbrev pub knows_opaque : List ℕ → O → Play S Symbol F EF O
+  knows_opaque label x =
+      known (opaque_step kind.Message label length.Scalar) no_challenge (observing rules.opaque x) (Own x)
+
+  -- ---- bytes
+
+  -- so many bytes are sent
+  abbrev pub sends_bytes : Kind → List ℕ → ℕ → Play S Symbol F EF O
+  sends_bytes kind label len =
+      sends (bytes_step kind label (length.Fixed len)) bytes_in (HasLength len) (HasLength len)
+      (meaning.sent_bytes kind label rules.alphabet) Bytes
+      (λ bytes. RefusesToWrite (meaning.sent_bytes kind label rules.alphabet bytes))
+      (reads.received_bytes kind label rules.alphabet len)
+
+  -- at most so many, after their count
+  abbrev pub sends_counted_bytes : List ℕ → ℕ → Play S Symbol F EF O
+  sends_counted_bytes label max =
+      sends (bytes_step kind.Message label (length.Bounded max)) bytes_in Any (HasAtMost max)
+      (meaning.sent_bytes_bounded kind.Message label rules.alphabet max) Bytes
+      (λ bytes. RefusesToWriteWithin (list.length bytes) max
+      (meaning.sent_bytes_bounded kind.Message label rules.alphabet max bytes))
+      (reads.received_bytes_bounded label rules.alphabet max)
+
+  -- the same of bytes that the challenger takes no part in
+  abbrev pub hints : List ℕ → ℕ → Play S Symbol F EF O
+  hints label len =
+      sends (bytes_step kind.Hint label (length.Fixed len)) bytes_in (HasLength len) (HasLength len)
+      (meaning.hinted label) (λ _. Nothing) (λ bytes. RefusesToWrite {Symbol = Symbol} (meaning.hinted label bytes))
+      (reads.hint_received label len)
+
+  abbrev pub hints_counted : List ℕ → ℕ → Play S Symbol F EF O
+  hints_counted label max =
+      sends (bytes_step kind.Hint label (length.Bounded max)) bytes_in Any (HasAtMost max)
+      (meaning.hinted_bounded label max) (λ _. Nothing)
+      (λ bytes. RefusesToWriteWithin {Symbol = Symbol} (list.length bytes) max
+      (meaning.hinted_bounded label max bytes))
+      (reads.hint_received_bounded label max)
+
+  -- ---- elements of an algebra, of which each is absorbed as its coefficients
+
+  abbrev pub one_of : {A : Type 0} → Coding S Symbol F A → A → Absorbed F O
+  one_of coding x = Elements (coding.coefficients x ∷ [])
+
+  abbrev pub all_of : {A : Type 0} → Coding S Symbol F A → List A → Absorbed F O
+  all_of coding xs = Elements (map coding.coefficients xs)
+
+  -- both sides know one, or a list
+  abbrev pub knows_one : {A : Type 0} → Coding S Symbol F A → Kind → List ℕ → A → Play S Symbol F EF O
+  knows_one coding kind label x =
+      known (algebra_step kind label coding.algebra length.Scalar) no_challenge (observing coding.observation x)
+      (one_of coding x)
+
+  abbrev pub list_known : {A : Type 0} → Coding S Symbol F A → Kind → List ℕ → List A → Meaning S Symbol (List A)
+  list_known coding kind label xs =
+      meaning.observed_list (algebra_step kind label coding.algebra (length.Fixed (list.length xs))) coding.observation xs
+
+  abbrev pub knows_list : {A : Type 0} → Coding S Symbol F A → Kind → List ℕ → List A → Play S Symbol F EF O
+  knows_list coding kind label xs =
+      let m = list_known coding kind label xs in known m.interaction no_challenge m.effect (all_of coding xs)
+
+  -- a list of which the verifier says first where it is not as long as the next step's
+  abbrev pub knows_as_recorded : {A : Type 0} → Coding S Symbol F A → Kind → List ℕ → List A → Play S Symbol F EF O
+  knows_as_recorded coding kind label xs =
+      let m = list_known coding kind label xs in
+      known_with m.interaction IsNothing no_challenge m.effect (all_of coding xs)
+      (sides_known (RefusesKept m) (RefusesAsRecorded (list.length xs) m))
+
+  -- a list of at most so many, after its count
+  abbrev pub counted_known : {A : Type 0} → Coding S Symbol F A → Kind → List ℕ → List A → ℕ →
+      Meaning S Symbol (List A)
+  counted_known coding kind label xs max =
+      meaning.observed_bounded (algebra_step kind label coding.algebra (length.Bounded max)) rules.alphabet max
+      coding.observation xs
+
+  abbrev pub knows_counted : {A : Type 0} → Coding S Symbol F A → Kind → List ℕ → List A → ℕ → Play S Symbol F EF O
+  knows_counted coding kind label xs max =
+      let m = counted_known coding kind label xs max in
+      known_within m.interaction (list.length xs) max m.effect (all_of coding xs)
+      (RefusesWithin (list.length xs) max m) (RefusesCarriedWithin (list.length xs) max m)
+
+  -- one is sent, so many, or at most so many after their count
+  abbrev pub sends_one : {A : Type 0} → Coding S Symbol F A → (Value F EF → Option A) → List ℕ → Play S Symbol F EF O
+  sends_one coding found label =
+      let one = algebra_step kind.Message label coding.algebra length.Scalar in
+      sends one found Any Any (meaning.sent one coding.observation coding.encoding) (one_of coding)
+      (λ x. RefusesToWrite (meaning.sent one coding.observation coding.encoding x))
+      (reads.received one coding.observation coding.encoding)
+
+  abbrev pub list_sent : {A : Type 0} → Coding S Symbol F A → List ℕ → List A → Meaning S Symbol (List A)
+  list_sent coding label xs =
+      meaning.sent_list (algebra_step kind.Message label coding.algebra (length.Fixed (list.length xs)))
+      coding.observation coding.encoding xs
+
+  abbrev pub sends_list : {A : Type 0} → Coding S Symbol F A → (Value F EF → Option (List A)) → List ℕ → ℕ →
+      Play S Symbol F EF O
+  sends_list coding found label n =
+      let step = algebra_step kind.Message label coding.algebra (length.Fixed n) in
+      sends step found (HasLength n) (HasLength n) (list_sent coding label) (all_of coding)
+      (λ xs. RefusesToWrite (list_sent coding label xs))
+      (reads.received_list step coding.observation coding.encoding n)
+
+  abbrev pub sends_counted : {A : Type 0} → Coding S Symbol F A → (Value F EF → Option (List A)) → List ℕ → ℕ →
+      Play S Symbol F EF O
+  sends_counted coding found label max =
+      let some = algebra_step kind.Message label coding.algebra (length.Bounded max) in
+      sends some found Any (HasAtMost max)
+      (meaning.sent_bounded some rules.alphabet max coding.observation coding.encoding) (all_of coding)
+      (λ xs. RefusesToWriteWithin (list.length xs) max
+      (meaning.sent_bounded some rules.alphabet max coding.observation coding.encoding xs))
+      (reads.received_bounded some rules.alphabet max coding.observation coding.encoding)
+
+  -- ---- challenges
+
+  -- through the codec, which has to be secure
+  abbrev pub draws_one : {A : Type 0} → Coding S Symbol F A → (List A → Challenge F EF) → List ℕ → Play S Symbol F EF O
+  draws_one coding make label =
+      only_if rules.is_secure (known (algebra_step kind.Challenge label coding.algebra length.Scalar)
+      (λ x. Some (make (x ∷ []))) (drawing coding.sampling) Nothing)
+
+  abbrev pub draws_list : {A : Type 0} → Coding S Symbol F A → (List A → Challenge F EF) → List ℕ → ℕ →
+      Play S Symbol F EF O
+  draws_list coding make label n =
+      only_if rules.is_secure (known (algebra_step kind.Challenge label coding.algebra (length.Fixed n))
+      (λ xs. Some (make xs)) (drawing_list coding.sampling n) Nothing)
+
+  -- elements that a rule takes
+  abbrev pub draws_extensions_rejecting : List ℕ → ℕ → Ac → ℕ → Play S Symbol F EF O
+  draws_extensions_rejecting label n accept limit =
+      only_if (rules.is_secure × (1 ≤ limit))
+      (known (algebra_step kind.Challenge label rules.extension.algebra (length.Fixed n))
+      (λ xs. Some (value.OfExtensions xs))
+      (drawing_rejecting rules.extension.sampling (rules.accepts_extension accept) limit n) Nothing)
+
+  -- numbers of some bits
+  abbrev pub draws_bits : Step → Type 0 → (ℕ → Sampling S ℕ) → ℕ → ℕ → Play S Symbol F EF O
+  draws_bits interaction has d width n =
+      only_if (has × (width ≤ rules.bits.most))
+      (known interaction (λ xs. Some (value.OfBits xs)) (drawing_list (d width) n) Nothing)
+
+  abbrev pub draws_bits_rejecting : List ℕ → ℕ → ℕ → Ac → ℕ → Play S Symbol F EF O
+  draws_bits_rejecting label width n accept limit =
+      only_if (rules.bits.are_uniform × (width ≤ rules.bits.most) × (1 ≤ limit))
+      (known (uniform_bits_step label width (length.Fixed n)) (λ xs. Some (value.OfBits xs))
+      (drawing_rejecting (rules.bits.uniform width) (rules.accepts_bits accept) limit n) Nothing)
+
+  -- ---- proof of work
+
+  abbrev pub work_in : List ℕ → ℕ → Work S Symbol F
+  work_in label bits =
+      work_of (algebra_step kind.Pow label rules.scalar.algebra (length.Fixed bits)) rules.residues
+      rules.grinding.before_witness rules.grinding.witness rules.bits.plain bits
+
+  abbrev pub is_work : ℕ → Type 0
+  is_work bits = rules.grinding.is_there × (bits ≤ rules.bits.most)
+
+  -- whose witness the proof carries, or the caller
+  abbrev pub sends_work : List ℕ → ℕ → Play S Symbol F EF O
+  sends_work label bits =
+      only_if (is_work bits) (sends_witness (work_in label bits) rules.grinding.is_there rules.witness_encoding
+      rules.grinding.may_run_out (witness_of bits))
+
+  abbrev pub carries_work : List ℕ → ℕ → Play S Symbol F EF O
+  carries_work label bits =
+      only_if (is_work bits) (carries_witness (work_in label bits) rules.grinding.is_there
+      rules.grinding.may_run_out (witness_of bits))
+
+  -- ---- the steps of a script
+
+  abbrev pub play_of : {Su U C K D G It St Sy : Type 0} → script.Step Su F EF U O C K Ac D G It St Sy → Play S Symbol F EF O
+  play_of (step.Begin label kind) = marks Begin label.now kind
+  play_of (step.End label kind) = marks End label.now kind
+  play_of (step.Salt label len) = sends_bytes kind.Salt label.now len
+  play_of (step.Bytes label len) = sends_bytes kind.Message label.now len
+  play_of (step.Hint label len) = hints label.now len
+  play_of (step.BytesBounded label max) = sends_counted_bytes label.now max
+  play_of (step.HintBounded label max) = hints_counted label.now max
+  play_of (step.PublicScalar label x) = knows_one rules.scalar kind.Public label.now x
+  play_of (step.PublicScalars label xs) = knows_list rules.scalar kind.Public label.now xs.items
+  play_of (step.Scalar label) = sends_one rules.scalar scalar_in label.now
+  play_of (step.Scalars label n) = sends_list rules.scalar scalars_in label.now n
+  play_of (step.ScalarsBounded label max) = sends_counted rules.scalar scalars_in label.now max
+  play_of (step.Extension label) = sends_one rules.extension extension_in label.now
+  play_of (step.ObserveExtension label x) = knows_one rules.extension kind.Message label.now x
+  play_of (step.ObserveExtensions label xs) = knows_as_recorded rules.extension kind.Message label.now xs.items
+  play_of (step.ObserveExtensionsBounded label xs max) =
+      knows_counted rules.extension kind.Message label.now xs.items max
+  play_of (step.Opaque label x) = knows_opaque label.now x
+  play_of (step.ChallengeScalar label) = draws_one rules.scalar value.OfScalars label.now
+  play_of (step.ChallengeScalars label n) = draws_list rules.scalar value.OfScalars label.now n
+  play_of (step.ChallengeExtension label) = draws_one rules.extension value.OfExtensions label.now
+  play_of (step.ChallengeExtensions label n) = draws_list rules.extension value.OfExtensions label.now n
+  play_of (step.ChallengeExtensionsRejecting label n accept limit) =
+      draws_extensions_rejecting label.now n accept limit
+  play_of (step.ChallengeBits label width n) =
+      draws_bits (bits_step label.now width (length.Fixed n)) rules.bits.are_there rules.bits.plain width n
+  play_of (step.ChallengeUniformBits label width n) =
+      draws_bits (uniform_bits_step label.now width (length.Fixed n)) rules.bits.are_uniform rules.bits.uniform width n
+  play_of (step.ChallengeUniformBitsRejecting label width n accept limit) =
+      draws_bits_rejecting label.now width n accept limit
+  play_of (step.Pow label bits) = sends_work label.now bits
+  play_of (step.ObservePow label bits) = carries_work label.now bits
+
+-- ---- values, as contracts see them
+
+module _ {Su F EF U O C K Ac D G It St Sy : Type 0} where
+  abbrev pub value_received : Received Su F EF U O C K Ac D G It St Sy → Value F EF
+  value_received (received.Bytes bytes) = value.Bytes bytes.now
+  value_received (received.Scalar x) = value.Scalar x
+  value_received (received.Scalars xs) = value.Scalars xs.items
+  value_received (received.Extension x) = value.Extension x
+  value_received (received.Witness x) = value.Witness x
+
+  abbrev pub value_sent : Sent Su F EF U O C K Ac D G It St Sy → Value F EF
+  value_sent (sent.Bytes bytes) = value.Bytes bytes.items
+  value_sent (sent.Scalar x) = value.Scalar x
+  value_sent (sent.Scalars xs) = value.Scalars xs.items
+  value_sent (sent.Extension x) = value.Extension x
+
+  abbrev pub challenge_of : Drawn Su F EF U O C K Ac D G It St Sy → Challenge F EF
+  challenge_of (drawn.Scalars xs) = value.OfScalars xs.items
+  challenge_of (drawn.Extensions xs) = value.OfExtensions xs.items
+  challenge_of (drawn.Bits xs) = value.OfBits xs.items
+
+  abbrev pub drawn_of : Option (Drawn Su F EF U O C K Ac D G It St Sy) → Option (Challenge F EF)
+  drawn_of None = None
+  drawn_of (Some drawn) = Some (challenge_of drawn)
+
+  abbrev pub received_of : Option (Received Su F EF U O C K Ac D G It St Sy) → List (Value F EF)
+  received_of None = []
+  received_of (Some received) = value_received received ∷ []
+
+  abbrev pub values_received : List (Received Su F EF U O C K Ac D G It St Sy) → List (Value F EF)
+  values_received xs = map value_received xs
+
+  abbrev pub values_sent : List (Sent Su F EF U O C K Ac D G It St Sy) → List (Value F EF)
+  values_sent xs = map value_sent xs
+
+  abbrev pub challenges_of : List (Drawn Su F EF U O C K Ac D G It St Sy) → List (Challenge F EF)
+  challenges_of xs = map challenge_of xs

@@ -1,0 +1,282 @@
+//! The steps that draw, as either side plays them.
+ghost use Rattle.std.specs.Prelude.{◌≡◌, ◌≤◌, ℕ, [], ◌∷◌, IsTrue, IfErr, IfOk, OnOk};
+ghost use Rattle.p3_driver_core.specs.Bound.{bound_value, bound_values};
+ghost use Rattle.p3_driver_core.specs.Driving.{KeepsOrRefuses};
+ghost use Rattle.p3_driver_core.specs.Rejecting.{drawn_rejecting};
+ghost use Rattle.p3_fs_core.specs.declared.step.Kind.TheVariants.{Challenge};
+ghost use Rattle.p3_drivers.specs.Drivers.{driving_of};
+ghost use Rattle.p3_fs_core.specs.declared.step.Length.TheVariants.{Fixed};
+ghost use Rattle.p3_driver_core.specs.Transcripts.{bits_step, uniform_bits_step};
+ghost use Rattle.p3_runs.specs.Stepping.{Halts};
+ghost use Rattle.p3_runs.specs.Values.{OfScalars, OfExtensions};
+ghost use Rattle.p3_script.specs.Draws.{DrawsOrRefuses};
+ghost use Rattle.p3_script.specs.Scripts.{challenge_of, draws_one, draws_list, draws_extensions_rejecting};
+ghost use Rattle.p3_script.specs.Scripts.{draws_bits, draws_bits_rejecting};
+
+use crate::accept::AcceptRule;
+use crate::groups::StepGroup;
+use crate::steps::Drawn;
+use crate::suite::{Meaning, Suite};
+use p3_challenger_core::Sponge;
+use p3_codecs::{Codec, ExtensionFieldCodec};
+use p3_driver_core::TranscriptBound;
+use p3_drivers::{DriverState, Tape};
+use p3_fs_core::{Declared, Label, TranscriptError};
+use p3_symmetric::DigestHasher;
+use std::alloc::Global;
+
+// The values alone, of a list that the transcript has bound. Where memory for them is refused, the driver halts.
+pub fn unbound<T: Copy, C: Sponge, U, D: DigestHasher, P: Tape>(
+    alloc: Global,
+    driver: &mut DriverState<C, U, D, P>,
+    bounds: Vec<TranscriptBound<T>>,
+) -> Result<Vec<T>, TranscriptError>
+    ensures ok { IfOk result (λ values. values.items ≡ bound_values bounds) }
+    ensures same { OnOk result (driving_of C.state P.bytes driver.new ≡ driving_of C.state P.bytes driver.old) }
+    ensures err { IfErr result (λ e. Halts (driving_of C.state P.bytes driver.old) e
+        (driving_of C.state P.bytes driver.new)) }
+{
+    match values_of(alloc, bounds) {
+        Ok(values) => Ok(values),
+        Err(error) => {
+            driver.halt();
+            Err(error)
+        }
+    }
+}
+
+fn values_of<T: Copy>(
+    alloc: Global,
+    bounds: Vec<TranscriptBound<T>>,
+) -> Result<Vec<T>, TranscriptError>
+    ensures ok { IfOk result (λ values. values.items ≡ bound_values bounds) }
+    ensures err { IfErr result (λ e. e ≡ TranscriptError.OutOfMemory) }
+{
+    let bounds: &[TranscriptBound<T>] = bounds.as_slice();
+    let mut values = Vec::with_capacity(alloc, bounds.len())?;
+    for bound in bounds {
+        values.push_reserved(*bound.as_inner());
+    }
+    Ok(values)
+}
+
+// The value alone, as a list. Where memory for it is refused, the driver halts.
+fn unbound_one<T: Copy + Drop, C: Sponge, U, D: DigestHasher, P: Tape>(
+    alloc: Global,
+    driver: &mut DriverState<C, U, D, P>,
+    bound: TranscriptBound<T>,
+) -> Result<Vec<T>, TranscriptError>
+    ensures ok { IfOk result (λ values. values.items ≡ bound_value bound ∷ []) }
+    ensures same { OnOk result (driving_of C.state P.bytes driver.new ≡ driving_of C.state P.bytes driver.old) }
+    ensures err { IfErr result (λ e. Halts (driving_of C.state P.bytes driver.old) e
+        (driving_of C.state P.bytes driver.new)) }
+{
+    match Vec::with_capacity(alloc, 1) {
+        Ok(mut values) => {
+            values.push_reserved(bound.into_inner());
+            Ok(values)
+        }
+        Err(_) => {
+            driver.halt();
+            Err(TranscriptError::OutOfMemory)
+        }
+    }
+}
+
+/// Draws one scalar.
+pub fn draw_scalar<S: Suite, P: Tape>(
+    alloc: Global,
+    driver: &mut DriverState<S::Challenger, S::Unit, S::Digest, P>,
+    label: Label,
+) -> Result<Drawn<S>, TranscriptError>
+    requires { 128 ≤ S.Codec.SECURITY_BITS }
+    ensures { let rules = ⟦<S as Meaning>⟧.rules ⟦<S::Field as Declared<S::Field, S::Digest>>⟧.algebra in
+        DrawsOrRefuses (draws_one rules rules.scalar OfScalars label.now)
+        (driving_of S.Challenger.state P.bytes driver.old) challenge_of result
+        (driving_of S.Challenger.state P.bytes driver.new) }
+{
+    let drawn = driver.challenge_scalar::<S::Field, S::Codec>(label)?;
+    let values = unbound_one(alloc, driver, drawn)?;
+    Ok(Drawn::Scalars(values))
+}
+
+/// Draws so many scalars.
+pub fn draw_scalars<S: Suite, P: Tape>(
+    alloc: Global,
+    driver: &mut DriverState<S::Challenger, S::Unit, S::Digest, P>,
+    label: Label,
+    n: usize,
+) -> Result<Drawn<S>, TranscriptError>
+    requires { 128 ≤ S.Codec.SECURITY_BITS }
+    ensures { let rules = ⟦<S as Meaning>⟧.rules ⟦<S::Field as Declared<S::Field, S::Digest>>⟧.algebra in
+        DrawsOrRefuses (draws_list rules rules.scalar OfScalars label.now n)
+        (driving_of S.Challenger.state P.bytes driver.old) challenge_of result
+        (driving_of S.Challenger.state P.bytes driver.new) }
+{
+    let drawn = driver.challenge_scalars::<S::Field, S::Codec>(label, n)?;
+    let values = unbound(alloc, driver, drawn)?;
+    Ok(Drawn::Scalars(values))
+}
+
+/// Draws one element of the extension.
+pub fn draw_extension<S: Suite, P: Tape>(
+    alloc: Global,
+    driver: &mut DriverState<S::Challenger, S::Unit, S::Digest, P>,
+    label: Label,
+) -> Result<Drawn<S>, TranscriptError>
+    requires { 128 ≤ S.Codec.SECURITY_BITS }
+    ensures { let rules = ⟦<S as Meaning>⟧.rules ⟦<S::Field as Declared<S::Field, S::Digest>>⟧.algebra in
+        DrawsOrRefuses (draws_one rules rules.extension OfExtensions label.now)
+        (driving_of S.Challenger.state P.bytes driver.old) challenge_of result
+        (driving_of S.Challenger.state P.bytes driver.new) }
+{
+    let drawn = driver.challenge_extension::<S::Field, S::Extension, S::Codec>(label)?;
+    let values = unbound_one(alloc, driver, drawn)?;
+    Ok(Drawn::Extensions(values))
+}
+
+/// Draws so many elements of the extension.
+pub fn draw_extensions<S: Suite, P: Tape>(
+    alloc: Global,
+    driver: &mut DriverState<S::Challenger, S::Unit, S::Digest, P>,
+    label: Label,
+    n: usize,
+) -> Result<Drawn<S>, TranscriptError>
+    requires { 128 ≤ S.Codec.SECURITY_BITS }
+    ensures { let rules = ⟦<S as Meaning>⟧.rules ⟦<S::Field as Declared<S::Field, S::Digest>>⟧.algebra in
+        DrawsOrRefuses (draws_list rules rules.extension OfExtensions label.now n)
+        (driving_of S.Challenger.state P.bytes driver.old) challenge_of result
+        (driving_of S.Challenger.state P.bytes driver.new) }
+{
+    let drawn = driver.challenge_extensions::<S::Field, S::Extension, S::Codec>(label, n)?;
+    let values = unbound(alloc, driver, drawn)?;
+    Ok(Drawn::Extensions(values))
+}
+
+/// Draws elements of the extension until the rule has taken so many.
+pub fn draw_extensions_rejecting<S: Suite, P: Tape>(
+    alloc: Global,
+    driver: &mut DriverState<S::Challenger, S::Unit, S::Digest, P>,
+    label: Label,
+    n: usize,
+    accept: &S::Accept,
+    limit: u64,
+) -> Result<Drawn<S>, TranscriptError>
+    requires { 128 ≤ S.Codec.SECURITY_BITS }
+    ensures { let rules = ⟦<S as Meaning>⟧.rules ⟦<S::Field as Declared<S::Field, S::Digest>>⟧.algebra in
+        DrawsOrRefuses (draws_extensions_rejecting rules label.now n accept.now limit)
+        (driving_of S.Challenger.state P.bytes driver.old) challenge_of result
+        (driving_of S.Challenger.state P.bytes driver.new) }
+{
+    let drawn = accepted_extensions::<S, S::Accept, P>(driver, label, n, accept, limit)?;
+    let values = unbound(alloc, driver, drawn)?;
+    Ok(Drawn::Extensions(values))
+}
+
+/// Draws so many numbers of so many bits.
+pub fn draw_bits<S: Suite, P: Tape>(
+    alloc: Global,
+    driver: &mut DriverState<S::Challenger, S::Unit, S::Digest, P>,
+    label: Label,
+    width: usize,
+    n: usize,
+) -> Result<Drawn<S>, TranscriptError>
+    requires has { IsTrue S.Group.HAS_POW }
+    requires within { width ≤ S.Group.most_bits }
+    ensures { let rules = ⟦<S as Meaning>⟧.rules ⟦<S::Field as Declared<S::Field, S::Digest>>⟧.algebra in
+        DrawsOrRefuses (draws_bits rules (bits_step label.now width (Fixed n)) rules.bits.are_there rules.bits.plain width n)
+        (driving_of S.Challenger.state P.bytes driver.old) challenge_of result
+        (driving_of S.Challenger.state P.bytes driver.new) }
+{
+    let drawn = S::Group::challenge_bits(driver, label, width, n)?;
+    let values = unbound(alloc, driver, drawn)?;
+    Ok(Drawn::Bits(values))
+}
+
+/// Draws so many numbers of so many uniform bits.
+pub fn draw_uniform_bits<S: Suite, P: Tape>(
+    alloc: Global,
+    driver: &mut DriverState<S::Challenger, S::Unit, S::Digest, P>,
+    label: Label,
+    width: usize,
+    n: usize,
+) -> Result<Drawn<S>, TranscriptError>
+    requires has { IsTrue S.Group.HAS_UNIFORM }
+    requires within { width ≤ S.Group.most_bits }
+    ensures { let rules = ⟦<S as Meaning>⟧.rules ⟦<S::Field as Declared<S::Field, S::Digest>>⟧.algebra in
+        DrawsOrRefuses (draws_bits rules (uniform_bits_step label.now width (Fixed n)) rules.bits.are_uniform rules.bits.uniform width n)
+        (driving_of S.Challenger.state P.bytes driver.old) challenge_of result
+        (driving_of S.Challenger.state P.bytes driver.new) }
+{
+    let drawn = S::Group::challenge_uniform_bits(driver, label, width, n)?;
+    let values = unbound(alloc, driver, drawn)?;
+    Ok(Drawn::Bits(values))
+}
+
+/// Draws numbers of so many uniform bits until the rule has taken so many.
+pub fn draw_uniform_bits_rejecting<S: Suite, P: Tape>(
+    alloc: Global,
+    driver: &mut DriverState<S::Challenger, S::Unit, S::Digest, P>,
+    label: Label,
+    width: usize,
+    n: usize,
+    accept: &S::Accept,
+    limit: u64,
+) -> Result<Drawn<S>, TranscriptError>
+    requires has { IsTrue S.Group.HAS_UNIFORM }
+    requires within { width ≤ S.Group.most_bits }
+    ensures { let rules = ⟦<S as Meaning>⟧.rules ⟦<S::Field as Declared<S::Field, S::Digest>>⟧.algebra in
+        DrawsOrRefuses (draws_bits_rejecting rules label.now width n accept.now limit)
+        (driving_of S.Challenger.state P.bytes driver.old) challenge_of result
+        (driving_of S.Challenger.state P.bytes driver.new) }
+{
+    let drawn = accepted_bits::<S, S::Accept, P>(driver, label, width, n, accept, limit)?;
+    let values = unbound(alloc, driver, drawn)?;
+    Ok(Drawn::Bits(values))
+}
+
+// Draws elements of the extension until the rule has taken so many, as the driver does.
+fn accepted_extensions<S: Suite, A: AcceptRule<S::Extension>, P: Tape>(
+    driver: &mut DriverState<S::Challenger, S::Unit, S::Digest, P>,
+    label: Label,
+    n: usize,
+    accept: &A,
+    limit: u64,
+) -> Result<Vec<TranscriptBound<S::Extension>>, TranscriptError>
+    requires { 128 ≤ S.Codec.SECURITY_BITS }
+    ensures { let codec = ⟦<ExtensionFieldCodec<S::Field, S::Extension, S::Codec> as Codec<S::Challenger, S::Extension>>⟧ in
+        KeepsOrRefuses (drawn_rejecting {Symbol = S.Challenger.Symbol}
+        (⟦<S::Extension as Declared<S::Field, S::Digest>>⟧.step Challenge label.now (Fixed n)) codec.sampling
+        (A.rule accept.now) limit n)
+        (driving_of S.Challenger.state P.bytes driver.old) bound_values result
+        (driving_of S.Challenger.state P.bytes driver.new) }
+{
+    let asked = |candidate: &S::Extension, kept: &[S::Extension]| -> bool
+        ensures { result ≡ A.rule accept.entry.now candidate.now kept.now }
+    { accept.accepts(candidate, kept) };
+    driver.challenge_extensions_rejecting::<S::Field, S::Extension, S::Codec, _>(
+        label, n, &asked, limit,
+    )
+}
+
+// Draws numbers of so many uniform bits until the rule has taken so many, as the driver does.
+fn accepted_bits<S: Suite, A: AcceptRule<usize>, P: Tape>(
+    driver: &mut DriverState<S::Challenger, S::Unit, S::Digest, P>,
+    label: Label,
+    width: usize,
+    n: usize,
+    accept: &A,
+    limit: u64,
+) -> Result<Vec<TranscriptBound<usize>>, TranscriptError>
+    requires has { IsTrue S.Group.HAS_UNIFORM }
+    requires within { width ≤ S.Group.most_bits }
+    ensures { KeepsOrRefuses (drawn_rejecting {Symbol = S.Challenger.Symbol}
+        (uniform_bits_step label.now width (Fixed n)) (S.Group.uniform_draws width) (A.rule accept.now) limit n)
+        (driving_of S.Challenger.state P.bytes driver.old) bound_values result
+        (driving_of S.Challenger.state P.bytes driver.new) }
+{
+    let asked = |candidate: usize, kept: &[usize]| -> bool
+        ensures { result ≡ A.rule accept.entry.now candidate kept.now }
+    { accept.accepts(&candidate, kept) };
+    S::Group::challenge_uniform_bits_rejecting(driver, label, width, n, &asked, limit)
+}

@@ -1,0 +1,562 @@
+//! The groups of steps that a challenger may have beside the plain ones: bits and proofs of work, and uniform bits.
+ghost use Rattle.std.specs.Prelude.{◌≡◌, ◌≤◌, ℕ, Bool, true, false, IsTrue, IsErr, IfOk, IfErr};
+ghost use Rattle.p3_challenger_core.specs.Observation.{Observation};
+ghost use Rattle.p3_challenger_core.specs.Reading.{TellsApart};
+ghost use Rattle.p3_challenger_core.specs.Sampling.{Sampling};
+ghost use Rattle.p3_driver_core.specs.Bound.{bound_values};
+ghost use Rattle.p3_driver_core.specs.Driving.{KeepsOrRefuses};
+ghost use Rattle.p3_driver_core.specs.Effects.{drawing_list};
+ghost use Rattle.p3_driver_core.specs.Meanings as meaning;
+ghost use Rattle.p3_driver_core.specs.Proving.{GrindsAndWrites, GrindsAndKeeps};
+ghost use Rattle.p3_driver_core.specs.Rejecting.{Rule, ComputesOfValues, drawn_rejecting, drawing_rejecting};
+ghost use Rattle.p3_driver_core.specs.Transcripts.{PlaysOrRefuses, bits_step, uniform_bits_step};
+ghost use Rattle.p3_driver_core.specs.Verifying.{ReceivesWork, ChecksAndKeeps};
+ghost use Rattle.p3_driver_core.specs.Reads.{received_work};
+ghost use Rattle.p3_driver_core.specs.Working.{work_of, sent_work};
+ghost use Rattle.p3_drivers.specs.Drivers.{driving_of, proving_of, verifying_of};
+ghost use Rattle.p3_fs_core.specs.Scalar.{encoding};
+ghost use Rattle.p3_fs_core.specs.Steps.{Step};
+ghost use Rattle.p3_step_laws.specs.Completeness.{CompletesWork, CompletesCarriedWork};
+ghost use Rattle.p3_step_laws.specs.Limits.{TellsLimits};
+ghost use Rattle.p3_step_laws.specs.Spelled.{OnlyReads, AnyValue};
+
+use p3_challenger_core::{CanSampleBits, Sponge};
+use p3_driver_core::TranscriptBound;
+use p3_drivers::{DriverState, ProverState, Tape, VerifierState};
+use p3_field_core::ScalarField;
+use p3_fs_core::{Declared, Kind, Label, Length, PatternError, TranscriptError};
+use p3_grinding::{CanSampleUniformBits, GrindingChallenger};
+use p3_step_laws::{
+    bit_draws_tell_limits, carried_work_agrees, read_work_is_spelled, sent_work_is_received,
+    uniform_draws_tell_limits,
+};
+use p3_symmetric::DigestHasher;
+
+/// A group of steps that a challenger has beside the plain ones: for each of them a function that calls the driver's
+/// method. Not in the Rust crate.
+///
+/// There are three: [`Plain`], [`BitsPow`] and [`Both`].
+pub trait StepGroup<C: Sponge, F: ScalarField> {
+    /// It has steps of bits and of proof of work.
+    const HAS_POW: bool;
+
+    ghost HAS_POW: { Bool };
+
+    /// It has steps of uniform bits.
+    const HAS_UNIFORM: bool;
+
+    ghost HAS_UNIFORM: { Bool };
+
+    // The most bits of one draw, and how so many bits are drawn, and so many uniform ones.
+    ghost most_bits: { ℕ };
+
+    ghost bit_draws: { ℕ → Sampling C.State ℕ };
+
+    ghost uniform_draws: { ℕ → Sampling C.State ℕ };
+
+    // What is drawn before a witness is observed, how it is, and from where a search for one may run out of memory.
+    ghost before_witness: { Sampling C.State (Unit {0}) };
+
+    ghost witness: { Observation C.State C.Symbol F };
+
+    ghost may_run_out: { C.State → Type 0 };
+
+    /// The most bits of one draw.
+    fn max_bits() -> usize
+        ensures { result ≡ most_bits };
+
+    /// Draws `n` numbers of `width` bits, on either side.
+    ///
+    /// Conditions: the group has bits, and `width` is at most [`max_bits`](StepGroup::max_bits).
+    fn challenge_bits<U, D: DigestHasher, P: Tape>(
+        driver: &mut DriverState<C, U, D, P>,
+        label: Label,
+        width: usize,
+        n: usize,
+    ) -> Result<Vec<TranscriptBound<usize>>, TranscriptError>
+        requires has { IsTrue HAS_POW }
+        requires within { width ≤ most_bits }
+        ensures { KeepsOrRefuses (meaning.drawn_list {Symbol = C.Symbol}
+            (bits_step label.now width (Length.Fixed n)) (bit_draws width) n)
+            (driving_of C.state P.bytes driver.old) bound_values result (driving_of C.state P.bytes driver.new) };
+
+    /// Draws `n` numbers of `width` uniform bits, on either side.
+    ///
+    /// Conditions: the group has uniform bits, and `width` is at most [`max_bits`](StepGroup::max_bits).
+    fn challenge_uniform_bits<U, D: DigestHasher, P: Tape>(
+        driver: &mut DriverState<C, U, D, P>,
+        label: Label,
+        width: usize,
+        n: usize,
+    ) -> Result<Vec<TranscriptBound<usize>>, TranscriptError>
+        requires has { IsTrue HAS_UNIFORM }
+        requires within { width ≤ most_bits }
+        ensures { KeepsOrRefuses (meaning.drawn_list {Symbol = C.Symbol}
+            (uniform_bits_step label.now width (Length.Fixed n)) (uniform_draws width) n)
+            (driving_of C.state P.bytes driver.old) bound_values result (driving_of C.state P.bytes driver.new) };
+
+    /// Draws numbers of `width` uniform bits until the rule has taken `n`, on either side.
+    ///
+    /// Conditions: the group has uniform bits, `width` is at most [`max_bits`](StepGroup::max_bits), and the rule may be
+    /// asked at any time.
+    fn challenge_uniform_bits_rejecting<
+        U,
+        D: DigestHasher,
+        P: Tape,
+        R: Fn(usize, &[usize]) -> bool,
+    >(
+        driver: &mut DriverState<C, U, D, P>,
+        label: Label,
+        width: usize,
+        n: usize,
+        accept: &R,
+        limit: u64,
+    ) -> Result<Vec<TranscriptBound<usize>>, TranscriptError>
+        requires has { IsTrue HAS_UNIFORM }
+        requires within { width ≤ most_bits }
+        requires callable { R.IsAlwaysCallable accept.now }
+        ensures played { (rule : Rule ℕ) → ComputesOfValues R.Fn accept.now rule → PlaysOrRefuses
+            (drawn_rejecting {Symbol = C.Symbol} (uniform_bits_step label.now width (Length.Fixed n))
+            (uniform_draws width) rule limit n)
+            (driving_of C.state P.bytes driver.old).transcript bound_values result
+            (driving_of C.state P.bytes driver.new).transcript }
+        ensures kept { (driving_of C.state P.bytes driver.new).bytes
+            ≡ (driving_of C.state P.bytes driver.old).bytes };
+
+    /// A prover searches for a witness, and sends it.
+    ///
+    /// Conditions: the group has proof of work, and `bits` is at most [`max_bits`](StepGroup::max_bits).
+    fn pow<U, D: DigestHasher>(
+        prover: &mut ProverState<C, U, D>,
+        label: Label,
+        bits: usize,
+    ) -> Result<(), TranscriptError>
+        requires has { IsTrue HAS_POW }
+        requires within { bits ≤ most_bits }
+        ensures { let step = ⟦<F as Declared<F, D>>⟧.step Kind.Pow label.now (Length.Fixed bits) in
+            GrindsAndWrites (work_of step F.residues before_witness witness bit_draws bits)
+            (encoding F.residues F.bit_length) may_run_out
+            (proving_of C.state prover.old) result (proving_of C.state prover.new) };
+
+    /// A prover searches for a witness, and answers it.
+    ///
+    /// Conditions: the group has proof of work, and `bits` is at most [`max_bits`](StepGroup::max_bits).
+    fn observe_pow<U, D: DigestHasher>(
+        prover: &mut ProverState<C, U, D>,
+        label: Label,
+        bits: usize,
+    ) -> Result<F, TranscriptError>
+        requires has { IsTrue HAS_POW }
+        requires within { bits ≤ most_bits }
+        ensures { let step = ⟦<F as Declared<F, D>>⟧.step Kind.Pow label.now (Length.Fixed bits) in
+            GrindsAndKeeps (work_of step F.residues before_witness witness bit_draws bits) may_run_out
+            (proving_of C.state prover.old) (λ x. x) result (proving_of C.state prover.new) };
+
+    /// A verifier reads a witness, and checks it.
+    ///
+    /// Conditions: the group has proof of work, and `bits` is at most [`max_bits`](StepGroup::max_bits).
+    fn check_pow<U, D: DigestHasher>(
+        verifier: &mut VerifierState<'_, C, U, D>,
+        label: Label,
+        bits: usize,
+    ) -> Result<(), TranscriptError>
+        requires has { IsTrue HAS_POW }
+        requires within { bits ≤ most_bits }
+        ensures { let step = ⟦<F as Declared<F, D>>⟧.step Kind.Pow label.now (Length.Fixed bits) in
+            ReceivesWork (work_of step F.residues before_witness witness bit_draws bits)
+            (encoding F.residues F.bit_length)
+            (verifying_of C.state verifier.old) result (verifying_of C.state verifier.new) };
+
+    /// A verifier checks a witness that its caller carries.
+    ///
+    /// Conditions: the group has proof of work, and `bits` is at most [`max_bits`](StepGroup::max_bits).
+    fn check_carried_pow<U, D: DigestHasher>(
+        verifier: &mut VerifierState<'_, C, U, D>,
+        label: Label,
+        bits: usize,
+        carried: F,
+    ) -> Result<(), TranscriptError>
+        requires has { IsTrue HAS_POW }
+        requires within { bits ≤ most_bits }
+        ensures { let step = ⟦<F as Declared<F, D>>⟧.step Kind.Pow label.now (Length.Fixed bits) in
+            ChecksAndKeeps (work_of step F.residues before_witness witness bit_draws bits) carried
+            (verifying_of C.state verifier.old) result (verifying_of C.state verifier.new) };
+
+    /// Draws of bits and checks of work are refused for the draw limit only where it is met, and a witness that a prover
+    /// has found passes. A law: the body does nothing.
+    fn steps_are_lawful()
+        ensures bits { IsTrue HAS_POW → (width n : ℕ) →
+            TellsLimits {Symbol = C.Symbol} (drawing_list (bit_draws width) n) }
+        ensures uniform { IsTrue HAS_UNIFORM → (width n : ℕ) →
+            TellsLimits {Symbol = C.Symbol} (drawing_list (uniform_draws width) n) }
+        ensures rejecting { IsTrue HAS_UNIFORM → (width : ℕ) (rule : Rule ℕ) (limit n : ℕ) →
+            TellsLimits {Symbol = C.Symbol} (drawing_rejecting (uniform_draws width) rule limit n) }
+        ensures read { IsTrue HAS_POW → (step : Step) (bits : ℕ) (x : F) →
+            CompletesWork (work_of step F.residues before_witness witness bit_draws bits)
+            (encoding F.residues F.bit_length) x }
+        ensures spelled { IsTrue HAS_POW → (step : Step) (bits : ℕ) →
+            let work = work_of step F.residues before_witness witness bit_draws bits in
+            OnlyReads (received_work work (encoding F.residues F.bit_length)) AnyValue
+            (sent_work work (encoding F.residues F.bit_length)) }
+        ensures carried { IsTrue HAS_POW → (step : Step) (bits : ℕ) (x : F) →
+            CompletesCarriedWork (work_of step F.residues before_witness witness bit_draws bits) x };
+
+    // What witnesses feed tells them apart.
+    ghost tells_witnesses: { IsTrue HAS_POW → TellsApart witness.symbols };
+}
+
+/// The plain steps alone: no bits, no proof of work. Not in the Rust crate.
+#[derive(Clone, Copy, Debug)]
+pub struct Plain;
+
+impl<C: Sponge, F: ScalarField> StepGroup<C, F> for Plain {
+    ghost use Rattle.std.specs.Prelude.{Some, []};
+    ghost use Rattle.p3_script.specs.GroupLaws.{not_there};
+    ghost use Rattle.p3_challenger_core.specs.Observation.{unrefused_observe};
+    ghost use Rattle.p3_challenger_core.specs.Sampling.{unrefused_draw};
+
+    const HAS_POW: bool = false;
+
+    ghost HAS_POW = { false };
+
+    const HAS_UNIFORM: bool = false;
+
+    ghost HAS_UNIFORM = { false };
+
+    ghost most_bits = { 0 };
+
+    ghost bit_draws = { λ _. unrefused_draw (λ _. Some 0) (λ s. s) };
+
+    ghost uniform_draws = { λ _. unrefused_draw (λ _. Some 0) (λ s. s) };
+
+    ghost before_witness = { unrefused_draw (λ _. Some tt) (λ s. s) };
+
+    ghost witness = { unrefused_observe (λ _. []) (λ s _. s) };
+
+    ghost may_run_out = { λ _. ⊥ };
+
+    ghost tells_witnesses = { not_there };
+
+    fn max_bits() -> usize {
+        0
+    }
+
+    fn challenge_bits<U, D: DigestHasher, P: Tape>(
+        driver: &mut DriverState<C, U, D, P>,
+        _label: Label,
+        _width: usize,
+        _n: usize,
+    ) -> Result<Vec<TranscriptBound<usize>>, TranscriptError>
+        ensures same { driver.new ≡ driver.old }
+        ensures refused { IsErr result }
+    {
+        Err(TranscriptError::Pattern(PatternError::Finished))
+    }
+
+    fn challenge_uniform_bits<U, D: DigestHasher, P: Tape>(
+        driver: &mut DriverState<C, U, D, P>,
+        _label: Label,
+        _width: usize,
+        _n: usize,
+    ) -> Result<Vec<TranscriptBound<usize>>, TranscriptError>
+        ensures same { driver.new ≡ driver.old }
+        ensures refused { IsErr result }
+    {
+        Err(TranscriptError::Pattern(PatternError::Finished))
+    }
+
+    fn challenge_uniform_bits_rejecting<
+        U,
+        D: DigestHasher,
+        P: Tape,
+        R: Fn(usize, &[usize]) -> bool,
+    >(
+        driver: &mut DriverState<C, U, D, P>,
+        _label: Label,
+        _width: usize,
+        _n: usize,
+        _accept: &R,
+        _limit: u64,
+    ) -> Result<Vec<TranscriptBound<usize>>, TranscriptError>
+        ensures same { driver.new ≡ driver.old }
+        ensures refused { IsErr result }
+    {
+        Err(TranscriptError::Pattern(PatternError::Finished))
+    }
+
+    fn pow<U, D: DigestHasher>(
+        prover: &mut ProverState<C, U, D>,
+        _label: Label,
+        _bits: usize,
+    ) -> Result<(), TranscriptError>
+        ensures same { prover.new ≡ prover.old }
+        ensures refused { IsErr result }
+    {
+        Err(TranscriptError::Pattern(PatternError::Finished))
+    }
+
+    fn observe_pow<U, D: DigestHasher>(
+        prover: &mut ProverState<C, U, D>,
+        _label: Label,
+        _bits: usize,
+    ) -> Result<F, TranscriptError>
+        ensures same { prover.new ≡ prover.old }
+        ensures refused { IsErr result }
+    {
+        Err(TranscriptError::Pattern(PatternError::Finished))
+    }
+
+    fn check_pow<U, D: DigestHasher>(
+        verifier: &mut VerifierState<'_, C, U, D>,
+        _label: Label,
+        _bits: usize,
+    ) -> Result<(), TranscriptError>
+        ensures same { verifier.new ≡ verifier.old }
+        ensures refused { IsErr result }
+    {
+        Err(TranscriptError::Pattern(PatternError::Finished))
+    }
+
+    fn check_carried_pow<U, D: DigestHasher>(
+        verifier: &mut VerifierState<'_, C, U, D>,
+        _label: Label,
+        _bits: usize,
+        _carried: F,
+    ) -> Result<(), TranscriptError>
+        ensures same { verifier.new ≡ verifier.old }
+        ensures refused { IsErr result }
+    {
+        Err(TranscriptError::Pattern(PatternError::Finished))
+    }
+
+    fn steps_are_lawful() {}
+}
+
+/// The plain steps, bits and proofs of work. Not in the Rust crate.
+#[derive(Clone, Copy, Debug)]
+pub struct BitsPow;
+
+impl<C: GrindingChallenger + Drop> StepGroup<C, C::Witness> for BitsPow
+where
+    C::Witness: ScalarField,
+{
+    ghost use Rattle.std.specs.Prelude.{Some};
+    ghost use Rattle.p3_challenger_core.specs.Sampling.{unrefused_draw};
+
+    const HAS_POW: bool = true;
+
+    ghost HAS_POW = { true };
+
+    const HAS_UNIFORM: bool = false;
+
+    ghost HAS_UNIFORM = { false };
+
+    ghost most_bits = { C.most_bits };
+
+    ghost bit_draws = { C.bits_sampling };
+
+    ghost uniform_draws = { λ _. unrefused_draw (λ _. Some 0) (λ s. s) };
+
+    ghost before_witness = { C.before_witness };
+
+    ghost witness = { C.observation };
+
+    ghost may_run_out = { C.may_run_out };
+
+    ghost tells_witnesses = { λ _. C.tells_witnesses };
+
+    fn max_bits() -> usize {
+        C::max_bits()
+    }
+
+    fn challenge_bits<U, D: DigestHasher, P: Tape>(
+        driver: &mut DriverState<C, U, D, P>,
+        label: Label,
+        width: usize,
+        n: usize,
+    ) -> Result<Vec<TranscriptBound<usize>>, TranscriptError> {
+        driver.challenge_bits(label, width, n)
+    }
+
+    fn pow<U, D: DigestHasher>(
+        prover: &mut ProverState<C, U, D>,
+        label: Label,
+        bits: usize,
+    ) -> Result<(), TranscriptError> {
+        prover.pow(label, bits)
+    }
+
+    fn observe_pow<U, D: DigestHasher>(
+        prover: &mut ProverState<C, U, D>,
+        label: Label,
+        bits: usize,
+    ) -> Result<C::Witness, TranscriptError> {
+        prover.observe_pow(label, bits)
+    }
+
+    fn check_pow<U, D: DigestHasher>(
+        verifier: &mut VerifierState<'_, C, U, D>,
+        label: Label,
+        bits: usize,
+    ) -> Result<(), TranscriptError> {
+        verifier.check_pow(label, bits)
+    }
+
+    fn check_carried_pow<U, D: DigestHasher>(
+        verifier: &mut VerifierState<'_, C, U, D>,
+        label: Label,
+        bits: usize,
+        carried: C::Witness,
+    ) -> Result<(), TranscriptError> {
+        verifier.observe_pow(label, bits, carried)
+    }
+
+    fn challenge_uniform_bits<U, D: DigestHasher, P: Tape>(
+        driver: &mut DriverState<C, U, D, P>,
+        _label: Label,
+        _width: usize,
+        _n: usize,
+    ) -> Result<Vec<TranscriptBound<usize>>, TranscriptError>
+        ensures same { driver.new ≡ driver.old }
+        ensures refused { IsErr result }
+    {
+        Err(TranscriptError::Pattern(PatternError::Finished))
+    }
+
+    fn challenge_uniform_bits_rejecting<
+        U,
+        D: DigestHasher,
+        P: Tape,
+        R: Fn(usize, &[usize]) -> bool,
+    >(
+        driver: &mut DriverState<C, U, D, P>,
+        _label: Label,
+        _width: usize,
+        _n: usize,
+        _accept: &R,
+        _limit: u64,
+    ) -> Result<Vec<TranscriptBound<usize>>, TranscriptError>
+        ensures same { driver.new ≡ driver.old }
+        ensures refused { IsErr result }
+    {
+        Err(TranscriptError::Pattern(PatternError::Finished))
+    }
+
+    fn steps_are_lawful() {
+        bit_draws_tell_limits::<C>();
+        sent_work_is_received::<C>();
+        read_work_is_spelled::<C>();
+        carried_work_agrees::<C>();
+    }
+}
+
+/// The plain steps, bits and proofs of work, and uniform bits. Not in the Rust crate.
+#[derive(Clone, Copy, Debug)]
+pub struct Both;
+
+impl<C: GrindingChallenger + CanSampleUniformBits<C::Witness> + Drop> StepGroup<C, C::Witness>
+    for Both
+where
+    C::Witness: ScalarField,
+{
+    const HAS_POW: bool = true;
+
+    ghost HAS_POW = { true };
+
+    const HAS_UNIFORM: bool = true;
+
+    ghost HAS_UNIFORM = { true };
+
+    ghost most_bits = { C.most_bits };
+
+    ghost bit_draws = { C.bits_sampling };
+
+    ghost uniform_draws = { λ width. (C.uniform true width).draw };
+
+    ghost before_witness = { C.before_witness };
+
+    ghost witness = { C.observation };
+
+    ghost may_run_out = { C.may_run_out };
+
+    ghost tells_witnesses = { λ _. C.tells_witnesses };
+
+    fn max_bits() -> usize {
+        C::max_bits()
+    }
+
+    fn challenge_bits<U, D: DigestHasher, P: Tape>(
+        driver: &mut DriverState<C, U, D, P>,
+        label: Label,
+        width: usize,
+        n: usize,
+    ) -> Result<Vec<TranscriptBound<usize>>, TranscriptError> {
+        driver.challenge_bits(label, width, n)
+    }
+
+    fn pow<U, D: DigestHasher>(
+        prover: &mut ProverState<C, U, D>,
+        label: Label,
+        bits: usize,
+    ) -> Result<(), TranscriptError> {
+        prover.pow(label, bits)
+    }
+
+    fn observe_pow<U, D: DigestHasher>(
+        prover: &mut ProverState<C, U, D>,
+        label: Label,
+        bits: usize,
+    ) -> Result<C::Witness, TranscriptError> {
+        prover.observe_pow(label, bits)
+    }
+
+    fn check_pow<U, D: DigestHasher>(
+        verifier: &mut VerifierState<'_, C, U, D>,
+        label: Label,
+        bits: usize,
+    ) -> Result<(), TranscriptError> {
+        verifier.check_pow(label, bits)
+    }
+
+    fn check_carried_pow<U, D: DigestHasher>(
+        verifier: &mut VerifierState<'_, C, U, D>,
+        label: Label,
+        bits: usize,
+        carried: C::Witness,
+    ) -> Result<(), TranscriptError> {
+        verifier.observe_pow(label, bits, carried)
+    }
+
+    fn challenge_uniform_bits<U, D: DigestHasher, P: Tape>(
+        driver: &mut DriverState<C, U, D, P>,
+        label: Label,
+        width: usize,
+        n: usize,
+    ) -> Result<Vec<TranscriptBound<usize>>, TranscriptError> {
+        driver.challenge_uniform_bits::<C::Witness>(label, width, n)
+    }
+
+    fn challenge_uniform_bits_rejecting<
+        U,
+        D: DigestHasher,
+        P: Tape,
+        R: Fn(usize, &[usize]) -> bool,
+    >(
+        driver: &mut DriverState<C, U, D, P>,
+        label: Label,
+        width: usize,
+        n: usize,
+        accept: &R,
+        limit: u64,
+    ) -> Result<Vec<TranscriptBound<usize>>, TranscriptError> {
+        driver.challenge_uniform_bits_rejecting::<C::Witness, R>(label, width, n, accept, limit)
+    }
+
+    fn steps_are_lawful() {
+        bit_draws_tell_limits::<C>();
+        uniform_draws_tell_limits::<C::Witness, C>();
+        sent_work_is_received::<C>();
+        read_work_is_spelled::<C>();
+        carried_work_agrees::<C>();
+    }
+}

@@ -1,0 +1,67 @@
+//! The laws of the steps of scripts.
+ghost use Rattle.p3_challenger_core.specs.Reading.{IsPrefixCode};
+ghost use Rattle.p3_script.specs.ScriptLaws.{AreAllCanonical, AreTakenWherePossible, AreSentWherePossible};
+
+use crate::groups::StepGroup;
+use crate::suite::{Meaning, Suite};
+use p3_challenger_core::Sponge;
+use p3_codecs::{Codec, ExtensionFieldCodec};
+use p3_fs_core::Declared;
+use p3_step_laws::{
+    bytes_tell_limits, carried_lists_are_let_through, draws_tell_limits, only_memory_refuses_hints,
+    only_memory_refuses_sent_bytes, only_memory_refuses_sent_values, opaque_values_tell_limits,
+    values_tell_limits,
+};
+
+/// What holds of every step of every script of a suite: its bytes and its carried witness tell its value, and where it
+/// may be played each side refuses it for want of memory alone.
+///
+/// A law: the body calls laws alone, and a caller cites the clauses. Not in the Rust crate.
+pub fn script_steps_are_lawful<S: Suite>()
+    ensures canonical { let rules = ⟦<S as Meaning>⟧.rules ⟦<S::Field as Declared<S::Field, S::Digest>>⟧.algebra in
+        AreAllCanonical S S.Unit S.Challenger S.Codec S.Digest S.Group S.Unit.Item S.Challenger.State
+        S.Challenger.Symbol rules }
+    ensures taken { let rules = ⟦<S as Meaning>⟧.rules ⟦<S::Field as Declared<S::Field, S::Digest>>⟧.algebra in
+        AreTakenWherePossible S S.Unit S.Challenger S.Codec S.Digest S.Group S.Unit.Item S.Challenger.State
+        S.Challenger.Symbol rules }
+    ensures sent { let rules = ⟦<S as Meaning>⟧.rules ⟦<S::Field as Declared<S::Field, S::Digest>>⟧.algebra in
+        AreSentWherePossible S S.Unit S.Challenger S.Codec S.Digest S.Group S.Unit.Item S.Challenger.State
+        S.Challenger.Symbol rules }
+{
+    values_are_a_code::<
+        S::Extension,
+        S::Challenger,
+        ExtensionFieldCodec<S::Field, S::Extension, S::Codec>,
+    >();
+    values_tell_limits::<S::Field, S::Unit, S::Challenger, S::Codec>();
+    values_tell_limits::<
+        S::Extension,
+        S::Unit,
+        S::Challenger,
+        ExtensionFieldCodec<S::Field, S::Extension, S::Codec>,
+    >();
+    draws_tell_limits::<S::Field, S::Challenger, S::Codec>();
+    draws_tell_limits::<
+        S::Extension,
+        S::Challenger,
+        ExtensionFieldCodec<S::Field, S::Extension, S::Codec>,
+    >();
+    only_memory_refuses_sent_values::<S::Field, S::Unit, S::Challenger, S::Codec>();
+    only_memory_refuses_sent_values::<
+        S::Extension,
+        S::Unit,
+        S::Challenger,
+        ExtensionFieldCodec<S::Field, S::Extension, S::Codec>,
+    >();
+    opaque_values_tell_limits::<S::Opaque, S::Challenger>();
+    bytes_tell_limits::<S::Unit, S::Challenger>();
+    only_memory_refuses_sent_bytes::<S::Unit, S::Challenger>();
+    only_memory_refuses_hints::<S::Challenger>();
+    carried_lists_are_let_through::<S::Challenger>();
+    S::Group::steps_are_lawful();
+}
+
+// The spellings of values are a prefix code.
+fn values_are_a_code<A, C: Sponge, Cdc: Codec<C, A>>()
+    ensures { IsPrefixCode Cdc.encoding.wire }
+{}

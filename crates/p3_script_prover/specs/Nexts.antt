@@ -1,0 +1,82 @@
+-- The next step of a script, as a prover plays it with the values that it is handed.
+use Rattle.std.specs.Borrow.{Bor}
+use Rattle.std.specs.Prelude.{◌≡◌, ℕ, ◌+◌, List, [], ◌++◌, ◌⊎◌, drop, slice_get, Option, Some, None, Result, MatchResult}
+use Rattle.p3_fs_core.specs.declared.error.TranscriptError.{TranscriptError}
+use Rattle.p3_domain_separator.specs.declared.domain_separator.DomainSeparator.{DomainSeparator}
+use Rattle.p3_driver_core.specs.Driving.{Driving}
+use Rattle.p3_runs.specs.Fronts.{Run}
+use Rattle.p3_runs.specs.Plays.{Play}
+use Rattle.p3_runs.specs.Plays as place
+use Rattle.p3_runs.specs.ProverOutcomes.{IsProverOutcome, where_carried}
+use Rattle.p3_runs.specs.Rules.{Rules}
+use Rattle.p3_runs.specs.Runs.{if_sent, if_drawn}
+use Rattle.p3_runs.specs.Stepping.{Sends, Halts, one_of}
+use Rattle.p3_runs.specs.Values.{Value, Challenge, Nothing}
+use Rattle.p3_runs.specs.Verdicts.{with_steps}
+use Rattle.p3_script_prover.specs.declared.proving.Standing.{Standing}
+use Rattle.p3_script_prover.specs.declared.proving.Standing.TheVariants as standing
+
+-- where the value of a step stands, and that nothing is handed for it, if it is not sent
+abbrev pub Stands : {S Symbol F EF O : Type 0} → Play S Symbol F EF O → Standing → Type 0
+Stands play standing.Nowhere = (play.place ≡ place.Nowhere) × play.sides.IsHanded Nothing
+Stands play standing.Sent = play.place ≡ place.Sent
+Stands play standing.Found = (play.place ≡ place.Found) × play.sides.IsHanded Nothing
+Stands play standing.Carried = (play.place ≡ place.Carried) × play.sides.IsHanded Nothing
+
+pub record StandsSo {S Symbol F EF O : Type 0} (play : Play S Symbol F EF O) (standing : Standing) : Type 0 where
+  pub so : Stands play standing
+
+-- a witness, where the caller carries it
+abbrev pub carried_at : {A : Type 0} → Standing → List A → List A
+carried_at standing.Nowhere xs = []
+carried_at standing.Sent xs = []
+carried_at standing.Found xs = []
+carried_at standing.Carried xs = xs
+
+-- what is lent, if anything is
+abbrev pub lent : {A : Type 0} → Option (Bor A) → Option A
+lent None = None
+lent (Some x) = Some x.now
+
+-- for a step whose value stands so this is handed: the value at the place, or nothing
+abbrev pub IsGivenAt : {A : Type 0} → Standing → List A → ℕ → Option (Bor A) → Type 0
+IsGivenAt standing.Nowhere sent at given = given ≡ None
+IsGivenAt standing.Sent sent at given = lent given ≡ slice_get sent at
+IsGivenAt standing.Found sent at given = given ≡ None
+IsGivenAt standing.Carried sent at given = given ≡ None
+
+-- the place of the next value, once this was handed
+abbrev pub next_place : {A : Type 0} → ℕ → Option (Bor A) → ℕ
+next_place at None = at
+next_place at (Some x) = at + 1
+
+-- The step is played with what is handed for it, the first value that was not used yet or nothing: what comes of it is
+-- kept, and the values after it are not used yet.
+pub record PlaysNext {S Symbol F EF O : Type 0} (play : Play S Symbol F EF O) (sent : List (Value F EF)) (j k : ℕ)
+    (here there : Driving S) (witnesses0 witnesses1 carried0 carried1 : List F)
+    (drawn0 drawn1 : List (Challenge F EF)) : Type 0 where
+  pub given : Value F EF
+  pub witness : Option F
+  pub drawn : Option (Challenge F EF)
+  pub used : drop j sent ≡ if_sent play.place given ++ drop k sent
+  pub sends : Sends play (if_sent play.place given) here witness drawn there
+  pub witnesses_is : witnesses1 ≡ witnesses0 ++ one_of witness
+  pub carried_is : carried1 ≡ carried0 ++ where_carried play.place (one_of witness)
+  pub drawn_is : drawn1 ≡ drawn0 ++ if_drawn (Some drawn)
+
+-- It is refused with what is handed for it, or memory was refused for what comes of it.
+pub record RefusesNext {S Symbol F EF O : Type 0} (play : Play S Symbol F EF O) (sent : List (Value F EF)) (j : ℕ)
+    (here : Driving S) (e : TranscriptError) (there : Driving S) : Type 0 where
+  pub given : Value F EF
+  pub unused : List (Value F EF)
+  pub used : drop j sent ≡ if_sent play.place given ++ unused
+  pub handed : play.sides.IsHanded given
+  pub refuses : play.sides.prover given here e there ⊎ Halts here e there
+
+pub record NextOrRefuses {S Symbol F EF O R : Type 0} (play : Play S Symbol F EF O) (sent : List (Value F EF)) (j : ℕ)
+    (here : Driving S) (witnesses0 carried0 : List F) (drawn0 : List (Challenge F EF))
+    (result : Result R TranscriptError) (k : ℕ) (there : Driving S) (witnesses1 carried1 : List F)
+    (drawn1 : List (Challenge F EF)) : Type 0 where
+  pub comes : MatchResult result
+      (λ _. PlaysNext play sent j k here there witnesses0 witnesses1 carried0 carried1 drawn0 drawn1)
+      (λ e. RefusesNext play sent j here e there)

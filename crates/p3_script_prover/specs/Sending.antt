@@ -1,0 +1,55 @@
+-- One step of a script, as a prover plays it.
+use Rattle.std.specs.Borrow.{Bor}
+use Rattle.std.specs.Prelude.{◌≡◌, ◌++◌, ◌⊎◌, Option, Some, None, Result, MatchResult}
+use Rattle.p3_fs_core.specs.declared.error.TranscriptError.{TranscriptError}
+use Rattle.p3_driver_core.specs.Driving.{Driving}
+use Rattle.p3_driver_core.specs.Transcripts.{PlaysStep}
+use Rattle.p3_runs.specs.Plays.{Play, meaning}
+use Rattle.p3_runs.specs.Runs.{if_sent, if_witness}
+use Rattle.p3_runs.specs.Stepping.{Halts, one_witness}
+use Rattle.p3_runs.specs.Values.{Value, Challenge, Nothing, Witness, IsNothing}
+use Rattle.p3_script.specs.Scripts.{value_sent, drawn_of}
+use Rattle.p3_script.specs.declared.steps.Drawn.{Drawn}
+use Rattle.p3_script.specs.declared.steps.Sent.{Sent}
+
+module _ {Su F EF U O C K Ac D G It St Sy : Type 0} where
+  -- what a prover is handed for a step, as a value
+  abbrev pub value_given : Option (Bor (Sent Su F EF U O C K Ac D G It St Sy)) → Value F EF
+  value_given None = Nothing
+  value_given (Some sent) = value_sent sent.now
+
+  -- what a step answers: the witness, and the draw
+  abbrev pub played_witness : (Option F × Option (Drawn Su F EF U O C K Ac D G It St Sy)) → Option F
+  played_witness r = r.0
+
+  abbrev pub played_draw : (Option F × Option (Drawn Su F EF U O C K Ac D G It St Sy)) → Option (Challenge F EF)
+  played_draw r = drawn_of r.1
+
+-- the value that stands at a step: the witness that was found, if one was, or what was handed
+abbrev pub value_played : {F EF : Type 0} → Option F → Value F EF → Value F EF
+value_played None given = given
+value_played (Some x) given = Witness x
+
+-- The step is played with the witness that was found, or else with what was handed: it fits, it is the least witness that
+-- passes, if it is one, and its bytes are added; and this is drawn.
+pub record SendsValue {S Symbol F EF O : Type 0} (play : Play S Symbol F EF O) (before : Driving S)
+    (given : Value F EF) (witness : Option F) (drawn : Option (Challenge F EF)) (after : Driving S) : Type 0 where
+  pub fits : play.Fits (value_played witness given)
+  pub sent : if_sent play.place (value_played witness given) ≡ if_sent play.place given
+  pub found : if_witness play.place (value_played witness given) ≡ one_witness witness
+  pub chosen : play.sides.IsChosen before.transcript.challenger (value_played witness given)
+  pub plays : PlaysStep (meaning play (value_played witness given)) before.transcript drawn after.transcript
+  pub written : after.bytes ≡ before.bytes ++ play.wire (value_played witness given)
+
+-- The step is played, with what was handed or with the witness that was found, and this is drawn; or it is refused.
+pub record SendsOrRefuses {S Symbol F EF O R : Type 0} (play : Play S Symbol F EF O) (before : Driving S)
+    (given : Value F EF) (witness : R → Option F) (drawn : R → Option (Challenge F EF))
+    (result : Result R TranscriptError) (after : Driving S) : Type 0 where
+  pub comes : MatchResult result (λ r. SendsValue play before given (witness r) (drawn r) after)
+      (λ e. play.sides.prover given before e after ⊎ Halts before e after)
+
+-- The same of a step for which nothing is handed.
+pub record KnowsOrRefuses {S Symbol F EF O R : Type 0} (play : Play S Symbol F EF O) (before : Driving S)
+    (witness : R → Option F) (drawn : R → Option (Challenge F EF)) (result : Result R TranscriptError)
+    (after : Driving S) : Type 0 where
+  pub comes : (given : Value F EF) → IsNothing given → SendsOrRefuses play before given witness drawn result after

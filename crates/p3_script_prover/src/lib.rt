@@ -1,0 +1,10 @@
+//! Scripts, as a prover plays them.
+#![tactic(auto)]
+
+mod drawing;
+mod proving;
+mod sending;
+mod stepping;
+
+pub use proving::{Proved, prove};
+pub use stepping::{Played, prover_step};

@@ -1,0 +1,272 @@
+//! Whole scripts, as a prover plays them.
+ghost use Rattle.std.specs.Option.{OnSome};
+ghost use Rattle.std.specs.Prelude.{◌≡◌, List, ◌<◌, ◌++◌, drop, length, IfOk, IfErr, OnOk};
+ghost use Rattle.p3_drivers.specs.Drivers.{proving_of};
+ghost use Rattle.p3_runs.specs.ProverOutcomes.{StartsHanded, IsProved};
+ghost use Rattle.p3_runs.specs.Provings.{AreHanded, IsProverRun, RefusesToProve};
+ghost use Rattle.p3_runs.specs.Runs.{AreAdmitted};
+ghost use Rattle.p3_runs.specs.Stepping.{one_of};
+ghost use Rattle.p3_runs.specs.Values.{Value};
+ghost use Rattle.p3_runs.specs.Verdicts.{with_steps, script_of};
+ghost use Rattle.p3_script.specs.Scripts.{play_of, values_sent, challenges_of};
+ghost use Rattle.p3_script_prover.specs.Nexts.{StandsSo, IsGivenAt, next_place, carried_at, NextOrRefuses};
+
+use crate::stepping::prover_step;
+use p3_challenger_core::{CanObserve, Sponge};
+use p3_codecs::{AlphabetOf, Codec, ExtensionFieldCodec, Unit};
+use p3_domain_separator::DomainSeparator;
+use p3_drivers::ProverState;
+use p3_field_core::Named;
+use p3_fs_core::{Declared, TranscriptError};
+use p3_script::{Drawn, Fault, Meaning, Sent, Step, StepGroup, Suite, script_steps_are_lawful};
+use p3_symmetric::DigestHasher;
+use std::alloc::{AllocError, Global};
+
+/// What a prover has written, found and drawn. Not in the Rust crate.
+#[derive(Drop)]
+pub struct Proved<S: Suite> {
+    /// The bytes of the proof.
+    pub narg: Vec<u8>,
+
+    /// The witnesses of all proofs of work, in the order of their steps.
+    pub witnesses: Vec<S::Field>,
+
+    /// Those of them that the proof does not carry: the verifier's caller has to be given them.
+    pub carried: Vec<S::Field>,
+
+    /// What was drawn, in the order of the steps.
+    pub challenges: Vec<Drawn<S>>,
+
+    /// The challenger after the last step.
+    pub challenger: S::Challenger,
+}
+
+// Where the value of a step stands.
+#[derive(Clone, Copy)]
+enum Standing {
+    Nowhere,
+    Sent,
+    Found,
+    Carried,
+}
+
+// What was found and drawn so far.
+#[derive(Drop)]
+struct Made<S: Suite> {
+    witnesses: Vec<S::Field>,
+    carried: Vec<S::Field>,
+    challenges: Vec<Drawn<S>>,
+}
+
+// Where the value of the step stands.
+fn standing_of<S: Suite>(step: &Step<S>) -> Standing
+    ensures { let rules = ⟦<S as Meaning>⟧.rules ⟦<S::Field as Declared<S::Field, S::Digest>>⟧.algebra in
+        StandsSo (play_of rules step.now) result }
+{
+    match step {
+        Step::Begin { .. } => Standing::Nowhere,
+        Step::End { .. } => Standing::Nowhere,
+        Step::Salt { .. } => Standing::Sent,
+        Step::Bytes { .. } => Standing::Sent,
+        Step::Hint { .. } => Standing::Sent,
+        Step::BytesBounded { .. } => Standing::Sent,
+        Step::HintBounded { .. } => Standing::Sent,
+        Step::PublicScalar { .. } => Standing::Nowhere,
+        Step::PublicScalars { .. } => Standing::Nowhere,
+        Step::Scalar { .. } => Standing::Sent,
+        Step::Scalars { .. } => Standing::Sent,
+        Step::ScalarsBounded { .. } => Standing::Sent,
+        Step::Extension { .. } => Standing::Sent,
+        Step::ObserveExtension { .. } => Standing::Nowhere,
+        Step::ObserveExtensions { .. } => Standing::Nowhere,
+        Step::ObserveExtensionsBounded { .. } => Standing::Nowhere,
+        Step::Opaque { .. } => Standing::Nowhere,
+        Step::ChallengeScalar { .. } => Standing::Nowhere,
+        Step::ChallengeScalars { .. } => Standing::Nowhere,
+        Step::ChallengeExtension { .. } => Standing::Nowhere,
+        Step::ChallengeExtensions { .. } => Standing::Nowhere,
+        Step::ChallengeExtensionsRejecting { .. } => Standing::Nowhere,
+        Step::ChallengeBits { .. } => Standing::Nowhere,
+        Step::ChallengeUniformBits { .. } => Standing::Nowhere,
+        Step::ChallengeUniformBitsRejecting { .. } => Standing::Nowhere,
+        Step::Pow { .. } => Standing::Found,
+        Step::ObservePow { .. } => Standing::Carried,
+    }
+}
+
+// What is handed for a step whose value stands so: the value at the place, or nothing.
+fn given_at<T>(standing: Standing, sent: &[T], at: usize) -> Option<&T>
+    ensures given { IsGivenAt standing sent.now at result }
+    ensures within { OnSome result (at < length sent.now) }
+{
+    match standing {
+        Standing::Nowhere => None,
+        Standing::Sent => sent.get(at),
+        Standing::Found => None,
+        Standing::Carried => None,
+    }
+}
+
+// The place of the next value.
+fn place_after<T>(at: usize, given: Option<&T>, len: usize) -> usize
+    requires { OnSome given (at < len) }
+    ensures { result ≡ next_place at given.entry }
+{
+    match given {
+        Some(_) => at + 1,
+        None => at,
+    }
+}
+
+// A witness, where the caller carries it.
+fn where_carried<T: Copy>(standing: Standing, witness: Option<T>) -> Option<T>
+    ensures { one_of result ≡ carried_at standing (one_of witness) }
+{
+    match standing {
+        Standing::Nowhere => None,
+        Standing::Sent => None,
+        Standing::Found => None,
+        Standing::Carried => witness,
+    }
+}
+
+// Keeps a value, if there is one.
+fn keep<T: Drop>(list: &mut Vec<T>, value: Option<T>) -> Result<(), AllocError>
+    ensures { OnOk result (list.new.items ≡ list.old.items ++ one_of value) }
+{
+    if let Some(value) = value {
+        list.push(value)?;
+    }
+    Ok(())
+}
+
+// Keeps what a step answered.
+fn keep_all<S: Suite>(
+    made: &mut Made<S>,
+    standing: Standing,
+    witness: Option<S::Field>,
+    drawn: Option<Drawn<S>>,
+) -> Result<(), AllocError>
+    ensures witnesses { OnOk result (made.new.witnesses.items ≡ made.old.witnesses.items ++ one_of witness) }
+    ensures carried { OnOk result (made.new.carried.items
+        ≡ made.old.carried.items ++ carried_at standing (one_of witness)) }
+    ensures challenges { OnOk result (made.new.challenges.items ≡ made.old.challenges.items ++ one_of drawn) }
+{
+    keep(&mut made.witnesses, witness)?;
+    keep(&mut made.carried, where_carried(standing, witness))?;
+    keep(&mut made.challenges, drawn)
+}
+
+// Plays the next step, with what it is handed, and keeps what it answers.
+fn play_next<S: Suite>(
+    alloc: Global,
+    prover: &mut ProverState<S::Challenger, S::Unit, S::Digest>,
+    step: &Step<S>,
+    sent: &[Sent<S>],
+    next: &mut usize,
+    made: &mut Made<S>,
+) -> Result<(), TranscriptError>
+    requires admitted { let rules = ⟦<S as Meaning>⟧.rules ⟦<S::Field as Declared<S::Field, S::Digest>>⟧.algebra in
+        (play_of rules step.now).admitted }
+    requires handed { let rules = ⟦<S as Meaning>⟧.rules ⟦<S::Field as Declared<S::Field, S::Digest>>⟧.algebra in
+        StartsHanded (play_of rules step.now).place (play_of rules step.now).sides.IsHanded
+        (drop next.old (values_sent sent.now)) }
+    ensures { let rules = ⟦<S as Meaning>⟧.rules ⟦<S::Field as Declared<S::Field, S::Digest>>⟧.algebra in
+        NextOrRefuses (play_of rules step.now) (values_sent sent.now) next.old
+        (proving_of S.Challenger.state prover.old) made.old.witnesses.items made.old.carried.items
+        (challenges_of made.old.challenges.items) result next.new
+        (proving_of S.Challenger.state prover.new) made.new.witnesses.items made.new.carried.items
+        (challenges_of made.new.challenges.items) }
+{
+    let standing = standing_of(step);
+    let given = given_at(standing, sent, *next);
+    let (witness, drawn) = prover_step(alloc, prover, step, given)?;
+    match keep_all(made, standing, witness, drawn) {
+        Ok(()) => {
+            *next = place_after(*next, given, sent.len());
+            Ok(())
+        }
+        Err(_) => {
+            prover.halt();
+            Err(TranscriptError::OutOfMemory)
+        }
+    }
+}
+
+/// Plays a script from its first step to its last, as the prover: seeds the challenger with the separator, plays the
+/// steps in order, and answers the proof.
+///
+/// `sent` has the values that the steps send, in their order: one for each step that sends one, and none for the others.
+///
+/// It answers `Ok` exactly where the script's steps are those of the separator's pattern, the values fit them, each proof
+/// of work has a witness that passes, and no draw meets its limit; want of memory alone may come in place of that. The
+/// witnesses are the least ones.
+///
+/// The position of a [`Fault`] is that of the step that was refused, 0 also where the seed was, and the number of the
+/// steps where the end was: the pattern has more. The error is that of the driver's `new`, of [`prover_step`], or of the
+/// driver's `finish`; or [`TranscriptError::OutOfMemory`], where memory is refused for what a step answers. The challenger
+/// is gone then, and the proof so far.
+///
+/// Conditions: each step may be played by this suite, and each value of `sent` is of its step's type and, where the step
+/// says so, of its length. Not in the Rust crate.
+pub fn prove<S: Suite>(
+    alloc: Global,
+    challenger: S::Challenger,
+    separator: &DomainSeparator<S::Unit, S::Digest>,
+    steps: &[Step<S>],
+    sent: &[Sent<S>],
+) -> Result<Proved<S>, Fault>
+    requires admitted { let rules = ⟦<S as Meaning>⟧.rules ⟦<S::Field as Declared<S::Field, S::Digest>>⟧.algebra in
+        AreAdmitted (play_of rules) steps.now }
+    requires handed { let rules = ⟦<S as Meaning>⟧.rules ⟦<S::Field as Declared<S::Field, S::Digest>>⟧.algebra in
+        AreHanded (play_of rules) steps.now (values_sent sent.now) }
+    ensures accepted { let rules = ⟦<S as Meaning>⟧.rules ⟦<S::Field as Declared<S::Field, S::Digest>>⟧.algebra in
+        IfOk result (λ r. IsProved rules (play_of rules) (script_of (S.Challenger.state challenger) separator.now steps.now)
+        (values_sent sent.now) r.narg.items r.witnesses.items r.carried.items (challenges_of r.challenges.items)
+        (S.Challenger.state r.challenger)) }
+    ensures refused { let rules = ⟦<S as Meaning>⟧.rules ⟦<S::Field as Declared<S::Field, S::Digest>>⟧.algebra in
+        IfErr result (λ f. RefusesToProve rules (play_of rules)
+        (script_of (S.Challenger.state challenger) separator.now steps.now)
+        (values_sent sent.now) f.position f.error) }
+    ensures only { let rules = ⟦<S as Meaning>⟧.rules ⟦<S::Field as Declared<S::Field, S::Digest>>⟧.algebra in
+        IfErr result (λ f. (f.error ≡ TranscriptError.OutOfMemory → ⊥) →
+        (values : List (Value S.Field S.Extension)) → IsProverRun rules (play_of rules)
+        (with_steps (script_of (S.Challenger.state challenger) separator.now steps.now) steps.now values)
+        (values_sent sent.now) → ⊥) }
+{
+    script_steps_are_lawful::<S>();
+    let mut prover = match ProverState::new(alloc, challenger, separator) {
+        Ok(prover) => prover,
+        Err(error) => return Err(Fault { position: 0, error }),
+    };
+    let mut made = Made {
+        witnesses: Vec::new(alloc),
+        carried: Vec::new(alloc),
+        challenges: Vec::new(alloc),
+    };
+    let mut next = 0;
+    for (i, step) in steps.iter().enumerate() {
+        if let Err(error) = play_next(alloc, &mut prover, step, sent, &mut next, &mut made) {
+            prover.abort();
+            return Err(Fault { position: i, error });
+        }
+    }
+    let Made {
+        witnesses,
+        carried,
+        challenges,
+    } = made;
+    match prover.finish() {
+        Ok((narg, challenger)) => Ok(Proved {
+            narg,
+            witnesses,
+            carried,
+            challenges,
+            challenger,
+        }),
+        Err(error) => Err(Fault {
+            position: steps.len(),
+            error,
+        }),
+    }
+}

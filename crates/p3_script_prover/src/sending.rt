@@ -1,0 +1,389 @@
+//! Each kind of step but those that draw, as a prover plays it.
+ghost use Rattle.std.specs.Prelude.{◌≡◌, ◌≤◌, ◌++◌, List, ℕ, IsTrue};
+ghost use Rattle.p3_driver_core.specs.Effects.{untouched, observing};
+ghost use Rattle.p3_driver_core.specs.Transcripts.{opaque_step};
+ghost use Rattle.p3_drivers.specs.Drivers.{proving_of};
+ghost use Rattle.p3_fs_core.specs.Scalar.{encoding};
+ghost use Rattle.p3_fs_core.specs.Steps.{marker_of};
+ghost use Rattle.p3_fs_core.specs.declared.step.Hierarchy.TheVariants.{Begin, End};
+ghost use Rattle.p3_fs_core.specs.declared.step.Kind.TheVariants.{Message, Public, Salt};
+ghost use Rattle.p3_fs_core.specs.declared.step.Length.TheVariants.{Scalar};
+ghost use Rattle.p3_runs.specs.Absorbed.{Nothing, Own, witness_of};
+ghost use Rattle.p3_runs.specs.Plays.{Any, HasLength, known, no_challenge, only_if, sends_witness, carries_witness};
+ghost use Rattle.p3_runs.specs.Sides.{holds_some};
+ghost use Rattle.p3_runs.specs.Values.{bytes_in, scalar_in, scalars_in, extension_in};
+ghost use Rattle.p3_script.specs.Scripts.{hints, hints_counted, sends_bytes, sends_counted_bytes};
+ghost use Rattle.p3_script.specs.Scripts.{knows_one, knows_list, knows_as_recorded, knows_counted};
+ghost use Rattle.p3_script.specs.Scripts.{sends_one, sends_list, sends_counted, work_in};
+ghost use Rattle.p3_script_prover.specs.Sending.{KnowsOrRefuses, SendsOrRefuses, value_given};
+ghost use Rattle.p3_script_prover.specs.Sending.{played_witness, played_draw};
+
+use crate::stepping::Played;
+use p3_challenger_core::Sponge;
+use p3_codecs::{Codec, ExtensionFieldCodec};
+use p3_drivers::ProverState;
+use p3_fs_core::{Declared, Kind, Label, PatternError, TranscriptError, TranscriptField};
+use p3_script::{Meaning, Sent, StepGroup, Suite};
+
+// Opens a container.
+pub(crate) fn begin<S: Suite>(
+    prover: &mut ProverState<S::Challenger, S::Unit, S::Digest>,
+    label: Label,
+    kind: Kind,
+) -> Result<Played<S>, TranscriptError>
+    ensures { let rules = ⟦<S as Meaning>⟧.rules ⟦<S::Field as Declared<S::Field, S::Digest>>⟧.algebra in
+        KnowsOrRefuses (known {O = S.Opaque} (marker_of Begin kind label.now rules.marker_name) (no_challenge {F = S.Field} {EF = S.Extension})
+        (untouched {Symbol = S.Challenger.Symbol} (tt {0})) Nothing)
+        (proving_of S.Challenger.state prover.old) played_witness played_draw result
+        (proving_of S.Challenger.state prover.new) }
+{
+    prover.begin::<()>(label, kind)?;
+    Ok((None, None))
+}
+
+// Closes a container.
+pub(crate) fn end<S: Suite>(
+    prover: &mut ProverState<S::Challenger, S::Unit, S::Digest>,
+    label: Label,
+    kind: Kind,
+) -> Result<Played<S>, TranscriptError>
+    ensures { let rules = ⟦<S as Meaning>⟧.rules ⟦<S::Field as Declared<S::Field, S::Digest>>⟧.algebra in
+        KnowsOrRefuses (known {O = S.Opaque} (marker_of End kind label.now rules.marker_name) (no_challenge {F = S.Field} {EF = S.Extension})
+        (untouched {Symbol = S.Challenger.Symbol} (tt {0})) Nothing)
+        (proving_of S.Challenger.state prover.old) played_witness played_draw result
+        (proving_of S.Challenger.state prover.new) }
+{
+    prover.end::<()>(label, kind)?;
+    Ok((None, None))
+}
+
+// Adds a scalar that both sides know.
+pub(crate) fn add_public_scalar<S: Suite>(
+    prover: &mut ProverState<S::Challenger, S::Unit, S::Digest>,
+    label: Label,
+    scalar: &S::Field,
+) -> Result<Played<S>, TranscriptError>
+    ensures { let rules = ⟦<S as Meaning>⟧.rules ⟦<S::Field as Declared<S::Field, S::Digest>>⟧.algebra in
+        KnowsOrRefuses (knows_one rules rules.scalar Public label.now scalar.now)
+        (proving_of S.Challenger.state prover.old) played_witness played_draw result
+        (proving_of S.Challenger.state prover.new) }
+{
+    let _bound = prover.add_public_scalar::<S::Field, S::Codec>(label, scalar)?;
+    Ok((None, None))
+}
+
+// Adds scalars that both sides know.
+pub(crate) fn add_public_scalars<S: Suite>(
+    prover: &mut ProverState<S::Challenger, S::Unit, S::Digest>,
+    label: Label,
+    scalars: &[S::Field],
+) -> Result<Played<S>, TranscriptError>
+    ensures { let rules = ⟦<S as Meaning>⟧.rules ⟦<S::Field as Declared<S::Field, S::Digest>>⟧.algebra in
+        KnowsOrRefuses (knows_list rules rules.scalar Public label.now scalars.now)
+        (proving_of S.Challenger.state prover.old) played_witness played_draw result
+        (proving_of S.Challenger.state prover.new) }
+{
+    let _bounds = prover.add_public_scalars::<S::Field, S::Codec>(label, scalars)?;
+    Ok((None, None))
+}
+
+// Observes an element of the extension that the proof does not carry.
+pub(crate) fn observe_extension<S: Suite>(
+    prover: &mut ProverState<S::Challenger, S::Unit, S::Digest>,
+    label: Label,
+    element: &S::Extension,
+) -> Result<Played<S>, TranscriptError>
+    ensures { let rules = ⟦<S as Meaning>⟧.rules ⟦<S::Field as Declared<S::Field, S::Digest>>⟧.algebra in
+        KnowsOrRefuses (knows_one rules rules.extension Message label.now element.now)
+        (proving_of S.Challenger.state prover.old) played_witness played_draw result
+        (proving_of S.Challenger.state prover.new) }
+{
+    let _bound = prover.observe_extension::<S::Field, S::Extension, S::Codec>(label, element)?;
+    Ok((None, None))
+}
+
+// Observes elements of the extension that the proof does not carry.
+pub(crate) fn observe_extensions<S: Suite>(
+    prover: &mut ProverState<S::Challenger, S::Unit, S::Digest>,
+    label: Label,
+    elements: &[S::Extension],
+) -> Result<Played<S>, TranscriptError>
+    ensures { let rules = ⟦<S as Meaning>⟧.rules ⟦<S::Field as Declared<S::Field, S::Digest>>⟧.algebra in
+        KnowsOrRefuses (knows_as_recorded rules rules.extension Message label.now elements.now)
+        (proving_of S.Challenger.state prover.old) played_witness played_draw result
+        (proving_of S.Challenger.state prover.new) }
+{
+    let _bounds = prover.observe_extensions::<S::Field, S::Extension, S::Codec>(label, elements)?;
+    Ok((None, None))
+}
+
+// Observes at most so many elements of the extension that the proof does not carry.
+pub(crate) fn observe_extensions_bounded<S: Suite>(
+    prover: &mut ProverState<S::Challenger, S::Unit, S::Digest>,
+    label: Label,
+    elements: &Vec<S::Extension>,
+    max: usize,
+) -> Result<Played<S>, TranscriptError>
+    ensures { let rules = ⟦<S as Meaning>⟧.rules ⟦<S::Field as Declared<S::Field, S::Digest>>⟧.algebra in
+        KnowsOrRefuses (knows_counted rules rules.extension Message label.now elements.now.items max)
+        (proving_of S.Challenger.state prover.old) played_witness played_draw result
+        (proving_of S.Challenger.state prover.new) }
+{
+    let _bounds = prover.observe_extensions_bounded::<S::Field, S::Extension, S::Codec>(
+        label, elements, max,
+    )?;
+    Ok((None, None))
+}
+
+// Observes a value as the challenger itself knows how.
+pub(crate) fn observe_opaque<S: Suite>(
+    prover: &mut ProverState<S::Challenger, S::Unit, S::Digest>,
+    label: Label,
+    value: &S::Opaque,
+) -> Result<Played<S>, TranscriptError>
+    ensures { let rules = ⟦<S as Meaning>⟧.rules ⟦<S::Field as Declared<S::Field, S::Digest>>⟧.algebra in
+        KnowsOrRefuses (known (opaque_step Message label.now Scalar) (no_challenge {F = S.Field} {EF = S.Extension}) (observing rules.opaque value.now) (Own value.now))
+        (proving_of S.Challenger.state prover.old) played_witness played_draw result
+        (proving_of S.Challenger.state prover.new) }
+{
+    let copy = match value.clone() {
+        Ok(copy) => copy,
+        Err(_) => {
+            prover.halt();
+            return Err(TranscriptError::OutOfMemory);
+        }
+    };
+    let _bound = prover.observe_opaque(label, copy)?;
+    Ok((None, None))
+}
+
+// Sends so many bytes that hide what is sent later.
+pub(crate) fn add_salt<S: Suite>(
+    prover: &mut ProverState<S::Challenger, S::Unit, S::Digest>,
+    label: Label,
+    sent: Option<&Sent<S>>,
+    len: usize,
+) -> Result<Played<S>, TranscriptError>
+    requires { holds_some (HasLength len) (bytes_in (value_given sent)) }
+    ensures { let rules = ⟦<S as Meaning>⟧.rules ⟦<S::Field as Declared<S::Field, S::Digest>>⟧.algebra in
+        SendsOrRefuses (sends_bytes rules Salt label.now len)
+        (proving_of S.Challenger.state prover.old) (value_given sent.entry) played_witness played_draw result
+        (proving_of S.Challenger.state prover.new) }
+{
+    let Some(Sent::Bytes(bytes)) = sent else {
+        unreachable!();
+    };
+    prover.add_salt(label, bytes)?;
+    Ok((None, None))
+}
+
+// Sends so many bytes.
+pub(crate) fn add_bytes<S: Suite>(
+    prover: &mut ProverState<S::Challenger, S::Unit, S::Digest>,
+    label: Label,
+    sent: Option<&Sent<S>>,
+    len: usize,
+) -> Result<Played<S>, TranscriptError>
+    requires { holds_some (HasLength len) (bytes_in (value_given sent)) }
+    ensures { let rules = ⟦<S as Meaning>⟧.rules ⟦<S::Field as Declared<S::Field, S::Digest>>⟧.algebra in
+        SendsOrRefuses (sends_bytes rules Message label.now len)
+        (proving_of S.Challenger.state prover.old) (value_given sent.entry) played_witness played_draw result
+        (proving_of S.Challenger.state prover.new) }
+{
+    let Some(Sent::Bytes(bytes)) = sent else {
+        unreachable!();
+    };
+    prover.add_bytes(label, bytes)?;
+    Ok((None, None))
+}
+
+// Sends so many bytes, in which the challenger takes no part.
+pub(crate) fn add_hint<S: Suite>(
+    prover: &mut ProverState<S::Challenger, S::Unit, S::Digest>,
+    label: Label,
+    sent: Option<&Sent<S>>,
+    len: usize,
+) -> Result<Played<S>, TranscriptError>
+    requires { holds_some (HasLength len) (bytes_in (value_given sent)) }
+    ensures { let rules = ⟦<S as Meaning>⟧.rules ⟦<S::Field as Declared<S::Field, S::Digest>>⟧.algebra in
+        SendsOrRefuses (hints rules label.now len)
+        (proving_of S.Challenger.state prover.old) (value_given sent.entry) played_witness played_draw result
+        (proving_of S.Challenger.state prover.new) }
+{
+    let Some(Sent::Bytes(bytes)) = sent else {
+        unreachable!();
+    };
+    prover.add_hint(label, bytes)?;
+    Ok((None, None))
+}
+
+// Sends at most so many bytes.
+pub(crate) fn add_bytes_bounded<S: Suite>(
+    prover: &mut ProverState<S::Challenger, S::Unit, S::Digest>,
+    label: Label,
+    sent: Option<&Sent<S>>,
+    max: usize,
+) -> Result<Played<S>, TranscriptError>
+    requires { holds_some Any (bytes_in (value_given sent)) }
+    ensures { let rules = ⟦<S as Meaning>⟧.rules ⟦<S::Field as Declared<S::Field, S::Digest>>⟧.algebra in
+        SendsOrRefuses (sends_counted_bytes rules label.now max)
+        (proving_of S.Challenger.state prover.old) (value_given sent.entry) played_witness played_draw result
+        (proving_of S.Challenger.state prover.new) }
+{
+    let Some(Sent::Bytes(bytes)) = sent else {
+        unreachable!();
+    };
+    prover.add_bytes_bounded(label, bytes, max)?;
+    Ok((None, None))
+}
+
+// Sends at most so many bytes, in which the challenger takes no part.
+pub(crate) fn add_hint_bounded<S: Suite>(
+    prover: &mut ProverState<S::Challenger, S::Unit, S::Digest>,
+    label: Label,
+    sent: Option<&Sent<S>>,
+    max: usize,
+) -> Result<Played<S>, TranscriptError>
+    requires { holds_some Any (bytes_in (value_given sent)) }
+    ensures { let rules = ⟦<S as Meaning>⟧.rules ⟦<S::Field as Declared<S::Field, S::Digest>>⟧.algebra in
+        SendsOrRefuses (hints_counted rules label.now max)
+        (proving_of S.Challenger.state prover.old) (value_given sent.entry) played_witness played_draw result
+        (proving_of S.Challenger.state prover.new) }
+{
+    let Some(Sent::Bytes(bytes)) = sent else {
+        unreachable!();
+    };
+    prover.add_hint_bounded(label, bytes, max)?;
+    Ok((None, None))
+}
+
+// Sends one scalar.
+pub(crate) fn add_scalar<S: Suite>(
+    prover: &mut ProverState<S::Challenger, S::Unit, S::Digest>,
+    label: Label,
+    sent: Option<&Sent<S>>,
+) -> Result<Played<S>, TranscriptError>
+    requires { holds_some Any (scalar_in (value_given sent)) }
+    ensures { let rules = ⟦<S as Meaning>⟧.rules ⟦<S::Field as Declared<S::Field, S::Digest>>⟧.algebra in
+        SendsOrRefuses (sends_one rules rules.scalar scalar_in label.now)
+        (proving_of S.Challenger.state prover.old) (value_given sent.entry) played_witness played_draw result
+        (proving_of S.Challenger.state prover.new) }
+{
+    let Some(Sent::Scalar(scalar)) = sent else {
+        unreachable!();
+    };
+    let _bound = prover.add_scalar::<S::Field, S::Codec>(label, scalar)?;
+    Ok((None, None))
+}
+
+// Sends so many scalars.
+pub(crate) fn add_scalars<S: Suite>(
+    prover: &mut ProverState<S::Challenger, S::Unit, S::Digest>,
+    label: Label,
+    sent: Option<&Sent<S>>,
+    n: usize,
+) -> Result<Played<S>, TranscriptError>
+    requires { holds_some (HasLength n) (scalars_in (value_given sent)) }
+    ensures { let rules = ⟦<S as Meaning>⟧.rules ⟦<S::Field as Declared<S::Field, S::Digest>>⟧.algebra in
+        SendsOrRefuses (sends_list rules rules.scalar scalars_in label.now n)
+        (proving_of S.Challenger.state prover.old) (value_given sent.entry) played_witness played_draw result
+        (proving_of S.Challenger.state prover.new) }
+{
+    let Some(Sent::Scalars(scalars)) = sent else {
+        unreachable!();
+    };
+    let _bounds = prover.add_scalars::<S::Field, S::Codec>(label, scalars)?;
+    Ok((None, None))
+}
+
+// Sends at most so many scalars.
+pub(crate) fn add_scalars_bounded<S: Suite>(
+    prover: &mut ProverState<S::Challenger, S::Unit, S::Digest>,
+    label: Label,
+    sent: Option<&Sent<S>>,
+    max: usize,
+) -> Result<Played<S>, TranscriptError>
+    requires { holds_some Any (scalars_in (value_given sent)) }
+    ensures { let rules = ⟦<S as Meaning>⟧.rules ⟦<S::Field as Declared<S::Field, S::Digest>>⟧.algebra in
+        SendsOrRefuses (sends_counted rules rules.scalar scalars_in label.now max)
+        (proving_of S.Challenger.state prover.old) (value_given sent.entry) played_witness played_draw result
+        (proving_of S.Challenger.state prover.new) }
+{
+    let Some(Sent::Scalars(scalars)) = sent else {
+        unreachable!();
+    };
+    let _bounds = prover.add_scalars_bounded::<S::Field, S::Codec>(label, scalars, max)?;
+    Ok((None, None))
+}
+
+// Sends an element of the extension.
+pub(crate) fn add_extension<S: Suite>(
+    prover: &mut ProverState<S::Challenger, S::Unit, S::Digest>,
+    label: Label,
+    sent: Option<&Sent<S>>,
+) -> Result<Played<S>, TranscriptError>
+    requires { holds_some Any (extension_in (value_given sent)) }
+    ensures { let rules = ⟦<S as Meaning>⟧.rules ⟦<S::Field as Declared<S::Field, S::Digest>>⟧.algebra in
+        SendsOrRefuses (sends_one rules rules.extension extension_in label.now)
+        (proving_of S.Challenger.state prover.old) (value_given sent.entry) played_witness played_draw result
+        (proving_of S.Challenger.state prover.new) }
+{
+    let Some(Sent::Extension(element)) = sent else {
+        unreachable!();
+    };
+    let _bound = prover.add_extension::<S::Field, S::Extension, S::Codec>(label, element)?;
+    Ok((None, None))
+}
+
+// Searches for a witness, sends it, and answers it.
+pub(crate) fn pow<S: Suite>(
+    prover: &mut ProverState<S::Challenger, S::Unit, S::Digest>,
+    label: Label,
+    bits: usize,
+) -> Result<Played<S>, TranscriptError>
+    requires has { IsTrue S.Group.HAS_POW }
+    requires within { bits ≤ S.Group.most_bits }
+    ensures { let rules = ⟦<S as Meaning>⟧.rules ⟦<S::Field as Declared<S::Field, S::Digest>>⟧.algebra in
+        KnowsOrRefuses (only_if (rules.grinding.is_there × (bits ≤ rules.bits.most))
+        (sends_witness {EF = S.Extension} {O = S.Opaque} (work_in rules label.now bits) rules.grinding.is_there
+        rules.witness_encoding rules.grinding.may_run_out (witness_of bits)))
+        (proving_of S.Challenger.state prover.old) played_witness played_draw result
+        (proving_of S.Challenger.state prover.new) }
+{
+    S::Group::pow(prover, label, bits)?;
+    match element_at_end::<S::Field>(prover.narg()) {
+        Ok(witness) => Ok((Some(witness), None)),
+        Err(_) => unreachable!(),
+    }
+}
+
+// Searches for a witness, and answers it.
+pub(crate) fn observe_pow<S: Suite>(
+    prover: &mut ProverState<S::Challenger, S::Unit, S::Digest>,
+    label: Label,
+    bits: usize,
+) -> Result<Played<S>, TranscriptError>
+    requires has { IsTrue S.Group.HAS_POW }
+    requires within { bits ≤ S.Group.most_bits }
+    ensures { let rules = ⟦<S as Meaning>⟧.rules ⟦<S::Field as Declared<S::Field, S::Digest>>⟧.algebra in
+        KnowsOrRefuses (only_if (rules.grinding.is_there × (bits ≤ rules.bits.most))
+        (carries_witness {EF = S.Extension} {O = S.Opaque} (work_in rules label.now bits) rules.grinding.is_there
+        rules.grinding.may_run_out (witness_of bits)))
+        (proving_of S.Challenger.state prover.old) played_witness played_draw result
+        (proving_of S.Challenger.state prover.new) }
+{
+    let witness = S::Group::observe_pow(prover, label, bits)?;
+    Ok((Some(witness), None))
+}
+
+// The element that the bytes end with.
+fn element_at_end<F: TranscriptField>(bytes: &[u8]) -> Result<F, TranscriptError>
+    ensures { (before : List ℕ) (x : F) → bytes.now ≡ before ++ (encoding F.residues F.bit_length).wire x →
+        result ≡ Ok x }
+{
+    let width = F::wire_len();
+    if bytes.len() < width {
+        return Err(TranscriptError::Pattern(PatternError::Finished));
+    }
+    F::decode(&bytes[bytes.len() - width..])
+}

@@ -1,0 +1,96 @@
+//! One step of a script, as a prover plays it.
+ghost use Rattle.std.specs.Prelude.{◌≡◌};
+ghost use Rattle.p3_drivers.specs.Drivers.{proving_of};
+ghost use Rattle.p3_script.specs.Scripts.{play_of};
+ghost use Rattle.p3_script_prover.specs.Sending.{SendsOrRefuses, value_given, played_witness, played_draw};
+
+use crate::{drawing, sending};
+use p3_challenger_core::Sponge;
+use p3_codecs::{Codec, ExtensionFieldCodec};
+use p3_drivers::ProverState;
+use p3_fs_core::{Declared, TranscriptError};
+use p3_script::{Drawn, Meaning, Sent, Step, StepGroup, Suite};
+use std::alloc::Global;
+
+/// What a prover answers for a step: the witness that was found, where the step is a proof of work, and what was drawn,
+/// where it draws. Not in the Rust crate.
+pub type Played<S> = (Option<<S as Suite>::Field>, Option<Drawn<S>>);
+
+/// Plays one step of a script: it calls the driver's method for it.
+///
+/// `sent` is the value that the step sends, or nothing where it sends none. Each witness of a proof of work is answered,
+/// whether the proof carries it or not.
+///
+/// The errors are those of the driver's method, and leave what that leaves; and
+/// [`TranscriptError::OutOfMemory`], where memory is refused for what was drawn, or for a clone of what the challenger
+/// itself knows how to observe. The driver is finished with each of them, and must be spent all the same.
+///
+/// Conditions: the step may be played by this suite, and `sent` is a value of its type and, where the step says so, of
+/// its length. Not in the Rust crate.
+pub fn prover_step<S: Suite>(
+    alloc: Global,
+    prover: &mut ProverState<S::Challenger, S::Unit, S::Digest>,
+    step: &Step<S>,
+    sent: Option<&Sent<S>>,
+) -> Result<Played<S>, TranscriptError>
+    requires admitted { let rules = ⟦<S as Meaning>⟧.rules ⟦<S::Field as Declared<S::Field, S::Digest>>⟧.algebra in
+        (play_of rules step.now).admitted }
+    requires handed { let rules = ⟦<S as Meaning>⟧.rules ⟦<S::Field as Declared<S::Field, S::Digest>>⟧.algebra in
+        (play_of rules step.now).sides.IsHanded (value_given sent) }
+    ensures { let rules = ⟦<S as Meaning>⟧.rules ⟦<S::Field as Declared<S::Field, S::Digest>>⟧.algebra in
+        SendsOrRefuses (play_of rules step.now) (proving_of S.Challenger.state prover.old) (value_given sent.entry)
+        played_witness played_draw result (proving_of S.Challenger.state prover.new) }
+{
+    match step {
+        Step::Begin { label, kind } => sending::begin(prover, *label, *kind),
+        Step::End { label, kind } => sending::end(prover, *label, *kind),
+        Step::Salt { label, len } => sending::add_salt(prover, *label, sent, *len),
+        Step::Bytes { label, len } => sending::add_bytes(prover, *label, sent, *len),
+        Step::Hint { label, len } => sending::add_hint(prover, *label, sent, *len),
+        Step::BytesBounded { label, max } => sending::add_bytes_bounded(prover, *label, sent, *max),
+        Step::HintBounded { label, max } => sending::add_hint_bounded(prover, *label, sent, *max),
+        Step::PublicScalar { label, value } => sending::add_public_scalar(prover, *label, value),
+        Step::PublicScalars { label, values } => {
+            sending::add_public_scalars(prover, *label, values)
+        }
+        Step::Scalar { label } => sending::add_scalar(prover, *label, sent),
+        Step::Scalars { label, n } => sending::add_scalars(prover, *label, sent, *n),
+        Step::ScalarsBounded { label, max } => {
+            sending::add_scalars_bounded(prover, *label, sent, *max)
+        }
+        Step::Extension { label } => sending::add_extension(prover, *label, sent),
+        Step::ObserveExtension { label, value } => {
+            sending::observe_extension(prover, *label, value)
+        }
+        Step::ObserveExtensions { label, values } => {
+            sending::observe_extensions(prover, *label, values)
+        }
+        Step::ObserveExtensionsBounded { label, values, max } => {
+            sending::observe_extensions_bounded(prover, *label, values, *max)
+        }
+        Step::Opaque { label, value } => sending::observe_opaque(prover, *label, value),
+        Step::ChallengeScalar { label } => drawing::scalar(alloc, prover, *label),
+        Step::ChallengeScalars { label, n } => drawing::scalars(alloc, prover, *label, *n),
+        Step::ChallengeExtension { label } => drawing::extension(alloc, prover, *label),
+        Step::ChallengeExtensions { label, n } => drawing::extensions(alloc, prover, *label, *n),
+        Step::ChallengeExtensionsRejecting {
+            label,
+            n,
+            accept,
+            limit,
+        } => drawing::extensions_rejecting(alloc, prover, *label, *n, accept, *limit),
+        Step::ChallengeBits { label, width, n } => drawing::bits(alloc, prover, *label, *width, *n),
+        Step::ChallengeUniformBits { label, width, n } => {
+            drawing::uniform_bits(alloc, prover, *label, *width, *n)
+        }
+        Step::ChallengeUniformBitsRejecting {
+            label,
+            width,
+            n,
+            accept,
+            limit,
+        } => drawing::uniform_bits_rejecting(alloc, prover, *label, *width, *n, accept, *limit),
+        Step::Pow { label, bits } => sending::pow(prover, *label, *bits),
+        Step::ObservePow { label, bits } => sending::observe_pow(prover, *label, *bits),
+    }
+}

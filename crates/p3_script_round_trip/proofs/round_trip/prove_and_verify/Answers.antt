@@ -1,0 +1,11 @@
+use Rattle.std.proofs.Common.{inl}
+use Rattle.std.proofs.lemmas.Result.{err_from_is_err_and}
+use Rattle.p3_script_round_trip.proofs.round_trip.prove_and_verify.Goals as goal
+
+pub returns-in_err-proved-clause-refused : goal.returns-in_err-proved-clause-refused
+returns-in_err-proved-clause-refused g c =
+    let p = err_from_is_err_and c.from_residual.result c.from_residual.ensures.1 in
+    rw (p.1, p.2) (inl c.in_err-proved.ensures.refused)
+
+pub verify_proved-requires-clause-proved : goal.verify_proved-requires-clause-proved
+verify_proved-requires-clause-proved g c = rw c.requires.equal c.in_ok-proved.ensures.accepted

@@ -1,0 +1,89 @@
+//! A script is proved, and the proof verified.
+ghost use Rattle.std.specs.Prelude.{◌≡◌, ◌⊎◌, List, IfOk, IfErr};
+ghost use Rattle.p3_fs_core.specs.declared.error.TranscriptError.TheVariants.{OutOfMemory};
+ghost use Rattle.p3_runs.specs.ProverOutcomes.{IsProved};
+ghost use Rattle.p3_runs.specs.Provings.{AreHanded, RefusesToProve};
+ghost use Rattle.p3_runs.specs.Runs.{AreAdmitted};
+ghost use Rattle.p3_runs.specs.Values.{Value};
+ghost use Rattle.p3_runs.specs.Verdicts.{script_of};
+ghost use Rattle.p3_script.specs.Scripts.{play_of, values_sent, values_received, challenges_of};
+ghost use Rattle.p3_script_round_trip.specs.RoundTrips.{PlaysOneRun};
+
+use p3_challenger_core::Sponge;
+use p3_domain_separator::DomainSeparator;
+use p3_fs_core::Declared;
+use p3_script::{Drawn, Fault, Meaning, Sent, Step, Suite};
+use p3_script_prover::{Proved, prove};
+use p3_script_verifier::{Verified, verify};
+use std::alloc::Global;
+
+/// Verifies what [`prove`] answered for the script, from a challenger that equals the prover's.
+///
+/// The proof is accepted: what is received are the values that were sent, with the witnesses in their places, the
+/// challenges are the prover's, and so is the challenger in the end. Only want of memory can come instead.
+///
+/// Conditions: the steps are admitted, and `proved` is an answer of [`prove`] for them, from this state of a challenger.
+/// Not in the Rust crate.
+pub fn verify_proved<'a, S: Suite>(
+    alloc: Global,
+    challenger: S::Challenger,
+    separator: &DomainSeparator<S::Unit, S::Digest>,
+    steps: &[Step<S>],
+    sent: &[Sent<S>],
+    proved: &'a Proved<S>,
+) -> Result<Verified<'a, S>, Fault>
+    requires admitted { AreAdmitted (play_of (⟦<S as Meaning>⟧.rules ⟦<S::Field as Declared<S::Field, S::Digest>>⟧.algebra)) steps.now }
+    requires proved { let rules = ⟦<S as Meaning>⟧.rules ⟦<S::Field as Declared<S::Field, S::Digest>>⟧.algebra in
+        IsProved rules (play_of rules) (script_of (S.Challenger.state challenger) separator.now steps.now)
+        (values_sent sent.now) proved.now.narg.items proved.now.witnesses.items proved.now.carried.items
+        (challenges_of proved.now.challenges.items) (S.Challenger.state proved.now.challenger) }
+    ensures same { let rules = ⟦<S as Meaning>⟧.rules ⟦<S::Field as Declared<S::Field, S::Digest>>⟧.algebra in
+        IfOk result (λ v. PlaysOneRun rules (play_of rules)
+        (script_of (S.Challenger.state challenger) separator.now steps.now) (values_sent sent.now)
+        proved.now.narg.items proved.now.witnesses.items proved.now.carried.items
+        (challenges_of proved.now.challenges.items) (S.Challenger.state proved.now.challenger)
+        (values_received v.received.items) (challenges_of v.challenges.items) (S.Challenger.state v.challenger)) }
+    ensures only_memory { IfErr result (λ f. f.error ≡ OutOfMemory) }
+{
+    let _sent = sent;
+    verify(
+        alloc,
+        challenger,
+        separator,
+        steps,
+        &proved.carried,
+        &proved.narg,
+    )
+}
+
+/// Proves a script, and verifies the proof, from two challengers of one state: what the prover answers, and the
+/// verifier's challenges and challenger, which are the prover's.
+///
+/// The errors are those of [`prove`], and want of memory. Conditions: those of [`prove`], and that the challengers are
+/// equal. Not in the Rust crate.
+pub fn prove_and_verify<S: Suite>(
+    alloc: Global,
+    first: S::Challenger,
+    second: S::Challenger,
+    separator: &DomainSeparator<S::Unit, S::Digest>,
+    steps: &[Step<S>],
+    sent: &[Sent<S>],
+) -> Result<(Proved<S>, Vec<Drawn<S>>, S::Challenger), Fault>
+    requires equal { S.Challenger.state second ≡ S.Challenger.state first }
+    requires admitted { AreAdmitted (play_of (⟦<S as Meaning>⟧.rules ⟦<S::Field as Declared<S::Field, S::Digest>>⟧.algebra)) steps.now }
+    requires handed { AreHanded (play_of (⟦<S as Meaning>⟧.rules ⟦<S::Field as Declared<S::Field, S::Digest>>⟧.algebra)) steps.now (values_sent sent.now) }
+    ensures challenges { IfOk result (λ r. challenges_of r.1.items ≡ challenges_of r.0.challenges.items) }
+    ensures challengers { IfOk result (λ r. S.Challenger.state r.2 ≡ S.Challenger.state r.0.challenger) }
+    ensures refused { let rules = ⟦<S as Meaning>⟧.rules ⟦<S::Field as Declared<S::Field, S::Digest>>⟧.algebra in
+        let script = script_of (S.Challenger.state first) separator.now steps.now in
+        IfErr result (λ f. RefusesToProve rules (play_of rules) script (values_sent sent.now) f.position f.error
+        ⊎ (f.error ≡ OutOfMemory)) }
+{
+    let proved = prove(alloc, first, separator, steps, sent)?;
+    let Verified {
+        received: _,
+        challenges,
+        challenger,
+    } = verify_proved(alloc, second, separator, steps, sent, &proved)?;
+    Ok((proved, challenges, challenger))
+}

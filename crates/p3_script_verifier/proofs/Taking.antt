@@ -1,0 +1,63 @@
+-- What a verifier's step comes to, by the shape of the step.
+use Rattle.std.proofs.Common.{◌≡◌, ℕ, List, [], ◌∷◌, ◌++◌, Option, Some, None, Ok, refl, sym, ap, ◌∙◌, subst, inr}
+use Rattle.std.specs.Option.{option_map}
+use Rattle.p3_challenger_core.specs.Reading.{AreBytes}
+use Rattle.p3_fs_core.specs.Steps.{Step}
+use Rattle.p3_driver_core.specs.Driving.{Driving}
+use Rattle.p3_driver_core.specs.Effects.{Effect}
+use Rattle.p3_driver_core.specs.Reads.{Reading}
+use Rattle.p3_driver_core.specs.Transcripts.{Meaning, PlaysStep, halted}
+use Rattle.p3_fs_core.specs.declared.error.TranscriptError.{TranscriptError}
+use Rattle.p3_fs_core.specs.declared.error.TranscriptError.TheVariants.{OutOfMemory}
+use Rattle.p3_script_verifier.specs.Taking.{IsRefused}
+use Rattle.p3_driver_core.specs.Verifying.{Receives}
+use Rattle.p3_step_laws.specs.Spelled.{OnlyReads}
+use Rattle.p3_runs.specs.Absorbed.{Absorbed}
+use Rattle.p3_runs.specs.Plays.{Play, sends}
+use Rattle.p3_runs.specs.Sides.{Refusal}
+use Rattle.p3_runs.specs.Stepping.{Takes}
+use Rattle.p3_runs.specs.Values.{Value, Challenge}
+
+-- a value that the step sends is received
+pub sent-taken : {S Symbol F EF O A : Type 0} (i : Step) (found : Value F EF → Option A) (IsHanded IsFit : A → Type 0)
+    (sent : A → Meaning S Symbol A) (absorbed : A → Absorbed F O) (proving : A → Refusal S) (r : Reading S Symbol A)
+    (before after : Driving S) (v : Value F EF) (x : A) → r.interaction ≡ i → r.effect x ≡ (sent x).effect →
+    OnlyReads r IsFit sent → AreBytes before.bytes → found v ≡ Some x → Receives r before x after →
+    Takes (sends i found IsHanded IsFit sent absorbed proving r) None before (v ∷ []) None after
+sent-taken {S} {Symbol} {F} {EF} {O} {A} i found IsHanded IsFit sent absorbed proving r before after v x named same only bytes is p =
+    record {
+      value = v;
+      fits = rw is (only.fits before.bytes x after.bytes bytes p.read);
+      carried = refl;
+      shown = refl;
+      plays = record {
+        is_next = rw (sym named) p.is_next;
+        fits = rw is (subst (λ (e : Effect S Symbol A). e.fits) same p.fits);
+        gives = rw is (ap (option_map (λ _. None))
+            (ap (λ (e : Effect S Symbol A). e.gives before.transcript.challenger) (sym same) ∙ p.gives));
+        challenger = rw is (p.challenger
+            ∙ ap (λ (e : Effect S Symbol A). e.after before.transcript.challenger) same);
+        playing = p.playing;
+      };
+      read = rw is (only.spelled before.bytes x after.bytes bytes p.read);
+    }
+
+-- the same where the driver was as it is then for a while
+pub sent-taken_then : {S Symbol F EF O A : Type 0} (i : Step) (found : Value F EF → Option A)
+    (IsHanded IsFit : A → Type 0) (sent : A → Meaning S Symbol A) (absorbed : A → Absorbed F O)
+    (proving : A → Refusal S) (r : Reading S Symbol A) (before after there : Driving S) (v : Value F EF) (x : A) →
+    r.interaction ≡ i → r.effect x ≡ (sent x).effect → OnlyReads r IsFit sent → AreBytes before.bytes →
+    found v ≡ Some x → Receives r before x after → there ≡ after →
+    Takes (sends i found IsHanded IsFit sent absorbed proving r) None before (v ∷ []) None there
+sent-taken_then i found IsHanded IsFit sent absorbed proving r before after there v x named same only bytes is p stays =
+    subst (λ d. Takes (sends i found IsHanded IsFit sent absorbed proving r) None before (v ∷ []) None d) (sym stays)
+    (sent-taken i found IsHanded IsFit sent absorbed proving r before after v x named same only bytes is p)
+
+-- memory was refused
+pub memory-refused : {S Symbol F EF O : Type 0} (play : Play S Symbol F EF O) (witness : Option F) (before : Driving S)
+    (e : TranscriptError) → e ≡ OutOfMemory → IsRefused play witness before e
+memory-refused play witness before e is =
+    record {
+      after = record { transcript = halted before.transcript; bytes = before.bytes };
+      refuses = inr (is, refl);
+    }

@@ -1,0 +1,5 @@
+//! What a step answers.
+use p3_script::{Drawn, Received};
+
+/// What a verifier receives at a step, and what it draws.
+pub type Answer<'a, S> = (Option<Received<'a, S>>, Option<Drawn<S>>);

@@ -1,0 +1,13 @@
+//! Scripts on the verifier's side: one step, and whole ones.
+#![tactic(auto)]
+
+mod answer;
+mod known;
+mod receives;
+mod stepping;
+mod verifying;
+mod work;
+
+pub use answer::Answer;
+pub use stepping::verifier_step;
+pub use verifying::{Verified, verify};

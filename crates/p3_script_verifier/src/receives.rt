@@ -1,0 +1,178 @@
+//! The steps that a verifier reads.
+ghost use Rattle.std.specs.Prelude.{None};
+ghost use Rattle.p3_drivers.specs.Drivers.{verifying_of};
+ghost use Rattle.p3_fs_core.specs.declared.step.Kind.TheVariants as kind;
+ghost use Rattle.p3_runs.specs.Values.{scalar_in, scalars_in, extension_in};
+ghost use Rattle.p3_script.specs.Scripts.{received_of, drawn_of, sends_bytes, sends_counted_bytes, hints, hints_counted};
+ghost use Rattle.p3_script.specs.Scripts.{sends_one, sends_list, sends_counted};
+ghost use Rattle.p3_script_verifier.specs.Taking.{TakesOrRefuses};
+
+use crate::answer::Answer;
+use p3_challenger_core::{CanObserve, Sponge};
+use p3_codecs::{Codec, ExtensionFieldCodec, Unit};
+use p3_drivers::VerifierState;
+use p3_fs_core::{Declared, Label, TranscriptError};
+use p3_script::draws::unbound;
+use p3_script::{Meaning, Received, Suite};
+use p3_step_laws::{read_bytes_are_spelled, read_hints_are_spelled, read_values_are_spelled};
+use std::alloc::Global;
+
+// Reads so many bytes of salt.
+pub(crate) fn receive_salt<'a, S: Suite>(
+    verifier: &mut VerifierState<'a, S::Challenger, S::Unit, S::Digest>,
+    label: Label,
+    len: usize,
+) -> Result<Answer<'a, S>, TranscriptError>
+    ensures { let rules = ⟦<S as Meaning>⟧.rules ⟦<S::Field as Declared<S::Field, S::Digest>>⟧.algebra in
+        TakesOrRefuses (sends_bytes rules kind.Salt label.now len) None
+        (verifying_of S.Challenger.state verifier.old) (λ r. received_of r.0) (λ r. drawn_of r.1) result
+        (verifying_of S.Challenger.state verifier.new) }
+{
+    read_bytes_are_spelled::<S::Unit, S::Challenger>();
+    let _unread = verifier.unread();
+    let bytes = verifier.next_salt(label, len)?;
+    Ok((Some(Received::Bytes(bytes)), None))
+}
+
+// Reads so many bytes.
+pub(crate) fn receive_bytes<'a, S: Suite>(
+    verifier: &mut VerifierState<'a, S::Challenger, S::Unit, S::Digest>,
+    label: Label,
+    len: usize,
+) -> Result<Answer<'a, S>, TranscriptError>
+    ensures { let rules = ⟦<S as Meaning>⟧.rules ⟦<S::Field as Declared<S::Field, S::Digest>>⟧.algebra in
+        TakesOrRefuses (sends_bytes rules kind.Message label.now len) None
+        (verifying_of S.Challenger.state verifier.old) (λ r. received_of r.0) (λ r. drawn_of r.1) result
+        (verifying_of S.Challenger.state verifier.new) }
+{
+    read_bytes_are_spelled::<S::Unit, S::Challenger>();
+    let _unread = verifier.unread();
+    let bytes = verifier.next_bytes(label, len)?;
+    Ok((Some(Received::Bytes(bytes)), None))
+}
+
+// Reads at most so many bytes, after their count.
+pub(crate) fn receive_counted_bytes<'a, S: Suite>(
+    verifier: &mut VerifierState<'a, S::Challenger, S::Unit, S::Digest>,
+    label: Label,
+    max: usize,
+) -> Result<Answer<'a, S>, TranscriptError>
+    ensures { let rules = ⟦<S as Meaning>⟧.rules ⟦<S::Field as Declared<S::Field, S::Digest>>⟧.algebra in
+        TakesOrRefuses (sends_counted_bytes rules label.now max) None
+        (verifying_of S.Challenger.state verifier.old) (λ r. received_of r.0) (λ r. drawn_of r.1) result
+        (verifying_of S.Challenger.state verifier.new) }
+{
+    read_bytes_are_spelled::<S::Unit, S::Challenger>();
+    let _unread = verifier.unread();
+    let bytes = verifier.next_bytes_bounded(label, max)?;
+    Ok((Some(Received::Bytes(bytes)), None))
+}
+
+// Reads so many bytes that the challenger takes no part in.
+pub(crate) fn receive_hint<'a, S: Suite>(
+    verifier: &mut VerifierState<'a, S::Challenger, S::Unit, S::Digest>,
+    label: Label,
+    len: usize,
+) -> Result<Answer<'a, S>, TranscriptError>
+    ensures { let rules = ⟦<S as Meaning>⟧.rules ⟦<S::Field as Declared<S::Field, S::Digest>>⟧.algebra in
+        TakesOrRefuses (hints rules label.now len) None
+        (verifying_of S.Challenger.state verifier.old) (λ r. received_of r.0) (λ r. drawn_of r.1) result
+        (verifying_of S.Challenger.state verifier.new) }
+{
+    read_hints_are_spelled::<S::Challenger>();
+    let _unread = verifier.unread();
+    let bytes = verifier.next_hint(label, len)?;
+    Ok((Some(Received::Bytes(bytes)), None))
+}
+
+// Reads at most so many of them, after their count.
+pub(crate) fn receive_counted_hint<'a, S: Suite>(
+    verifier: &mut VerifierState<'a, S::Challenger, S::Unit, S::Digest>,
+    label: Label,
+    max: usize,
+) -> Result<Answer<'a, S>, TranscriptError>
+    ensures { let rules = ⟦<S as Meaning>⟧.rules ⟦<S::Field as Declared<S::Field, S::Digest>>⟧.algebra in
+        TakesOrRefuses (hints_counted rules label.now max) None
+        (verifying_of S.Challenger.state verifier.old) (λ r. received_of r.0) (λ r. drawn_of r.1) result
+        (verifying_of S.Challenger.state verifier.new) }
+{
+    read_hints_are_spelled::<S::Challenger>();
+    let _unread = verifier.unread();
+    let bytes = verifier.next_hint_bounded(label, max)?;
+    Ok((Some(Received::Bytes(bytes)), None))
+}
+
+// Reads one scalar.
+pub(crate) fn receive_scalar<'a, S: Suite>(
+    verifier: &mut VerifierState<'a, S::Challenger, S::Unit, S::Digest>,
+    label: Label,
+) -> Result<Answer<'a, S>, TranscriptError>
+    ensures { let rules = ⟦<S as Meaning>⟧.rules ⟦<S::Field as Declared<S::Field, S::Digest>>⟧.algebra in
+        TakesOrRefuses (sends_one rules rules.scalar scalar_in label.now) None
+        (verifying_of S.Challenger.state verifier.old) (λ r. received_of r.0) (λ r. drawn_of r.1) result
+        (verifying_of S.Challenger.state verifier.new) }
+{
+    read_values_are_spelled::<S::Field, S::Unit, S::Challenger, S::Codec>();
+    let _unread = verifier.unread();
+    let bound = verifier.next_scalar::<S::Field, S::Codec>(label)?;
+    Ok((Some(Received::Scalar(bound.into_inner())), None))
+}
+
+// Reads one element of the extension.
+pub(crate) fn receive_extension<'a, S: Suite>(
+    verifier: &mut VerifierState<'a, S::Challenger, S::Unit, S::Digest>,
+    label: Label,
+) -> Result<Answer<'a, S>, TranscriptError>
+    ensures { let rules = ⟦<S as Meaning>⟧.rules ⟦<S::Field as Declared<S::Field, S::Digest>>⟧.algebra in
+        TakesOrRefuses (sends_one rules rules.extension extension_in label.now) None
+        (verifying_of S.Challenger.state verifier.old) (λ r. received_of r.0) (λ r. drawn_of r.1) result
+        (verifying_of S.Challenger.state verifier.new) }
+{
+    read_values_are_spelled::<
+        S::Extension,
+        S::Unit,
+        S::Challenger,
+        ExtensionFieldCodec<S::Field, S::Extension, S::Codec>,
+    >();
+    let _unread = verifier.unread();
+    let bound = verifier.next_extension::<S::Field, S::Extension, S::Codec>(label)?;
+    Ok((Some(Received::Extension(bound.into_inner())), None))
+}
+
+// Reads so many scalars.
+pub(crate) fn receive_scalars<'a, S: Suite>(
+    alloc: Global,
+    verifier: &mut VerifierState<'a, S::Challenger, S::Unit, S::Digest>,
+    label: Label,
+    n: usize,
+) -> Result<Answer<'a, S>, TranscriptError>
+    ensures { let rules = ⟦<S as Meaning>⟧.rules ⟦<S::Field as Declared<S::Field, S::Digest>>⟧.algebra in
+        TakesOrRefuses (sends_list rules rules.scalar scalars_in label.now n) None
+        (verifying_of S.Challenger.state verifier.old) (λ r. received_of r.0) (λ r. drawn_of r.1) result
+        (verifying_of S.Challenger.state verifier.new) }
+{
+    read_values_are_spelled::<S::Field, S::Unit, S::Challenger, S::Codec>();
+    let _unread = verifier.unread();
+    let bounds = verifier.next_scalars::<S::Field, S::Codec>(label, n)?;
+    let values = unbound(alloc, verifier, bounds)?;
+    Ok((Some(Received::Scalars(values)), None))
+}
+
+// Reads at most so many scalars, after their count.
+pub(crate) fn receive_counted_scalars<'a, S: Suite>(
+    alloc: Global,
+    verifier: &mut VerifierState<'a, S::Challenger, S::Unit, S::Digest>,
+    label: Label,
+    max: usize,
+) -> Result<Answer<'a, S>, TranscriptError>
+    ensures { let rules = ⟦<S as Meaning>⟧.rules ⟦<S::Field as Declared<S::Field, S::Digest>>⟧.algebra in
+        TakesOrRefuses (sends_counted rules rules.scalar scalars_in label.now max) None
+        (verifying_of S.Challenger.state verifier.old) (λ r. received_of r.0) (λ r. drawn_of r.1) result
+        (verifying_of S.Challenger.state verifier.new) }
+{
+    read_values_are_spelled::<S::Field, S::Unit, S::Challenger, S::Codec>();
+    let _unread = verifier.unread();
+    let bounds = verifier.next_scalars_bounded::<S::Field, S::Codec>(label, max)?;
+    let values = unbound(alloc, verifier, bounds)?;
+    Ok((Some(Received::Scalars(values)), None))
+}

@@ -1,0 +1,98 @@
+//! One step of a script.
+ghost use Rattle.std.specs.Prelude.{◌≡◌};
+ghost use Rattle.p3_drivers.specs.Drivers.{verifying_of};
+ghost use Rattle.p3_runs.specs.Stepping.{IsCarriedTo};
+ghost use Rattle.p3_script.specs.Scripts.{play_of, received_of, drawn_of};
+ghost use Rattle.p3_script_verifier.specs.Taking.{TakesOrRefuses};
+
+use crate::answer::Answer;
+use crate::{known, receives, work};
+use p3_challenger_core::Sponge;
+use p3_drivers::VerifierState;
+use p3_fs_core::{Declared, TranscriptError};
+use p3_script::{Meaning, Step, Suite};
+use std::alloc::Global;
+
+/// Plays one step of a script on a verifier: what is received, and what is drawn.
+///
+/// The verifier plays the step as its method for it does, and the errors are those of that method. Where memory is
+/// refused for what is answered, the error is [`TranscriptError::OutOfMemory`], and the verifier is finished, as it is
+/// after every refused step.
+///
+/// Conditions: the step is admitted, and there is a witness exactly where the step is `ObservePow`. Not in the Rust
+/// crate.
+pub fn verifier_step<'a, S: Suite>(
+    alloc: Global,
+    verifier: &mut VerifierState<'a, S::Challenger, S::Unit, S::Digest>,
+    step: &Step<S>,
+    witness: Option<S::Field>,
+) -> Result<Answer<'a, S>, TranscriptError>
+    requires admitted { (play_of (⟦<S as Meaning>⟧.rules ⟦<S::Field as Declared<S::Field, S::Digest>>⟧.algebra)
+        step.now).admitted }
+    requires carried { IsCarriedTo (play_of (⟦<S as Meaning>⟧.rules
+        ⟦<S::Field as Declared<S::Field, S::Digest>>⟧.algebra) step.now).place witness }
+    ensures { let rules = ⟦<S as Meaning>⟧.rules ⟦<S::Field as Declared<S::Field, S::Digest>>⟧.algebra in
+        TakesOrRefuses (play_of rules step.now) witness
+        (verifying_of S.Challenger.state verifier.old) (λ r. received_of r.0) (λ r. drawn_of r.1) result
+        (verifying_of S.Challenger.state verifier.new) }
+{
+    match step {
+        Step::Begin { label, kind } => known::begin(verifier, *label, *kind),
+        Step::End { label, kind } => known::end(verifier, *label, *kind),
+        Step::Salt { label, len } => receives::receive_salt(verifier, *label, *len),
+        Step::Bytes { label, len } => receives::receive_bytes(verifier, *label, *len),
+        Step::Hint { label, len } => receives::receive_hint(verifier, *label, *len),
+        Step::BytesBounded { label, max } => {
+            receives::receive_counted_bytes(verifier, *label, *max)
+        }
+        Step::HintBounded { label, max } => {
+            receives::receive_counted_hint(verifier, *label, *max)
+        }
+        Step::PublicScalar { label, value } => known::public_scalar(verifier, *label, value),
+        Step::PublicScalars { label, values } => known::public_scalars(verifier, *label, values),
+        Step::Scalar { label } => receives::receive_scalar(verifier, *label),
+        Step::Scalars { label, n } => receives::receive_scalars(alloc, verifier, *label, *n),
+        Step::ScalarsBounded { label, max } => {
+            receives::receive_counted_scalars(alloc, verifier, *label, *max)
+        }
+        Step::Extension { label } => receives::receive_extension(verifier, *label),
+        Step::ObserveExtension { label, value } => known::extension(verifier, *label, value),
+        Step::ObserveExtensions { label, values } => known::extensions(verifier, *label, values),
+        Step::ObserveExtensionsBounded { label, values, max } => {
+            known::counted_extensions(verifier, *label, values, *max)
+        }
+        Step::Opaque { label, value } => known::opaque(verifier, *label, value),
+        Step::ChallengeScalar { label } => known::draw_scalar(alloc, verifier, *label),
+        Step::ChallengeScalars { label, n } => known::draw_scalars(alloc, verifier, *label, *n),
+        Step::ChallengeExtension { label } => known::draw_extension(alloc, verifier, *label),
+        Step::ChallengeExtensions { label, n } => {
+            known::draw_extensions(alloc, verifier, *label, *n)
+        }
+        Step::ChallengeExtensionsRejecting {
+            label,
+            n,
+            accept,
+            limit,
+        } => { known::draw_extensions_rejecting(alloc, verifier, *label, *n, accept, *limit) }
+        Step::ChallengeBits { label, width, n } => {
+            known::draw_bits(alloc, verifier, *label, *width, *n)
+        }
+        Step::ChallengeUniformBits { label, width, n } => {
+            known::draw_uniform_bits(alloc, verifier, *label, *width, *n)
+        }
+        Step::ChallengeUniformBitsRejecting {
+            label,
+            width,
+            n,
+            accept,
+            limit,
+        } => {
+            known::draw_uniform_bits_rejecting(alloc, verifier, *label, *width, *n, accept, *limit)
+        }
+        Step::Pow { label, bits } => work::receive_witness(verifier, *label, *bits),
+        Step::ObservePow { label, bits } => match witness {
+            Some(carried) => work::check_carried(verifier, *label, *bits, carried),
+            None => unreachable!(),
+        },
+    }
+}
