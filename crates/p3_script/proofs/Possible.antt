@@ -15,7 +15,7 @@ use Rattle.p3_fs_core.specs.declared.error.TranscriptError.TheVariants.{MissingE
 use Rattle.p3_fs_core.specs.declared.error.TranscriptError.TheVariants.{Challenger, LabelTooLong, OutOfMemory}
 use Rattle.p3_fs_core.specs.declared.step.Kind.{Kind}
 use Rattle.p3_fs_core.specs.declared.step.Kind.TheVariants as kind
-use Rattle.p3_fs_core.specs.declared.step.Length.TheVariants as length
+use Rattle.p3_fs_core.specs.declared.step.Length.TheVariants as lengths
 use Rattle.p3_driver_core.specs.Driving.{Driving}
 use Rattle.p3_driver_core.specs.Effects.{Effect, untouched}
 use Rattle.p3_driver_core.specs.Meanings as meaning
@@ -303,13 +303,13 @@ untouched-tells x = record { limit = λ s t h. absurd h; too_long = λ s t h fit
 
 module _ {S Symbol I F EF O Ac : Type 0} (rules : Rules S Symbol I F EF O Ac) (laws : Lawful rules) where
   bytes-sending : (kind : Kind) (label : List ℕ) (len : ℕ) →
-      Sending (bytes_step kind label (length.Fixed len)) (HasLength len)
+      Sending (bytes_step kind label (lengths.Fixed len)) (HasLength len)
       (meaning.sent_bytes kind label rules.alphabet)
       (λ bytes. RefusesToWrite (meaning.sent_bytes kind label rules.alphabet bytes))
       (reads.received_bytes kind label rules.alphabet len)
   bytes-sending kind label len =
       record {
-        interaction = λ bytes is. ap (λ n. bytes_step kind label (length.Fixed n)) (sym is);
+        interaction = λ bytes is. ap (λ n. bytes_step kind label (lengths.Fixed n)) (sym is);
         gives = λ bytes s. refl;
         tells = laws.bytes;
         refused = λ bytes before after e is going h. h;
@@ -318,7 +318,7 @@ module _ {S Symbol I F EF O Ac : Type 0} (rules : Rules S Symbol I F EF O Ac) (l
       }
 
   counted_bytes-sending : (label : List ℕ) (max : ℕ) → max < 2 ^ 64 →
-      Sending (bytes_step kind.Message label (length.Bounded max)) (HasAtMost max)
+      Sending (bytes_step kind.Message label (lengths.Bounded max)) (HasAtMost max)
       (meaning.sent_bytes_bounded kind.Message label rules.alphabet max)
       (λ bytes. RefusesToWriteWithin (list.length bytes) max
       (meaning.sent_bytes_bounded kind.Message label rules.alphabet max bytes))
@@ -333,12 +333,12 @@ module _ {S Symbol I F EF O Ac : Type 0} (rules : Rules S Symbol I F EF O Ac) (l
       }
 
   hint-sending : (label : List ℕ) (len : ℕ) →
-      Sending {S = S} {Symbol = Symbol} (bytes_step kind.Hint label (length.Fixed len)) (HasLength len)
+      Sending {S = S} {Symbol = Symbol} (bytes_step kind.Hint label (lengths.Fixed len)) (HasLength len)
       (meaning.hinted label) (λ bytes. RefusesToWrite {Symbol = Symbol} (meaning.hinted label bytes))
       (reads.hint_received label len)
   hint-sending label len =
       record {
-        interaction = λ bytes is. ap (λ n. bytes_step kind.Hint label (length.Fixed n)) (sym is);
+        interaction = λ bytes is. ap (λ n. bytes_step kind.Hint label (lengths.Fixed n)) (sym is);
         gives = λ bytes s. refl;
         tells = untouched-tells;
         refused = λ bytes before after e is going h. h;
@@ -347,7 +347,7 @@ module _ {S Symbol I F EF O Ac : Type 0} (rules : Rules S Symbol I F EF O Ac) (l
       }
 
   counted_hint-sending : (label : List ℕ) (max : ℕ) → max < 2 ^ 64 →
-      Sending {S = S} {Symbol = Symbol} (bytes_step kind.Hint label (length.Bounded max)) (HasAtMost max)
+      Sending {S = S} {Symbol = Symbol} (bytes_step kind.Hint label (lengths.Bounded max)) (HasAtMost max)
       (meaning.hinted_bounded label max)
       (λ bytes. RefusesToWriteWithin {Symbol = Symbol} (list.length bytes) max (meaning.hinted_bounded label max bytes))
       (reads.hint_received_bounded label max)
@@ -374,7 +374,7 @@ module _ {S Symbol I F EF O Ac : Type 0} (rules : Rules S Symbol I F EF O Ac) (l
         }
 
     abbrev step_of : List ℕ → ℕ → Step
-    step_of label n = algebra_step kind.Message label c.algebra (length.Fixed n)
+    step_of label n = algebra_step kind.Message label c.algebra (lengths.Fixed n)
 
     list-sending : (label : List ℕ) (n : ℕ) →
         Sending (step_of label n) (HasLength n) (list_sent rules c label)

@@ -8,7 +8,7 @@ use Rattle.p3_fs_core.specs.declared.step.Hierarchy.{Hierarchy}
 use Rattle.p3_fs_core.specs.declared.step.Hierarchy.TheVariants.{Begin, End}
 use Rattle.p3_fs_core.specs.declared.step.Kind.{Kind}
 use Rattle.p3_fs_core.specs.declared.step.Kind.TheVariants as kind
-use Rattle.p3_fs_core.specs.declared.step.Length.TheVariants as length
+use Rattle.p3_fs_core.specs.declared.step.Length.TheVariants as lengths
 use Rattle.p3_driver_core.specs.Effects.{untouched, observing, drawing, drawing_list}
 use Rattle.p3_driver_core.specs.Meanings as meaning
 use Rattle.p3_driver_core.specs.Proving.{RefusesToWrite}
@@ -42,14 +42,14 @@ module _ {S Symbol I F EF O Ac : Type 0} (rules : Rules S Symbol I F EF O Ac) wh
   -- a value is observed as the challenger itself knows how
   abbrev pub knows_opaque : List ℕ → O → Play S Symbol F EF O
   knows_opaque label x =
-      known (opaque_step kind.Message label length.Scalar) no_challenge (observing rules.opaque x) (Own x)
+      known (opaque_step kind.Message label lengths.Scalar) no_challenge (observing rules.opaque x) (Own x)
 
   -- ---- bytes
 
   -- so many bytes are sent
   abbrev pub sends_bytes : Kind → List ℕ → ℕ → Play S Symbol F EF O
   sends_bytes kind label len =
-      sends (bytes_step kind label (length.Fixed len)) bytes_in (HasLength len) (HasLength len)
+      sends (bytes_step kind label (lengths.Fixed len)) bytes_in (HasLength len) (HasLength len)
       (meaning.sent_bytes kind label rules.alphabet) Bytes
       (λ bytes. RefusesToWrite (meaning.sent_bytes kind label rules.alphabet bytes))
       (reads.received_bytes kind label rules.alphabet len)
@@ -57,7 +57,7 @@ module _ {S Symbol I F EF O Ac : Type 0} (rules : Rules S Symbol I F EF O Ac) wh
   -- at most so many, after their count
   abbrev pub sends_counted_bytes : List ℕ → ℕ → Play S Symbol F EF O
   sends_counted_bytes label max =
-      sends (bytes_step kind.Message label (length.Bounded max)) bytes_in Any (HasAtMost max)
+      sends (bytes_step kind.Message label (lengths.Bounded max)) bytes_in Any (HasAtMost max)
       (meaning.sent_bytes_bounded kind.Message label rules.alphabet max) Bytes
       (λ bytes. RefusesToWriteWithin (list.length bytes) max
       (meaning.sent_bytes_bounded kind.Message label rules.alphabet max bytes))
@@ -66,13 +66,13 @@ module _ {S Symbol I F EF O Ac : Type 0} (rules : Rules S Symbol I F EF O Ac) wh
   -- the same of bytes that the challenger takes no part in
   abbrev pub hints : List ℕ → ℕ → Play S Symbol F EF O
   hints label len =
-      sends (bytes_step kind.Hint label (length.Fixed len)) bytes_in (HasLength len) (HasLength len)
+      sends (bytes_step kind.Hint label (lengths.Fixed len)) bytes_in (HasLength len) (HasLength len)
       (meaning.hinted label) (λ _. Nothing) (λ bytes. RefusesToWrite {Symbol = Symbol} (meaning.hinted label bytes))
       (reads.hint_received label len)
 
   abbrev pub hints_counted : List ℕ → ℕ → Play S Symbol F EF O
   hints_counted label max =
-      sends (bytes_step kind.Hint label (length.Bounded max)) bytes_in Any (HasAtMost max)
+      sends (bytes_step kind.Hint label (lengths.Bounded max)) bytes_in Any (HasAtMost max)
       (meaning.hinted_bounded label max) (λ _. Nothing)
       (λ bytes. RefusesToWriteWithin {Symbol = Symbol} (list.length bytes) max
       (meaning.hinted_bounded label max bytes))
@@ -89,12 +89,12 @@ module _ {S Symbol I F EF O Ac : Type 0} (rules : Rules S Symbol I F EF O Ac) wh
   -- both sides know one, or a list
   abbrev pub knows_one : {A : Type 0} → Coding S Symbol F A → Kind → List ℕ → A → Play S Symbol F EF O
   knows_one coding kind label x =
-      known (algebra_step kind label coding.algebra length.Scalar) no_challenge (observing coding.observation x)
+      known (algebra_step kind label coding.algebra lengths.Scalar) no_challenge (observing coding.observation x)
       (one_of coding x)
 
   abbrev pub list_known : {A : Type 0} → Coding S Symbol F A → Kind → List ℕ → List A → Meaning S Symbol (List A)
   list_known coding kind label xs =
-      meaning.observed_list (algebra_step kind label coding.algebra (length.Fixed (list.length xs))) coding.observation xs
+      meaning.observed_list (algebra_step kind label coding.algebra (lengths.Fixed (list.length xs))) coding.observation xs
 
   abbrev pub knows_list : {A : Type 0} → Coding S Symbol F A → Kind → List ℕ → List A → Play S Symbol F EF O
   knows_list coding kind label xs =
@@ -111,7 +111,7 @@ module _ {S Symbol I F EF O Ac : Type 0} (rules : Rules S Symbol I F EF O Ac) wh
   abbrev pub counted_known : {A : Type 0} → Coding S Symbol F A → Kind → List ℕ → List A → ℕ →
       Meaning S Symbol (List A)
   counted_known coding kind label xs max =
-      meaning.observed_bounded (algebra_step kind label coding.algebra (length.Bounded max)) rules.alphabet max
+      meaning.observed_bounded (algebra_step kind label coding.algebra (lengths.Bounded max)) rules.alphabet max
       coding.observation xs
 
   abbrev pub knows_counted : {A : Type 0} → Coding S Symbol F A → Kind → List ℕ → List A → ℕ → Play S Symbol F EF O
@@ -123,20 +123,20 @@ module _ {S Symbol I F EF O Ac : Type 0} (rules : Rules S Symbol I F EF O Ac) wh
   -- one is sent, so many, or at most so many after their count
   abbrev pub sends_one : {A : Type 0} → Coding S Symbol F A → (Value F EF → Option A) → List ℕ → Play S Symbol F EF O
   sends_one coding found label =
-      let one = algebra_step kind.Message label coding.algebra length.Scalar in
+      let one = algebra_step kind.Message label coding.algebra lengths.Scalar in
       sends one found Any Any (meaning.sent one coding.observation coding.encoding) (one_of coding)
       (λ x. RefusesToWrite (meaning.sent one coding.observation coding.encoding x))
       (reads.received one coding.observation coding.encoding)
 
   abbrev pub list_sent : {A : Type 0} → Coding S Symbol F A → List ℕ → List A → Meaning S Symbol (List A)
   list_sent coding label xs =
-      meaning.sent_list (algebra_step kind.Message label coding.algebra (length.Fixed (list.length xs)))
+      meaning.sent_list (algebra_step kind.Message label coding.algebra (lengths.Fixed (list.length xs)))
       coding.observation coding.encoding xs
 
   abbrev pub sends_list : {A : Type 0} → Coding S Symbol F A → (Value F EF → Option (List A)) → List ℕ → ℕ →
       Play S Symbol F EF O
   sends_list coding found label n =
-      let step = algebra_step kind.Message label coding.algebra (length.Fixed n) in
+      let step = algebra_step kind.Message label coding.algebra (lengths.Fixed n) in
       sends step found (HasLength n) (HasLength n) (list_sent coding label) (all_of coding)
       (λ xs. RefusesToWrite (list_sent coding label xs))
       (reads.received_list step coding.observation coding.encoding n)
@@ -144,7 +144,7 @@ module _ {S Symbol I F EF O Ac : Type 0} (rules : Rules S Symbol I F EF O Ac) wh
   abbrev pub sends_counted : {A : Type 0} → Coding S Symbol F A → (Value F EF → Option (List A)) → List ℕ → ℕ →
       Play S Symbol F EF O
   sends_counted coding found label max =
-      let some = algebra_step kind.Message label coding.algebra (length.Bounded max) in
+      let some = algebra_step kind.Message label coding.algebra (lengths.Bounded max) in
       sends some found Any (HasAtMost max)
       (meaning.sent_bounded some rules.alphabet max coding.observation coding.encoding) (all_of coding)
       (λ xs. RefusesToWriteWithin (list.length xs) max
@@ -156,20 +156,20 @@ module _ {S Symbol I F EF O Ac : Type 0} (rules : Rules S Symbol I F EF O Ac) wh
   -- through the codec, which has to be secure
   abbrev pub draws_one : {A : Type 0} → Coding S Symbol F A → (List A → Challenge F EF) → List ℕ → Play S Symbol F EF O
   draws_one coding make label =
-      only_if rules.is_secure (known (algebra_step kind.Challenge label coding.algebra length.Scalar)
+      only_if rules.is_secure (known (algebra_step kind.Challenge label coding.algebra lengths.Scalar)
       (λ x. Some (make (x ∷ []))) (drawing coding.sampling) Nothing)
 
   abbrev pub draws_list : {A : Type 0} → Coding S Symbol F A → (List A → Challenge F EF) → List ℕ → ℕ →
       Play S Symbol F EF O
   draws_list coding make label n =
-      only_if rules.is_secure (known (algebra_step kind.Challenge label coding.algebra (length.Fixed n))
+      only_if rules.is_secure (known (algebra_step kind.Challenge label coding.algebra (lengths.Fixed n))
       (λ xs. Some (make xs)) (drawing_list coding.sampling n) Nothing)
 
   -- elements that a rule takes
   abbrev pub draws_extensions_rejecting : List ℕ → ℕ → Ac → ℕ → Play S Symbol F EF O
   draws_extensions_rejecting label n accept limit =
       only_if (rules.is_secure × (1 ≤ limit))
-      (known (algebra_step kind.Challenge label rules.extension.algebra (length.Fixed n))
+      (known (algebra_step kind.Challenge label rules.extension.algebra (lengths.Fixed n))
       (λ xs. Some (value.OfExtensions xs))
       (drawing_rejecting rules.extension.sampling (rules.accepts_extension accept) limit n) Nothing)
 
@@ -182,14 +182,14 @@ module _ {S Symbol I F EF O Ac : Type 0} (rules : Rules S Symbol I F EF O Ac) wh
   abbrev pub draws_bits_rejecting : List ℕ → ℕ → ℕ → Ac → ℕ → Play S Symbol F EF O
   draws_bits_rejecting label width n accept limit =
       only_if (rules.bits.are_uniform × (width ≤ rules.bits.most) × (1 ≤ limit))
-      (known (uniform_bits_step label width (length.Fixed n)) (λ xs. Some (value.OfBits xs))
+      (known (uniform_bits_step label width (lengths.Fixed n)) (λ xs. Some (value.OfBits xs))
       (drawing_rejecting (rules.bits.uniform width) (rules.accepts_bits accept) limit n) Nothing)
 
   -- ---- proof of work
 
   abbrev pub work_in : List ℕ → ℕ → Work S Symbol F
   work_in label bits =
-      work_of (algebra_step kind.Pow label rules.scalar.algebra (length.Fixed bits)) rules.residues
+      work_of (algebra_step kind.Pow label rules.scalar.algebra (lengths.Fixed bits)) rules.residues
       rules.grinding.before_witness rules.grinding.witness rules.bits.plain bits
 
   abbrev pub is_work : ℕ → Type 0
@@ -234,9 +234,9 @@ module _ {S Symbol I F EF O Ac : Type 0} (rules : Rules S Symbol I F EF O Ac) wh
   play_of (step.ChallengeExtensionsRejecting label n accept limit) =
       draws_extensions_rejecting label.now n accept limit
   play_of (step.ChallengeBits label width n) =
-      draws_bits (bits_step label.now width (length.Fixed n)) rules.bits.are_there rules.bits.plain width n
+      draws_bits (bits_step label.now width (lengths.Fixed n)) rules.bits.are_there rules.bits.plain width n
   play_of (step.ChallengeUniformBits label width n) =
-      draws_bits (uniform_bits_step label.now width (length.Fixed n)) rules.bits.are_uniform rules.bits.uniform width n
+      draws_bits (uniform_bits_step label.now width (lengths.Fixed n)) rules.bits.are_uniform rules.bits.uniform width n
   play_of (step.ChallengeUniformBitsRejecting label width n accept limit) =
       draws_bits_rejecting label.now width n accept limit
   play_of (step.Pow label bits) = sends_work label.now bits
