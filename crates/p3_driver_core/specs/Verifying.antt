@@ -29,7 +29,7 @@ pub record ReadsNothing {S Symbol A : Type 0} (r : Reading S Symbol A) (before :
   pub failure : Unreadable S
   pub is_next : IsNext before.transcript.playing r.interaction
   pub read : r.read before.bytes ≡ Err failure
-  pub told : reason ≡ failure.reason
+  pub reason_is : reason ≡ failure.reason
   pub unread : after.bytes ≡ failure.left
   pub challenger : after.transcript.challenger ≡ failure.absorbed before.transcript.challenger
   pub finished : after.transcript.playing.finished ≡ true

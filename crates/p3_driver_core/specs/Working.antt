@@ -78,7 +78,7 @@ module _ {S Symbol W : Type 0} (work : Work S Symbol W) where
 
   -- the step was the next one, and too few bits are 0: the witness is checked, and no step may follow
   pub record FailsCheck (x : W) (before : Transcript S) (e : TranscriptError) (after : Transcript S) : Type 0 where
-    pub told : IsBadShape too_few_zero_bits e
+    pub reason_is : IsBadShape too_few_zero_bits e
     pub abandons : Abandons work.interaction before
         (λ s t. ((work.check x).sampled s ≡ Some false) × (t ≡ (work.check x).after s)) after
 

@@ -4,11 +4,12 @@ ghost use Rattle.p3_driver_core.specs.Bound.{bound_value};
 
 /// A value that went through the transcript: it was absorbed, or drawn.
 ///
-/// The drivers answer one, and a user is shown no other way to make it: [`bind`] is for drivers.
+/// The drivers answer one, and a user is shown no other way to make it: [`bind`] and
+/// [`Steps::bind`](crate::Steps::bind) are for drivers.
 ///
 /// The Rust crate's `TranscriptBound`.
 #[derive(Clone, Copy, Debug, PartialEq, Eq, PartialOrd, Ord, Hash)]
-pub struct TranscriptBound<T>(T);
+pub struct TranscriptBound<T>(pub(crate) T);
 
 impl<T> TranscriptBound<T> {
     /// The value.
@@ -39,7 +40,8 @@ impl<T: PartialEq> TranscriptBound<T> {
     {}
 }
 
-/// The value as one that went through the transcript. For drivers. In the Rust crate it is private.
+/// The value as one of a list that went through the transcript. For drivers: a step that answers one value closes by
+/// [`Steps::bind`](crate::Steps::bind). In the Rust crate it is private.
 pub fn bind<T>(value: T) -> TranscriptBound<T>
     ensures { bound_value result ≡ value }
 {

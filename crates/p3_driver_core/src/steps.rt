@@ -5,12 +5,14 @@ ghost use Rattle.p3_fs_core.specs.Errors.{pattern_error_of};
 ghost use Rattle.p3_fs_core.specs.Interactions.{step_of};
 ghost use Rattle.p3_fs_core.specs.Steps.{step_with};
 ghost use Rattle.p3_patterns.specs.Playing.{RefusesToPlay, FaultOfPlayEnd, IsPatternError, IsPlayed, next_step};
+ghost use Rattle.p3_driver_core.specs.Bound.{bound_value};
 ghost use Rattle.p3_driver_core.specs.Opened.{playing_of, Opens};
 ghost use Rattle.p3_driver_core.specs.Transcripts.{bytes_step, uniform_bits_step, halted_player};
 ghost use Rattle.p3_driver_core.specs.Transcripts.{RefusesLength, RefusesCarried};
 ghost use Rattle.p3_driver_core.specs.Transcripts.{IsOtherLength, longer_list, another_length};
 
-use crate::algebras::Algebras;
+use crate::TranscriptBound;
+use crate::algebras::{Algebras, KnownAlgebra};
 use p3_field_core::{AlgebraIdentity, Named};
 use p3_fs_core::{
     Declared, Hierarchy, Interaction, Kind, Label, Length, PatternError, TranscriptError,
@@ -19,13 +21,14 @@ use p3_fs_core::{
 use p3_patterns::{InteractionPattern, Pattern, PatternPlayer};
 use p3_symmetric::DigestHasher;
 use std::alloc::{AllocError, Global};
+use std::marker::PhantomData;
 use std::rc::Rc;
 
 /// The pattern as a driver plays it.
 ///
 /// A step is opened by [`take`](Steps::take) once it is the next one of the pattern, and closed by
-/// [`done`](Steps::done). Between the two no other step is taken, so that a step which is given up in the middle
-/// leaves the driver finished.
+/// [`done`](Steps::done), or by [`bind`](Steps::bind) where it answers one value. Between the two no other step is
+/// taken, so that a step which is given up in the middle leaves the driver finished.
 ///
 /// Not in the Rust crate.
 #[derive_where(Debug)]
@@ -68,7 +71,8 @@ impl<D: DigestHasher> Steps<D> {
         Ok(())
     }
 
-    /// Opens a step that carries elements of an algebra, as [`take`](Steps::take) does.
+    /// Opens a step that carries elements of an algebra, as [`take`](Steps::take) does. The identity of the algebra is
+    /// hashed where no step before was of it, or four others were known before it.
     pub fn take_algebra<F: TranscriptField, A: AlgebraIdentity<F> + Named>(
         &mut self,
         kind: Kind,
@@ -80,8 +84,27 @@ impl<D: DigestHasher> Steps<D> {
         ensures err { IfErr result (λ e. RefusesToPlay (playing_of self.old)
             (⟦<A as Declared<F, D>>⟧.step kind label.now length) e (playing_of self.new)) }
     {
-        let interaction = self.algebras.step::<F, A>(kind, label, length);
-        self.take(interaction)
+        for known in &self.algebras.known {
+            if known.identity == A::algebra_id()
+                && known.modulus == F::ORDER_U64
+                && known.degree == A::DIMENSION
+                && known.step.type_name() == A::type_name()
+            {
+                let step = known
+                    .step
+                    .of_same_type(Hierarchy::Atomic, kind, label, length);
+                return self.take(step);
+            }
+        }
+        let step = Interaction::algebra::<F, A, D>(Hierarchy::Atomic, kind, label, length);
+        self.algebras.keep(KnownAlgebra {
+            identity: A::algebra_id(),
+            modulus: F::ORDER_U64,
+            degree: A::DIMENSION,
+            step,
+            hasher: PhantomData,
+        });
+        self.take(step)
     }
 
     /// Opens a step that carries bytes, as [`take`](Steps::take) does.
@@ -246,5 +269,14 @@ impl<D: DigestHasher> Steps<D> {
         ensures { self.new ≡ record self.old { closed = false } }
     {
         self.closed = false;
+    }
+
+    /// Closes the step that is open: it was played, so the value that it answers went through the transcript.
+    pub fn bind<T>(&mut self, value: T) -> TranscriptBound<T>
+        ensures closed { self.new ≡ record self.old { closed = false } }
+        ensures value { bound_value result ≡ value }
+    {
+        self.closed = false;
+        TranscriptBound(value)
     }
 }

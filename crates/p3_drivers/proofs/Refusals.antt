@@ -36,7 +36,7 @@ not-read r before after (BadProofShape reason) is_next fails same finished =
       failure = record { reason = reason.now; left = after.bytes; absorbed = λ s. s };
       is_next = is_next;
       read = fails;
-      told = refl;
+      reason_is = refl;
       unread = refl;
       challenger = same;
       finished = finished;
@@ -93,7 +93,7 @@ module _ {S Symbol A : Type 0} (interaction : Step) (o : Observation S Symbol A)
         failure = fails.0;
         is_next = is_next;
         read = fails.1;
-        told = fails.2;
+        reason_is = fails.2;
         unread = fails.3;
         challenger = fails.4;
         finished = finished;
@@ -160,7 +160,7 @@ module _ {S Symbol A : Type 0} (interaction : Step) (o : Observation S Symbol A)
             };
             is_next = is_next;
             read = whole (Err fails.0) fails.1;
-            told = fails.2;
+            reason_is = fails.2;
             unread = fails.3;
             challenger = fails.4 ∙ ap fails.0.absorbed is;
             finished = finished;

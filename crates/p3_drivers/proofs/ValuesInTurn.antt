@@ -139,25 +139,25 @@ module _ {S Symbol A : Type 0} (e : Encoding A) (o : Observation S Symbol A) whe
   -- there are
   pub enough : (n : ℕ) (bytes : List ℕ) (holds : Bool) (width : ℕ) → (IsTrue holds → n * width ≤ length bytes) →
       holds ≡ true → width ≡ e.width → n * e.width ≤ length bytes
-  enough n bytes holds width told passed is = subst (λ w. n * w ≤ length bytes) is (told passed)
+  enough n bytes holds width means passed is = subst (λ w. n * w ≤ length bytes) is (means passed)
 
   -- so each is read
   pub enough-read : (n : ℕ) (bytes : List ℕ) (holds : Bool) (width : ℕ) →
       (IsTrue holds → n * width ≤ length bytes) → holds ≡ true → width ≡ e.width →
       read_values e o.observed n bytes ≡ read_each e o.observed n bytes
-  enough-read n bytes holds width told passed is =
+  enough-read n bytes holds width means passed is =
       chosen (nat_lt (length bytes) (n * e.width)) false (unreadable too_many_values bytes)
       (read_each e o.observed n bytes)
-      (not_below (length bytes) (n * e.width) (enough n bytes holds width told passed is))
+      (not_below (length bytes) (n * e.width) (enough n bytes holds width means passed is))
 
   -- there are not, so none is
   pub short-read : (n : ℕ) (bytes : List ℕ) (holds : Bool) (width : ℕ) →
       (n * width ≤ length bytes → IsTrue holds) → holds ≡ false → width ≡ e.width →
       read_values e o.observed n bytes ≡ unreadable too_many_values bytes
-  short-read n bytes holds width told failed is =
+  short-read n bytes holds width means failed is =
       let differ : true ≡ false → ⊥ = λ same. cc in
       let short : n * e.width ≤ length bytes → ⊥ = λ h.
-      differ (sym (told (subst (λ w. n * w ≤ length bytes) (sym is) h)) ∙ failed) in
+      differ (sym (means (subst (λ w. n * w ≤ length bytes) (sym is) h)) ∙ failed) in
       chosen (nat_lt (length bytes) (n * e.width)) true (unreadable too_many_values bytes)
       (read_each e o.observed n bytes) (is_below (length bytes) (n * e.width) short)
 

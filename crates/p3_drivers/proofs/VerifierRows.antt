@@ -225,7 +225,7 @@ list_unread playing next =
       };
       is_next = next;
       read = refl;
-      told = refl;
+      reason_is = refl;
       unread = refl;
       challenger = refl;
       finished = refl;
@@ -272,7 +272,7 @@ eight_fails playing reason next is =
       witness = 8;
       read = refl;
       fails = record {
-        told = is;
+        reason_is = is;
         abandons = record { is_next = next; leaves = (refl, refl); finished = refl };
       };
     }

@@ -119,17 +119,6 @@ impl PatternPlayer {
         }
     }
 
-    // The step is the next one, and none was refused. This is asked of each step and makes no error, since an
-    // error has to have its room cleared.
-    fn may_take(&self, received: &Interaction) -> bool
-        ensures { IsTrue result ↔ (self.now.finished ≡ false) × (next_step self.now ≡ Some (step_of received.now)) }
-    {
-        match self.next_interaction() {
-            None => false,
-            Some(expected) => !self.finished && is_same(received, expected),
-        }
-    }
-
     // Why the step may not be taken.
     fn fault_of(&self, received: Interaction) -> PatternError
         requires { (self.now.finished ≡ false) × (next_step self.now ≡ Some (step_of received)) → ⊥ }
@@ -160,14 +149,6 @@ impl PatternPlayer {
     }
 }
 
-// The two are one step.
-fn is_same(received: &Interaction, expected: &Interaction) -> bool
-    ensures { IsTrue result ↔ step_of expected.now ≡ step_of received.now }
-{
-    Interaction::compared_by_parts();
-    received == expected
-}
-
 impl Pattern for PatternPlayer {
     ghost takes = { Plays };
 
@@ -186,7 +167,9 @@ impl Pattern for PatternPlayer {
         ensures err { IfErr result (λ e. RefusesToPlay self.old (step_of interaction) e self.new) }
         ensures received { IfErr result (λ e. IsPatternError (CarriesReceived interaction) e) }
     {
-        if self.may_take(&interaction) {
+        // The error is made apart, since an error has to have its room cleared.
+        Interaction::compared_by_parts();
+        if !self.finished && self.next_interaction() == Some(&interaction) {
             self.position += 1;
             return Ok(());
         }

@@ -9,23 +9,23 @@ use Rattle.p3_patterns.specs.Playing.{Playing}
 use Rattle.p3_driver_core.specs.Transcripts.{Meaning, Transcript, RefusesStep, RefusesLength}
 use Rattle.p3_driver_core.specs.Driving.{Driving}
 use Rattle.p3_driver_core.specs.Verifying.{RefusesCarriedList}
-use Rattle.p3_step_laws.proofs.OneReason.{Cause, Tells, both_ways, bad_shape, refused-cause, refused-one_reason}
+use Rattle.p3_step_laws.proofs.OneReason.{Cause, RefusesAs, both_ways, bad_shape, refused-cause, refused-one_reason}
 use Rattle.p3_step_laws.specs.OneReason.{TellOneReason}
 
--- once a step was refused, nothing else is told
-finished-told : (playing : Playing) (s : Step) (told : Refusal) (e : TranscriptError) → playing.finished ≡ true →
-    Cause playing s told e → refusal_of e ≡ pattern_error Finished
-finished-told playing s told e finished (inl (p, is, inl fault)) = ap refusal_of is ∙ ap pattern_error fault.1
-finished-told playing s told e finished (inl (p, is, inr fault)) = absurd (both_ways finished fault.0)
-finished-told playing s told e finished (inr next) = absurd (both_ways finished next.0.0)
+-- once a step was refused, each is refused for that
+finished-refusal : (playing : Playing) (s : Step) (refusal : Refusal) (e : TranscriptError) → playing.finished ≡ true →
+    Cause playing s refusal e → refusal_of e ≡ pattern_error Finished
+finished-refusal playing s refusal e finished (inl (p, is, inl fault)) = ap refusal_of is ∙ ap pattern_error fault.1
+finished-refusal playing s refusal e finished (inl (p, is, inr fault)) = absurd (both_ways finished fault.0)
+finished-refusal playing s refusal e finished (inr next) = absurd (both_ways finished next.0.0)
 
--- what is told first: that a step was refused before; or this, and then the length is not right
+-- what comes first: that a step was refused before; or this refusal, where the length is not right
 abbrev First : Playing → Type 0 → Refusal → TranscriptError → Type 0
 First playing IsRight said e =
     ((playing.finished ≡ true) × (refusal_of e ≡ pattern_error Finished))
     ⊎ ((playing.finished ≡ false) × (IsRight → ⊥) × (refusal_of e ≡ said))
 
-module _ {S Symbol A : Type 0} (m : Meaning S Symbol A) (told : S → Refusal) (tells : Tells m.effect told) where
+module _ {S Symbol A : Type 0} (m : Meaning S Symbol A) (refusal : S → Refusal) (refuses_as : RefusesAs m.effect refusal) where
   module _ {V : Type 0} (transcript : V → Transcript S) (RefusedFirst : V → TranscriptError → V → Type 0)
       (IsRight : V → Type 0)
       (said : Refusal)
@@ -41,8 +41,8 @@ module _ {S Symbol A : Type 0} (m : Meaning S Symbol A) (told : S → Refusal) (
         refusal_of e ≡ refusal_of f
     first_and_step start other e f (inl late) right refuses q =
         late.1
-        ∙ sym (finished-told (transcript start).playing m.interaction (told (transcript start).challenger) f late.0
-        (refused-cause m told tells (transcript start) (transcript other) f refuses q))
+        ∙ sym (finished-refusal (transcript start).playing m.interaction (refusal (transcript start).challenger) f late.0
+        (refused-cause m refusal refuses_as (transcript start) (transcript other) f refuses q))
     first_and_step start other e f (inr wrong) right refuses q = absurd (wrong.1 right)
 
     both_first : (start : V) (e f : TranscriptError) → First (transcript start).playing (IsRight start) said e →
@@ -60,7 +60,7 @@ module _ {S Symbol A : Type 0} (m : Meaning S Symbol A) (told : S → Refusal) (
     first-one_reason start one other e f (inr a) (inl b) p q =
         sym (first_and_step start one f e (first start other f b) a.0 a.1 p)
     first-one_reason start one other e f (inr a) (inr b) p q =
-        refused-one_reason m told tells (transcript start) (transcript one) (transcript other) e f a.1 b.1 p q
+        refused-one_reason m refusal refuses_as (transcript start) (transcript one) (transcript other) e f a.1 b.1 p q
 
   -- ---- a list that a verifier's caller carries
 

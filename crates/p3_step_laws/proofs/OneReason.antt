@@ -67,13 +67,13 @@ next-no_fault before s (WrongStep r x) is (inr a) =
 
 -- ---- one cause
 
--- the pattern refuses the step; or it is the next one, and the error tells this
+-- the pattern refuses the step; or it is the next one, and the error says this
 abbrev pub Cause : Playing → Step → Refusal → TranscriptError → Type 0
-Cause playing s told e =
+Cause playing s refusal e =
     ((p : PatternError Interaction) × (e ≡ Pattern p) × FaultOfPlay playing s (pattern_error_of p))
-    ⊎ (IsNext playing s × (refusal_of e ≡ told))
+    ⊎ (IsNext playing s × (refusal_of e ≡ refusal))
 
--- what an error tells that names a bad shape
+-- what an error says that names a bad shape
 pub bad_shape : (reason : List ℕ) (e : TranscriptError) → IsBadShape reason e → refusal_of e ≡ bad_proof_shape reason
 bad_shape reason (MissingBegin info) is = absurd is
 bad_shape reason (InvalidKind info) is = absurd is
@@ -85,45 +85,45 @@ bad_shape reason (Challenger e) is = absurd is
 bad_shape reason LabelTooLong is = absurd is
 bad_shape reason OutOfMemory is = absurd is
 
-one_cause : (playing : Playing) (s : Step) (told : Refusal) (e f : TranscriptError) → Cause playing s told e →
-    Cause playing s told f → refusal_of e ≡ refusal_of f
-one_cause playing s told e f (inl x) (inl y) =
+one_cause : (playing : Playing) (s : Step) (refusal : Refusal) (e f : TranscriptError) → Cause playing s refusal e →
+    Cause playing s refusal f → refusal_of e ≡ refusal_of f
+one_cause playing s refusal e f (inl x) (inl y) =
     ap refusal_of x.1
     ∙ ap pattern_error (one_fault playing s (pattern_error_of x.0) (pattern_error_of y.0) x.2 y.2)
     ∙ sym (ap refusal_of y.1)
-one_cause playing s told e f (inl x) (inr y) = absurd (next-no_fault playing s (pattern_error_of x.0) y.0 x.2)
-one_cause playing s told e f (inr x) (inl y) = absurd (next-no_fault playing s (pattern_error_of y.0) x.0 y.2)
-one_cause playing s told e f (inr x) (inr y) = x.1 ∙ sym y.1
+one_cause playing s refusal e f (inl x) (inr y) = absurd (next-no_fault playing s (pattern_error_of x.0) y.0 x.2)
+one_cause playing s refusal e f (inr x) (inl y) = absurd (next-no_fault playing s (pattern_error_of y.0) x.0 y.2)
+one_cause playing s refusal e f (inr x) (inr y) = x.1 ∙ sym y.1
 
--- what is told of the next step follows from the state before it
+-- the refusal of the next step follows from the state before it
 pub one_reason : {V : Type 0} (Refused : V → TranscriptError → V → Type 0) (playing : V → Playing) (s : Step)
-    (told : V → Refusal) → ((v w : V) (e : TranscriptError) → Refused v e w → (e ≡ OutOfMemory → ⊥) →
-    Cause (playing v) s (told v) e) → TellOneReason Refused
-one_reason Refused playing s told cause start one other e f a b p q =
-    one_cause (playing start) s (told start) e f (cause start one e a p) (cause start other f b q)
+    (refusal : V → Refusal) → ((v w : V) (e : TranscriptError) → Refused v e w → (e ≡ OutOfMemory → ⊥) →
+    Cause (playing v) s (refusal v) e) → TellOneReason Refused
+one_reason Refused playing s refusal cause start one other e f a b p q =
+    one_cause (playing start) s (refusal start) e f (cause start one e a p) (cause start other f b q)
 
 -- ---- the challenger and the alphabet
 
--- where an effect is refused, this is told of the state
-abbrev pub Tells : {S Symbol A : Type 0} → Effect S Symbol A → (S → Refusal) → Type 0
-Tells {S} effect told =
+-- where an effect is refused, the refusal is the one that follows from the state
+abbrev pub RefusesAs : {S Symbol A : Type 0} → Effect S Symbol A → (S → Refusal) → Type 0
+RefusesAs {S} effect refusal =
     (d : ChallengerError) (s t : S) → effect.refuses d s t → (d ≡ challenger.OutOfMemory → ⊥) →
-    challenger_refused d ≡ told s
+    challenger_refused d ≡ refusal s
 
 module _ {S Symbol A : Type 0} (effect : Effect S Symbol A) (tells : TellsLimits effect) where
   -- where nothing is too long, that a draw meets its limit
-  pub short-tells : effect.fits → Tells effect (λ _. challenger_refused DrawLimit)
-  short-tells fits challenger.OutOfMemory s t refuses other = absurd (other refl)
-  short-tells fits DrawLimit s t refuses other = refl
-  short-tells fits NoWitness s t refuses other = absurd (tells.witness s t refuses)
-  short-tells fits TooLong s t refuses other = absurd (tells.too_long s t refuses fits)
+  pub short-refuses_as : effect.fits → RefusesAs effect (λ _. challenger_refused DrawLimit)
+  short-refuses_as fits challenger.OutOfMemory s t refuses other = absurd (other refl)
+  short-refuses_as fits DrawLimit s t refuses other = refl
+  short-refuses_as fits NoWitness s t refuses other = absurd (tells.witness s t refuses)
+  short-refuses_as fits TooLong s t refuses other = absurd (tells.too_long s t refuses fits)
 
   -- where something is given from every state, that what is fed is too long
-  pub given-tells : ((s : S) → (x : A) × (effect.gives s ≡ Some x)) → Tells effect (λ _. challenger_refused TooLong)
-  given-tells gives challenger.OutOfMemory s t refuses other = absurd (other refl)
-  given-tells gives DrawLimit s t refuses other = absurd (some_none (gives s).1 (tells.limit s t refuses))
-  given-tells gives NoWitness s t refuses other = absurd (tells.witness s t refuses)
-  given-tells gives TooLong s t refuses other = refl
+  pub given-refuses_as : ((s : S) → (x : A) × (effect.gives s ≡ Some x)) → RefusesAs effect (λ _. challenger_refused TooLong)
+  given-refuses_as gives challenger.OutOfMemory s t refuses other = absurd (other refl)
+  given-refuses_as gives DrawLimit s t refuses other = absurd (some_none (gives s).1 (tells.limit s t refuses))
+  given-refuses_as gives NoWitness s t refuses other = absurd (tells.witness s t refuses)
+  given-refuses_as gives TooLong s t refuses other = refl
 
 limit_no_memory : DrawLimit ≡ challenger.OutOfMemory → ⊥
 limit_no_memory is = absurd (cc)
@@ -136,9 +136,9 @@ length_no_memory is = absurd (cc)
 
 -- ---- a step that leaves the proof as it is, or that a prover writes
 
-module _ {S Symbol A : Type 0} (m : Meaning S Symbol A) (told : S → Refusal) (tells : Tells m.effect told) where
+module _ {S Symbol A : Type 0} (m : Meaning S Symbol A) (refusal : S → Refusal) (refuses_as : RefusesAs m.effect refusal) where
   pub refused-cause : (before after : Transcript S) (e : TranscriptError) → RefusesStep m before e after →
-      (e ≡ OutOfMemory → ⊥) → Cause before.playing m.interaction (told before.challenger) e
+      (e ≡ OutOfMemory → ⊥) → Cause before.playing m.interaction (refusal before.challenger) e
   refused-cause before after (MissingBegin info) h other = absurd h
   refused-cause before after (InvalidKind info) h other = absurd h
   refused-cause before after (MismatchedBeginEnd info) h other = absurd h
@@ -147,52 +147,52 @@ module _ {S Symbol A : Type 0} (m : Meaning S Symbol A) (told : S → Refusal) (
   refused-cause before after (Pattern p) h other = inl (p, refl, h.playing.fault)
   refused-cause before after (Challenger challenger.OutOfMemory) h other = absurd h
   refused-cause before after (Challenger DrawLimit) h other =
-      inr (h.is_next, tells DrawLimit before.challenger after.challenger h.leaves limit_no_memory)
+      inr (h.is_next, refuses_as DrawLimit before.challenger after.challenger h.leaves limit_no_memory)
   refused-cause before after (Challenger NoWitness) h other =
-      inr (h.is_next, tells NoWitness before.challenger after.challenger h.leaves witness_no_memory)
+      inr (h.is_next, refuses_as NoWitness before.challenger after.challenger h.leaves witness_no_memory)
   refused-cause before after (Challenger TooLong) h other =
-      inr (h.is_next, tells TooLong before.challenger after.challenger h.leaves length_no_memory)
+      inr (h.is_next, refuses_as TooLong before.challenger after.challenger h.leaves length_no_memory)
   refused-cause before after LabelTooLong h other = absurd h
   refused-cause before after OutOfMemory h other = absurd (other refl)
 
   pub refused-one_reason : TellOneReason (RefusesStep m)
   refused-one_reason =
       one_reason (RefusesStep m) (λ (v : Transcript S). v.playing) m.interaction
-      (λ (v : Transcript S). told v.challenger)
+      (λ (v : Transcript S). refusal v.challenger)
       refused-cause
 
 module _ {S Symbol A : Type 0} (m : Meaning S Symbol A) (tells : TellsLimits m.effect) where
   pub short-one_reason : m.effect.fits → TellOneReason (RefusesStep m)
   short-one_reason fits =
-      refused-one_reason m (λ _. challenger_refused DrawLimit) (short-tells m.effect tells fits)
+      refused-one_reason m (λ _. challenger_refused DrawLimit) (short-refuses_as m.effect tells fits)
 
   pub given-one_reason : ((s : S) → (x : A) × (m.effect.gives s ≡ Some x)) → TellOneReason (RefusesStep m)
   given-one_reason gives =
-      refused-one_reason m (λ _. challenger_refused TooLong) (given-tells m.effect tells gives)
+      refused-one_reason m (λ _. challenger_refused TooLong) (given-refuses_as m.effect tells gives)
 
 -- ---- a step that reads
 
--- why nothing is read, or what is told of the value that is
-abbrev pub told_of_read : {S A : Type 0} → (A → Refusal) → Read S A → Refusal
-told_of_read told (Ok found) = told found.0
-told_of_read told (Err failure) = bad_proof_shape failure.reason
+-- why nothing is read, or the refusal of the value that is
+abbrev pub refusal_of_read : {S A : Type 0} → (A → Refusal) → Read S A → Refusal
+refusal_of_read refusal (Ok found) = refusal found.0
+refusal_of_read refusal (Err failure) = bad_proof_shape failure.reason
 
-module _ {S Symbol A : Type 0} (r : Reading S Symbol A) (told : A → S → Refusal)
-    (tells : (x : A) → Tells (r.effect x) (told x)) where
-  abbrev pub told_here : Driving S → Refusal
-  told_here v = told_of_read (λ x. told x v.transcript.challenger) (r.read v.bytes)
+module _ {S Symbol A : Type 0} (r : Reading S Symbol A) (refusal : A → S → Refusal)
+    (refuses_as : (x : A) → RefusesAs (r.effect x) (refusal x)) where
+  abbrev pub refusal_here : Driving S → Refusal
+  refusal_here v = refusal_of_read (λ x. refusal x v.transcript.challenger) (r.read v.bytes)
 
   of_value : (before after : Driving S) (d : ChallengerError) (x : A) →
       r.read before.bytes ≡ Ok (x, after.bytes) →
       (r.effect x).refuses d before.transcript.challenger after.transcript.challenger →
       (d ≡ challenger.OutOfMemory → ⊥) →
-      challenger_refused d ≡ told_here before
+      challenger_refused d ≡ refusal_here before
   of_value before after d x read refuses other =
-      tells x d before.transcript.challenger after.transcript.challenger refuses other
-      ∙ sym (ap (told_of_read (λ y. told y before.transcript.challenger)) read)
+      refuses_as x d before.transcript.challenger after.transcript.challenger refuses other
+      ∙ sym (ap (refusal_of_read (λ y. refusal y before.transcript.challenger)) read)
 
   pub unread-cause : (before after : Driving S) (e : TranscriptError) → RefusesToRead r before e after →
-      (e ≡ OutOfMemory → ⊥) → Cause before.transcript.playing r.interaction (told_here before) e
+      (e ≡ OutOfMemory → ⊥) → Cause before.transcript.playing r.interaction (refusal_here before) e
   unread-cause before after (MissingBegin info) h other = absurd h
   unread-cause before after (InvalidKind info) h other = absurd h
   unread-cause before after (MismatchedBeginEnd info) h other = absurd h
@@ -200,7 +200,7 @@ module _ {S Symbol A : Type 0} (r : Reading S Symbol A) (told : A → S → Refu
   unread-cause before after (BadProofShape reason) h other =
       inr (
         h.is_next,
-        ap bad_proof_shape h.told ∙ sym (ap (told_of_read (λ y. told y before.transcript.challenger)) h.read),
+        ap bad_proof_shape h.reason_is ∙ sym (ap (refusal_of_read (λ y. refusal y before.transcript.challenger)) h.read),
       )
   unread-cause before after (Pattern p) h other = inl (p, refl, h.0.playing.fault)
   unread-cause before after (Challenger challenger.OutOfMemory) h other = absurd h
@@ -215,10 +215,10 @@ module _ {S Symbol A : Type 0} (r : Reading S Symbol A) (told : A → S → Refu
 
   pub unread-one_reason : TellOneReason (RefusesToRead r)
   unread-one_reason =
-      one_reason (RefusesToRead r) (λ (v : Driving S). v.transcript.playing) r.interaction told_here unread-cause
+      one_reason (RefusesToRead r) (λ (v : Driving S). v.transcript.playing) r.interaction refusal_here unread-cause
 
 pub given-unread_one_reason : {S Symbol A : Type 0} (r : Reading S Symbol A) →
     ((x : A) → TellsLimits (r.effect x)) → ((x : A) (s : S) → (y : A) × ((r.effect x).gives s ≡ Some y)) →
     TellOneReason (RefusesToRead r)
 given-unread_one_reason r tells gives =
-    unread-one_reason r (λ _ _. challenger_refused TooLong) (λ x. given-tells (r.effect x) (tells x) (gives x))
+    unread-one_reason r (λ _ _. challenger_refused TooLong) (λ x. given-refuses_as (r.effect x) (tells x) (gives x))

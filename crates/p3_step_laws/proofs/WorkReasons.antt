@@ -15,10 +15,10 @@ use Rattle.p3_driver_core.specs.Working.{Work, checking, too_few_zero_bits, Refu
 use Rattle.p3_driver_core.specs.Reads.{received_work}
 use Rattle.p3_driver_core.specs.Driving.{Driving}
 use Rattle.p3_driver_core.specs.Verifying.{RefusesToRead, FailsWork}
-use Rattle.p3_step_laws.proofs.OneReason.{Cause, Tells, one_reason, bad_shape, told_of_read, unread-cause}
+use Rattle.p3_step_laws.proofs.OneReason.{Cause, RefusesAs, one_reason, bad_shape, refusal_of_read, unread-cause}
 use Rattle.p3_step_laws.specs.OneReason.{TellOneReason}
 
--- what a check tells that does not pass
+-- the refusal of a check that does not pass
 abbrev verdict : Option Bool → Refusal
 verdict None = challenger_refused DrawLimit
 verdict (Some true) = out_of_memory
@@ -49,19 +49,19 @@ module _ {S Symbol W : Type 0} (work : Work S Symbol W) where
       (λ _. challenger_refused NoWitness) (ground-cause may_run_out)
 
   module _ (limits : (x : W) → LimitGivesNone (work.check x)) where
-    abbrev told : W → S → Refusal
-    told x s = verdict ((work.check x).sampled s)
+    abbrev refusal : W → S → Refusal
+    refusal x s = verdict ((work.check x).sampled s)
 
-    check-tells : (x : W) → Tells (checking work x) (told x)
-    check-tells x challenger.OutOfMemory s t refuses other = absurd (other refl)
-    check-tells x DrawLimit s t refuses other = sym (ap verdict (limits x s refuses.0))
-    check-tells x NoWitness s t refuses other = absurd refuses
-    check-tells x TooLong s t refuses other = absurd refuses
+    check-refuses_as : (x : W) → RefusesAs (checking work x) (refusal x)
+    check-refuses_as x challenger.OutOfMemory s t refuses other = absurd (other refl)
+    check-refuses_as x DrawLimit s t refuses other = sym (ap verdict (limits x s refuses.0))
+    check-refuses_as x NoWitness s t refuses other = absurd refuses
+    check-refuses_as x TooLong s t refuses other = absurd refuses
 
     -- ---- a witness that the caller carries
 
     carried-cause : (x : W) (before after : Transcript S) (e : TranscriptError) → RefusesToCheck work x before e after →
-        (e ≡ OutOfMemory → ⊥) → Cause before.playing work.interaction (told x before.challenger) e
+        (e ≡ OutOfMemory → ⊥) → Cause before.playing work.interaction (refusal x before.challenger) e
     carried-cause x before after (MissingBegin info) h other = absurd h.leaves
     carried-cause x before after (InvalidKind info) h other = absurd h.leaves
     carried-cause x before after (MismatchedBeginEnd info) h other = absurd h.leaves
@@ -80,22 +80,22 @@ module _ {S Symbol W : Type 0} (work : Work S Symbol W) where
     pub carried-one_reason : (x : W) → TellOneReason (RefusesToCheck work x)
     carried-one_reason x =
         one_reason (RefusesToCheck work x) (λ (v : Transcript S). v.playing) work.interaction
-        (λ (v : Transcript S). told x v.challenger) (carried-cause x)
+        (λ (v : Transcript S). refusal x v.challenger) (carried-cause x)
 
     -- ---- a witness that is read
 
     module _ (enc : Encoding W) where
-      abbrev told_work : Driving S → Refusal
-      told_work v = told_of_read (λ x. told x v.transcript.challenger) ((received_work work enc).read v.bytes)
+      abbrev refusal_of_work : Driving S → Refusal
+      refusal_of_work v = refusal_of_read (λ x. refusal x v.transcript.challenger) ((received_work work enc).read v.bytes)
 
       failed-cause : (before after : Driving S) (e : TranscriptError) → FailsWork work enc before e after →
-          Cause before.transcript.playing work.interaction (told_work before) e
+          Cause before.transcript.playing work.interaction (refusal_of_work before) e
       failed-cause before after e h =
           inr (
             h.fails.abandons.is_next,
-            bad_shape too_few_zero_bits e h.fails.told
+            bad_shape too_few_zero_bits e h.fails.reason_is
                 ∙ sym (ap verdict h.fails.abandons.leaves.0)
-                ∙ sym (ap (told_of_read (λ x. told x before.transcript.challenger)) h.read),
+                ∙ sym (ap (refusal_of_read (λ x. refusal x before.transcript.challenger)) h.read),
           )
 
       abbrev RefusesWork : Driving S → TranscriptError → Driving S → Type 0
@@ -103,11 +103,11 @@ module _ {S Symbol W : Type 0} (work : Work S Symbol W) where
           RefusesToRead (received_work work enc) before e after ⊎ FailsWork work enc before e after
 
       work-cause : (before after : Driving S) (e : TranscriptError) → RefusesWork before e after →
-          (e ≡ OutOfMemory → ⊥) → Cause before.transcript.playing work.interaction (told_work before) e
+          (e ≡ OutOfMemory → ⊥) → Cause before.transcript.playing work.interaction (refusal_of_work before) e
       work-cause before after e (inl refuses) other =
-          unread-cause (received_work work enc) told check-tells before after e refuses other
+          unread-cause (received_work work enc) refusal check-refuses_as before after e refuses other
       work-cause before after e (inr fails) other = failed-cause before after e fails
 
       pub work-one_reason : TellOneReason RefusesWork
       work-one_reason =
-          one_reason RefusesWork (λ (v : Driving S). v.transcript.playing) work.interaction told_work work-cause
+          one_reason RefusesWork (λ (v : Driving S). v.transcript.playing) work.interaction refusal_of_work work-cause

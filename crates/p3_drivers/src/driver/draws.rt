@@ -15,8 +15,8 @@ use crate::tape::Tape;
 use p3_challenger_core::{CanSampleBits, Sponge};
 use p3_codecs::{Codec, ExtensionFieldCodec, ScalarCodec};
 use p3_driver_core::{
-    TranscriptBound, bind, draw_accepted, draw_accepted_numbers, draw_numbers,
-    draw_uniform_numbers, draw_values,
+    TranscriptBound, draw_accepted, draw_accepted_numbers, draw_numbers, draw_uniform_numbers,
+    draw_values,
 };
 use p3_field_core::{AlgebraIdentity, Named, ScalarField};
 use p3_fs_core::{
@@ -277,8 +277,7 @@ impl<C: Sponge, U, D: DigestHasher, P: Tape> DriverState<C, U, D, P> {
         self.steps
             .take_algebra::<F, A>(Kind::Challenge, label, Length::Scalar)?;
         let value = Cdc::sample(&mut self.challenger)?;
-        self.steps.done();
-        Ok(bind(value))
+        Ok(self.steps.bind(value))
     }
 
     // Draws so many elements of an algebra.

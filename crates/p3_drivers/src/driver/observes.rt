@@ -12,7 +12,7 @@ use crate::DriverState;
 use crate::tape::Tape;
 use p3_challenger_core::{CanObserve, Sponge};
 use p3_codecs::{AlphabetOf, Codec, ExtensionFieldCodec, ScalarCodec, Unit};
-use p3_driver_core::{TranscriptBound, bind, bind_all, observe_count, observe_values};
+use p3_driver_core::{TranscriptBound, bind_all, observe_count, observe_values};
 use p3_field_core::{AlgebraIdentity, Named};
 use p3_fs_core::{
     Declared, Hierarchy, Interaction, Kind, Label, Length, TranscriptError, TranscriptField,
@@ -59,8 +59,7 @@ impl<C: Sponge, U, D: DigestHasher, P: Tape> DriverState<C, U, D, P> {
         ))?;
         let copy = value.clone()?;
         self.challenger.observe(copy)?;
-        self.steps.done();
-        Ok(bind(value))
+        Ok(self.steps.bind(value))
     }
 
     // Observes one element of an algebra.
@@ -77,8 +76,7 @@ impl<C: Sponge, U, D: DigestHasher, P: Tape> DriverState<C, U, D, P> {
         self.steps
             .take_algebra::<F, A>(kind, label, Length::Scalar)?;
         Cdc::observe(&mut self.challenger, value)?;
-        self.steps.done();
-        Ok(bind(*value))
+        Ok(self.steps.bind(*value))
     }
 
     // Observes a list of so many elements of an algebra as the step says.

@@ -308,8 +308,7 @@ impl<'a, C: Sponge, U, D: DigestHasher> VerifierState<'a, C, U, D> {
             .take_algebra::<F, A>(Kind::Message, label, Length::Scalar)?;
         let value = self.read_value::<A, Cdc>()?;
         Cdc::observe(&mut self.challenger, &value)?;
-        self.steps.done();
-        Ok(bind(value))
+        Ok(self.steps.bind(value))
     }
 
     // Reads so many values, and observes each before it reads the next one. Where their spellings take more bytes than

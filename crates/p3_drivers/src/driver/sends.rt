@@ -12,7 +12,7 @@ use crate::ProverState;
 use crate::writing::{write_bytes, write_counted_bytes, write_counted_values, write_values};
 use p3_challenger_core::{CanObserve, Sponge};
 use p3_codecs::{AlphabetOf, Codec, ExtensionFieldCodec, ScalarCodec, Unit};
-use p3_driver_core::{TranscriptBound, bind, bind_all, counted, observe_values};
+use p3_driver_core::{TranscriptBound, bind_all, counted, observe_values};
 use p3_field_core::{AlgebraIdentity, Named, ScalarField};
 use p3_fs_core::{Declared, Kind, Label, Length, TranscriptError, TranscriptField};
 use p3_symmetric::DigestHasher;
@@ -331,7 +331,6 @@ impl<C: Sponge, U, D: DigestHasher> ProverState<C, U, D> {
             .take_algebra::<F, A>(Kind::Message, label, Length::Scalar)?;
         Cdc::observe(&mut self.challenger, value)?;
         Cdc::encode(value, &mut self.tape.narg)?;
-        self.steps.done();
-        Ok(bind(*value))
+        Ok(self.steps.bind(*value))
     }
 }

@@ -6,7 +6,7 @@ use Rattle.p3_fs_core.specs.Alphabet.{alphabet_of}
 use Rattle.p3_driver_core.specs.Meanings as meaning
 use Rattle.p3_step_laws.proofs.LimitLaws.{bytes-tell, counted_bytes-tell}
 use Rattle.p3_step_laws.proofs.ListReasons.{length-one_reason}
-use Rattle.p3_step_laws.proofs.OneReason.{given-one_reason, given-tells}
+use Rattle.p3_step_laws.proofs.OneReason.{given-one_reason, given-refuses_as}
 use Rattle.p3_step_laws.proofs.reasons.bytes_are_refused_for_one_reason.Goals as goal
 
 pub returns-clause-fixed : goal.returns-clause-fixed
@@ -28,5 +28,5 @@ returns-clause-within g c = λ kind label max bytes.
     g.C.CanObserve.slice_may_leave in
     let m = meaning.sent_bytes_bounded kind label alphabet max bytes in
     let tells = counted_bytes-tell alphabet (count_bytes max (length bytes)) bytes in
-    length-one_reason m (λ _. challenger_refused TooLong) (given-tells m.effect tells (λ s. (bytes, refl)))
+    length-one_reason m (λ _. challenger_refused TooLong) (given-refuses_as m.effect tells (λ s. (bytes, refl)))
     (length bytes) max

@@ -4,7 +4,7 @@ use Rattle.p3_fs_core.specs.Errors.{challenger_refused}
 use Rattle.p3_driver_core.specs.Meanings as meaning
 use Rattle.p3_step_laws.proofs.LimitLaws.{untouched-tells}
 use Rattle.p3_step_laws.proofs.ListReasons.{length-one_reason}
-use Rattle.p3_step_laws.proofs.OneReason.{short-one_reason, short-tells}
+use Rattle.p3_step_laws.proofs.OneReason.{short-one_reason, short-refuses_as}
 use Rattle.p3_step_laws.proofs.reasons.hints_are_refused_for_one_reason.Goals as goal
 
 pub returns-clause-fixed : goal.returns-clause-fixed
@@ -18,5 +18,5 @@ returns-clause-counted g c = λ label max bytes.
 pub returns-clause-within : goal.returns-clause-within
 returns-clause-within g c = λ label max bytes.
     let m = meaning.hinted_bounded {S = g.row.C-State.Denot} {Symbol = g.row.C-Symbol.Denot} label max bytes in
-    length-one_reason m (λ _. challenger_refused DrawLimit) (short-tells m.effect (untouched-tells bytes) tt)
+    length-one_reason m (λ _. challenger_refused DrawLimit) (short-refuses_as m.effect (untouched-tells bytes) tt)
     (length bytes) max

@@ -7,7 +7,7 @@ use Rattle.p3_fs_core.specs.Alphabet.{alphabet_of}
 use Rattle.p3_driver_core.specs.Meanings as meaning
 use Rattle.p3_step_laws.proofs.LimitLaws.{observing-tells, counted-tell}
 use Rattle.p3_step_laws.proofs.ListReasons.{length-one_reason}
-use Rattle.p3_step_laws.proofs.OneReason.{short-one_reason, given-one_reason, given-tells}
+use Rattle.p3_step_laws.proofs.OneReason.{short-one_reason, given-one_reason, given-refuses_as}
 use Rattle.p3_step_laws.proofs.reasons.values_are_refused_for_one_reason.Goals as goal
 
 pub returns-clause-observed : goal.returns-clause-observed
@@ -51,7 +51,7 @@ returns-clause-observed_within g c = λ step max xs.
     g.C.CanObserve.slice_may_leave in
     let m = meaning.observed_bounded step alphabet max g.Cdc.Codec.observation xs in
     let tells = counted-tell alphabet (count_bytes max (length xs)) (observation.in_row g.Cdc.Codec.observation) xs in
-    length-one_reason m (λ _. challenger_refused TooLong) (given-tells m.effect tells (λ s. (xs, refl)))
+    length-one_reason m (λ _. challenger_refused TooLong) (given-refuses_as m.effect tells (λ s. (xs, refl)))
     (length xs) max
 
 pub returns-clause-sent_within : goal.returns-clause-sent_within
@@ -60,5 +60,5 @@ returns-clause-sent_within g c = λ step max xs.
     g.C.CanObserve.slice_may_leave in
     let m = meaning.sent_bounded step alphabet max g.Cdc.Codec.observation g.Cdc.Codec.encoding xs in
     let tells = counted-tell alphabet (count_bytes max (length xs)) (observation.in_row g.Cdc.Codec.observation) xs in
-    length-one_reason m (λ _. challenger_refused TooLong) (given-tells m.effect tells (λ s. (xs, refl)))
+    length-one_reason m (λ _. challenger_refused TooLong) (given-refuses_as m.effect tells (λ s. (xs, refl)))
     (length xs) max

@@ -9,7 +9,7 @@ use Rattle.p3_driver_core.specs.Meanings as meaning
 use Rattle.p3_driver_core.specs.Transcripts.{IsOtherLength, longer_list, another_length}
 use Rattle.p3_step_laws.proofs.LimitLaws.{observing-tells, counted-tell}
 use Rattle.p3_step_laws.proofs.ListReasons.{carried_list-one_reason}
-use Rattle.p3_step_laws.proofs.OneReason.{short-tells, given-tells}
+use Rattle.p3_step_laws.proofs.OneReason.{short-refuses_as, given-refuses_as}
 use Rattle.p3_step_laws.proofs.verifier_reasons.carried_lists_are_refused_for_one_reason.Goals as goal
 
 pub returns-clause-within : goal.returns-clause-within
@@ -18,13 +18,13 @@ returns-clause-within g c = λ step max xs.
     g.C.CanObserve.slice_may_leave in
     let m = meaning.observed_bounded step alphabet max g.Cdc.Codec.observation xs in
     let tells = counted-tell alphabet (count_bytes max (length xs)) (observation.in_row g.Cdc.Codec.observation) xs in
-    carried_list-one_reason m (λ _. challenger_refused TooLong) (given-tells m.effect tells (λ s. (xs, refl)))
+    carried_list-one_reason m (λ _. challenger_refused TooLong) (given-refuses_as m.effect tells (λ s. (xs, refl)))
     (λ _. max < length xs) (λ _. length xs ≤ max) (λ p wrong right. omega (arith, wrong, right)) longer_list
 
 pub returns-clause-recorded : goal.returns-clause-recorded
 returns-clause-recorded g c = λ step xs.
     let m = meaning.observed_list step g.Cdc.Codec.observation xs in
     let tells = observing-tells (observation.in_row g.Cdc.Codec.observation) xs in
-    carried_list-one_reason m (λ _. challenger_refused DrawLimit) (short-tells m.effect tells tt)
+    carried_list-one_reason m (λ _. challenger_refused DrawLimit) (short-refuses_as m.effect tells tt)
     (λ p. IsOtherLength (length xs) (next_step p)) (λ p. IsOtherLength (length xs) (next_step p) → ⊥)
     (λ p wrong right. right wrong) another_length
