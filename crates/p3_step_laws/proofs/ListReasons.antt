@@ -25,7 +25,8 @@ First playing IsRight said e =
     ((playing.finished ≡ true) × (refusal_of e ≡ pattern_error Finished))
     ⊎ ((playing.finished ≡ false) × (IsRight → ⊥) × (refusal_of e ≡ said))
 
-module _ {S Symbol A : Type 0} (m : Meaning S Symbol A) (refusal : S → Refusal) (refuses_as : RefusesAs m.effect refusal) where
+module _ {S Symbol A : Type 0} (m : Meaning S Symbol A) (refusal : S → Refusal)
+    (refuses_as : RefusesAs m.effect refusal) where
   module _ {V : Type 0} (transcript : V → Transcript S) (RefusedFirst : V → TranscriptError → V → Type 0)
       (IsRight : V → Type 0)
       (said : Refusal)
@@ -41,8 +42,8 @@ module _ {S Symbol A : Type 0} (m : Meaning S Symbol A) (refusal : S → Refusal
         refusal_of e ≡ refusal_of f
     first_and_step start other e f (inl late) right refuses q =
         late.1
-        ∙ sym (finished-refusal (transcript start).playing m.interaction (refusal (transcript start).challenger) f late.0
-        (refused-cause m refusal refuses_as (transcript start) (transcript other) f refuses q))
+        ∙ sym (finished-refusal (transcript start).playing m.interaction (refusal (transcript start).challenger) f
+        late.0 (refused-cause m refusal refuses_as (transcript start) (transcript other) f refuses q))
     first_and_step start other e f (inr wrong) right refuses q = absurd (wrong.1 right)
 
     both_first : (start : V) (e f : TranscriptError) → First (transcript start).playing (IsRight start) said e →

@@ -119,7 +119,8 @@ module _ {S Symbol A : Type 0} (effect : Effect S Symbol A) (tells : TellsLimits
   short-refuses_as fits TooLong s t refuses other = absurd (tells.too_long s t refuses fits)
 
   -- where something is given from every state, that what is fed is too long
-  pub given-refuses_as : ((s : S) → (x : A) × (effect.gives s ≡ Some x)) → RefusesAs effect (λ _. challenger_refused TooLong)
+  pub given-refuses_as : ((s : S) → (x : A) × (effect.gives s ≡ Some x)) →
+      RefusesAs effect (λ _. challenger_refused TooLong)
   given-refuses_as gives challenger.OutOfMemory s t refuses other = absurd (other refl)
   given-refuses_as gives DrawLimit s t refuses other = absurd (some_none (gives s).1 (tells.limit s t refuses))
   given-refuses_as gives NoWitness s t refuses other = absurd (tells.witness s t refuses)
@@ -136,7 +137,8 @@ length_no_memory is = absurd (cc)
 
 -- ---- a step that leaves the proof as it is, or that a prover writes
 
-module _ {S Symbol A : Type 0} (m : Meaning S Symbol A) (refusal : S → Refusal) (refuses_as : RefusesAs m.effect refusal) where
+module _ {S Symbol A : Type 0} (m : Meaning S Symbol A) (refusal : S → Refusal)
+    (refuses_as : RefusesAs m.effect refusal) where
   pub refused-cause : (before after : Transcript S) (e : TranscriptError) → RefusesStep m before e after →
       (e ≡ OutOfMemory → ⊥) → Cause before.playing m.interaction (refusal before.challenger) e
   refused-cause before after (MissingBegin info) h other = absurd h
@@ -200,7 +202,8 @@ module _ {S Symbol A : Type 0} (r : Reading S Symbol A) (refusal : A → S → R
   unread-cause before after (BadProofShape reason) h other =
       inr (
         h.is_next,
-        ap bad_proof_shape h.reason_is ∙ sym (ap (refusal_of_read (λ y. refusal y before.transcript.challenger)) h.read),
+        ap bad_proof_shape h.reason_is
+            ∙ sym (ap (refusal_of_read (λ y. refusal y before.transcript.challenger)) h.read),
       )
   unread-cause before after (Pattern p) h other = inl (p, refl, h.0.playing.fault)
   unread-cause before after (Challenger challenger.OutOfMemory) h other = absurd h

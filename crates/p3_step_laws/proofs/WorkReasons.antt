@@ -86,7 +86,8 @@ module _ {S Symbol W : Type 0} (work : Work S Symbol W) where
 
     module _ (enc : Encoding W) where
       abbrev refusal_of_work : Driving S → Refusal
-      refusal_of_work v = refusal_of_read (λ x. refusal x v.transcript.challenger) ((received_work work enc).read v.bytes)
+      refusal_of_work v =
+          refusal_of_read (λ x. refusal x v.transcript.challenger) ((received_work work enc).read v.bytes)
 
       failed-cause : (before after : Driving S) (e : TranscriptError) → FailsWork work enc before e after →
           Cause before.transcript.playing work.interaction (refusal_of_work before) e
