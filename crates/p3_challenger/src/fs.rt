@@ -6,7 +6,10 @@
 //!                                                              ->  VerifierState  <-  the proof
 //! ```
 //!
-//! `CALLING.md` of this crate lists the steps: what each is called on either side, and how it is recorded.
+//! `CALLING.md` of this crate lists the steps: what each is called on either side, and how it is recorded. Under
+//! [`script`] whole protocols are lists of steps, which one call plays.
+
+pub mod script;
 
 pub use p3_codecs::AlphabetOf;
 pub use p3_codecs::BytesToFieldCodec;

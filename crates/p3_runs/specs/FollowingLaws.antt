@@ -1,16 +1,15 @@
 -- A verifier that follows a script step by step.
-use Rattle.std.proofs.Common.{◌≡◌, ◌<◌, ◌≤◌, ◌+◌, ℕ, suc, zero, List, [], ◌∷◌, ◌++◌, Option, Some, None, IsSome, refl}
+use Rattle.std.proofs.Common.{◌≡◌, ◌≤◌, ◌+◌, ℕ, suc, zero, List, [], ◌∷◌, ◌++◌, Option, Some, None, IsSome, refl}
 use Rattle.std.proofs.Common.{sym, ap, ◌∙◌, subst, append_assoc, append-nil, length, drop, take, add-one, arith}
-use Rattle.std.proofs.Common.{Bool, true, false, slice_get, map, ◌⊎◌, inl, inr}
+use Rattle.std.proofs.Common.{false, slice_get, map, ◌⊎◌}
 use Rattle.std.proofs.lemmas.List.{drop_all, length-append}
-use Rattle.p3_fs_core.specs.Steps.{Step}
 use Rattle.p3_fs_core.specs.declared.error.TranscriptError.{TranscriptError}
 use Rattle.p3_domain_separator.specs.SeparatorSeed.{pattern_of}
 use Rattle.p3_patterns.specs.Playing.{Playing, next_step}
 use Rattle.p3_driver_core.specs.Driving.{Driving}
-use Rattle.p3_driver_core.specs.Transcripts.{Transcript, step_on}
+use Rattle.p3_driver_core.specs.Transcripts.{step_on}
 use Rattle.p3_driver_core.specs.Verifying.{EndsReading, RefusesEnd}
-use Rattle.p3_runs.specs.Fronts.{Run, IsFinished, IsWhole, pattern, seed, seeded, wire, challenges, last}
+use Rattle.p3_runs.specs.Fronts.{Run, IsFinished, pattern, seed, seeded}
 use Rattle.p3_runs.specs.Plays.{Play, Place, Nowhere, Sent, Found, Carried}
 use Rattle.p3_runs.specs.Rules.{Rules}
 use Rattle.p3_runs.specs.Runs as runs

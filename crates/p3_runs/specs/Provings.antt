@@ -5,7 +5,7 @@ use Rattle.p3_fs_core.specs.declared.error.TranscriptError.{TranscriptError}
 use Rattle.p3_patterns.specs.Playing.{FaultOfPlayEnd, IsPatternError}
 use Rattle.p3_driver_core.specs.Driving.{Driving, RefusesStart}
 use Rattle.p3_runs.specs.Fronts.{Run, IsFinished, IsWhole, AreLeast, seed}
-use Rattle.p3_runs.specs.Plays.{Play, Place, Nowhere, Sent, Found, Carried}
+use Rattle.p3_runs.specs.Plays.{Play, Place, Sent}
 use Rattle.p3_runs.specs.Rules.{Rules}
 use Rattle.p3_runs.specs.Runs as runs
 use Rattle.p3_runs.specs.Runs.{if_sent}
@@ -19,12 +19,16 @@ FirstIs Sent Is Rest [] = ⊥
 FirstIs Sent Is Rest (v ∷ values) = Is v × Rest values
 FirstIs _ Is Rest values = Rest values
 
+-- the values are one for each step that has one, where they stand so, and each is one of these
+abbrev pub AreAmong : {X V : Type 0} → (X → Place) → (X → V → Type 0) → List X → List V → Type 0
+AreAmong place Is [] values = values ≡ []
+AreAmong place Is (x ∷ steps) values = FirstIs (place x) (Is x) (AreAmong place Is steps) values
+
 module _ {X S Symbol F EF O : Type 0} (play : X → Play S Symbol F EF O) where
   -- the values are those that a prover is handed for the steps: one for each that has one, of its type and, where the
   -- step says so, of its length
   abbrev pub AreHanded : List X → List (Value F EF) → Type 0
-  AreHanded [] values = values ≡ []
-  AreHanded (x ∷ steps) values = FirstIs (play x).place (play x).sides.IsHanded (AreHanded steps) values
+  AreHanded steps values = AreAmong (λ x. (play x).place) (λ x. (play x).sides.IsHanded) steps values
 
 module _ {X S Symbol I F EF O Ac U D : Type 0} (rules : Rules S Symbol I F EF O Ac) (play : X → Play S Symbol F EF O) where
   -- The run of a prover that is handed these values: it is finished and plays the whole pattern, the values stand at

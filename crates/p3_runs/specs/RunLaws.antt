@@ -1,10 +1,10 @@
 -- Lemmas on runs: a step more at the end, and that bytes and carried witnesses tell a run.
-use Rattle.std.proofs.Common.{◌≡◌, ℕ, suc, List, [], ◌∷◌, ◌++◌, Option, Some, None, IsSome, refl, sym, ap, ◌∙◌, subst}
+use Rattle.std.proofs.Common.{◌≡◌, ℕ, List, [], ◌∷◌, ◌++◌, IsSome, refl, sym, ap, ◌∙◌, subst}
 use Rattle.std.proofs.Common.{append_assoc, append-nil}
 use Rattle.p3_runs.specs.Plays.{Play, Place}
 use Rattle.p3_runs.specs.Runs.{wires, picked, carried, after, challenges, Finishes, AreChosen, if_carried, if_drawn}
 use Rattle.p3_runs.specs.Stepping.{IsCanonical}
-use Rattle.p3_runs.specs.Values.{Value, Challenge}
+use Rattle.p3_runs.specs.Values.{Value}
 
 module _ {X S Symbol F EF O : Type 0} (play : X → Play S Symbol F EF O) where
   -- as many values as steps
@@ -88,33 +88,35 @@ module _ {X S Symbol F EF O : Type 0} (play : X → Play S Symbol F EF O) where
   AreCanonical [] = Unit {0}
   AreCanonical (x ∷ steps) = IsCanonical (play x) × AreCanonical steps
 
-  -- a run goes on from a front
-  pub record GoesOn (front later : List X) (done values : List (Value F EF)) (s : S) (bytes : List ℕ)
-      (unused : List (Value F EF)) : Type 0 where
+  -- A run goes on from a front, with these bytes and carried witnesses, of which those are left after it.
+  pub record GoesOn (front later : List X) (done values : List (Value F EF)) (s : S) (bytes left : List ℕ)
+      (unused unspent : List (Value F EF)) : Type 0 where
     pub more : List (Value F EF)
     pub split : values ≡ done ++ more
     pub finishes : Finishes play later more (after play front done s)
-    pub rest : bytes ≡ wires play later more
-    pub carries : unused ≡ carried play later more
+    pub rest : bytes ≡ wires play later more ++ left
+    pub carries : unused ≡ carried play later more ++ unspent
 
   -- Of a run that finishes, the first values are those of a finished front over the same bytes and carried witnesses.
-  pub front-of_run : (front later : List X) (done values : List (Value F EF)) (s : S) (bytes : List ℕ)
-      (unused : List (Value F EF)) → AreCanonical front → Finishes play front done s →
+  pub front-of_run : (front later : List X) (done values : List (Value F EF)) (s : S) (bytes left : List ℕ)
+      (unused unspent : List (Value F EF)) → AreCanonical front → Finishes play front done s →
       Finishes play (front ++ later) values s →
-      wires play front done ++ bytes ≡ wires play (front ++ later) values →
-      carried play front done ++ unused ≡ carried play (front ++ later) values →
-      GoesOn front later done values s bytes unused
-  front-of_run [] later [] values s bytes unused canonical h run wire carries =
+      wires play front done ++ bytes ≡ wires play (front ++ later) values ++ left →
+      carried play front done ++ unused ≡ carried play (front ++ later) values ++ unspent →
+      GoesOn front later done values s bytes left unused unspent
+  front-of_run [] later [] values s bytes left unused unspent canonical h run wire carries =
       record { more = values; split = refl; finishes = run; rest = wire; carries = carries }
-  front-of_run [] later (w ∷ done) values s bytes unused canonical h run wire carries = absurd h
-  front-of_run (x ∷ front) later [] values s bytes unused canonical h run wire carries = absurd h
-  front-of_run (x ∷ front) later (w ∷ done) [] s bytes unused canonical h run wire carries = absurd run
-  front-of_run (x ∷ front) later (w ∷ done) (v ∷ values) s bytes unused canonical h run wire carries =
-      let one = canonical.0.one_way w v (wires play front done ++ bytes) (wires play (front ++ later) values)
-      (carried play front done ++ unused) (carried play (front ++ later) values) h.0 run.0
-      (sym (append_assoc ((play x).wire w) (wires play front done) bytes) ∙ wire)
-      (sym (append_assoc (if_carried (play x).place w) (carried play front done) unused) ∙ carries) in
-      let rest = front-of_run front later done values _ bytes unused canonical.1 h.3
+  front-of_run [] later (w ∷ done) values s bytes left unused unspent canonical h run wire carries = absurd h
+  front-of_run (x ∷ front) later [] values s bytes left unused unspent canonical h run wire carries = absurd h
+  front-of_run (x ∷ front) later (w ∷ done) [] s bytes left unused unspent canonical h run wire carries = absurd run
+  front-of_run (x ∷ front) later (w ∷ done) (v ∷ values) s bytes left unused unspent canonical h run wire carries =
+      let one = canonical.0.one_way w v (wires play front done ++ bytes) (wires play (front ++ later) values ++ left)
+      (carried play front done ++ unused) (carried play (front ++ later) values ++ unspent) h.0 run.0
+      (sym (append_assoc ((play x).wire w) (wires play front done) bytes) ∙ wire
+      ∙ append_assoc ((play x).wire v) (wires play (front ++ later) values) left)
+      (sym (append_assoc (if_carried (play x).place w) (carried play front done) unused) ∙ carries
+      ∙ append_assoc (if_carried (play x).place v) (carried play (front ++ later) values) unspent) in
+      let rest = front-of_run front later done values _ bytes left unused unspent canonical.1 h.3
       (subst (λ (u : Value F EF). Finishes play (front ++ later) values (((play x).effect u).after s)) (sym one.0) run.3)
       one.1 one.2 in
       record {

@@ -1,9 +1,10 @@
 -- Runs of scripts: steps, each with its value.
-use Rattle.std.specs.Prelude.{◌≡◌, ℕ, ◌+◌, List, [], ◌∷◌, ◌++◌, length, map, Option, Some, None, IsSome}
+use Rattle.std.specs.Prelude.{ℕ, ◌+◌, List, [], ◌∷◌, ◌++◌, length, map, Option, Some, None, IsSome}
+use Rattle.std.specs.List.{AllByRecursion}
 use Rattle.p3_fs_core.specs.Steps.{Step}
 use Rattle.p3_runs.specs.Absorbed.{Absorbed}
 use Rattle.p3_runs.specs.Plays.{Play, Place, Nowhere, Sent, Found, Carried}
-use Rattle.p3_runs.specs.Values.{Value, Challenge, witness_in}
+use Rattle.p3_runs.specs.Values.{Value, Challenge}
 
 -- a value where the proof carries it; where the prover is handed it; where the caller carries it; and where it is a
 -- witness that the prover finds
@@ -37,6 +38,11 @@ if_drawn None = []
 if_drawn (Some None) = []
 if_drawn (Some (Some x)) = x ∷ []
 
+-- how many values are carried, where they stand so
+abbrev pub carried_among : {X : Type 0} → (X → Place) → List X → ℕ
+carried_among place [] = 0
+carried_among place (x ∷ steps) = length (if_carried (place x) (tt {0})) + carried_among place steps
+
 module _ {X S Symbol F EF O : Type 0} (play : X → Play S Symbol F EF O) where
   -- what the pattern must be
   abbrev pub interactions : List X → List Step
@@ -44,8 +50,7 @@ module _ {X S Symbol F EF O : Type 0} (play : X → Play S Symbol F EF O) where
 
   -- each step may be played
   abbrev pub AreAdmitted : List X → Type 0
-  AreAdmitted [] = Unit {0}
-  AreAdmitted (x ∷ steps) = (play x).admitted × AreAdmitted steps
+  AreAdmitted steps = AllByRecursion (λ x. (play x).admitted) steps
 
   -- the bytes of the proof: each step's in order
   abbrev pub wires : List X → List (Value F EF) → List ℕ
@@ -107,5 +112,4 @@ module _ {X S Symbol F EF O : Type 0} (play : X → Play S Symbol F EF O) where
 
   -- how many witnesses the caller carries
   abbrev pub carried_count : List X → ℕ
-  carried_count [] = 0
-  carried_count (x ∷ steps) = length (if_carried (play x).place (tt {0})) + carried_count steps
+  carried_count steps = carried_among (λ x. (play x).place) steps

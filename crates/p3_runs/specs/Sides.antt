@@ -6,7 +6,7 @@ use Rattle.p3_grinding.specs.Checks.{IsLeast}
 use Rattle.p3_patterns.specs.Playing.{next_step}
 use Rattle.p3_driver_core.specs.Driving.{Driving}
 use Rattle.p3_driver_core.specs.Proving.{RefusesToWrite, RefusesLongList, Unwritten}
-use Rattle.p3_driver_core.specs.Reads.{Reading, received_work}
+use Rattle.p3_driver_core.specs.Reads.{received_work}
 use Rattle.p3_driver_core.specs.Transcripts.{Meaning, RefusesStep, IsOtherLength, longer_list, another_length}
 use Rattle.p3_driver_core.specs.Verifying.{RefusesToRead, RefusesCarriedList, FailsWork}
 use Rattle.p3_driver_core.specs.Working.{Work, RefusesToGrind, RefusesToCheck}

@@ -1,12 +1,13 @@
 -- One step of a script, as either driver plays it.
-use Rattle.std.specs.Prelude.{◌≡◌, ℕ, List, [], ◌∷◌, ◌++◌, Option, Some, None, IsSome, true}
+use Rattle.std.specs.Prelude.{◌≡◌, ◌⊎◌, ℕ, List, [], ◌∷◌, ◌++◌, Option, Some, None, IsSome, true}
 use Rattle.p3_fs_core.specs.declared.error.TranscriptError.{TranscriptError}
 use Rattle.p3_fs_core.specs.declared.error.TranscriptError.TheVariants.{OutOfMemory}
 use Rattle.p3_driver_core.specs.Driving.{Driving}
 use Rattle.p3_driver_core.specs.Transcripts.{PlaysStep, IsNext}
+use Rattle.p3_step_laws.specs.OneReason.{TellOneReason}
 use Rattle.p3_runs.specs.Plays.{Play, Place, Carried, meaning}
 use Rattle.p3_runs.specs.Runs.{if_in_proof, if_sent, if_carried, if_witness}
-use Rattle.p3_runs.specs.Sides.{Refusal}
+use Rattle.p3_runs.specs.Sides.{Refusal, Sides}
 use Rattle.p3_runs.specs.Values.{Value, Challenge}
 use Rattle.p3_runs.specs.Values as value
 
@@ -56,6 +57,10 @@ pub record Sends {S Symbol F EF O : Type 0} (play : Play S Symbol F EF O) (hande
 abbrev pub Halts : {S : Type 0} → Refusal S
 Halts before e after = (e ≡ OutOfMemory) × (after.transcript.playing.finished ≡ true)
 
+-- a side refuses the step, or that happens
+abbrev pub OrHalts : {S : Type 0} → Refusal S → Refusal S
+OrHalts refuses before e after = refuses before e after ⊎ Halts before e after
+
 -- ---- when a step may be played
 
 -- a verifier may play the step with the value: it is next in the pattern, and the value's bytes in the proof; none of it
@@ -87,6 +92,14 @@ pub record IsCanonical {S Symbol F EF O : Type 0} (play : Play S Symbol F EF O) 
       play.wire v ++ a ≡ play.wire w ++ b → if_carried play.place v ++ c ≡ if_carried play.place w ++ d →
       (v ≡ w) × (a ≡ b) × (c ≡ d)
 
+-- Of two values that a prover may play at a step, each is the other, if what is sent of them is the same; and so of two
+-- that it may be handed.
+pub record IsDetermined {S Symbol F EF O : Type 0} (play : Play S Symbol F EF O) : Type 0 where
+  pub one_way : (v w : Value F EF) (s : S) → play.Fits v → play.Fits w → if_sent play.place v ≡ if_sent play.place w →
+      play.sides.IsChosen s v → play.sides.IsChosen s w → v ≡ w
+  pub one_handed : (v w : Value F EF) → play.sides.IsHanded v → play.sides.IsHanded w →
+      if_sent play.place v ≡ if_sent play.place w → v ≡ w
+
 -- A verifier refuses the step for want of memory alone where it may be played with a value.
 pub record IsTakenWherePossible {S Symbol F EF O : Type 0} (play : Play S Symbol F EF O) : Type 0 where
   pub only_memory : (witness : Option F) (before after : Driving S) (e : TranscriptError) (v : Value F EF) →
@@ -98,3 +111,9 @@ pub record IsSentWherePossible {S Symbol F EF O : Type 0} (play : Play S Symbol 
   pub only_memory : (given v : Value F EF) (before after : Driving S) (e : TranscriptError) →
       play.sides.IsHanded given → play.sides.prover given before e after →
       if_sent play.place v ≡ if_sent play.place given → CanSend play before v → e ≡ OutOfMemory
+
+-- Each side refuses a step for one reason, whatever its caller carries or it is handed: any two errors from one state,
+-- neither of them for want of memory, say the same.
+pub record RefuseForOneReason {S F EF : Type 0} (sides : Sides S F EF) : Type 0 where
+  pub verifier : (witness : Option F) → TellOneReason (OrHalts (sides.verifier witness))
+  pub prover : (given : Value F EF) → TellOneReason (OrHalts (sides.prover given))

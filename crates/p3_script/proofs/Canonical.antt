@@ -24,7 +24,7 @@ use Rattle.p3_script.proofs.Lawful.{Lawful}
 
 -- ---- values
 
-nothing-is : {F EF : Type 0} (v : Value F EF) → IsNothing v → v ≡ Nothing
+pub nothing-is : {F EF : Type 0} (v : Value F EF) → IsNothing v → v ≡ Nothing
 nothing-is Nothing h = refl
 nothing-is (Bytes bytes) h = absurd h
 nothing-is (Scalar x) h = absurd h
@@ -64,7 +64,7 @@ extension-is (Scalars y) x h = absurd (cc)
 extension-is (Extension y) x h = let e : y ≡ x = cc in ap Extension e
 extension-is (Witness y) x h = absurd (cc)
 
-witness-is : {F EF : Type 0} (v : Value F EF) (x : F) → witness_in v ≡ Some x → v ≡ Witness x
+pub witness-is : {F EF : Type 0} (v : Value F EF) (x : F) → witness_in v ≡ Some x → v ≡ Witness x
 witness-is Nothing x h = absurd (cc)
 witness-is (Bytes y) x h = absurd (cc)
 witness-is (Scalar y) x h = absurd (cc)

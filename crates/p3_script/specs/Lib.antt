@@ -3,3 +3,4 @@ pub mod Draws
 pub mod GroupLaws
 pub mod ScriptLaws
 pub mod Scripts
+pub mod Standings

@@ -1,7 +1,8 @@
 -- What holds of every step of every script of a suite.
 use Rattle.p3_fs_core.specs.StepFits.{FitsLength}
 use Rattle.p3_runs.specs.Rules.{Rules}
-use Rattle.p3_runs.specs.Stepping.{IsCanonical, IsTakenWherePossible, IsSentWherePossible}
+use Rattle.p3_runs.specs.Faults.{ProofsTellOneFault, ProvingsTellOneFault}
+use Rattle.p3_runs.specs.Stepping.{IsCanonical, IsDetermined, IsTakenWherePossible, IsSentWherePossible, RefuseForOneReason}
 use Rattle.p3_script.specs.Scripts.{play_of}
 use Rattle.p3_script.specs.declared.steps.Step as script
 
@@ -11,6 +12,10 @@ module _ {S Symbol I F EF O Ac : Type 0} (Su U C K D G It St Sy : Type 0) (rules
   AreAllCanonical =
       (x : script.Step Su F EF U O C K Ac D G It St Sy) → FitsLength (play_of rules x).interaction.length →
       IsCanonical (play_of rules x)
+
+  -- on the prover's side by what is sent, and that a witness is the least
+  abbrev pub AreAllDetermined : Type 0
+  AreAllDetermined = (x : script.Step Su F EF U O C K Ac D G It St Sy) → IsDetermined (play_of rules x)
 
   -- and each side refuses it for want of memory alone, where it is admitted and may be played
   abbrev pub AreTakenWherePossible : Type 0
@@ -22,3 +27,17 @@ module _ {S Symbol I F EF O Ac : Type 0} (Su U C K D G It St Sy : Type 0) (rules
   AreSentWherePossible =
       (x : script.Step Su F EF U O C K Ac D G It St Sy) → FitsLength (play_of rules x).interaction.length →
       (play_of rules x).admitted → IsSentWherePossible (play_of rules x)
+
+  -- and where it is admitted, for one reason
+  abbrev pub AreRefusedForOneReason : Type 0
+  AreRefusedForOneReason =
+      (x : script.Step Su F EF U O C K Ac D G It St Sy) → (play_of rules x).admitted →
+      RefuseForOneReason (play_of rules x).sides
+
+  -- whole scripts are refused for one fault, to a verifier and to a prover
+  abbrev pub ProofsHaveOneFault : Type 0
+  ProofsHaveOneFault = ProofsTellOneFault U D rules (λ (x : script.Step Su F EF U O C K Ac D G It St Sy). play_of rules x)
+
+  abbrev pub ProvingsHaveOneFault : Type 0
+  ProvingsHaveOneFault =
+      ProvingsTellOneFault U D rules (λ (x : script.Step Su F EF U O C K Ac D G It St Sy). play_of rules x)

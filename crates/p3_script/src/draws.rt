@@ -32,7 +32,8 @@ pub fn unbound<T: Copy, C: Sponge, U, D: DigestHasher, P: Tape>(
     bounds: Vec<TranscriptBound<T>>,
 ) -> Result<Vec<T>, TranscriptError>
     ensures ok { IfOk result (λ values. values.items ≡ bound_values bounds) }
-    ensures same { OnOk result (driving_of C.state P.bytes driver.new ≡ driving_of C.state P.bytes driver.old) }
+    ensures same { OnOk result (driving_of C.state P.bytes driver.new ≡ driving_of C.state P.bytes
+        driver.old) }
     ensures err { IfErr result (λ e. Halts (driving_of C.state P.bytes driver.old) e
         (driving_of C.state P.bytes driver.new)) }
 {
@@ -67,7 +68,8 @@ fn unbound_one<T: Copy + Drop, C: Sponge, U, D: DigestHasher, P: Tape>(
     bound: TranscriptBound<T>,
 ) -> Result<Vec<T>, TranscriptError>
     ensures ok { IfOk result (λ values. values.items ≡ bound_value bound ∷ []) }
-    ensures same { OnOk result (driving_of C.state P.bytes driver.new ≡ driving_of C.state P.bytes driver.old) }
+    ensures same { OnOk result (driving_of C.state P.bytes driver.new ≡ driving_of C.state P.bytes
+        driver.old) }
     ensures err { IfErr result (λ e. Halts (driving_of C.state P.bytes driver.old) e
         (driving_of C.state P.bytes driver.new)) }
 {
@@ -90,7 +92,7 @@ pub fn draw_scalar<S: Suite, P: Tape>(
     label: Label,
 ) -> Result<Drawn<S>, TranscriptError>
     requires { 128 ≤ S.Codec.SECURITY_BITS }
-    ensures { let rules = ⟦<S as Meaning>⟧.rules ⟦<S::Field as Declared<S::Field, S::Digest>>⟧.algebra in
+    ensures { let rules = ⟦<S as Meaning>⟧.rules S.Field.DIMENSION in
         DrawsOrRefuses (draws_one rules rules.scalar OfScalars label.now)
         (driving_of S.Challenger.state P.bytes driver.old) challenge_of result
         (driving_of S.Challenger.state P.bytes driver.new) }
@@ -108,7 +110,7 @@ pub fn draw_scalars<S: Suite, P: Tape>(
     n: usize,
 ) -> Result<Drawn<S>, TranscriptError>
     requires { 128 ≤ S.Codec.SECURITY_BITS }
-    ensures { let rules = ⟦<S as Meaning>⟧.rules ⟦<S::Field as Declared<S::Field, S::Digest>>⟧.algebra in
+    ensures { let rules = ⟦<S as Meaning>⟧.rules S.Field.DIMENSION in
         DrawsOrRefuses (draws_list rules rules.scalar OfScalars label.now n)
         (driving_of S.Challenger.state P.bytes driver.old) challenge_of result
         (driving_of S.Challenger.state P.bytes driver.new) }
@@ -125,7 +127,7 @@ pub fn draw_extension<S: Suite, P: Tape>(
     label: Label,
 ) -> Result<Drawn<S>, TranscriptError>
     requires { 128 ≤ S.Codec.SECURITY_BITS }
-    ensures { let rules = ⟦<S as Meaning>⟧.rules ⟦<S::Field as Declared<S::Field, S::Digest>>⟧.algebra in
+    ensures { let rules = ⟦<S as Meaning>⟧.rules S.Field.DIMENSION in
         DrawsOrRefuses (draws_one rules rules.extension OfExtensions label.now)
         (driving_of S.Challenger.state P.bytes driver.old) challenge_of result
         (driving_of S.Challenger.state P.bytes driver.new) }
@@ -143,7 +145,7 @@ pub fn draw_extensions<S: Suite, P: Tape>(
     n: usize,
 ) -> Result<Drawn<S>, TranscriptError>
     requires { 128 ≤ S.Codec.SECURITY_BITS }
-    ensures { let rules = ⟦<S as Meaning>⟧.rules ⟦<S::Field as Declared<S::Field, S::Digest>>⟧.algebra in
+    ensures { let rules = ⟦<S as Meaning>⟧.rules S.Field.DIMENSION in
         DrawsOrRefuses (draws_list rules rules.extension OfExtensions label.now n)
         (driving_of S.Challenger.state P.bytes driver.old) challenge_of result
         (driving_of S.Challenger.state P.bytes driver.new) }
@@ -163,7 +165,7 @@ pub fn draw_extensions_rejecting<S: Suite, P: Tape>(
     limit: u64,
 ) -> Result<Drawn<S>, TranscriptError>
     requires { 128 ≤ S.Codec.SECURITY_BITS }
-    ensures { let rules = ⟦<S as Meaning>⟧.rules ⟦<S::Field as Declared<S::Field, S::Digest>>⟧.algebra in
+    ensures { let rules = ⟦<S as Meaning>⟧.rules S.Field.DIMENSION in
         DrawsOrRefuses (draws_extensions_rejecting rules label.now n accept.now limit)
         (driving_of S.Challenger.state P.bytes driver.old) challenge_of result
         (driving_of S.Challenger.state P.bytes driver.new) }
@@ -183,8 +185,9 @@ pub fn draw_bits<S: Suite, P: Tape>(
 ) -> Result<Drawn<S>, TranscriptError>
     requires has { IsTrue S.Group.HAS_POW }
     requires within { width ≤ S.Group.most_bits }
-    ensures { let rules = ⟦<S as Meaning>⟧.rules ⟦<S::Field as Declared<S::Field, S::Digest>>⟧.algebra in
-        DrawsOrRefuses (draws_bits rules (bits_step label.now width (Fixed n)) rules.bits.are_there rules.bits.plain width n)
+    ensures { let rules = ⟦<S as Meaning>⟧.rules S.Field.DIMENSION in
+        DrawsOrRefuses (draws_bits rules (bits_step label.now width (Fixed n)) rules.bits.are_there
+        rules.bits.plain width n)
         (driving_of S.Challenger.state P.bytes driver.old) challenge_of result
         (driving_of S.Challenger.state P.bytes driver.new) }
 {
@@ -203,8 +206,9 @@ pub fn draw_uniform_bits<S: Suite, P: Tape>(
 ) -> Result<Drawn<S>, TranscriptError>
     requires has { IsTrue S.Group.HAS_UNIFORM }
     requires within { width ≤ S.Group.most_bits }
-    ensures { let rules = ⟦<S as Meaning>⟧.rules ⟦<S::Field as Declared<S::Field, S::Digest>>⟧.algebra in
-        DrawsOrRefuses (draws_bits rules (uniform_bits_step label.now width (Fixed n)) rules.bits.are_uniform rules.bits.uniform width n)
+    ensures { let rules = ⟦<S as Meaning>⟧.rules S.Field.DIMENSION in
+        DrawsOrRefuses (draws_bits rules (uniform_bits_step label.now width (Fixed n))
+        rules.bits.are_uniform rules.bits.uniform width n)
         (driving_of S.Challenger.state P.bytes driver.old) challenge_of result
         (driving_of S.Challenger.state P.bytes driver.new) }
 {
@@ -225,7 +229,7 @@ pub fn draw_uniform_bits_rejecting<S: Suite, P: Tape>(
 ) -> Result<Drawn<S>, TranscriptError>
     requires has { IsTrue S.Group.HAS_UNIFORM }
     requires within { width ≤ S.Group.most_bits }
-    ensures { let rules = ⟦<S as Meaning>⟧.rules ⟦<S::Field as Declared<S::Field, S::Digest>>⟧.algebra in
+    ensures { let rules = ⟦<S as Meaning>⟧.rules S.Field.DIMENSION in
         DrawsOrRefuses (draws_bits_rejecting rules label.now width n accept.now limit)
         (driving_of S.Challenger.state P.bytes driver.old) challenge_of result
         (driving_of S.Challenger.state P.bytes driver.new) }
@@ -246,7 +250,8 @@ fn accepted_extensions<S: Suite, A: AcceptRule<S::Extension>, P: Tape>(
     requires { 128 ≤ S.Codec.SECURITY_BITS }
     ensures { let codec = ⟦<ExtensionFieldCodec<S::Field, S::Extension, S::Codec> as Codec<S::Challenger, S::Extension>>⟧ in
         KeepsOrRefuses (drawn_rejecting {Symbol = S.Challenger.Symbol}
-        (⟦<S::Extension as Declared<S::Field, S::Digest>>⟧.step Challenge label.now (Fixed n)) codec.sampling
+        (⟦<S::Extension as Declared<S::Field, S::Digest>>⟧.step Challenge label.now (Fixed n))
+        codec.sampling
         (A.rule accept.now) limit n)
         (driving_of S.Challenger.state P.bytes driver.old) bound_values result
         (driving_of S.Challenger.state P.bytes driver.new) }

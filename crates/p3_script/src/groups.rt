@@ -9,15 +9,17 @@ ghost use Rattle.p3_driver_core.specs.Effects.{drawing_list};
 ghost use Rattle.p3_driver_core.specs.Meanings as meaning;
 ghost use Rattle.p3_driver_core.specs.Proving.{GrindsAndWrites, GrindsAndKeeps};
 ghost use Rattle.p3_driver_core.specs.Rejecting.{Rule, ComputesOfValues, drawn_rejecting, drawing_rejecting};
-ghost use Rattle.p3_driver_core.specs.Transcripts.{PlaysOrRefuses, bits_step, uniform_bits_step};
+ghost use Rattle.p3_driver_core.specs.Transcripts.{PlaysOrRefuses, RefusesStep, bits_step, uniform_bits_step};
 ghost use Rattle.p3_driver_core.specs.Verifying.{ReceivesWork, ChecksAndKeeps};
 ghost use Rattle.p3_driver_core.specs.Reads.{received_work};
-ghost use Rattle.p3_driver_core.specs.Working.{work_of, sent_work};
+ghost use Rattle.p3_driver_core.specs.Working.{work_of, sent_work, RefusesToCheck, RefusesToGrind};
 ghost use Rattle.p3_drivers.specs.Drivers.{driving_of, proving_of, verifying_of};
 ghost use Rattle.p3_fs_core.specs.Scalar.{encoding};
 ghost use Rattle.p3_fs_core.specs.Steps.{Step};
 ghost use Rattle.p3_step_laws.specs.Completeness.{CompletesWork, CompletesCarriedWork};
+ghost use Rattle.p3_runs.specs.Sides.{RefusesToReadWork};
 ghost use Rattle.p3_step_laws.specs.Limits.{TellsLimits};
+ghost use Rattle.p3_step_laws.specs.OneReason.{TellOneReason};
 ghost use Rattle.p3_step_laws.specs.Spelled.{OnlyReads, AnyValue};
 
 use p3_challenger_core::{CanSampleBits, Sponge};
@@ -27,8 +29,9 @@ use p3_field_core::ScalarField;
 use p3_fs_core::{Declared, Kind, Label, Length, PatternError, TranscriptError};
 use p3_grinding::{CanSampleUniformBits, GrindingChallenger};
 use p3_step_laws::{
-    bit_draws_tell_limits, carried_work_agrees, read_work_is_spelled, sent_work_is_received,
-    uniform_draws_tell_limits,
+    bit_draws_are_refused_for_one_reason, bit_draws_tell_limits, carried_work_agrees,
+    read_work_is_spelled, sent_work_is_received, uniform_draws_are_refused_for_one_reason,
+    uniform_draws_tell_limits, work_is_refused_for_one_reason,
 };
 use p3_symmetric::DigestHasher;
 
@@ -78,7 +81,8 @@ pub trait StepGroup<C: Sponge, F: ScalarField> {
         requires within { width ≤ most_bits }
         ensures { KeepsOrRefuses (meaning.drawn_list {Symbol = C.Symbol}
             (bits_step label.now width (Length.Fixed n)) (bit_draws width) n)
-            (driving_of C.state P.bytes driver.old) bound_values result (driving_of C.state P.bytes driver.new) };
+            (driving_of C.state P.bytes driver.old) bound_values result (driving_of C.state P.bytes
+            driver.new) };
 
     /// Draws `n` numbers of `width` uniform bits, on either side.
     ///
@@ -93,7 +97,8 @@ pub trait StepGroup<C: Sponge, F: ScalarField> {
         requires within { width ≤ most_bits }
         ensures { KeepsOrRefuses (meaning.drawn_list {Symbol = C.Symbol}
             (uniform_bits_step label.now width (Length.Fixed n)) (uniform_draws width) n)
-            (driving_of C.state P.bytes driver.old) bound_values result (driving_of C.state P.bytes driver.new) };
+            (driving_of C.state P.bytes driver.old) bound_values result (driving_of C.state P.bytes
+            driver.new) };
 
     /// Draws numbers of `width` uniform bits until the rule has taken `n`, on either side.
     ///
@@ -149,7 +154,8 @@ pub trait StepGroup<C: Sponge, F: ScalarField> {
         requires has { IsTrue HAS_POW }
         requires within { bits ≤ most_bits }
         ensures { let step = ⟦<F as Declared<F, D>>⟧.step Kind.Pow label.now (Length.Fixed bits) in
-            GrindsAndKeeps (work_of step F.residues before_witness witness bit_draws bits) may_run_out
+            GrindsAndKeeps (work_of step F.residues before_witness witness bit_draws bits)
+            may_run_out
             (proving_of C.state prover.old) (λ x. x) result (proving_of C.state prover.new) };
 
     /// A verifier reads a witness, and checks it.
@@ -200,6 +206,26 @@ pub trait StepGroup<C: Sponge, F: ScalarField> {
             (sent_work work (encoding F.residues F.bit_length)) }
         ensures carried { IsTrue HAS_POW → (step : Step) (bits : ℕ) (x : F) →
             CompletesCarriedWork (work_of step F.residues before_witness witness bit_draws bits) x };
+
+    /// Draws of bits and proofs of work are refused for one reason: any two errors from one state, neither of them for
+    /// want of memory, say the same. A law: the body calls laws alone.
+    fn steps_are_refused_for_one_reason()
+        ensures bits { IsTrue HAS_POW → (step : Step) (width n : ℕ) →
+            TellOneReason (RefusesStep {Symbol = C.Symbol}
+            (meaning.drawn_list step (bit_draws width) n)) }
+        ensures uniform { IsTrue HAS_UNIFORM → (step : Step) (width n : ℕ) →
+            TellOneReason (RefusesStep {Symbol = C.Symbol}
+            (meaning.drawn_list step (uniform_draws width) n)) }
+        ensures rejecting { IsTrue HAS_UNIFORM → (step : Step) (width : ℕ) (rule : Rule ℕ) (limit n : ℕ) →
+            TellOneReason (RefusesStep {Symbol = C.Symbol}
+            (drawn_rejecting step (uniform_draws width) rule limit n)) }
+        ensures ground { IsTrue HAS_POW → (step : Step) (bits : ℕ) → TellOneReason (RefusesToGrind
+            (work_of step F.residues before_witness witness bit_draws bits) may_run_out) }
+        ensures read { IsTrue HAS_POW → (step : Step) (bits : ℕ) → TellOneReason (RefusesToReadWork
+            (work_of step F.residues before_witness witness bit_draws bits)
+            (encoding F.residues F.bit_length)) }
+        ensures carried { IsTrue HAS_POW → (step : Step) (bits : ℕ) (x : F) → TellOneReason
+            (RefusesToCheck (work_of step F.residues before_witness witness bit_draws bits) x) };
 
     // What witnesses feed tells them apart.
     ghost tells_witnesses: { IsTrue HAS_POW → TellsApart witness.symbols };
@@ -330,6 +356,8 @@ impl<C: Sponge, F: ScalarField> StepGroup<C, F> for Plain {
     }
 
     fn steps_are_lawful() {}
+
+    fn steps_are_refused_for_one_reason() {}
 }
 
 /// The plain steps, bits and proofs of work. Not in the Rust crate.
@@ -448,6 +476,11 @@ where
         read_work_is_spelled::<C>();
         carried_work_agrees::<C>();
     }
+
+    fn steps_are_refused_for_one_reason() {
+        bit_draws_are_refused_for_one_reason::<C>();
+        work_is_refused_for_one_reason::<C>();
+    }
 }
 
 /// The plain steps, bits and proofs of work, and uniform bits. Not in the Rust crate.
@@ -558,5 +591,11 @@ where
         sent_work_is_received::<C>();
         read_work_is_spelled::<C>();
         carried_work_agrees::<C>();
+    }
+
+    fn steps_are_refused_for_one_reason() {
+        bit_draws_are_refused_for_one_reason::<C>();
+        uniform_draws_are_refused_for_one_reason::<C::Witness, C>();
+        work_is_refused_for_one_reason::<C>();
     }
 }

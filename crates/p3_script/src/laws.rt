@@ -1,30 +1,32 @@
 //! The laws of the steps of scripts.
 ghost use Rattle.p3_challenger_core.specs.Reading.{IsPrefixCode};
-ghost use Rattle.p3_script.specs.ScriptLaws.{AreAllCanonical, AreTakenWherePossible, AreSentWherePossible};
+ghost use Rattle.p3_script.specs.ScriptLaws.{AreAllCanonical, AreAllDetermined, AreTakenWherePossible, AreSentWherePossible};
 
 use crate::groups::StepGroup;
 use crate::suite::{Meaning, Suite};
 use p3_challenger_core::Sponge;
 use p3_codecs::{Codec, ExtensionFieldCodec};
-use p3_fs_core::Declared;
 use p3_step_laws::{
     bytes_tell_limits, carried_lists_are_let_through, draws_tell_limits, only_memory_refuses_hints,
     only_memory_refuses_sent_bytes, only_memory_refuses_sent_values, opaque_values_tell_limits,
     values_tell_limits,
 };
 
-/// What holds of every step of every script of a suite: its bytes and its carried witness tell its value, and where it
-/// may be played each side refuses it for want of memory alone.
+/// What holds of every step of every script of a suite: its bytes and its carried witness tell its value, and so do what
+/// is sent and that a witness is the least one; and where it may be played each side refuses it for want of memory alone.
 ///
 /// A law: the body calls laws alone, and a caller cites the clauses. Not in the Rust crate.
 pub fn script_steps_are_lawful<S: Suite>()
-    ensures canonical { let rules = ⟦<S as Meaning>⟧.rules ⟦<S::Field as Declared<S::Field, S::Digest>>⟧.algebra in
+    ensures canonical { let rules = ⟦<S as Meaning>⟧.rules S.Field.DIMENSION in
         AreAllCanonical S S.Unit S.Challenger S.Codec S.Digest S.Group S.Unit.Item S.Challenger.State
         S.Challenger.Symbol rules }
-    ensures taken { let rules = ⟦<S as Meaning>⟧.rules ⟦<S::Field as Declared<S::Field, S::Digest>>⟧.algebra in
+    ensures determined { let rules = ⟦<S as Meaning>⟧.rules S.Field.DIMENSION in
+        AreAllDetermined S S.Unit S.Challenger S.Codec S.Digest S.Group S.Unit.Item S.Challenger.State
+        S.Challenger.Symbol rules }
+    ensures taken { let rules = ⟦<S as Meaning>⟧.rules S.Field.DIMENSION in
         AreTakenWherePossible S S.Unit S.Challenger S.Codec S.Digest S.Group S.Unit.Item S.Challenger.State
         S.Challenger.Symbol rules }
-    ensures sent { let rules = ⟦<S as Meaning>⟧.rules ⟦<S::Field as Declared<S::Field, S::Digest>>⟧.algebra in
+    ensures sent { let rules = ⟦<S as Meaning>⟧.rules S.Field.DIMENSION in
         AreSentWherePossible S S.Unit S.Challenger S.Codec S.Digest S.Group S.Unit.Item S.Challenger.State
         S.Challenger.Symbol rules }
 {

@@ -4,14 +4,20 @@
 mod accept;
 pub mod draws;
 mod fault;
+mod faults;
 mod groups;
 mod laws;
+mod reasons;
+mod standing;
 mod steps;
 mod suite;
 
 pub use accept::{AcceptAll, AcceptRule, Distinct};
 pub use fault::Fault;
+pub use faults::faults_are_one;
 pub use groups::{BitsPow, Both, Plain, StepGroup};
 pub use laws::script_steps_are_lawful;
+pub use reasons::script_steps_are_refused_for_one_reason;
+pub use standing::{Standing, standing_of};
 pub use steps::{Drawn, Received, Sent, Step};
 pub use suite::{Meaning, Suite};

@@ -1,8 +1,8 @@
 //! The types that play together in a script.
-ghost use Rattle.std.specs.Prelude.{◌≡◌, ◌≤◌, IsTrue};
+ghost use Rattle.std.specs.Prelude.{◌≡◌, ◌≤◌, ℕ, IsTrue};
 ghost use Rattle.p3_fs_core.specs.Scalar.{encoding};
 ghost use Rattle.p3_runs.specs.Absorbed.{alone};
-ghost use Rattle.p3_fs_core.specs.Algebras.{NamedAlgebra};
+ghost use Rattle.p3_fs_core.specs.Algebras.{algebra_of};
 ghost use Rattle.p3_runs.specs.Rules.{Rules};
 
 use crate::accept::AcceptRule;
@@ -55,18 +55,20 @@ pub trait Suite {
 
 /// What definitions read of a suite. Every suite has it. Not in the Rust crate.
 pub trait Meaning: Suite {
-    // By how steps name the scalars: a field is an algebra over itself by its bound, and by the impl of every field; a
-    // function passes the first, which a member of an impl cannot name.
-    ghost rules: { NamedAlgebra → Rules Self.Challenger.State Self.Challenger.Symbol Self.Unit.Item Self.Field
-        Self.Extension Self.Opaque Self.Accept };
+    // By how many coefficients a scalar has over its own field. By the bound of the suite that is `S.Field.DIMENSION`,
+    // which drivers name; a member of an impl cannot name it.
+    ghost rules: { ℕ → Rules Self.Challenger.State Self.Challenger.Symbol Self.Unit.Item Self.Field
+        Self.Extension
+        Self.Opaque Self.Accept };
 }
 
 impl<S: Suite> Meaning for S {
-    ghost rules = { λ scalars. record {
+    ghost rules = { λ degree. record {
       marker_name = ⟦<() as Named>⟧.name_bytes;
       is_secure = 128 ≤ S.Codec.SECURITY_BITS;
       scalar = record {
-        algebra = scalars;
+        algebra = algebra_of S.Field.residues.order degree (S.Digest.digest_of S.Field.identity)
+            S.Field.name_bytes;
         coefficients = alone;
         encoding = S.Codec.encoding;
         observation = S.Codec.observation;

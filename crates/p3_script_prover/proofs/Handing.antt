@@ -14,10 +14,11 @@ use Rattle.p3_script.specs.declared.steps.Drawn.{Drawn}
 use Rattle.p3_script.specs.declared.steps.Sent.{Sent}
 use Rattle.p3_fs_core.specs.declared.error.TranscriptError.{TranscriptError}
 use Rattle.p3_runs.specs.Stepping.{Halts}
-use Rattle.p3_script_prover.specs.Nexts.{StandsSo, IsGivenAt, lent, next_place, carried_at, PlaysNext, RefusesNext}
+use Rattle.p3_script_prover.specs.Nexts.{IsGivenAt, lent, next_place, carried_at, PlaysNext, RefusesNext}
 use Rattle.p3_script_prover.specs.Sending.{value_given, value_played, SendsValue}
-use Rattle.p3_script_prover.specs.declared.proving.Standing.{Standing}
-use Rattle.p3_script_prover.specs.declared.proving.Standing.TheVariants as standing
+use Rattle.p3_script.specs.Standings.{StandsSo}
+use Rattle.p3_script.specs.declared.standing.Standing.{Standing}
+use Rattle.p3_script.specs.declared.standing.Standing.TheVariants as standing
 
 -- what was played with a value is sent
 pub sends-played : {S Symbol F EF O : Type 0} (play : Play S Symbol F EF O) (before after : Driving S) (given : Value F EF)

@@ -1,15 +1,20 @@
 -- A prover that plays a script step by step.
-use Rattle.std.proofs.Common.{◌≡◌, ◌<◌, ◌+◌, ℕ, suc, zero, List, [], ◌∷◌, refl, subst, drop, length, get_or}
+use Rattle.std.proofs.Common.{◌≡◌, ◌<◌, ◌≤◌, ◌+◌, ℕ, suc, zero, List, [], ◌∷◌, refl, subst, drop, length, get_or}
 use Rattle.std.proofs.Common.{add-one, drop-cons, inl, inr}
+use Rattle.p3_fs_core.specs.Errors.{pattern_error_of}
 use Rattle.p3_fs_core.specs.declared.error.TranscriptError.{TranscriptError}
+use Rattle.p3_fs_core.specs.declared.error.TranscriptError.TheVariants.{OutOfMemory}
+use Rattle.p3_patterns.specs.Playing.{FaultOfPlayEnd, IsPatternError}
 use Rattle.p3_driver_core.specs.Driving.{Driving}
 use Rattle.p3_runs.specs.Fronts.{Run}
 use Rattle.p3_runs.specs.Plays.{Play}
-use Rattle.p3_runs.specs.Provings.{RefusesToProve}
-use Rattle.p3_runs.specs.ProvingLaws.{Proves, proves-on, proves-refused}
+use Rattle.p3_runs.specs.Provings.{IsProverRun, RefusesToProve}
+use Rattle.p3_runs.specs.ProvingLaws.{Proves, proves-on, proves-refused, proves-not_ended}
+use Rattle.p3_runs.specs.RefusalLaws.{AreDetermined, AreRefusedForMemory, refused-never}
 use Rattle.p3_runs.specs.Rules.{Rules}
 use Rattle.p3_runs.specs.Runs.{AreAdmitted}
 use Rattle.p3_runs.specs.Values.{Value, Challenge}
+use Rattle.p3_runs.specs.Verdicts.{with_steps}
 use Rattle.p3_script_prover.specs.Nexts.{PlaysNext, RefusesNext}
 
 -- the part from i on begins with the element there
@@ -57,3 +62,26 @@ module _ {X S Symbol I F EF O Ac U D : Type 0} (rules : Rules S Symbol I F EF O 
       drop i script.steps ≡ x ∷ drop (i + 1) script.steps → AreAdmitted play script.steps → (play x).admitted
   next-admitted script sent i j now witnesses carried drawn x f at admitted =
       admitted-at play script.steps (drop (i + 1) script.steps) i x admitted at
+
+  module _ (script : Run X F EF S U D) (sent : List (Value F EF)) (i j : ℕ) (now : Driving S)
+      (witnesses carried : List F) (drawn : List (Challenge F EF)) where
+    -- where the next step is refused for another reason than want of memory, no values are the script's
+    pub next-never : (there : Driving S) (x : X) (e : TranscriptError) →
+        Proves rules play script sent i j now witnesses carried drawn → AreDetermined play script.steps →
+        drop i script.steps ≡ x ∷ drop (i + 1) script.steps → RefusesNext (play x) sent j now e there →
+        AreRefusedForMemory play script.steps → AreAdmitted play script.steps → (e ≡ OutOfMemory → ⊥) →
+        (values : List (Value F EF)) → IsProverRun rules play (with_steps script script.steps values) sent → ⊥
+    next-never there x e f told at n sendable may other values run =
+        refused-never rules play script sent i e told sendable may
+        (next-refused script sent i j now there witnesses carried drawn x e at f n) other values run
+
+    -- where the end is, neither
+    pub end-never : (e : TranscriptError) → Proves rules play script sent i j now witnesses carried drawn →
+        AreDetermined play script.steps → length script.steps ≤ i →
+        IsPatternError (λ m. FaultOfPlayEnd now.transcript.playing (pattern_error_of m)) e →
+        AreRefusedForMemory play script.steps → AreAdmitted play script.steps → (e ≡ OutOfMemory → ⊥) →
+        (values : List (Value F EF)) → IsProverRun rules play (with_steps script script.steps values) sent → ⊥
+    end-never e f told past refuses sendable may other values run =
+        refused-never rules play script sent (length script.steps) e told sendable may
+        (inr (inr (proves-not_ended rules play script sent i j now witnesses carried drawn past f e refuses))) other values
+        run

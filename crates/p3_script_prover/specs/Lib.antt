@@ -1,2 +1,3 @@
 pub mod Nexts
+pub mod ProverAnswers
 pub mod Sending

@@ -13,18 +13,8 @@ use Rattle.p3_runs.specs.Runs.{if_sent, if_drawn}
 use Rattle.p3_runs.specs.Stepping.{Sends, Halts, one_of}
 use Rattle.p3_runs.specs.Values.{Value, Challenge, Nothing}
 use Rattle.p3_runs.specs.Verdicts.{with_steps}
-use Rattle.p3_script_prover.specs.declared.proving.Standing.{Standing}
-use Rattle.p3_script_prover.specs.declared.proving.Standing.TheVariants as standing
-
--- where the value of a step stands, and that nothing is handed for it, if it is not sent
-abbrev pub Stands : {S Symbol F EF O : Type 0} → Play S Symbol F EF O → Standing → Type 0
-Stands play standing.Nowhere = (play.place ≡ place.Nowhere) × play.sides.IsHanded Nothing
-Stands play standing.Sent = play.place ≡ place.Sent
-Stands play standing.Found = (play.place ≡ place.Found) × play.sides.IsHanded Nothing
-Stands play standing.Carried = (play.place ≡ place.Carried) × play.sides.IsHanded Nothing
-
-pub record StandsSo {S Symbol F EF O : Type 0} (play : Play S Symbol F EF O) (standing : Standing) : Type 0 where
-  pub so : Stands play standing
+use Rattle.p3_script.specs.declared.standing.Standing.{Standing}
+use Rattle.p3_script.specs.declared.standing.Standing.TheVariants as standing
 
 -- a witness, where the caller carries it
 abbrev pub carried_at : {A : Type 0} → Standing → List A → List A

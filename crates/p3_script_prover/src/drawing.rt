@@ -12,7 +12,7 @@ use crate::stepping::Played;
 use p3_challenger_core::Sponge;
 use p3_codecs::{Codec, ExtensionFieldCodec};
 use p3_drivers::ProverState;
-use p3_fs_core::{Declared, Label, TranscriptError};
+use p3_fs_core::{Label, TranscriptError};
 use p3_script::{Meaning, StepGroup, Suite, draws};
 use std::alloc::Global;
 
@@ -23,7 +23,7 @@ pub(crate) fn scalar<S: Suite>(
     label: Label,
 ) -> Result<Played<S>, TranscriptError>
     requires { 128 ≤ S.Codec.SECURITY_BITS }
-    ensures { let rules = ⟦<S as Meaning>⟧.rules ⟦<S::Field as Declared<S::Field, S::Digest>>⟧.algebra in
+    ensures { let rules = ⟦<S as Meaning>⟧.rules S.Field.DIMENSION in
         KnowsOrRefuses (draws_one rules rules.scalar OfScalars label.now)
         (proving_of S.Challenger.state prover.old) played_witness played_draw result
         (proving_of S.Challenger.state prover.new) }
@@ -40,7 +40,7 @@ pub(crate) fn scalars<S: Suite>(
     n: usize,
 ) -> Result<Played<S>, TranscriptError>
     requires { 128 ≤ S.Codec.SECURITY_BITS }
-    ensures { let rules = ⟦<S as Meaning>⟧.rules ⟦<S::Field as Declared<S::Field, S::Digest>>⟧.algebra in
+    ensures { let rules = ⟦<S as Meaning>⟧.rules S.Field.DIMENSION in
         KnowsOrRefuses (draws_list rules rules.scalar OfScalars label.now n)
         (proving_of S.Challenger.state prover.old) played_witness played_draw result
         (proving_of S.Challenger.state prover.new) }
@@ -56,7 +56,7 @@ pub(crate) fn extension<S: Suite>(
     label: Label,
 ) -> Result<Played<S>, TranscriptError>
     requires { 128 ≤ S.Codec.SECURITY_BITS }
-    ensures { let rules = ⟦<S as Meaning>⟧.rules ⟦<S::Field as Declared<S::Field, S::Digest>>⟧.algebra in
+    ensures { let rules = ⟦<S as Meaning>⟧.rules S.Field.DIMENSION in
         KnowsOrRefuses (draws_one rules rules.extension OfExtensions label.now)
         (proving_of S.Challenger.state prover.old) played_witness played_draw result
         (proving_of S.Challenger.state prover.new) }
@@ -73,7 +73,7 @@ pub(crate) fn extensions<S: Suite>(
     n: usize,
 ) -> Result<Played<S>, TranscriptError>
     requires { 128 ≤ S.Codec.SECURITY_BITS }
-    ensures { let rules = ⟦<S as Meaning>⟧.rules ⟦<S::Field as Declared<S::Field, S::Digest>>⟧.algebra in
+    ensures { let rules = ⟦<S as Meaning>⟧.rules S.Field.DIMENSION in
         KnowsOrRefuses (draws_list rules rules.extension OfExtensions label.now n)
         (proving_of S.Challenger.state prover.old) played_witness played_draw result
         (proving_of S.Challenger.state prover.new) }
@@ -92,7 +92,7 @@ pub(crate) fn extensions_rejecting<S: Suite>(
     limit: u64,
 ) -> Result<Played<S>, TranscriptError>
     requires { 128 ≤ S.Codec.SECURITY_BITS }
-    ensures { let rules = ⟦<S as Meaning>⟧.rules ⟦<S::Field as Declared<S::Field, S::Digest>>⟧.algebra in
+    ensures { let rules = ⟦<S as Meaning>⟧.rules S.Field.DIMENSION in
         KnowsOrRefuses (draws_extensions_rejecting rules label.now n accept.now limit)
         (proving_of S.Challenger.state prover.old) played_witness played_draw result
         (proving_of S.Challenger.state prover.new) }
@@ -111,8 +111,9 @@ pub(crate) fn bits<S: Suite>(
 ) -> Result<Played<S>, TranscriptError>
     requires has { IsTrue S.Group.HAS_POW }
     requires within { width ≤ S.Group.most_bits }
-    ensures { let rules = ⟦<S as Meaning>⟧.rules ⟦<S::Field as Declared<S::Field, S::Digest>>⟧.algebra in
-        KnowsOrRefuses (draws_bits rules (bits_step label.now width (Fixed n)) rules.bits.are_there rules.bits.plain width n)
+    ensures { let rules = ⟦<S as Meaning>⟧.rules S.Field.DIMENSION in
+        KnowsOrRefuses (draws_bits rules (bits_step label.now width (Fixed n)) rules.bits.are_there
+        rules.bits.plain width n)
         (proving_of S.Challenger.state prover.old) played_witness played_draw result
         (proving_of S.Challenger.state prover.new) }
 {
@@ -130,8 +131,9 @@ pub(crate) fn uniform_bits<S: Suite>(
 ) -> Result<Played<S>, TranscriptError>
     requires has { IsTrue S.Group.HAS_UNIFORM }
     requires within { width ≤ S.Group.most_bits }
-    ensures { let rules = ⟦<S as Meaning>⟧.rules ⟦<S::Field as Declared<S::Field, S::Digest>>⟧.algebra in
-        KnowsOrRefuses (draws_bits rules (uniform_bits_step label.now width (Fixed n)) rules.bits.are_uniform rules.bits.uniform width n)
+    ensures { let rules = ⟦<S as Meaning>⟧.rules S.Field.DIMENSION in
+        KnowsOrRefuses (draws_bits rules (uniform_bits_step label.now width (Fixed n))
+        rules.bits.are_uniform rules.bits.uniform width n)
         (proving_of S.Challenger.state prover.old) played_witness played_draw result
         (proving_of S.Challenger.state prover.new) }
 {
@@ -151,7 +153,7 @@ pub(crate) fn uniform_bits_rejecting<S: Suite>(
 ) -> Result<Played<S>, TranscriptError>
     requires has { IsTrue S.Group.HAS_UNIFORM }
     requires within { width ≤ S.Group.most_bits }
-    ensures { let rules = ⟦<S as Meaning>⟧.rules ⟦<S::Field as Declared<S::Field, S::Digest>>⟧.algebra in
+    ensures { let rules = ⟦<S as Meaning>⟧.rules S.Field.DIMENSION in
         KnowsOrRefuses (draws_bits_rejecting rules label.now width n accept.now limit)
         (proving_of S.Challenger.state prover.old) played_witness played_draw result
         (proving_of S.Challenger.state prover.new) }

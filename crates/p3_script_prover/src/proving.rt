@@ -2,14 +2,14 @@
 ghost use Rattle.std.specs.Option.{OnSome};
 ghost use Rattle.std.specs.Prelude.{◌≡◌, List, ◌<◌, ◌++◌, drop, length, IfOk, IfErr, OnOk};
 ghost use Rattle.p3_drivers.specs.Drivers.{proving_of};
-ghost use Rattle.p3_runs.specs.ProverOutcomes.{StartsHanded, IsProved};
-ghost use Rattle.p3_runs.specs.Provings.{AreHanded, IsProverRun, RefusesToProve};
+ghost use Rattle.p3_runs.specs.ProverOutcomes.{StartsHanded};
+ghost use Rattle.p3_runs.specs.Provings.{AreHanded};
 ghost use Rattle.p3_runs.specs.Runs.{AreAdmitted};
 ghost use Rattle.p3_runs.specs.Stepping.{one_of};
-ghost use Rattle.p3_runs.specs.Values.{Value};
-ghost use Rattle.p3_runs.specs.Verdicts.{with_steps, script_of};
+ghost use Rattle.p3_runs.specs.Verdicts.{script_of};
 ghost use Rattle.p3_script.specs.Scripts.{play_of, values_sent, challenges_of};
-ghost use Rattle.p3_script_prover.specs.Nexts.{StandsSo, IsGivenAt, next_place, carried_at, NextOrRefuses};
+ghost use Rattle.p3_script_prover.specs.ProverAnswers.{IsProvedScript, IsRefusedScript};
+ghost use Rattle.p3_script_prover.specs.Nexts.{IsGivenAt, next_place, carried_at, NextOrRefuses};
 
 use crate::stepping::prover_step;
 use p3_challenger_core::{CanObserve, Sponge};
@@ -17,8 +17,11 @@ use p3_codecs::{AlphabetOf, Codec, ExtensionFieldCodec, Unit};
 use p3_domain_separator::DomainSeparator;
 use p3_drivers::ProverState;
 use p3_field_core::Named;
-use p3_fs_core::{Declared, TranscriptError};
-use p3_script::{Drawn, Fault, Meaning, Sent, Step, StepGroup, Suite, script_steps_are_lawful};
+use p3_fs_core::TranscriptError;
+use p3_script::{
+    Drawn, Fault, Meaning, Sent, Standing, Step, StepGroup, Suite, script_steps_are_lawful,
+    standing_of,
+};
 use p3_symmetric::DigestHasher;
 use std::alloc::{AllocError, Global};
 
@@ -41,57 +44,12 @@ pub struct Proved<S: Suite> {
     pub challenger: S::Challenger,
 }
 
-// Where the value of a step stands.
-#[derive(Clone, Copy)]
-enum Standing {
-    Nowhere,
-    Sent,
-    Found,
-    Carried,
-}
-
 // What was found and drawn so far.
 #[derive(Drop)]
 struct Made<S: Suite> {
     witnesses: Vec<S::Field>,
     carried: Vec<S::Field>,
     challenges: Vec<Drawn<S>>,
-}
-
-// Where the value of the step stands.
-fn standing_of<S: Suite>(step: &Step<S>) -> Standing
-    ensures { let rules = ⟦<S as Meaning>⟧.rules ⟦<S::Field as Declared<S::Field, S::Digest>>⟧.algebra in
-        StandsSo (play_of rules step.now) result }
-{
-    match step {
-        Step::Begin { .. } => Standing::Nowhere,
-        Step::End { .. } => Standing::Nowhere,
-        Step::Salt { .. } => Standing::Sent,
-        Step::Bytes { .. } => Standing::Sent,
-        Step::Hint { .. } => Standing::Sent,
-        Step::BytesBounded { .. } => Standing::Sent,
-        Step::HintBounded { .. } => Standing::Sent,
-        Step::PublicScalar { .. } => Standing::Nowhere,
-        Step::PublicScalars { .. } => Standing::Nowhere,
-        Step::Scalar { .. } => Standing::Sent,
-        Step::Scalars { .. } => Standing::Sent,
-        Step::ScalarsBounded { .. } => Standing::Sent,
-        Step::Extension { .. } => Standing::Sent,
-        Step::ObserveExtension { .. } => Standing::Nowhere,
-        Step::ObserveExtensions { .. } => Standing::Nowhere,
-        Step::ObserveExtensionsBounded { .. } => Standing::Nowhere,
-        Step::Opaque { .. } => Standing::Nowhere,
-        Step::ChallengeScalar { .. } => Standing::Nowhere,
-        Step::ChallengeScalars { .. } => Standing::Nowhere,
-        Step::ChallengeExtension { .. } => Standing::Nowhere,
-        Step::ChallengeExtensions { .. } => Standing::Nowhere,
-        Step::ChallengeExtensionsRejecting { .. } => Standing::Nowhere,
-        Step::ChallengeBits { .. } => Standing::Nowhere,
-        Step::ChallengeUniformBits { .. } => Standing::Nowhere,
-        Step::ChallengeUniformBitsRejecting { .. } => Standing::Nowhere,
-        Step::Pow { .. } => Standing::Found,
-        Step::ObservePow { .. } => Standing::Carried,
-    }
 }
 
 // What is handed for a step whose value stands so: the value at the place, or nothing.
@@ -147,10 +105,12 @@ fn keep_all<S: Suite>(
     witness: Option<S::Field>,
     drawn: Option<Drawn<S>>,
 ) -> Result<(), AllocError>
-    ensures witnesses { OnOk result (made.new.witnesses.items ≡ made.old.witnesses.items ++ one_of witness) }
+    ensures witnesses { OnOk result (made.new.witnesses.items ≡ made.old.witnesses.items ++ one_of
+        witness) }
     ensures carried { OnOk result (made.new.carried.items
         ≡ made.old.carried.items ++ carried_at standing (one_of witness)) }
-    ensures challenges { OnOk result (made.new.challenges.items ≡ made.old.challenges.items ++ one_of drawn) }
+    ensures challenges { OnOk result (made.new.challenges.items ≡ made.old.challenges.items ++
+        one_of drawn) }
 {
     keep(&mut made.witnesses, witness)?;
     keep(&mut made.carried, where_carried(standing, witness))?;
@@ -166,12 +126,11 @@ fn play_next<S: Suite>(
     next: &mut usize,
     made: &mut Made<S>,
 ) -> Result<(), TranscriptError>
-    requires admitted { let rules = ⟦<S as Meaning>⟧.rules ⟦<S::Field as Declared<S::Field, S::Digest>>⟧.algebra in
-        (play_of rules step.now).admitted }
-    requires handed { let rules = ⟦<S as Meaning>⟧.rules ⟦<S::Field as Declared<S::Field, S::Digest>>⟧.algebra in
+    requires admitted { (play_of (⟦<S as Meaning>⟧.rules S.Field.DIMENSION) step.now).admitted }
+    requires handed { let rules = ⟦<S as Meaning>⟧.rules S.Field.DIMENSION in
         StartsHanded (play_of rules step.now).place (play_of rules step.now).sides.IsHanded
         (drop next.old (values_sent sent.now)) }
-    ensures { let rules = ⟦<S as Meaning>⟧.rules ⟦<S::Field as Declared<S::Field, S::Digest>>⟧.algebra in
+    ensures { let rules = ⟦<S as Meaning>⟧.rules S.Field.DIMENSION in
         NextOrRefuses (play_of rules step.now) (values_sent sent.now) next.old
         (proving_of S.Challenger.state prover.old) made.old.witnesses.items made.old.carried.items
         (challenges_of made.old.challenges.items) result next.new
@@ -216,23 +175,15 @@ pub fn prove<S: Suite>(
     steps: &[Step<S>],
     sent: &[Sent<S>],
 ) -> Result<Proved<S>, Fault>
-    requires admitted { let rules = ⟦<S as Meaning>⟧.rules ⟦<S::Field as Declared<S::Field, S::Digest>>⟧.algebra in
-        AreAdmitted (play_of rules) steps.now }
-    requires handed { let rules = ⟦<S as Meaning>⟧.rules ⟦<S::Field as Declared<S::Field, S::Digest>>⟧.algebra in
+    requires admitted { AreAdmitted (play_of (⟦<S as Meaning>⟧.rules S.Field.DIMENSION)) steps.now }
+    requires handed { let rules = ⟦<S as Meaning>⟧.rules S.Field.DIMENSION in
         AreHanded (play_of rules) steps.now (values_sent sent.now) }
-    ensures accepted { let rules = ⟦<S as Meaning>⟧.rules ⟦<S::Field as Declared<S::Field, S::Digest>>⟧.algebra in
-        IfOk result (λ r. IsProved rules (play_of rules) (script_of (S.Challenger.state challenger) separator.now steps.now)
-        (values_sent sent.now) r.narg.items r.witnesses.items r.carried.items (challenges_of r.challenges.items)
-        (S.Challenger.state r.challenger)) }
-    ensures refused { let rules = ⟦<S as Meaning>⟧.rules ⟦<S::Field as Declared<S::Field, S::Digest>>⟧.algebra in
-        IfErr result (λ f. RefusesToProve rules (play_of rules)
-        (script_of (S.Challenger.state challenger) separator.now steps.now)
-        (values_sent sent.now) f.position f.error) }
-    ensures only { let rules = ⟦<S as Meaning>⟧.rules ⟦<S::Field as Declared<S::Field, S::Digest>>⟧.algebra in
-        IfErr result (λ f. (f.error ≡ TranscriptError.OutOfMemory → ⊥) →
-        (values : List (Value S.Field S.Extension)) → IsProverRun rules (play_of rules)
-        (with_steps (script_of (S.Challenger.state challenger) separator.now steps.now) steps.now values)
-        (values_sent sent.now) → ⊥) }
+    ensures proved { let rules = ⟦<S as Meaning>⟧.rules S.Field.DIMENSION in
+        let script = script_of (S.Challenger.state challenger) separator.now steps.now in
+        IfOk result (IsProvedScript rules script (values_sent sent.now) S.Challenger.state) }
+    ensures refused { let rules = ⟦<S as Meaning>⟧.rules S.Field.DIMENSION in
+        let script = script_of (S.Challenger.state challenger) separator.now steps.now in
+        IfErr result (IsRefusedScript rules script (values_sent sent.now)) }
 {
     script_steps_are_lawful::<S>();
     let mut prover = match ProverState::new(alloc, challenger, separator) {

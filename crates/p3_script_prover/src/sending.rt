@@ -22,7 +22,7 @@ use crate::stepping::Played;
 use p3_challenger_core::Sponge;
 use p3_codecs::{Codec, ExtensionFieldCodec};
 use p3_drivers::ProverState;
-use p3_fs_core::{Declared, Kind, Label, PatternError, TranscriptError, TranscriptField};
+use p3_fs_core::{Kind, Label, PatternError, TranscriptError, TranscriptField};
 use p3_script::{Meaning, Sent, StepGroup, Suite};
 
 // Opens a container.
@@ -31,8 +31,9 @@ pub(crate) fn begin<S: Suite>(
     label: Label,
     kind: Kind,
 ) -> Result<Played<S>, TranscriptError>
-    ensures { let rules = ⟦<S as Meaning>⟧.rules ⟦<S::Field as Declared<S::Field, S::Digest>>⟧.algebra in
-        KnowsOrRefuses (known {O = S.Opaque} (marker_of Begin kind label.now rules.marker_name) (no_challenge {F = S.Field} {EF = S.Extension})
+    ensures { let rules = ⟦<S as Meaning>⟧.rules S.Field.DIMENSION in
+        KnowsOrRefuses (known {O = S.Opaque} (marker_of Begin kind label.now rules.marker_name)
+        (no_challenge {F = S.Field} {EF = S.Extension})
         (untouched {Symbol = S.Challenger.Symbol} (tt {0})) Nothing)
         (proving_of S.Challenger.state prover.old) played_witness played_draw result
         (proving_of S.Challenger.state prover.new) }
@@ -47,8 +48,9 @@ pub(crate) fn end<S: Suite>(
     label: Label,
     kind: Kind,
 ) -> Result<Played<S>, TranscriptError>
-    ensures { let rules = ⟦<S as Meaning>⟧.rules ⟦<S::Field as Declared<S::Field, S::Digest>>⟧.algebra in
-        KnowsOrRefuses (known {O = S.Opaque} (marker_of End kind label.now rules.marker_name) (no_challenge {F = S.Field} {EF = S.Extension})
+    ensures { let rules = ⟦<S as Meaning>⟧.rules S.Field.DIMENSION in
+        KnowsOrRefuses (known {O = S.Opaque} (marker_of End kind label.now rules.marker_name)
+        (no_challenge {F = S.Field} {EF = S.Extension})
         (untouched {Symbol = S.Challenger.Symbol} (tt {0})) Nothing)
         (proving_of S.Challenger.state prover.old) played_witness played_draw result
         (proving_of S.Challenger.state prover.new) }
@@ -63,7 +65,7 @@ pub(crate) fn add_public_scalar<S: Suite>(
     label: Label,
     scalar: &S::Field,
 ) -> Result<Played<S>, TranscriptError>
-    ensures { let rules = ⟦<S as Meaning>⟧.rules ⟦<S::Field as Declared<S::Field, S::Digest>>⟧.algebra in
+    ensures { let rules = ⟦<S as Meaning>⟧.rules S.Field.DIMENSION in
         KnowsOrRefuses (knows_one rules rules.scalar Public label.now scalar.now)
         (proving_of S.Challenger.state prover.old) played_witness played_draw result
         (proving_of S.Challenger.state prover.new) }
@@ -78,7 +80,7 @@ pub(crate) fn add_public_scalars<S: Suite>(
     label: Label,
     scalars: &[S::Field],
 ) -> Result<Played<S>, TranscriptError>
-    ensures { let rules = ⟦<S as Meaning>⟧.rules ⟦<S::Field as Declared<S::Field, S::Digest>>⟧.algebra in
+    ensures { let rules = ⟦<S as Meaning>⟧.rules S.Field.DIMENSION in
         KnowsOrRefuses (knows_list rules rules.scalar Public label.now scalars.now)
         (proving_of S.Challenger.state prover.old) played_witness played_draw result
         (proving_of S.Challenger.state prover.new) }
@@ -93,7 +95,7 @@ pub(crate) fn observe_extension<S: Suite>(
     label: Label,
     element: &S::Extension,
 ) -> Result<Played<S>, TranscriptError>
-    ensures { let rules = ⟦<S as Meaning>⟧.rules ⟦<S::Field as Declared<S::Field, S::Digest>>⟧.algebra in
+    ensures { let rules = ⟦<S as Meaning>⟧.rules S.Field.DIMENSION in
         KnowsOrRefuses (knows_one rules rules.extension Message label.now element.now)
         (proving_of S.Challenger.state prover.old) played_witness played_draw result
         (proving_of S.Challenger.state prover.new) }
@@ -108,7 +110,7 @@ pub(crate) fn observe_extensions<S: Suite>(
     label: Label,
     elements: &[S::Extension],
 ) -> Result<Played<S>, TranscriptError>
-    ensures { let rules = ⟦<S as Meaning>⟧.rules ⟦<S::Field as Declared<S::Field, S::Digest>>⟧.algebra in
+    ensures { let rules = ⟦<S as Meaning>⟧.rules S.Field.DIMENSION in
         KnowsOrRefuses (knows_as_recorded rules rules.extension Message label.now elements.now)
         (proving_of S.Challenger.state prover.old) played_witness played_draw result
         (proving_of S.Challenger.state prover.new) }
@@ -124,8 +126,9 @@ pub(crate) fn observe_extensions_bounded<S: Suite>(
     elements: &Vec<S::Extension>,
     max: usize,
 ) -> Result<Played<S>, TranscriptError>
-    ensures { let rules = ⟦<S as Meaning>⟧.rules ⟦<S::Field as Declared<S::Field, S::Digest>>⟧.algebra in
-        KnowsOrRefuses (knows_counted rules rules.extension Message label.now elements.now.items max)
+    ensures { let rules = ⟦<S as Meaning>⟧.rules S.Field.DIMENSION in
+        KnowsOrRefuses (knows_counted rules rules.extension Message label.now elements.now.items
+        max)
         (proving_of S.Challenger.state prover.old) played_witness played_draw result
         (proving_of S.Challenger.state prover.new) }
 {
@@ -141,8 +144,9 @@ pub(crate) fn observe_opaque<S: Suite>(
     label: Label,
     value: &S::Opaque,
 ) -> Result<Played<S>, TranscriptError>
-    ensures { let rules = ⟦<S as Meaning>⟧.rules ⟦<S::Field as Declared<S::Field, S::Digest>>⟧.algebra in
-        KnowsOrRefuses (known (opaque_step Message label.now Scalar) (no_challenge {F = S.Field} {EF = S.Extension}) (observing rules.opaque value.now) (Own value.now))
+    ensures { let rules = ⟦<S as Meaning>⟧.rules S.Field.DIMENSION in
+        KnowsOrRefuses (known (opaque_step Message label.now Scalar) (no_challenge {F = S.Field}
+        {EF = S.Extension}) (observing rules.opaque value.now) (Own value.now))
         (proving_of S.Challenger.state prover.old) played_witness played_draw result
         (proving_of S.Challenger.state prover.new) }
 {
@@ -165,9 +169,10 @@ pub(crate) fn add_salt<S: Suite>(
     len: usize,
 ) -> Result<Played<S>, TranscriptError>
     requires { holds_some (HasLength len) (bytes_in (value_given sent)) }
-    ensures { let rules = ⟦<S as Meaning>⟧.rules ⟦<S::Field as Declared<S::Field, S::Digest>>⟧.algebra in
+    ensures { let rules = ⟦<S as Meaning>⟧.rules S.Field.DIMENSION in
         SendsOrRefuses (sends_bytes rules Salt label.now len)
-        (proving_of S.Challenger.state prover.old) (value_given sent.entry) played_witness played_draw result
+        (proving_of S.Challenger.state prover.old) (value_given sent.entry) played_witness
+        played_draw result
         (proving_of S.Challenger.state prover.new) }
 {
     let Some(Sent::Bytes(bytes)) = sent else {
@@ -185,9 +190,10 @@ pub(crate) fn add_bytes<S: Suite>(
     len: usize,
 ) -> Result<Played<S>, TranscriptError>
     requires { holds_some (HasLength len) (bytes_in (value_given sent)) }
-    ensures { let rules = ⟦<S as Meaning>⟧.rules ⟦<S::Field as Declared<S::Field, S::Digest>>⟧.algebra in
+    ensures { let rules = ⟦<S as Meaning>⟧.rules S.Field.DIMENSION in
         SendsOrRefuses (sends_bytes rules Message label.now len)
-        (proving_of S.Challenger.state prover.old) (value_given sent.entry) played_witness played_draw result
+        (proving_of S.Challenger.state prover.old) (value_given sent.entry) played_witness
+        played_draw result
         (proving_of S.Challenger.state prover.new) }
 {
     let Some(Sent::Bytes(bytes)) = sent else {
@@ -205,9 +211,10 @@ pub(crate) fn add_hint<S: Suite>(
     len: usize,
 ) -> Result<Played<S>, TranscriptError>
     requires { holds_some (HasLength len) (bytes_in (value_given sent)) }
-    ensures { let rules = ⟦<S as Meaning>⟧.rules ⟦<S::Field as Declared<S::Field, S::Digest>>⟧.algebra in
+    ensures { let rules = ⟦<S as Meaning>⟧.rules S.Field.DIMENSION in
         SendsOrRefuses (hints rules label.now len)
-        (proving_of S.Challenger.state prover.old) (value_given sent.entry) played_witness played_draw result
+        (proving_of S.Challenger.state prover.old) (value_given sent.entry) played_witness
+        played_draw result
         (proving_of S.Challenger.state prover.new) }
 {
     let Some(Sent::Bytes(bytes)) = sent else {
@@ -225,9 +232,10 @@ pub(crate) fn add_bytes_bounded<S: Suite>(
     max: usize,
 ) -> Result<Played<S>, TranscriptError>
     requires { holds_some Any (bytes_in (value_given sent)) }
-    ensures { let rules = ⟦<S as Meaning>⟧.rules ⟦<S::Field as Declared<S::Field, S::Digest>>⟧.algebra in
+    ensures { let rules = ⟦<S as Meaning>⟧.rules S.Field.DIMENSION in
         SendsOrRefuses (sends_counted_bytes rules label.now max)
-        (proving_of S.Challenger.state prover.old) (value_given sent.entry) played_witness played_draw result
+        (proving_of S.Challenger.state prover.old) (value_given sent.entry) played_witness
+        played_draw result
         (proving_of S.Challenger.state prover.new) }
 {
     let Some(Sent::Bytes(bytes)) = sent else {
@@ -245,9 +253,10 @@ pub(crate) fn add_hint_bounded<S: Suite>(
     max: usize,
 ) -> Result<Played<S>, TranscriptError>
     requires { holds_some Any (bytes_in (value_given sent)) }
-    ensures { let rules = ⟦<S as Meaning>⟧.rules ⟦<S::Field as Declared<S::Field, S::Digest>>⟧.algebra in
+    ensures { let rules = ⟦<S as Meaning>⟧.rules S.Field.DIMENSION in
         SendsOrRefuses (hints_counted rules label.now max)
-        (proving_of S.Challenger.state prover.old) (value_given sent.entry) played_witness played_draw result
+        (proving_of S.Challenger.state prover.old) (value_given sent.entry) played_witness
+        played_draw result
         (proving_of S.Challenger.state prover.new) }
 {
     let Some(Sent::Bytes(bytes)) = sent else {
@@ -264,9 +273,10 @@ pub(crate) fn add_scalar<S: Suite>(
     sent: Option<&Sent<S>>,
 ) -> Result<Played<S>, TranscriptError>
     requires { holds_some Any (scalar_in (value_given sent)) }
-    ensures { let rules = ⟦<S as Meaning>⟧.rules ⟦<S::Field as Declared<S::Field, S::Digest>>⟧.algebra in
+    ensures { let rules = ⟦<S as Meaning>⟧.rules S.Field.DIMENSION in
         SendsOrRefuses (sends_one rules rules.scalar scalar_in label.now)
-        (proving_of S.Challenger.state prover.old) (value_given sent.entry) played_witness played_draw result
+        (proving_of S.Challenger.state prover.old) (value_given sent.entry) played_witness
+        played_draw result
         (proving_of S.Challenger.state prover.new) }
 {
     let Some(Sent::Scalar(scalar)) = sent else {
@@ -284,9 +294,10 @@ pub(crate) fn add_scalars<S: Suite>(
     n: usize,
 ) -> Result<Played<S>, TranscriptError>
     requires { holds_some (HasLength n) (scalars_in (value_given sent)) }
-    ensures { let rules = ⟦<S as Meaning>⟧.rules ⟦<S::Field as Declared<S::Field, S::Digest>>⟧.algebra in
+    ensures { let rules = ⟦<S as Meaning>⟧.rules S.Field.DIMENSION in
         SendsOrRefuses (sends_list rules rules.scalar scalars_in label.now n)
-        (proving_of S.Challenger.state prover.old) (value_given sent.entry) played_witness played_draw result
+        (proving_of S.Challenger.state prover.old) (value_given sent.entry) played_witness
+        played_draw result
         (proving_of S.Challenger.state prover.new) }
 {
     let Some(Sent::Scalars(scalars)) = sent else {
@@ -304,9 +315,10 @@ pub(crate) fn add_scalars_bounded<S: Suite>(
     max: usize,
 ) -> Result<Played<S>, TranscriptError>
     requires { holds_some Any (scalars_in (value_given sent)) }
-    ensures { let rules = ⟦<S as Meaning>⟧.rules ⟦<S::Field as Declared<S::Field, S::Digest>>⟧.algebra in
+    ensures { let rules = ⟦<S as Meaning>⟧.rules S.Field.DIMENSION in
         SendsOrRefuses (sends_counted rules rules.scalar scalars_in label.now max)
-        (proving_of S.Challenger.state prover.old) (value_given sent.entry) played_witness played_draw result
+        (proving_of S.Challenger.state prover.old) (value_given sent.entry) played_witness
+        played_draw result
         (proving_of S.Challenger.state prover.new) }
 {
     let Some(Sent::Scalars(scalars)) = sent else {
@@ -323,9 +335,10 @@ pub(crate) fn add_extension<S: Suite>(
     sent: Option<&Sent<S>>,
 ) -> Result<Played<S>, TranscriptError>
     requires { holds_some Any (extension_in (value_given sent)) }
-    ensures { let rules = ⟦<S as Meaning>⟧.rules ⟦<S::Field as Declared<S::Field, S::Digest>>⟧.algebra in
+    ensures { let rules = ⟦<S as Meaning>⟧.rules S.Field.DIMENSION in
         SendsOrRefuses (sends_one rules rules.extension extension_in label.now)
-        (proving_of S.Challenger.state prover.old) (value_given sent.entry) played_witness played_draw result
+        (proving_of S.Challenger.state prover.old) (value_given sent.entry) played_witness
+        played_draw result
         (proving_of S.Challenger.state prover.new) }
 {
     let Some(Sent::Extension(element)) = sent else {
@@ -343,9 +356,10 @@ pub(crate) fn pow<S: Suite>(
 ) -> Result<Played<S>, TranscriptError>
     requires has { IsTrue S.Group.HAS_POW }
     requires within { bits ≤ S.Group.most_bits }
-    ensures { let rules = ⟦<S as Meaning>⟧.rules ⟦<S::Field as Declared<S::Field, S::Digest>>⟧.algebra in
+    ensures { let rules = ⟦<S as Meaning>⟧.rules S.Field.DIMENSION in
         KnowsOrRefuses (only_if (rules.grinding.is_there × (bits ≤ rules.bits.most))
-        (sends_witness {EF = S.Extension} {O = S.Opaque} (work_in rules label.now bits) rules.grinding.is_there
+        (sends_witness {EF = S.Extension} {O = S.Opaque} (work_in rules label.now bits)
+        rules.grinding.is_there
         rules.witness_encoding rules.grinding.may_run_out (witness_of bits)))
         (proving_of S.Challenger.state prover.old) played_witness played_draw result
         (proving_of S.Challenger.state prover.new) }
@@ -365,9 +379,10 @@ pub(crate) fn observe_pow<S: Suite>(
 ) -> Result<Played<S>, TranscriptError>
     requires has { IsTrue S.Group.HAS_POW }
     requires within { bits ≤ S.Group.most_bits }
-    ensures { let rules = ⟦<S as Meaning>⟧.rules ⟦<S::Field as Declared<S::Field, S::Digest>>⟧.algebra in
+    ensures { let rules = ⟦<S as Meaning>⟧.rules S.Field.DIMENSION in
         KnowsOrRefuses (only_if (rules.grinding.is_there × (bits ≤ rules.bits.most))
-        (carries_witness {EF = S.Extension} {O = S.Opaque} (work_in rules label.now bits) rules.grinding.is_there
+        (carries_witness {EF = S.Extension} {O = S.Opaque} (work_in rules label.now bits)
+        rules.grinding.is_there
         rules.grinding.may_run_out (witness_of bits)))
         (proving_of S.Challenger.state prover.old) played_witness played_draw result
         (proving_of S.Challenger.state prover.new) }
@@ -378,7 +393,8 @@ pub(crate) fn observe_pow<S: Suite>(
 
 // The element that the bytes end with.
 fn element_at_end<F: TranscriptField>(bytes: &[u8]) -> Result<F, TranscriptError>
-    ensures { (before : List ℕ) (x : F) → bytes.now ≡ before ++ (encoding F.residues F.bit_length).wire x →
+    ensures { (before : List ℕ) (x : F) → bytes.now ≡ before ++ (encoding F.residues
+        F.bit_length).wire x →
         result ≡ Ok x }
 {
     let width = F::wire_len();

@@ -8,7 +8,7 @@ use crate::{drawing, sending};
 use p3_challenger_core::Sponge;
 use p3_codecs::{Codec, ExtensionFieldCodec};
 use p3_drivers::ProverState;
-use p3_fs_core::{Declared, TranscriptError};
+use p3_fs_core::TranscriptError;
 use p3_script::{Drawn, Meaning, Sent, Step, StepGroup, Suite};
 use std::alloc::Global;
 
@@ -33,12 +33,12 @@ pub fn prover_step<S: Suite>(
     step: &Step<S>,
     sent: Option<&Sent<S>>,
 ) -> Result<Played<S>, TranscriptError>
-    requires admitted { let rules = ⟦<S as Meaning>⟧.rules ⟦<S::Field as Declared<S::Field, S::Digest>>⟧.algebra in
-        (play_of rules step.now).admitted }
-    requires handed { let rules = ⟦<S as Meaning>⟧.rules ⟦<S::Field as Declared<S::Field, S::Digest>>⟧.algebra in
+    requires admitted { (play_of (⟦<S as Meaning>⟧.rules S.Field.DIMENSION) step.now).admitted }
+    requires handed { let rules = ⟦<S as Meaning>⟧.rules S.Field.DIMENSION in
         (play_of rules step.now).sides.IsHanded (value_given sent) }
-    ensures { let rules = ⟦<S as Meaning>⟧.rules ⟦<S::Field as Declared<S::Field, S::Digest>>⟧.algebra in
-        SendsOrRefuses (play_of rules step.now) (proving_of S.Challenger.state prover.old) (value_given sent.entry)
+    ensures { let rules = ⟦<S as Meaning>⟧.rules S.Field.DIMENSION in
+        SendsOrRefuses (play_of rules step.now) (proving_of S.Challenger.state prover.old)
+        (value_given sent.entry)
         played_witness played_draw result (proving_of S.Challenger.state prover.new) }
 {
     match step {

@@ -1,18 +1,13 @@
 -- What a prover answers is a proof.
 use Rattle.std.proofs.Common.{◌≡◌, ℕ, ◌+◌, suc, List, [], ◌∷◌, ◌++◌, length, refl, sym, ap, ◌∙◌, subst, arith, ◌⊎◌, inl, inr, Result, Ok, Err, IfOk, IfErr}
-use Rattle.std.proofs.lemmas.List.{length-append}
 use Rattle.p3_fs_core.specs.declared.error.TranscriptError.{TranscriptError}
 use Rattle.p3_fs_core.specs.declared.error.TranscriptError.TheVariants.{MissingBegin, InvalidKind, MismatchedBeginEnd}
 use Rattle.p3_fs_core.specs.declared.error.TranscriptError.TheVariants.{MissingEnd, BadProofShape, Pattern}
 use Rattle.p3_fs_core.specs.declared.error.TranscriptError.TheVariants.{Challenger, LabelTooLong, OutOfMemory}
-use Rattle.p3_runs.specs.Fronts.{Run, seeded}
-use Rattle.p3_runs.specs.Plays.{Play, Place, Nowhere, Sent, Found, Carried}
+use Rattle.p3_runs.specs.Fronts.{Run}
+use Rattle.p3_runs.specs.Plays.{Play}
 use Rattle.p3_runs.specs.ProverOutcomes.{IsProved}
 use Rattle.p3_runs.specs.Rules.{Rules}
-use Rattle.p3_runs.specs.Runs as runs
-use Rattle.p3_runs.specs.Runs.{if_carried, carried_count}
-use Rattle.p3_runs.specs.RunLaws.{AreMatched, finished-matched}
-use Rattle.p3_runs.specs.Stepping.{all_witnesses}
 use Rattle.p3_runs.specs.Values.{Value, Challenge}
 use Rattle.p3_runs.specs.Verdicts.{with_steps, IsProof, IsOutcome, Accepts, HasNoProof}
 use Rattle.p3_script_round_trip.specs.RoundTrips.{PlaysOneRun}
@@ -29,28 +24,6 @@ is-memory (MismatchedBeginEnd x) = inr (λ is. absurd (cc))
 is-memory (MissingEnd x) = inr (λ is. absurd (cc))
 is-memory LabelTooLong = inr (λ is. absurd (cc))
 
-length-witnesses : {F : Type 0} (EF : Type 0) (xs : List F) → length (all_witnesses {EF = EF} xs) ≡ length xs
-length-witnesses EF [] = refl
-length-witnesses EF (x ∷ xs) = ap suc (length-witnesses EF xs)
-
-length-carried : {V : Type 0} (place : Place) (v : V) → length (if_carried place (tt {0})) ≡ length (if_carried place v)
-length-carried Nowhere v = refl
-length-carried Sent v = refl
-length-carried Found v = refl
-length-carried Carried v = refl
-
-module _ {X S Symbol F EF O : Type 0} (play : X → Play S Symbol F EF O) where
-  count-carried : (steps : List X) (values : List (Value F EF)) → AreMatched play steps values →
-      carried_count play steps ≡ length (runs.carried play steps values)
-  count-carried [] [] h = refl
-  count-carried [] (v ∷ values) h = absurd h
-  count-carried (x ∷ steps) [] h = absurd h
-  count-carried (x ∷ steps) (v ∷ values) h =
-      let rest = count-carried steps values h in
-      let first = length-carried (play x).place v in
-      let both = length-append (if_carried (play x).place v) (runs.carried play steps values) in
-      omega (arith, rest, first, both)
-
 module _ {X S Symbol I F EF O Ac U D : Type 0} (rules : Rules S Symbol I F EF O Ac) (play : X → Play S Symbol F EF O)
     (script : Run X F EF S U D) (sent : List (Value F EF)) (narg : List ℕ) (witnesses carried : List F)
     (drawn : List (Challenge F EF)) (end : S)
@@ -63,13 +36,6 @@ module _ {X S Symbol I F EF O Ac U D : Type 0} (rules : Rules S Symbol I F EF O 
         wire_is = p.outcome.narg_is;
         carries = p.outcome.carried_is;
       }
-
-  -- there are as many carried witnesses as steps that have one
-  pub proved-count : carried_count play script.steps ≡ length carried
-  proved-count =
-      count-carried play script.steps p.values
-      (finished-matched play script.steps p.values (seeded rules play script) p.outcome.is_run.finished.finishes)
-      ∙ ap length (sym p.outcome.carried_is) ∙ length-witnesses EF carried
 
   -- what is accepted is the prover's run
   pub proved-same : (received : List (Value F EF)) (again : List (Challenge F EF)) (last : S) →

@@ -6,6 +6,10 @@ use Rattle.p3_runs.specs.ProverOutcomes.{IsProverOutcome}
 use Rattle.p3_runs.specs.Rules.{Rules}
 use Rattle.p3_runs.specs.Values.{Value, Challenge}
 use Rattle.p3_runs.specs.Verdicts.{with_steps, IsOutcome}
+use Rattle.p3_script.specs.Scripts.{play_of, values_received, challenges_of}
+use Rattle.p3_script.specs.declared.steps.Step as script
+use Rattle.p3_script_prover.specs.declared.proving.Proved.{Proved}
+use Rattle.p3_script_verifier.specs.declared.verifying.Verified.{Verified}
 
 -- One run is both: the prover's, with these bytes, witnesses, challenges and challenger; and the verifier's, of which these
 -- are what was received, the challenges and the challenger. So the challenges are the same, and the challengers.
@@ -16,3 +20,12 @@ pub record PlaysOneRun {X S Symbol I F EF O Ac U D : Type 0} (rules : Rules S Sy
   pub values : List (Value F EF)
   pub proved : IsProverOutcome rules play (with_steps script script.steps values) sent narg witnesses carried drawn end
   pub verified : IsOutcome rules play (with_steps script script.steps values) received drawn_again end_again
+
+-- the same of what the two answered
+abbrev pub AreOfOneRun : {Su F EF U O C K Ac D G It St Sy S Symbol : Type 0} (rules : Rules S Symbol It F EF O Ac)
+    (script : Run (script.Step Su F EF U O C K Ac D G It St Sy) F EF S U D) (sent : List (Value F EF)) → (C → S) →
+    Proved Su F EF U O C K Ac D G It St Sy → Verified Su F EF U O C K Ac D G It St Sy → Type 0
+AreOfOneRun rules script sent state proved verified =
+    PlaysOneRun rules (play_of rules) script sent proved.narg.items proved.witnesses.items proved.carried.items
+    (challenges_of proved.challenges.items) (state proved.challenger) (values_received verified.received.items)
+    (challenges_of verified.challenges.items) (state verified.challenger)

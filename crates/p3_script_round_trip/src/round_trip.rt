@@ -1,17 +1,15 @@
 //! A script is proved, and the proof verified.
-ghost use Rattle.std.specs.Prelude.{◌≡◌, ◌⊎◌, List, IfOk, IfErr};
+ghost use Rattle.std.specs.Prelude.{◌≡◌, ◌⊎◌, IfOk, IfErr};
 ghost use Rattle.p3_fs_core.specs.declared.error.TranscriptError.TheVariants.{OutOfMemory};
-ghost use Rattle.p3_runs.specs.ProverOutcomes.{IsProved};
-ghost use Rattle.p3_runs.specs.Provings.{AreHanded, RefusesToProve};
+ghost use Rattle.p3_runs.specs.Provings.{AreHanded};
 ghost use Rattle.p3_runs.specs.Runs.{AreAdmitted};
-ghost use Rattle.p3_runs.specs.Values.{Value};
 ghost use Rattle.p3_runs.specs.Verdicts.{script_of};
-ghost use Rattle.p3_script.specs.Scripts.{play_of, values_sent, values_received, challenges_of};
-ghost use Rattle.p3_script_round_trip.specs.RoundTrips.{PlaysOneRun};
+ghost use Rattle.p3_script.specs.Scripts.{play_of, values_sent, challenges_of};
+ghost use Rattle.p3_script_prover.specs.ProverAnswers.{IsProvedScript, IsRefusedScript};
+ghost use Rattle.p3_script_round_trip.specs.RoundTrips.{AreOfOneRun};
 
 use p3_challenger_core::Sponge;
 use p3_domain_separator::DomainSeparator;
-use p3_fs_core::Declared;
 use p3_script::{Drawn, Fault, Meaning, Sent, Step, Suite};
 use p3_script_prover::{Proved, prove};
 use p3_script_verifier::{Verified, verify};
@@ -32,17 +30,14 @@ pub fn verify_proved<'a, S: Suite>(
     sent: &[Sent<S>],
     proved: &'a Proved<S>,
 ) -> Result<Verified<'a, S>, Fault>
-    requires admitted { AreAdmitted (play_of (⟦<S as Meaning>⟧.rules ⟦<S::Field as Declared<S::Field, S::Digest>>⟧.algebra)) steps.now }
-    requires proved { let rules = ⟦<S as Meaning>⟧.rules ⟦<S::Field as Declared<S::Field, S::Digest>>⟧.algebra in
-        IsProved rules (play_of rules) (script_of (S.Challenger.state challenger) separator.now steps.now)
-        (values_sent sent.now) proved.now.narg.items proved.now.witnesses.items proved.now.carried.items
-        (challenges_of proved.now.challenges.items) (S.Challenger.state proved.now.challenger) }
-    ensures same { let rules = ⟦<S as Meaning>⟧.rules ⟦<S::Field as Declared<S::Field, S::Digest>>⟧.algebra in
-        IfOk result (λ v. PlaysOneRun rules (play_of rules)
-        (script_of (S.Challenger.state challenger) separator.now steps.now) (values_sent sent.now)
-        proved.now.narg.items proved.now.witnesses.items proved.now.carried.items
-        (challenges_of proved.now.challenges.items) (S.Challenger.state proved.now.challenger)
-        (values_received v.received.items) (challenges_of v.challenges.items) (S.Challenger.state v.challenger)) }
+    requires admitted { AreAdmitted (play_of (⟦<S as Meaning>⟧.rules S.Field.DIMENSION)) steps.now }
+    requires proved { let rules = ⟦<S as Meaning>⟧.rules S.Field.DIMENSION in
+        let script = script_of (S.Challenger.state challenger) separator.now steps.now in
+        IsProvedScript rules script (values_sent sent.now) S.Challenger.state proved.now }
+    ensures same { let rules = ⟦<S as Meaning>⟧.rules S.Field.DIMENSION in
+        let script = script_of (S.Challenger.state challenger) separator.now steps.now in
+        IfOk result (AreOfOneRun rules script (values_sent sent.now) S.Challenger.state
+        proved.now) }
     ensures only_memory { IfErr result (λ f. f.error ≡ OutOfMemory) }
 {
     let _sent = sent;
@@ -70,14 +65,17 @@ pub fn prove_and_verify<S: Suite>(
     sent: &[Sent<S>],
 ) -> Result<(Proved<S>, Vec<Drawn<S>>, S::Challenger), Fault>
     requires equal { S.Challenger.state second ≡ S.Challenger.state first }
-    requires admitted { AreAdmitted (play_of (⟦<S as Meaning>⟧.rules ⟦<S::Field as Declared<S::Field, S::Digest>>⟧.algebra)) steps.now }
-    requires handed { AreHanded (play_of (⟦<S as Meaning>⟧.rules ⟦<S::Field as Declared<S::Field, S::Digest>>⟧.algebra)) steps.now (values_sent sent.now) }
-    ensures challenges { IfOk result (λ r. challenges_of r.1.items ≡ challenges_of r.0.challenges.items) }
-    ensures challengers { IfOk result (λ r. S.Challenger.state r.2 ≡ S.Challenger.state r.0.challenger) }
-    ensures refused { let rules = ⟦<S as Meaning>⟧.rules ⟦<S::Field as Declared<S::Field, S::Digest>>⟧.algebra in
+    requires admitted { AreAdmitted (play_of (⟦<S as Meaning>⟧.rules S.Field.DIMENSION)) steps.now }
+    requires handed { let rules = ⟦<S as Meaning>⟧.rules S.Field.DIMENSION in
+        AreHanded (play_of rules) steps.now (values_sent sent.now) }
+    ensures challenges { IfOk result (λ r. challenges_of r.1.items ≡ challenges_of
+        r.0.challenges.items) }
+    ensures challengers { IfOk result (λ r. S.Challenger.state r.2 ≡ S.Challenger.state
+        r.0.challenger) }
+    ensures refused { let rules = ⟦<S as Meaning>⟧.rules S.Field.DIMENSION in
         let script = script_of (S.Challenger.state first) separator.now steps.now in
-        IfErr result (λ f. RefusesToProve rules (play_of rules) script (values_sent sent.now) f.position f.error
-        ⊎ (f.error ≡ OutOfMemory)) }
+        IfErr result (λ f. IsRefusedScript rules script (values_sent sent.now) f ⊎ (f.error ≡
+        OutOfMemory)) }
 {
     let proved = prove(alloc, first, separator, steps, sent)?;
     let Verified {

@@ -18,7 +18,7 @@ ghost use Rattle.p3_script_verifier.specs.Taking.{TakesOrRefuses};
 use crate::answer::Answer;
 use p3_challenger_core::Sponge;
 use p3_drivers::VerifierState;
-use p3_fs_core::{Declared, Kind, Label, TranscriptError};
+use p3_fs_core::{Kind, Label, TranscriptError};
 use p3_script::{Meaning, StepGroup, Suite, draws};
 use std::alloc::Global;
 
@@ -28,9 +28,10 @@ pub(crate) fn begin<'a, S: Suite>(
     label: Label,
     kind: Kind,
 ) -> Result<Answer<'a, S>, TranscriptError>
-    ensures { let rules = ⟦<S as Meaning>⟧.rules ⟦<S::Field as Declared<S::Field, S::Digest>>⟧.algebra in
+    ensures { let rules = ⟦<S as Meaning>⟧.rules S.Field.DIMENSION in
         TakesOrRefuses (marks rules hierarchy.Begin label.now kind) None
-        (verifying_of S.Challenger.state verifier.old) (λ r. received_of r.0) (λ r. drawn_of r.1) result
+        (verifying_of S.Challenger.state verifier.old) (λ r. received_of r.0) (λ r. drawn_of r.1)
+        result
         (verifying_of S.Challenger.state verifier.new) }
 {
     verifier.begin::<()>(label, kind)?;
@@ -43,9 +44,10 @@ pub(crate) fn end<'a, S: Suite>(
     label: Label,
     kind: Kind,
 ) -> Result<Answer<'a, S>, TranscriptError>
-    ensures { let rules = ⟦<S as Meaning>⟧.rules ⟦<S::Field as Declared<S::Field, S::Digest>>⟧.algebra in
+    ensures { let rules = ⟦<S as Meaning>⟧.rules S.Field.DIMENSION in
         TakesOrRefuses (marks rules hierarchy.End label.now kind) None
-        (verifying_of S.Challenger.state verifier.old) (λ r. received_of r.0) (λ r. drawn_of r.1) result
+        (verifying_of S.Challenger.state verifier.old) (λ r. received_of r.0) (λ r. drawn_of r.1)
+        result
         (verifying_of S.Challenger.state verifier.new) }
 {
     verifier.end::<()>(label, kind)?;
@@ -58,9 +60,10 @@ pub(crate) fn public_scalar<'a, S: Suite>(
     label: Label,
     value: &S::Field,
 ) -> Result<Answer<'a, S>, TranscriptError>
-    ensures { let rules = ⟦<S as Meaning>⟧.rules ⟦<S::Field as Declared<S::Field, S::Digest>>⟧.algebra in
+    ensures { let rules = ⟦<S as Meaning>⟧.rules S.Field.DIMENSION in
         TakesOrRefuses (knows_one rules rules.scalar kind.Public label.now value.now) None
-        (verifying_of S.Challenger.state verifier.old) (λ r. received_of r.0) (λ r. drawn_of r.1) result
+        (verifying_of S.Challenger.state verifier.old) (λ r. received_of r.0) (λ r. drawn_of r.1)
+        result
         (verifying_of S.Challenger.state verifier.new) }
 {
     verifier.observe_public_scalar::<S::Field, S::Codec>(label, value)?;
@@ -73,9 +76,10 @@ pub(crate) fn public_scalars<'a, S: Suite>(
     label: Label,
     values: &[S::Field],
 ) -> Result<Answer<'a, S>, TranscriptError>
-    ensures { let rules = ⟦<S as Meaning>⟧.rules ⟦<S::Field as Declared<S::Field, S::Digest>>⟧.algebra in
+    ensures { let rules = ⟦<S as Meaning>⟧.rules S.Field.DIMENSION in
         TakesOrRefuses (knows_list rules rules.scalar kind.Public label.now values.now) None
-        (verifying_of S.Challenger.state verifier.old) (λ r. received_of r.0) (λ r. drawn_of r.1) result
+        (verifying_of S.Challenger.state verifier.old) (λ r. received_of r.0) (λ r. drawn_of r.1)
+        result
         (verifying_of S.Challenger.state verifier.new) }
 {
     verifier.observe_public_scalars::<S::Field, S::Codec>(label, values)?;
@@ -88,9 +92,10 @@ pub(crate) fn extension<'a, S: Suite>(
     label: Label,
     value: &S::Extension,
 ) -> Result<Answer<'a, S>, TranscriptError>
-    ensures { let rules = ⟦<S as Meaning>⟧.rules ⟦<S::Field as Declared<S::Field, S::Digest>>⟧.algebra in
+    ensures { let rules = ⟦<S as Meaning>⟧.rules S.Field.DIMENSION in
         TakesOrRefuses (knows_one rules rules.extension kind.Message label.now value.now) None
-        (verifying_of S.Challenger.state verifier.old) (λ r. received_of r.0) (λ r. drawn_of r.1) result
+        (verifying_of S.Challenger.state verifier.old) (λ r. received_of r.0) (λ r. drawn_of r.1)
+        result
         (verifying_of S.Challenger.state verifier.new) }
 {
     verifier.observe_extension::<S::Field, S::Extension, S::Codec>(label, value)?;
@@ -103,9 +108,11 @@ pub(crate) fn extensions<'a, S: Suite>(
     label: Label,
     values: &[S::Extension],
 ) -> Result<Answer<'a, S>, TranscriptError>
-    ensures { let rules = ⟦<S as Meaning>⟧.rules ⟦<S::Field as Declared<S::Field, S::Digest>>⟧.algebra in
-        TakesOrRefuses (knows_as_recorded rules rules.extension kind.Message label.now values.now) None
-        (verifying_of S.Challenger.state verifier.old) (λ r. received_of r.0) (λ r. drawn_of r.1) result
+    ensures { let rules = ⟦<S as Meaning>⟧.rules S.Field.DIMENSION in
+        TakesOrRefuses (knows_as_recorded rules rules.extension kind.Message label.now values.now)
+        None
+        (verifying_of S.Challenger.state verifier.old) (λ r. received_of r.0) (λ r. drawn_of r.1)
+        result
         (verifying_of S.Challenger.state verifier.new) }
 {
     verifier.observe_extensions::<S::Field, S::Extension, S::Codec>(label, values)?;
@@ -119,9 +126,11 @@ pub(crate) fn counted_extensions<'a, S: Suite>(
     values: &[S::Extension],
     max: usize,
 ) -> Result<Answer<'a, S>, TranscriptError>
-    ensures { let rules = ⟦<S as Meaning>⟧.rules ⟦<S::Field as Declared<S::Field, S::Digest>>⟧.algebra in
-        TakesOrRefuses (knows_counted rules rules.extension kind.Message label.now values.now max) None
-        (verifying_of S.Challenger.state verifier.old) (λ r. received_of r.0) (λ r. drawn_of r.1) result
+    ensures { let rules = ⟦<S as Meaning>⟧.rules S.Field.DIMENSION in
+        TakesOrRefuses (knows_counted rules rules.extension kind.Message label.now values.now max)
+        None
+        (verifying_of S.Challenger.state verifier.old) (λ r. received_of r.0) (λ r. drawn_of r.1)
+        result
         (verifying_of S.Challenger.state verifier.new) }
 {
     verifier.observe_extensions_bounded::<S::Field, S::Extension, S::Codec>(label, values, max)?;
@@ -134,9 +143,10 @@ pub(crate) fn opaque<'a, S: Suite>(
     label: Label,
     value: &S::Opaque,
 ) -> Result<Answer<'a, S>, TranscriptError>
-    ensures { let rules = ⟦<S as Meaning>⟧.rules ⟦<S::Field as Declared<S::Field, S::Digest>>⟧.algebra in
+    ensures { let rules = ⟦<S as Meaning>⟧.rules S.Field.DIMENSION in
         TakesOrRefuses (knows_opaque rules label.now value.now) None
-        (verifying_of S.Challenger.state verifier.old) (λ r. received_of r.0) (λ r. drawn_of r.1) result
+        (verifying_of S.Challenger.state verifier.old) (λ r. received_of r.0) (λ r. drawn_of r.1)
+        result
         (verifying_of S.Challenger.state verifier.new) }
 {
     let copy = match value.clone() {
@@ -157,9 +167,10 @@ pub(crate) fn draw_scalar<'a, S: Suite>(
     label: Label,
 ) -> Result<Answer<'a, S>, TranscriptError>
     requires { 128 ≤ S.Codec.SECURITY_BITS }
-    ensures { let rules = ⟦<S as Meaning>⟧.rules ⟦<S::Field as Declared<S::Field, S::Digest>>⟧.algebra in
+    ensures { let rules = ⟦<S as Meaning>⟧.rules S.Field.DIMENSION in
         TakesOrRefuses (draws_one rules rules.scalar OfScalars label.now) None
-        (verifying_of S.Challenger.state verifier.old) (λ r. received_of r.0) (λ r. drawn_of r.1) result
+        (verifying_of S.Challenger.state verifier.old) (λ r. received_of r.0) (λ r. drawn_of r.1)
+        result
         (verifying_of S.Challenger.state verifier.new) }
 {
     let drawn = draws::draw_scalar(alloc, verifier, label)?;
@@ -174,9 +185,10 @@ pub(crate) fn draw_scalars<'a, S: Suite>(
     n: usize,
 ) -> Result<Answer<'a, S>, TranscriptError>
     requires { 128 ≤ S.Codec.SECURITY_BITS }
-    ensures { let rules = ⟦<S as Meaning>⟧.rules ⟦<S::Field as Declared<S::Field, S::Digest>>⟧.algebra in
+    ensures { let rules = ⟦<S as Meaning>⟧.rules S.Field.DIMENSION in
         TakesOrRefuses (draws_list rules rules.scalar OfScalars label.now n) None
-        (verifying_of S.Challenger.state verifier.old) (λ r. received_of r.0) (λ r. drawn_of r.1) result
+        (verifying_of S.Challenger.state verifier.old) (λ r. received_of r.0) (λ r. drawn_of r.1)
+        result
         (verifying_of S.Challenger.state verifier.new) }
 {
     let drawn = draws::draw_scalars(alloc, verifier, label, n)?;
@@ -190,9 +202,10 @@ pub(crate) fn draw_extension<'a, S: Suite>(
     label: Label,
 ) -> Result<Answer<'a, S>, TranscriptError>
     requires { 128 ≤ S.Codec.SECURITY_BITS }
-    ensures { let rules = ⟦<S as Meaning>⟧.rules ⟦<S::Field as Declared<S::Field, S::Digest>>⟧.algebra in
+    ensures { let rules = ⟦<S as Meaning>⟧.rules S.Field.DIMENSION in
         TakesOrRefuses (draws_one rules rules.extension OfExtensions label.now) None
-        (verifying_of S.Challenger.state verifier.old) (λ r. received_of r.0) (λ r. drawn_of r.1) result
+        (verifying_of S.Challenger.state verifier.old) (λ r. received_of r.0) (λ r. drawn_of r.1)
+        result
         (verifying_of S.Challenger.state verifier.new) }
 {
     let drawn = draws::draw_extension(alloc, verifier, label)?;
@@ -207,9 +220,10 @@ pub(crate) fn draw_extensions<'a, S: Suite>(
     n: usize,
 ) -> Result<Answer<'a, S>, TranscriptError>
     requires { 128 ≤ S.Codec.SECURITY_BITS }
-    ensures { let rules = ⟦<S as Meaning>⟧.rules ⟦<S::Field as Declared<S::Field, S::Digest>>⟧.algebra in
+    ensures { let rules = ⟦<S as Meaning>⟧.rules S.Field.DIMENSION in
         TakesOrRefuses (draws_list rules rules.extension OfExtensions label.now n) None
-        (verifying_of S.Challenger.state verifier.old) (λ r. received_of r.0) (λ r. drawn_of r.1) result
+        (verifying_of S.Challenger.state verifier.old) (λ r. received_of r.0) (λ r. drawn_of r.1)
+        result
         (verifying_of S.Challenger.state verifier.new) }
 {
     let drawn = draws::draw_extensions(alloc, verifier, label, n)?;
@@ -226,9 +240,10 @@ pub(crate) fn draw_extensions_rejecting<'a, S: Suite>(
     limit: u64,
 ) -> Result<Answer<'a, S>, TranscriptError>
     requires { 128 ≤ S.Codec.SECURITY_BITS }
-    ensures { let rules = ⟦<S as Meaning>⟧.rules ⟦<S::Field as Declared<S::Field, S::Digest>>⟧.algebra in
+    ensures { let rules = ⟦<S as Meaning>⟧.rules S.Field.DIMENSION in
         TakesOrRefuses (draws_extensions_rejecting rules label.now n accept.now limit) None
-        (verifying_of S.Challenger.state verifier.old) (λ r. received_of r.0) (λ r. drawn_of r.1) result
+        (verifying_of S.Challenger.state verifier.old) (λ r. received_of r.0) (λ r. drawn_of r.1)
+        result
         (verifying_of S.Challenger.state verifier.new) }
 {
     let drawn = draws::draw_extensions_rejecting(alloc, verifier, label, n, accept, limit)?;
@@ -245,9 +260,11 @@ pub(crate) fn draw_bits<'a, S: Suite>(
 ) -> Result<Answer<'a, S>, TranscriptError>
     requires has { IsTrue S.Group.HAS_POW }
     requires within { width ≤ S.Group.most_bits }
-    ensures { let rules = ⟦<S as Meaning>⟧.rules ⟦<S::Field as Declared<S::Field, S::Digest>>⟧.algebra in
-        TakesOrRefuses (draws_bits rules (bits_step label.now width (Fixed n)) rules.bits.are_there rules.bits.plain width n) None
-        (verifying_of S.Challenger.state verifier.old) (λ r. received_of r.0) (λ r. drawn_of r.1) result
+    ensures { let rules = ⟦<S as Meaning>⟧.rules S.Field.DIMENSION in
+        TakesOrRefuses (draws_bits rules (bits_step label.now width (Fixed n)) rules.bits.are_there
+        rules.bits.plain width n) None
+        (verifying_of S.Challenger.state verifier.old) (λ r. received_of r.0) (λ r. drawn_of r.1)
+        result
         (verifying_of S.Challenger.state verifier.new) }
 {
     let drawn = draws::draw_bits(alloc, verifier, label, width, n)?;
@@ -264,9 +281,11 @@ pub(crate) fn draw_uniform_bits<'a, S: Suite>(
 ) -> Result<Answer<'a, S>, TranscriptError>
     requires has { IsTrue S.Group.HAS_UNIFORM }
     requires within { width ≤ S.Group.most_bits }
-    ensures { let rules = ⟦<S as Meaning>⟧.rules ⟦<S::Field as Declared<S::Field, S::Digest>>⟧.algebra in
-        TakesOrRefuses (draws_bits rules (uniform_bits_step label.now width (Fixed n)) rules.bits.are_uniform rules.bits.uniform width n) None
-        (verifying_of S.Challenger.state verifier.old) (λ r. received_of r.0) (λ r. drawn_of r.1) result
+    ensures { let rules = ⟦<S as Meaning>⟧.rules S.Field.DIMENSION in
+        TakesOrRefuses (draws_bits rules (uniform_bits_step label.now width (Fixed n))
+        rules.bits.are_uniform rules.bits.uniform width n) None
+        (verifying_of S.Challenger.state verifier.old) (λ r. received_of r.0) (λ r. drawn_of r.1)
+        result
         (verifying_of S.Challenger.state verifier.new) }
 {
     let drawn = draws::draw_uniform_bits(alloc, verifier, label, width, n)?;
@@ -285,9 +304,10 @@ pub(crate) fn draw_uniform_bits_rejecting<'a, S: Suite>(
 ) -> Result<Answer<'a, S>, TranscriptError>
     requires has { IsTrue S.Group.HAS_UNIFORM }
     requires within { width ≤ S.Group.most_bits }
-    ensures { let rules = ⟦<S as Meaning>⟧.rules ⟦<S::Field as Declared<S::Field, S::Digest>>⟧.algebra in
+    ensures { let rules = ⟦<S as Meaning>⟧.rules S.Field.DIMENSION in
         TakesOrRefuses (draws_bits_rejecting rules label.now width n accept.now limit) None
-        (verifying_of S.Challenger.state verifier.old) (λ r. received_of r.0) (λ r. drawn_of r.1) result
+        (verifying_of S.Challenger.state verifier.old) (λ r. received_of r.0) (λ r. drawn_of r.1)
+        result
         (verifying_of S.Challenger.state verifier.new) }
 {
     let drawn = draws::draw_uniform_bits_rejecting(

@@ -11,7 +11,7 @@ use crate::answer::Answer;
 use p3_challenger_core::{CanObserve, Sponge};
 use p3_codecs::{Codec, ExtensionFieldCodec, Unit};
 use p3_drivers::VerifierState;
-use p3_fs_core::{Declared, Label, TranscriptError};
+use p3_fs_core::{Label, TranscriptError};
 use p3_script::draws::unbound;
 use p3_script::{Meaning, Received, Suite};
 use p3_step_laws::{read_bytes_are_spelled, read_hints_are_spelled, read_values_are_spelled};
@@ -23,9 +23,10 @@ pub(crate) fn receive_salt<'a, S: Suite>(
     label: Label,
     len: usize,
 ) -> Result<Answer<'a, S>, TranscriptError>
-    ensures { let rules = ⟦<S as Meaning>⟧.rules ⟦<S::Field as Declared<S::Field, S::Digest>>⟧.algebra in
+    ensures { let rules = ⟦<S as Meaning>⟧.rules S.Field.DIMENSION in
         TakesOrRefuses (sends_bytes rules kind.Salt label.now len) None
-        (verifying_of S.Challenger.state verifier.old) (λ r. received_of r.0) (λ r. drawn_of r.1) result
+        (verifying_of S.Challenger.state verifier.old) (λ r. received_of r.0) (λ r. drawn_of r.1)
+        result
         (verifying_of S.Challenger.state verifier.new) }
 {
     read_bytes_are_spelled::<S::Unit, S::Challenger>();
@@ -40,9 +41,10 @@ pub(crate) fn receive_bytes<'a, S: Suite>(
     label: Label,
     len: usize,
 ) -> Result<Answer<'a, S>, TranscriptError>
-    ensures { let rules = ⟦<S as Meaning>⟧.rules ⟦<S::Field as Declared<S::Field, S::Digest>>⟧.algebra in
+    ensures { let rules = ⟦<S as Meaning>⟧.rules S.Field.DIMENSION in
         TakesOrRefuses (sends_bytes rules kind.Message label.now len) None
-        (verifying_of S.Challenger.state verifier.old) (λ r. received_of r.0) (λ r. drawn_of r.1) result
+        (verifying_of S.Challenger.state verifier.old) (λ r. received_of r.0) (λ r. drawn_of r.1)
+        result
         (verifying_of S.Challenger.state verifier.new) }
 {
     read_bytes_are_spelled::<S::Unit, S::Challenger>();
@@ -57,9 +59,10 @@ pub(crate) fn receive_counted_bytes<'a, S: Suite>(
     label: Label,
     max: usize,
 ) -> Result<Answer<'a, S>, TranscriptError>
-    ensures { let rules = ⟦<S as Meaning>⟧.rules ⟦<S::Field as Declared<S::Field, S::Digest>>⟧.algebra in
+    ensures { let rules = ⟦<S as Meaning>⟧.rules S.Field.DIMENSION in
         TakesOrRefuses (sends_counted_bytes rules label.now max) None
-        (verifying_of S.Challenger.state verifier.old) (λ r. received_of r.0) (λ r. drawn_of r.1) result
+        (verifying_of S.Challenger.state verifier.old) (λ r. received_of r.0) (λ r. drawn_of r.1)
+        result
         (verifying_of S.Challenger.state verifier.new) }
 {
     read_bytes_are_spelled::<S::Unit, S::Challenger>();
@@ -74,9 +77,10 @@ pub(crate) fn receive_hint<'a, S: Suite>(
     label: Label,
     len: usize,
 ) -> Result<Answer<'a, S>, TranscriptError>
-    ensures { let rules = ⟦<S as Meaning>⟧.rules ⟦<S::Field as Declared<S::Field, S::Digest>>⟧.algebra in
+    ensures { let rules = ⟦<S as Meaning>⟧.rules S.Field.DIMENSION in
         TakesOrRefuses (hints rules label.now len) None
-        (verifying_of S.Challenger.state verifier.old) (λ r. received_of r.0) (λ r. drawn_of r.1) result
+        (verifying_of S.Challenger.state verifier.old) (λ r. received_of r.0) (λ r. drawn_of r.1)
+        result
         (verifying_of S.Challenger.state verifier.new) }
 {
     read_hints_are_spelled::<S::Challenger>();
@@ -91,9 +95,10 @@ pub(crate) fn receive_counted_hint<'a, S: Suite>(
     label: Label,
     max: usize,
 ) -> Result<Answer<'a, S>, TranscriptError>
-    ensures { let rules = ⟦<S as Meaning>⟧.rules ⟦<S::Field as Declared<S::Field, S::Digest>>⟧.algebra in
+    ensures { let rules = ⟦<S as Meaning>⟧.rules S.Field.DIMENSION in
         TakesOrRefuses (hints_counted rules label.now max) None
-        (verifying_of S.Challenger.state verifier.old) (λ r. received_of r.0) (λ r. drawn_of r.1) result
+        (verifying_of S.Challenger.state verifier.old) (λ r. received_of r.0) (λ r. drawn_of r.1)
+        result
         (verifying_of S.Challenger.state verifier.new) }
 {
     read_hints_are_spelled::<S::Challenger>();
@@ -107,9 +112,10 @@ pub(crate) fn receive_scalar<'a, S: Suite>(
     verifier: &mut VerifierState<'a, S::Challenger, S::Unit, S::Digest>,
     label: Label,
 ) -> Result<Answer<'a, S>, TranscriptError>
-    ensures { let rules = ⟦<S as Meaning>⟧.rules ⟦<S::Field as Declared<S::Field, S::Digest>>⟧.algebra in
+    ensures { let rules = ⟦<S as Meaning>⟧.rules S.Field.DIMENSION in
         TakesOrRefuses (sends_one rules rules.scalar scalar_in label.now) None
-        (verifying_of S.Challenger.state verifier.old) (λ r. received_of r.0) (λ r. drawn_of r.1) result
+        (verifying_of S.Challenger.state verifier.old) (λ r. received_of r.0) (λ r. drawn_of r.1)
+        result
         (verifying_of S.Challenger.state verifier.new) }
 {
     read_values_are_spelled::<S::Field, S::Unit, S::Challenger, S::Codec>();
@@ -123,9 +129,10 @@ pub(crate) fn receive_extension<'a, S: Suite>(
     verifier: &mut VerifierState<'a, S::Challenger, S::Unit, S::Digest>,
     label: Label,
 ) -> Result<Answer<'a, S>, TranscriptError>
-    ensures { let rules = ⟦<S as Meaning>⟧.rules ⟦<S::Field as Declared<S::Field, S::Digest>>⟧.algebra in
+    ensures { let rules = ⟦<S as Meaning>⟧.rules S.Field.DIMENSION in
         TakesOrRefuses (sends_one rules rules.extension extension_in label.now) None
-        (verifying_of S.Challenger.state verifier.old) (λ r. received_of r.0) (λ r. drawn_of r.1) result
+        (verifying_of S.Challenger.state verifier.old) (λ r. received_of r.0) (λ r. drawn_of r.1)
+        result
         (verifying_of S.Challenger.state verifier.new) }
 {
     read_values_are_spelled::<
@@ -146,9 +153,10 @@ pub(crate) fn receive_scalars<'a, S: Suite>(
     label: Label,
     n: usize,
 ) -> Result<Answer<'a, S>, TranscriptError>
-    ensures { let rules = ⟦<S as Meaning>⟧.rules ⟦<S::Field as Declared<S::Field, S::Digest>>⟧.algebra in
+    ensures { let rules = ⟦<S as Meaning>⟧.rules S.Field.DIMENSION in
         TakesOrRefuses (sends_list rules rules.scalar scalars_in label.now n) None
-        (verifying_of S.Challenger.state verifier.old) (λ r. received_of r.0) (λ r. drawn_of r.1) result
+        (verifying_of S.Challenger.state verifier.old) (λ r. received_of r.0) (λ r. drawn_of r.1)
+        result
         (verifying_of S.Challenger.state verifier.new) }
 {
     read_values_are_spelled::<S::Field, S::Unit, S::Challenger, S::Codec>();
@@ -165,9 +173,10 @@ pub(crate) fn receive_counted_scalars<'a, S: Suite>(
     label: Label,
     max: usize,
 ) -> Result<Answer<'a, S>, TranscriptError>
-    ensures { let rules = ⟦<S as Meaning>⟧.rules ⟦<S::Field as Declared<S::Field, S::Digest>>⟧.algebra in
+    ensures { let rules = ⟦<S as Meaning>⟧.rules S.Field.DIMENSION in
         TakesOrRefuses (sends_counted rules rules.scalar scalars_in label.now max) None
-        (verifying_of S.Challenger.state verifier.old) (λ r. received_of r.0) (λ r. drawn_of r.1) result
+        (verifying_of S.Challenger.state verifier.old) (λ r. received_of r.0) (λ r. drawn_of r.1)
+        result
         (verifying_of S.Challenger.state verifier.new) }
 {
     read_values_are_spelled::<S::Field, S::Unit, S::Challenger, S::Codec>();

@@ -9,7 +9,7 @@ use crate::answer::Answer;
 use crate::{known, receives, work};
 use p3_challenger_core::Sponge;
 use p3_drivers::VerifierState;
-use p3_fs_core::{Declared, TranscriptError};
+use p3_fs_core::TranscriptError;
 use p3_script::{Meaning, Step, Suite};
 use std::alloc::Global;
 
@@ -27,13 +27,13 @@ pub fn verifier_step<'a, S: Suite>(
     step: &Step<S>,
     witness: Option<S::Field>,
 ) -> Result<Answer<'a, S>, TranscriptError>
-    requires admitted { (play_of (⟦<S as Meaning>⟧.rules ⟦<S::Field as Declared<S::Field, S::Digest>>⟧.algebra)
-        step.now).admitted }
-    requires carried { IsCarriedTo (play_of (⟦<S as Meaning>⟧.rules
-        ⟦<S::Field as Declared<S::Field, S::Digest>>⟧.algebra) step.now).place witness }
-    ensures { let rules = ⟦<S as Meaning>⟧.rules ⟦<S::Field as Declared<S::Field, S::Digest>>⟧.algebra in
+    requires admitted { (play_of (⟦<S as Meaning>⟧.rules S.Field.DIMENSION) step.now).admitted }
+    requires carried { IsCarriedTo (play_of (⟦<S as Meaning>⟧.rules S.Field.DIMENSION)
+        step.now).place witness }
+    ensures { let rules = ⟦<S as Meaning>⟧.rules S.Field.DIMENSION in
         TakesOrRefuses (play_of rules step.now) witness
-        (verifying_of S.Challenger.state verifier.old) (λ r. received_of r.0) (λ r. drawn_of r.1) result
+        (verifying_of S.Challenger.state verifier.old) (λ r. received_of r.0) (λ r. drawn_of r.1)
+        result
         (verifying_of S.Challenger.state verifier.new) }
 {
     match step {

@@ -4,15 +4,16 @@ ghost use Rattle.p3_fs_core.specs.declared.error.TranscriptError.TheVariants.{Ou
 ghost use Rattle.p3_drivers.specs.Drivers.{verifying_of};
 ghost use Rattle.p3_runs.specs.Runs.{AreAdmitted, carried_count, if_carried, if_drawn};
 ghost use Rattle.p3_runs.specs.Stepping.{one_of, IsCarriedTo};
-ghost use Rattle.p3_runs.specs.Verdicts.{Accepts, HasNoProof, RefusesProof, script_of};
+ghost use Rattle.p3_runs.specs.Verdicts.{script_of};
 ghost use Rattle.p3_script.specs.Scripts.{play_of, received_of, drawn_of, values_received, challenges_of};
 ghost use Rattle.p3_script_verifier.specs.Taking.{IsRefused, KeepsOne};
+ghost use Rattle.p3_script_verifier.specs.VerifierAnswers.{IsVerifiedScript, IsRefusedProof};
 
 use crate::stepping::verifier_step;
 use p3_challenger_core::Sponge;
 use p3_domain_separator::DomainSeparator;
 use p3_drivers::VerifierState;
-use p3_fs_core::{Declared, TranscriptError};
+use p3_fs_core::TranscriptError;
 use p3_script::{Drawn, Fault, Meaning, Received, Step, Suite, script_steps_are_lawful};
 use std::alloc::Global;
 
@@ -29,8 +30,9 @@ pub struct Verified<'a, S: Suite> {
 
 // The witness that the caller carries to a step, if it does and there is one, and that one more was used.
 fn witness_for<S: Suite>(step: &Step<S>, carried: &[S::Field], used: &mut usize) -> Option<S::Field>
-    ensures carried { let rules = ⟦<S as Meaning>⟧.rules ⟦<S::Field as Declared<S::Field, S::Digest>>⟧.algebra in
-        length (if_carried (play_of rules step.now).place (tt {0})) ≤ length (drop used.old carried.now) →
+    ensures carried { let rules = ⟦<S as Meaning>⟧.rules S.Field.DIMENSION in
+        length (if_carried (play_of rules step.now).place (tt {0})) ≤ length (drop used.old
+        carried.now) →
         IsCarriedTo (play_of rules step.now).place result }
     ensures uses { drop used.old carried.now ≡ one_of result ++ drop used.new carried.now }
 {
@@ -83,17 +85,18 @@ fn take_step<'a, S: Suite>(
     received: &mut Vec<Received<'a, S>>,
     challenges: &mut Vec<Drawn<S>>,
 ) -> Result<(), TranscriptError>
-    requires admitted { (play_of (⟦<S as Meaning>⟧.rules ⟦<S::Field as Declared<S::Field, S::Digest>>⟧.algebra)
-        step.now).admitted }
-    requires carried { IsCarriedTo (play_of (⟦<S as Meaning>⟧.rules ⟦<S::Field as Declared<S::Field, S::Digest>>⟧.algebra) step.now).place witness }
-    ensures ok { let rules = ⟦<S as Meaning>⟧.rules ⟦<S::Field as Declared<S::Field, S::Digest>>⟧.algebra in
+    requires admitted { (play_of (⟦<S as Meaning>⟧.rules S.Field.DIMENSION) step.now).admitted }
+    requires carried { IsCarriedTo (play_of (⟦<S as Meaning>⟧.rules S.Field.DIMENSION)
+        step.now).place witness }
+    ensures ok { let rules = ⟦<S as Meaning>⟧.rules S.Field.DIMENSION in
         OnOk result (KeepsOne (play_of rules step.now) witness
         (verifying_of S.Challenger.state verifier.old) (values_received received.old.items)
         (challenges_of challenges.old.items)
         (verifying_of S.Challenger.state verifier.new) (values_received received.new.items)
         (challenges_of challenges.new.items)) }
-    ensures err { let rules = ⟦<S as Meaning>⟧.rules ⟦<S::Field as Declared<S::Field, S::Digest>>⟧.algebra in
-        IfErr result (IsRefused (play_of rules step.now) witness (verifying_of S.Challenger.state verifier.old)) }
+    ensures err { let rules = ⟦<S as Meaning>⟧.rules S.Field.DIMENSION in
+        IfErr result (IsRefused (play_of rules step.now) witness (verifying_of S.Challenger.state
+        verifier.old)) }
 {
     let (value, drawn) = verifier_step(alloc, verifier, step, witness)?;
     keep_received(received, value)?;
@@ -121,18 +124,15 @@ pub fn verify<'a, S: Suite>(
     carried: &[S::Field],
     narg: &'a [u8],
 ) -> Result<Verified<'a, S>, Fault>
-    requires admitted { AreAdmitted (play_of (⟦<S as Meaning>⟧.rules ⟦<S::Field as Declared<S::Field, S::Digest>>⟧.algebra)) steps.now }
-    requires carried { carried_count (play_of (⟦<S as Meaning>⟧.rules ⟦<S::Field as Declared<S::Field, S::Digest>>⟧.algebra)) steps.now ≡ length carried.now }
-    ensures accepted { let rules = ⟦<S as Meaning>⟧.rules ⟦<S::Field as Declared<S::Field, S::Digest>>⟧.algebra in
+    requires admitted { AreAdmitted (play_of (⟦<S as Meaning>⟧.rules S.Field.DIMENSION)) steps.now }
+    requires carried { let rules = ⟦<S as Meaning>⟧.rules S.Field.DIMENSION in
+        carried_count (play_of rules) steps.now ≡ length carried.now }
+    ensures accepted { let rules = ⟦<S as Meaning>⟧.rules S.Field.DIMENSION in
         let script = script_of (S.Challenger.state challenger) separator.now steps.now in
-        IfOk result (λ v. Accepts rules (play_of rules) script narg.now carried.now
-        (values_received v.received.items) (challenges_of v.challenges.items) (S.Challenger.state v.challenger)) }
-    ensures refused { let rules = ⟦<S as Meaning>⟧.rules ⟦<S::Field as Declared<S::Field, S::Digest>>⟧.algebra in
+        IfOk result (IsVerifiedScript rules script narg.now carried.now S.Challenger.state) }
+    ensures refused { let rules = ⟦<S as Meaning>⟧.rules S.Field.DIMENSION in
         let script = script_of (S.Challenger.state challenger) separator.now steps.now in
-        IfErr result (λ f. RefusesProof rules (play_of rules) script narg.now carried.now f.position f.error) }
-    ensures only { let rules = ⟦<S as Meaning>⟧.rules ⟦<S::Field as Declared<S::Field, S::Digest>>⟧.algebra in
-        let script = script_of (S.Challenger.state challenger) separator.now steps.now in
-        IfErr result (λ f. (f.error ≡ OutOfMemory → ⊥) → HasNoProof rules (play_of rules) script narg.now carried.now) }
+        IfErr result (IsRefusedProof rules script narg.now carried.now) }
 {
     script_steps_are_lawful::<S>();
     let mut verifier = match VerifierState::new(alloc, challenger, separator, narg) {

@@ -7,7 +7,7 @@ ghost use Rattle.p3_script_verifier.specs.Taking.{TakesOrRefuses};
 use crate::answer::Answer;
 use p3_challenger_core::Sponge;
 use p3_drivers::VerifierState;
-use p3_fs_core::{Declared, Label, TranscriptError, TranscriptField};
+use p3_fs_core::{Label, TranscriptError, TranscriptField};
 use p3_script::{Meaning, Received, StepGroup, Suite};
 
 // Reads a witness, and checks it.
@@ -18,9 +18,10 @@ pub(crate) fn receive_witness<'a, S: Suite>(
 ) -> Result<Answer<'a, S>, TranscriptError>
     requires has { IsTrue S.Group.HAS_POW }
     requires within { bits ≤ S.Group.most_bits }
-    ensures { let rules = ⟦<S as Meaning>⟧.rules ⟦<S::Field as Declared<S::Field, S::Digest>>⟧.algebra in
+    ensures { let rules = ⟦<S as Meaning>⟧.rules S.Field.DIMENSION in
         TakesOrRefuses (sends_work rules label.now bits) None
-        (verifying_of S.Challenger.state verifier.old) (λ r. received_of r.0) (λ r. drawn_of r.1) result
+        (verifying_of S.Challenger.state verifier.old) (λ r. received_of r.0) (λ r. drawn_of r.1)
+        result
         (verifying_of S.Challenger.state verifier.new) }
 {
     S::Group::steps_are_lawful();
@@ -39,9 +40,10 @@ pub(crate) fn check_carried<'a, S: Suite>(
 ) -> Result<Answer<'a, S>, TranscriptError>
     requires has { IsTrue S.Group.HAS_POW }
     requires within { bits ≤ S.Group.most_bits }
-    ensures { let rules = ⟦<S as Meaning>⟧.rules ⟦<S::Field as Declared<S::Field, S::Digest>>⟧.algebra in
+    ensures { let rules = ⟦<S as Meaning>⟧.rules S.Field.DIMENSION in
         TakesOrRefuses (carries_work rules label.now bits) (Some witness)
-        (verifying_of S.Challenger.state verifier.old) (λ r. received_of r.0) (λ r. drawn_of r.1) result
+        (verifying_of S.Challenger.state verifier.old) (λ r. received_of r.0) (λ r. drawn_of r.1)
+        result
         (verifying_of S.Challenger.state verifier.new) }
 {
     S::Group::check_carried_pow(verifier, label, bits, witness)?;

@@ -7,6 +7,7 @@ use Rattle.p3_fs_core.specs.ScalarLaws.{is_encoding}
 use Rattle.p3_runs.specs.Absorbed.{alone}
 use Rattle.p3_runs.specs.Rules.{Rules}
 use Rattle.p3_script.proofs.Canonical.{step-canonical}
+use Rattle.p3_script.proofs.Determined.{step-determined}
 use Rattle.p3_script.proofs.Lawful.{Lawful}
 use Rattle.p3_script.proofs.Possible.{step-refused}
 use Rattle.p3_script.proofs.laws.script_steps_are_lawful.Goals as goal
@@ -106,6 +107,7 @@ returns g c =
     } in
     record {
       canonical = step-canonical rules laws;
+      determined = step-determined rules laws.residues;
       taken = λ x fits may. (step-refused rules laws x fits may).taken;
       sent = λ x fits may. (step-refused rules laws x fits may).sent;
     }

@@ -8,4 +8,4 @@ returns-in_err-proved-clause-refused g c =
     rw (p.1, p.2) (inl c.in_err-proved.ensures.refused)
 
 pub verify_proved-requires-clause-proved : goal.verify_proved-requires-clause-proved
-verify_proved-requires-clause-proved g c = rw c.requires.equal c.in_ok-proved.ensures.accepted
+verify_proved-requires-clause-proved g c = rw c.requires.equal c.in_ok-proved.ensures.proved

@@ -1,6 +1,6 @@
 use Rattle.std.proofs.Common.{arith, ◌<◌, ◌≤◌, ◌≡◌, ◌∷◌, ◌+◌, length, drop, refl, inl, inr}
 use Rattle.p3_runs.specs.FollowingLaws.{follows-start, follows-refused, follows-not_ended}
-use Rattle.p3_runs.specs.NoProofLaws.{refused-no_proof}
+use Rattle.p3_runs.specs.NoProofLaws.{refused-so}
 use Rattle.p3_runs.specs.Verdicts.{script_of}
 use Rattle.p3_script_verifier.proofs.Following.{part-on, next-admitted, next-carried, follows-kept}
 use Rattle.p3_script_verifier.proofs.Following.{follows-accepts}
@@ -8,15 +8,6 @@ use Rattle.p3_script_verifier.proofs.verifying.verify.Goals as goal
 
 pub new-requires : goal.new-requires
 new-requires g c = g.met.S.Suite.alphabet
-
-pub returns-in-Err-clause-refused : goal.returns-in-Err-clause-refused
-returns-in-Err-clause-refused g c = inl (refl, c.in-Err.ensures.err)
-
-pub returns-in-Err-clause-only : goal.returns-in-Err-clause-only
-returns-in-Err-clause-only g c =
-    refused-no_proof _ _ c.script_steps_are_lawful.ensures.canonical c.script_steps_are_lawful.ensures.taken (script_of _ _ _) _
-    _ 0 _
-    c.requires.admitted (inl (refl, c.in-Err.ensures.err))
 
 pub loop-position-init : goal.loop-position-init
 loop-position-init g c =
@@ -37,32 +28,6 @@ take_step-taken-requires-clause-admitted g c =
     (part-on c.args.steps.now c.loop-position.position c.index-steps-position.result here c.index-steps-position.is)
     c.requires.admitted
 
-pub returns-in-Err-taken-clause-refused : goal.returns-in-Err-taken-clause-refused
-returns-in-Err-taken-clause-refused g c =
-    let here : c.loop-position.position < length c.args.steps.now = omega arith in
-    inr (inl (follows-refused _ _ _ _ _ c.loop-position.position c.loop-position.used _ _ _ _ _ _ _ _
-    (part-on c.args.steps.now c.loop-position.position c.index-steps-position.result here c.index-steps-position.is)
-    c.witness_for-witness.ensures.uses
-    (c.witness_for-witness.ensures.carried
-    (next-carried _ _ _ _ _ c.loop-position.position c.loop-position.used _ _ _ _ _ c.loop-position.invariant
-    (part-on c.args.steps.now c.loop-position.position c.index-steps-position.result here c.index-steps-position.is)))
-    c.loop-position.invariant
-    c.in-Err-taken.ensures.err.refuses))
-
-pub returns-in-Err-taken-clause-only : goal.returns-in-Err-taken-clause-only
-returns-in-Err-taken-clause-only g c =
-    let here : c.loop-position.position < length c.args.steps.now = omega arith in
-    refused-no_proof _ _ c.script_steps_are_lawful.ensures.canonical c.script_steps_are_lawful.ensures.taken (script_of _ _ _)
-    _ _ c.loop-position.position _ c.requires.admitted
-    (inr (inl (follows-refused _ _ _ _ _ c.loop-position.position c.loop-position.used _ _ _ _ _ _ _ _
-    (part-on c.args.steps.now c.loop-position.position c.index-steps-position.result here c.index-steps-position.is)
-    c.witness_for-witness.ensures.uses
-    (c.witness_for-witness.ensures.carried
-    (next-carried _ _ _ _ _ c.loop-position.position c.loop-position.used _ _ _ _ _ c.loop-position.invariant
-    (part-on c.args.steps.now c.loop-position.position c.index-steps-position.result here c.index-steps-position.is)))
-    c.loop-position.invariant
-    c.in-Err-taken.ensures.err.refuses)))
-
 pub loop-position-preserved : goal.loop-position-preserved
 loop-position-preserved g c =
     let here : c.loop-position.position < length c.args.steps.now = omega arith in
@@ -82,16 +47,29 @@ returns-in-Ok-finish-clause-accepted g c =
     c.loop-position.position c.loop-position.used _ _ _ _ past c.loop-position.invariant c.in-Ok-finish.ensures.ok.0
     c.in-Ok-finish.ensures.ok.1
 
+pub returns-in-Err-clause-refused : goal.returns-in-Err-clause-refused
+returns-in-Err-clause-refused g c =
+    refused-so _ _ c.script_steps_are_lawful.ensures.canonical c.script_steps_are_lawful.ensures.taken (script_of _ _ _) _
+    _ 0 _ c.requires.admitted (inl (refl, c.in-Err.ensures.err))
+
+pub returns-in-Err-taken-clause-refused : goal.returns-in-Err-taken-clause-refused
+returns-in-Err-taken-clause-refused g c =
+    let here : c.loop-position.position < length c.args.steps.now = omega arith in
+    refused-so _ _ c.script_steps_are_lawful.ensures.canonical c.script_steps_are_lawful.ensures.taken (script_of _ _ _)
+    _ _ c.loop-position.position _ c.requires.admitted
+    (inr (inl (follows-refused _ _ _ _ _ c.loop-position.position c.loop-position.used _ _ _ _ _ _ _ _
+    (part-on c.args.steps.now c.loop-position.position c.index-steps-position.result here c.index-steps-position.is)
+    c.witness_for-witness.ensures.uses
+    (c.witness_for-witness.ensures.carried
+    (next-carried _ _ _ _ _ c.loop-position.position c.loop-position.used _ _ _ _ _ c.loop-position.invariant
+    (part-on c.args.steps.now c.loop-position.position c.index-steps-position.result here c.index-steps-position.is)))
+    c.loop-position.invariant
+    c.in-Err-taken.ensures.err.refuses)))
+
 pub returns-clause-refused : goal.returns-clause-refused
 returns-clause-refused g c =
     let past : length c.args.steps.now ≤ c.loop-position.position = omega arith in
-    inr (inr (follows-not_ended _ _ _ _ _ c.loop-position.position c.loop-position.used _ _ _ past
-    c.loop-position.invariant _ c.in-Err-finish.ensures.err))
-
-pub returns-clause-only : goal.returns-clause-only
-returns-clause-only g c =
-    let past : length c.args.steps.now ≤ c.loop-position.position = omega arith in
-    refused-no_proof _ _ c.script_steps_are_lawful.ensures.canonical c.script_steps_are_lawful.ensures.taken (script_of _ _ _)
-    _ _ _ _
-    c.requires.admitted (inr (inr (follows-not_ended _ _ _ _ _ c.loop-position.position c.loop-position.used _ _ _ past
+    refused-so _ _ c.script_steps_are_lawful.ensures.canonical c.script_steps_are_lawful.ensures.taken (script_of _ _ _)
+    _ _ _ _ c.requires.admitted
+    (inr (inr (follows-not_ended _ _ _ _ _ c.loop-position.position c.loop-position.used _ _ _ past
     c.loop-position.invariant _ c.in-Err-finish.ensures.err)))

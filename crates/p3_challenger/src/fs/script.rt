@@ -1,0 +1,18 @@
+//! Scripts: a protocol as a list of steps, which one call plays on either side.
+//!
+//! ```text
+//! steps, values     ->  prove   ->  the proof
+//! steps, the proof  ->  verify  ->  the values, the challenges
+//! ```
+//!
+//! A [`Suite`] names the types that play together. A protocol in which a value depends on a challenge is played step by
+//! step, by [`prover_step`] and [`verifier_step`]. Not in the Rust crate.
+
+pub use p3_script::{
+    AcceptAll, AcceptRule, BitsPow, Both, Distinct, Drawn, Fault, Meaning, Plain, Received, Sent,
+    Step, StepGroup, Suite, script_steps_are_lawful,
+};
+pub use p3_script_checks::{admitted, carried_len, fits, sent_matches};
+pub use p3_script_prover::{Played, Proved, prove, prover_step};
+pub use p3_script_round_trip::{prove_and_verify, verify_proved};
+pub use p3_script_verifier::{Answer, Verified, verifier_step, verify};

@@ -1,0 +1,124 @@
+-- A prover refuses a script for one fault.
+use Rattle.std.proofs.Common.{◌≡◌, ℕ, List, [], ◌++◌, refl, sym, ◌∙◌, subst, append-nil, length}
+use Rattle.p3_fs_core.specs.Errors.{refusal_of}
+use Rattle.p3_fs_core.specs.StepFits.{FitsLength}
+use Rattle.p3_fs_core.specs.declared.error.TranscriptError.{TranscriptError}
+use Rattle.p3_fs_core.specs.declared.error.TranscriptError.TheVariants.{OutOfMemory}
+use Rattle.p3_driver_core.specs.Driving.{Driving}
+use Rattle.p3_runs.specs.FaultLaws.{Stops, GoesPast, one-step, one-fault, end-told, end-read}
+use Rattle.p3_runs.specs.Faults.{TellOneFault, ProvingsTellOneFault}
+use Rattle.p3_runs.specs.FrontLaws.{next-admitted}
+use Rattle.p3_runs.specs.Fronts.{Run, seed}
+use Rattle.p3_runs.specs.Plays.{Play}
+use Rattle.p3_runs.specs.Provings.{RefusesToProveStep, RefusesToProveEnd}
+use Rattle.p3_runs.specs.RefusalLaws.{ReachesSent, one-sent, passed-sent, sent-split}
+use Rattle.p3_runs.specs.Rules.{Rules}
+use Rattle.p3_runs.specs.Runs as runs
+use Rattle.p3_runs.specs.Runs.{AreAdmitted, if_sent}
+use Rattle.p3_runs.specs.Stepping.{OrHalts, IsDetermined, IsSentWherePossible, RefuseForOneReason}
+use Rattle.p3_runs.specs.Values.{Value}
+use Rattle.p3_runs.specs.Verdicts.{with_steps, driving_after}
+
+module _ {X S Symbol I F EF O Ac U D : Type 0} (rules : Rules S Symbol I F EF O Ac) (play : X → Play S Symbol F EF O)
+    (told : (x : X) → IsDetermined (play x))
+    (possible : (x : X) → FitsLength (play x).interaction.length → (play x).admitted → IsSentWherePossible (play x))
+    (reasons : (x : X) → (play x).admitted → RefuseForOneReason (play x).sides) where
+  module _ (script : Run X F EF S U D) (sent : List (Value F EF)) (admitted : AreAdmitted play script.steps) where
+    -- where a prover stands after a front
+    abbrev stands : List X → List (Value F EF) → Driving S
+    stands front values = driving_after rules play (with_steps script front values) (runs.wires play front values)
+
+    -- a prover stops at this step, after this front
+    record StopsAt (front : List X) (x : X) (e : TranscriptError) : Type 0 where
+      values : List (Value F EF)
+      given : Value F EF
+      unused : List (Value F EF)
+      allowed : (play x).admitted
+      is_handed : (play x).sides.IsHanded given
+      reaches : ReachesSent rules play script sent front values (if_sent (play x).place given ++ unused)
+      after : Driving S
+      refuses : OrHalts ((play x).sides.prover given) (stands front values) e after
+
+    stops-at : (position : ℕ) (e : TranscriptError) (r : RefusesToProveStep rules play script sent position e) →
+        StopsAt r.before r.step e
+    stops-at position e r =
+        record {
+          values = r.values;
+          given = r.given;
+          unused = r.unused;
+          allowed = next-admitted play r.before r.step r.later (subst (AreAdmitted play) r.steps admitted);
+          is_handed = r.is_handed;
+          reaches = record { finished = r.finished; least = r.least; handed = r.handed };
+          after = r.after;
+          refuses = r.refuses;
+        }
+
+    stops : (position : ℕ) (e : TranscriptError) → RefusesToProveStep rules play script sent position e →
+        Stops script.steps StopsAt position e
+    stops position e r =
+        record {
+          before = r.before;
+          step = r.step;
+          later = r.later;
+          steps_are = r.steps;
+          place = r.place;
+          stops = stops-at position e r;
+        }
+
+    -- no front goes past it
+    past-memory : (front : List X) (x : X) (longer : List X) (e : TranscriptError) (values unused : List (Value F EF)) →
+        StopsAt front x e → ReachesSent rules play script sent longer values unused → GoesPast front x longer →
+        e ≡ OutOfMemory
+    past-memory front x longer e values unused stop long past =
+        passed-sent rules play script sent front x past.between stop.values values stop.unused unused stop.given stop.after
+        e told possible stop.allowed stop.is_handed stop.reaches
+        (subst (λ l. ReachesSent rules play script sent l values unused) past.split long) stop.refuses
+
+    -- at one step it stops for one reason
+    one_stop : (front : List X) (x : X) (e f : TranscriptError) → StopsAt front x e → StopsAt front x f →
+        (e ≡ OutOfMemory → ⊥) → (f ≡ OutOfMemory → ⊥) → refusal_of e ≡ refusal_of f
+    one_stop front x e f one two p q =
+        let same = one-sent rules play script sent front one.values two.values
+        (if_sent (play x).place one.given ++ one.unused) (if_sent (play x).place two.given ++ two.unused) told
+        one.reaches two.reaches in
+        let alike = sent-split (play x).place one.given two.given one.unused two.unused same.1 in
+        let given = (told x).one_handed one.given two.given one.is_handed two.is_handed alike.0 in
+        let again : OrHalts ((play x).sides.prover one.given) (stands front one.values) f two.after
+        = subst (λ v. OrHalts ((play x).sides.prover v) (stands front one.values) f two.after) (sym given)
+        (subst (λ l. OrHalts ((play x).sides.prover two.given) (stands front l) f two.after) same.0 two.refuses) in
+        (reasons x one.allowed).prover one.given (stands front one.values) one.after two.after e f one.refuses again p q
+
+    steps-one : TellOneFault (RefusesToProveStep rules play script sent)
+    steps-one p q e f r t other another =
+        one-step script.steps StopsAt one_stop
+        (λ front longer x y a b one two past. past-memory front x longer a two.values
+        (if_sent (play y).place two.given ++ two.unused) one two.reaches past) p q e f (stops p e r) (stops q f t) other
+        another
+
+    whole : (q : ℕ) (f : TranscriptError) (t : RefusesToProveEnd rules play script sent q f) →
+        ReachesSent rules play script sent script.steps t.values []
+    whole q f t =
+        record {
+          finished = t.finished;
+          least = t.least;
+          handed = t.handed ∙ sym (append-nil (runs.handed play script.steps t.values));
+        }
+
+    step-no_end : (p q : ℕ) (e f : TranscriptError) → RefusesToProveStep rules play script sent p e →
+        RefusesToProveEnd rules play script sent q f → e ≡ OutOfMemory
+    step-no_end p q e f r t =
+        past-memory r.before r.step script.steps e t.values [] (stops-at p e r) (whole q f t)
+        (record { between = r.later; split = r.steps })
+
+    ends-one : TellOneFault (RefusesToProveEnd rules play script sent)
+    ends-one p q e f r t other another =
+        let here = stands script.steps r.values in
+        let there = stands script.steps t.values in
+        (r.place ∙ sym t.place, end-told here e refl (end-read here e r.refuses) ∙ sym (end-told there f refl (end-read there f t.refuses)))
+
+  pub provings-one_fault : ProvingsTellOneFault U D rules play
+  provings-one_fault script sent admitted =
+      one-fault (rules.alphabet.is_too_long (length (seed rules play script)))
+      (RefusesToProveStep rules play script sent) (RefusesToProveEnd rules play script sent)
+      (steps-one script sent admitted) (ends-one script sent admitted) (step-no_end script sent admitted)
+      (λ p e r. r.finished.seed_fits) (λ p e r. r.finished.seed_fits)

@@ -1,0 +1,56 @@
+//! Where the value of a step stands.
+ghost use Rattle.p3_script.specs.Scripts.{play_of};
+ghost use Rattle.p3_script.specs.Standings.{StandsSo};
+
+use crate::steps::Step;
+use crate::suite::{Meaning, Suite};
+use p3_challenger_core::Sponge;
+
+/// Where the value of a step stands. Not in the Rust crate.
+#[derive(Clone, Copy, Debug)]
+pub enum Standing {
+    /// It has none.
+    Nowhere,
+    /// The prover is handed it, and the proof carries it.
+    Sent,
+    /// It is a witness, which the prover finds, and the proof carries it.
+    Found,
+    /// It is a witness, which the prover finds, and the caller carries it to the verifier.
+    Carried,
+}
+
+/// Where the value of the step stands. Not in the Rust crate.
+pub fn standing_of<S: Suite>(step: &Step<S>) -> Standing
+    ensures { let rules = ⟦<S as Meaning>⟧.rules S.Field.DIMENSION in
+        StandsSo (play_of rules step.now) result }
+{
+    match step {
+        Step::Begin { .. } => Standing::Nowhere,
+        Step::End { .. } => Standing::Nowhere,
+        Step::Salt { .. } => Standing::Sent,
+        Step::Bytes { .. } => Standing::Sent,
+        Step::Hint { .. } => Standing::Sent,
+        Step::BytesBounded { .. } => Standing::Sent,
+        Step::HintBounded { .. } => Standing::Sent,
+        Step::PublicScalar { .. } => Standing::Nowhere,
+        Step::PublicScalars { .. } => Standing::Nowhere,
+        Step::Scalar { .. } => Standing::Sent,
+        Step::Scalars { .. } => Standing::Sent,
+        Step::ScalarsBounded { .. } => Standing::Sent,
+        Step::Extension { .. } => Standing::Sent,
+        Step::ObserveExtension { .. } => Standing::Nowhere,
+        Step::ObserveExtensions { .. } => Standing::Nowhere,
+        Step::ObserveExtensionsBounded { .. } => Standing::Nowhere,
+        Step::Opaque { .. } => Standing::Nowhere,
+        Step::ChallengeScalar { .. } => Standing::Nowhere,
+        Step::ChallengeScalars { .. } => Standing::Nowhere,
+        Step::ChallengeExtension { .. } => Standing::Nowhere,
+        Step::ChallengeExtensions { .. } => Standing::Nowhere,
+        Step::ChallengeExtensionsRejecting { .. } => Standing::Nowhere,
+        Step::ChallengeBits { .. } => Standing::Nowhere,
+        Step::ChallengeUniformBits { .. } => Standing::Nowhere,
+        Step::ChallengeUniformBitsRejecting { .. } => Standing::Nowhere,
+        Step::Pow { .. } => Standing::Found,
+        Step::ObservePow { .. } => Standing::Carried,
+    }
+}

@@ -1,0 +1,80 @@
+//! Whether values are right to send at the steps of a script, and how many witnesses its caller carries.
+ghost use Rattle.std.specs.Prelude.{◌≡◌, ◌↔◌, IsTrue};
+ghost use Rattle.p3_runs.specs.Provings.{AreHanded};
+ghost use Rattle.p3_runs.specs.Runs.{carried_count};
+ghost use Rattle.p3_script.specs.Scripts.{play_of, value_sent, values_sent};
+ghost use Rattle.p3_script_checks.specs.Places.{is_handed_at, is_carried_at};
+
+use p3_challenger_core::Sponge;
+use p3_script::{Meaning, Sent, Standing, Step, Suite, standing_of};
+
+/// Whether these are values to hand to a prover for the steps: there is one for each step that sends one, in the order of
+/// the steps, each of its step's type and, where the step says how long it is, of that length.
+///
+/// It is what `prove` asks of its values. Not in the Rust crate.
+pub fn sent_matches<S: Suite>(steps: &[Step<S>], sent: &[Sent<S>]) -> bool
+    ensures { let rules = ⟦<S as Meaning>⟧.rules S.Field.DIMENSION in
+        IsTrue result ↔ AreHanded (play_of rules) steps.now (values_sent sent.now) }
+{
+    let mut at = 0;
+    for step in steps {
+        if is_sent(step) {
+            match sent.get(at) {
+                Some(value) if is_handed(step, value) => at += 1,
+                _ => return false,
+            }
+        }
+    }
+    at == sent.len()
+}
+
+/// How many witnesses a verifier's caller carries to the steps: one to each `ObservePow`.
+///
+/// Not in the Rust crate.
+pub fn carried_len<S: Suite>(steps: &[Step<S>]) -> usize
+    ensures { let rules = ⟦<S as Meaning>⟧.rules S.Field.DIMENSION in
+        result ≡ carried_count (play_of rules) steps.now }
+{
+    let mut count = 0;
+    for step in steps {
+        if is_carried(step) {
+            count += 1;
+        }
+    }
+    count
+}
+
+// Whether the step sends a value that its prover is handed.
+fn is_sent<S: Suite>(step: &Step<S>) -> bool
+    ensures { let rules = ⟦<S as Meaning>⟧.rules S.Field.DIMENSION in
+        result ≡ is_handed_at (play_of rules step.now).place }
+{
+    matches!(standing_of(step), Standing::Sent)
+}
+
+// Whether the step has a witness that the verifier's caller carries.
+fn is_carried<S: Suite>(step: &Step<S>) -> bool
+    ensures { let rules = ⟦<S as Meaning>⟧.rules S.Field.DIMENSION in
+        result ≡ is_carried_at (play_of rules step.now).place }
+{
+    matches!(standing_of(step), Standing::Carried)
+}
+
+// Whether the step sends a value of this one's type and, if it says how long it is, of that length.
+fn is_handed<S: Suite>(step: &Step<S>, value: &Sent<S>) -> bool
+    ensures { let rules = ⟦<S as Meaning>⟧.rules S.Field.DIMENSION in
+        IsTrue result ↔ (play_of rules step.now).sides.IsHanded (value_sent value.now) }
+{
+    match (step, value) {
+        (Step::Salt { len, .. }, Sent::Bytes(bytes)) => bytes.len() == *len,
+        (Step::Bytes { len, .. }, Sent::Bytes(bytes)) => bytes.len() == *len,
+        (Step::Hint { len, .. }, Sent::Bytes(bytes)) => bytes.len() == *len,
+        (Step::BytesBounded { .. }, Sent::Bytes(_)) => true,
+        (Step::HintBounded { .. }, Sent::Bytes(_)) => true,
+        (Step::Scalar { .. }, Sent::Scalar(_)) => true,
+        (Step::Scalars { n, .. }, Sent::Scalars(scalars)) => scalars.len() == *n,
+        (Step::ScalarsBounded { .. }, Sent::Scalars(_)) => true,
+        (Step::Extension { .. }, Sent::Extension(_)) => true,
+        _ => false,
+    }
+}
