@@ -1,3 +1,6 @@
 pub mod DemoPattern
+pub mod DemoRuns
 pub mod FirstLemmas
-pub mod ProgramLemmas
+pub mod InputLemmas
+pub mod ScriptLemmas
+pub mod WordLemmas

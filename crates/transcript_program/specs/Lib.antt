@@ -1,4 +1,8 @@
 pub mod Demo
+pub mod DemoScript
+pub mod DemoTypes
 pub mod First
 pub mod Program
+pub mod Report
 pub mod Scalar
+pub mod Words

@@ -1,8 +1,7 @@
 -- What the program answers.
 use Rattle.std.specs.Prelude.{◌≡◌, ℕ, List, [], ◌∷◌, ◌++◌, ◌⊎◌, codes, Option, string_bytes}
-use Rattle.std.specs.Str.Parse.{IsNumeral, digits_value}
 use Rattle.std.specs.Fmt.{decimal}
-use Rattle.std.specs.Io.KnownBytes.{Appends}
+use Rattle.std.specs.Io.KnownBytes.{Appends, Consumes, IsAtEnd}
 use Rattle.std.specs.declared.io.ErrorKind.{ErrorKind}
 use Rattle.std.specs.declared.io.ErrorKind.TheVariants.{InvalidData}
 use Rattle.hex.specs.Hex.{encode_lower}
@@ -15,23 +14,15 @@ use Rattle.p3_challenger.specs.Sha256Hasher.{Sha256Hasher}
 use Rattle.p3_challenger.specs.ChallengerError.TheVariants as challenger
 use Rattle.p3_challenger.specs.TranscriptError.{TranscriptError}
 use Rattle.p3_challenger.specs.TranscriptError.TheVariants.{BadProofShape, Challenger, OutOfMemory}
-use Rattle.transcript_program.specs.declared.program.Request.{Request}
-use Rattle.transcript_program.specs.declared.program.Request.TheVariants.{First, DemoPattern}
+use Rattle.transcript_program.specs.declared.words.Request.{Request}
+use Rattle.transcript_program.specs.declared.words.Request.TheVariants.{First, DemoPattern, Prove, Verify}
 use Rattle.transcript_program.specs.declared.program.Answer.{Answer}
-use Rattle.transcript_program.specs.declared.program.Answer.TheVariants.{Done, Refused, Usage}
+use Rattle.transcript_program.specs.declared.program.Answer.TheVariants.{Done, Proof, Refused, NoInput, Usage}
 use Rattle.transcript_program.specs.First.{IsRun}
 use Rattle.transcript_program.specs.Demo.{demo_text}
-
--- a text writes a scalar: decimal digits, with any number of zeros in front
-pub record IsScalarText (text : List ℕ) (x : BabyBear) : Type 0 where
-  pub digits : IsNumeral 10 text
-  pub value : digits_value 10 text ≡ number x
-
--- the words `first` and a scalar
-pub record AsksFirst (words : List (List ℕ)) (x : BabyBear) : Type 0 where
-  pub scalar : List ℕ
-  pub words_are : words ≡ codes "first" ∷ scalar ∷ []
-  pub scalar_is : IsScalarText scalar x
+use Rattle.transcript_program.specs.DemoTypes.{DemoRules}
+use Rattle.transcript_program.specs.DemoScript.{IsDemoProof, RefusesDemoProof, IsDemoReport, RefusesDemoReport}
+use Rattle.transcript_program.specs.Words.{Asks}
 
 abbrev pub usage_line : List ℕ
 usage_line = codes "usage: transcript first|pattern|prove|verify" ++ 10 ∷ []
@@ -49,20 +40,6 @@ pub record IsFirstText (x : BabyBear) (text : List ℕ) : Type 0 where
       (record { sponge = absorbing []; hasher = record {} }) x challenge after
   pub text_is : text ≡ lines (wire x) challenge
 
--- the words of a command line ask for this
-abbrev pub Asks : List (List ℕ) → Request → Type 0
-Asks words (First x) = AsksFirst words x
-Asks words DemoPattern = words ≡ codes "pattern" ∷ []
-
--- what is printed for it
-abbrev pub Answers : Request → List ℕ → Type 0
-Answers (First x) text = IsFirstText x text
-Answers DemoPattern text = text ≡ demo_text
-
--- why it may be refused: for memory alone
-abbrev pub Refuses : Request → TranscriptError → Type 0
-Refuses request e = e ≡ OutOfMemory
-
 -- why an error refused a run, as the program says it
 abbrev pub reason_of : TranscriptError → List ℕ
 reason_of (BadProofShape reason) = reason.now
@@ -75,12 +52,45 @@ reason_of _ = codes "pattern"
 
 -- ---- the whole answer
 
--- what is answered to the words of a command line: what they ask for, or why it is refused, or that they ask
--- for nothing
-abbrev pub IsAnswer : List (List ℕ) → Answer → Type 0
-IsAnswer words (Done text) = (request : Request) × Asks words request × Answers request (string_bytes text)
-IsAnswer words (Refused e) = (request : Request) × Asks words request × Refuses request e
-IsAnswer words Usage = (request : Request) → Asks words request → ⊥
+-- a request that reads standard input
+abbrev pub ReadsInput : Request → Type 0
+ReadsInput (Verify x) = Unit {0}
+ReadsInput _ = ⊥
+
+-- what a request reads of standard input: a proof, up to the end; and else nothing
+abbrev pub Reads : Request → List ℕ → Option (List ℕ) → Option (List ℕ) → Type 0
+Reads (Verify x) input old new = Consumes old new input × IsAtEnd new
+Reads _ input old new = input ≡ []
+
+module _ (rules : DemoRules) where
+  -- what is written for a request that has read this
+  abbrev pub Answers : Request → List ℕ → List ℕ → Type 0
+  Answers (First x) input bytes = IsFirstText x bytes
+  Answers DemoPattern input bytes = bytes ≡ demo_text
+  Answers (Prove ask) input bytes = IsDemoProof rules ask bytes
+  Answers (Verify x) input bytes = IsDemoReport rules x input bytes
+
+  -- why it may be refused, but for memory: there is no such proof, or what was read is none
+  abbrev pub Refuses : Request → List ℕ → TranscriptError → Type 0
+  Refuses (Prove ask) input e = RefusesDemoProof rules ask e
+  Refuses (Verify x) input e = RefusesDemoReport rules x input e
+  Refuses _ input e = ⊥
+
+  -- the answer to a request
+  abbrev pub IsAnswerTo : Request → Option (List ℕ) → Option (List ℕ) → Answer → Type 0
+  IsAnswerTo request old new (Done text) =
+      (input : List ℕ) × Reads request input old new × Answers request input (string_bytes text)
+  IsAnswerTo request old new (Proof bytes) =
+      (input : List ℕ) × Reads request input old new × Answers request input bytes.items
+  IsAnswerTo request old new (Refused e) =
+      (e ≡ OutOfMemory) ⊎ ((input : List ℕ) × Reads request input old new × Refuses request input e)
+  IsAnswerTo request old new NoInput = ReadsInput request
+  IsAnswerTo request old new Usage = ⊥
+
+  -- the answer to the words of a command line: that to what they ask for, or that they ask for nothing
+  abbrev pub IsAnswer : List (List ℕ) → Option (List ℕ) → Option (List ℕ) → Answer → Type 0
+  IsAnswer words old new Usage = (request : Request) → Asks words request → ⊥
+  IsAnswer words old new answer = (request : Request) × Asks words request × IsAnswerTo request old new answer
 
 -- what is answered where the words could not be read: a word that is no text asks for nothing; else memory was
 -- wanting
@@ -90,15 +100,25 @@ unread _ = Refused OutOfMemory
 
 abbrev pub status_of : Answer → ℕ
 status_of (Done text) = 0
+status_of (Proof bytes) = 0
 status_of (Refused e) = 1
+status_of NoInput = 1
 status_of Usage = 2
 
+-- its text; a proof is none
 abbrev pub text_of : Answer → List ℕ
 text_of (Done text) = string_bytes text
+text_of (Proof bytes) = []
 text_of (Refused e) = codes "refused: " ++ (reason_of e ++ 10 ∷ [])
+text_of NoInput = codes "refused: input" ++ 10 ∷ []
 text_of Usage = usage_line
 
--- a writer holds the text after the bytes that it held, and the status is the answer's; or a write failed, and
+-- what is written: its text, or the bytes of a proof
+abbrev pub bytes_of : Answer → List ℕ
+bytes_of (Proof bytes) = bytes.items
+bytes_of answer = text_of answer
+
+-- a writer holds the answer's bytes after those that it held, and the status is the answer's; or a write failed, and
 -- the status is 1
 abbrev pub Tells : Answer → ℕ → Option (List ℕ) → Option (List ℕ) → Type 0
-Tells answer status old new = ((status ≡ status_of answer) × Appends old new (text_of answer)) ⊎ (status ≡ 1)
+Tells answer status old new = ((status ≡ status_of answer) × Appends old new (bytes_of answer)) ⊎ (status ≡ 1)

@@ -3,6 +3,11 @@
 
 mod demo;
 pub mod first;
+mod input;
 mod program;
+mod report;
+mod script;
+mod words;
 
-pub use program::{Answer, Request, answer_to, answer_unread, reason, run, write_answer};
+pub use program::{Answer, answer_to, answer_unread, reason, run, write_answer};
+pub use words::{Request, ToProve};

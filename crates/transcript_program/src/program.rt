@@ -1,16 +1,20 @@
 //! What the program answers to its words.
-ghost use Rattle.std.specs.Prelude.{◌≡◌, Some, map, IfSome, IfNone, IfOk, IfErr, string_bytes};
-ghost use Rattle.p3_challenger.specs.BabyBearResidues.{BabyBear};
-ghost use Rattle.transcript_program.specs.Program.{IsScalarText, Asks, Answers, Refuses, IsAnswer, Tells};
-ghost use Rattle.transcript_program.specs.Program.{IsFirstText, lines, status_of, text_of, reason_of};
-ghost use Rattle.transcript_program.specs.Demo.{demo_text};
-ghost use Rattle.transcript_program.specs.Program.{unread};
+ghost use Rattle.std.specs.Prelude.{◌≡◌, map, IfOk, IfErr, string_bytes};
 ghost use Rattle.std.specs.IoError.{error_kind};
+ghost use Rattle.p3_challenger.specs.BabyBearResidues.{BabyBear};
+ghost use Rattle.transcript_program.specs.Demo.{demo_text};
+ghost use Rattle.transcript_program.specs.Program.{IsAnswer, IsAnswerTo, ReadsInput, Tells, IsFirstText, lines};
+ghost use Rattle.transcript_program.specs.Program.{status_of, reason_of, unread};
+ghost use Rattle.transcript_program.specs.Words.{Asks};
 
-use crate::{demo, first};
+use crate::input::Unread;
+use crate::script::Demo;
+use crate::words::{Request, parse};
+use crate::{demo, first, input, script};
 use p3_challenger::fs::TranscriptError;
+use p3_challenger::fs::script::Meaning;
 use p3_challenger::{ChallengerError, HashChallenger};
-use p3_field::{BabyBear, PrimeField32, PrimeField64};
+use p3_field::{BabyBear, PrimeField32};
 use p3_symmetric::Sha256Hasher;
 use std::alloc::{AllocError, Global};
 use std::io::{ErrorKind, Read, Write};
@@ -23,22 +27,18 @@ const REFUSED: u8 = 1;
 
 const USAGE: u8 = 2;
 
-/// What a command line asks for.
-#[derive(Clone, Copy, Debug, PartialEq, Eq)]
-pub enum Request {
-    /// To send this scalar and to draw one.
-    First(BabyBear),
-    /// The pattern of the demo protocol.
-    DemoPattern,
-}
-
-/// What the program answers to its words.
+/// What the program answers.
 #[derive(Debug, Drop)]
 pub enum Answer {
     /// What was asked for. It is written as it is, and the status is 0.
     Done(String),
+    /// The proof that was asked for. Its bytes are written as they are, and the status is 0.
+    Proof(Vec<u8>),
     /// What was asked for is refused. A line with [`reason`] is written, and the status is 1.
     Refused(TranscriptError),
+    /// Standard input could not be read, or did not end. A line with the reason `input` is written, and the status is
+    /// 1.
+    NoInput,
     /// The words ask for nothing. The usage line is written, and the status is 2.
     Usage,
 }
@@ -50,19 +50,27 @@ impl Answer {
     {
         match self {
             Answer::Done(_) => DONE,
+            Answer::Proof(_) => DONE,
             Answer::Refused(_) => REFUSED,
+            Answer::NoInput => REFUSED,
             Answer::Usage => USAGE,
         }
     }
 }
 
+/// The text of the answer. A proof is no text: of it, nothing.
 impl fmt::Display for Answer {
+    ghost use Rattle.std.specs.Prelude.{Some};
+    ghost use Rattle.transcript_program.specs.Program.{text_of};
+
     ghost output = { λ answer. Some (text_of answer) };
 
     fn fmt<W: fmt::Write>(&self, f: &mut fmt::Formatter<W>) -> fmt::Result {
         match self {
             Answer::Done(text) => write!(f, "{text}"),
+            Answer::Proof(_) => Ok(()),
             Answer::Refused(error) => writeln!(f, "refused: {}", reason(error)),
+            Answer::NoInput => writeln!(f, "refused: input"),
             Answer::Usage => writeln!(f, "usage: transcript first|pattern|prove|verify"),
         }
     }
@@ -70,18 +78,27 @@ impl fmt::Display for Answer {
 
 /// The whole program: writes its answer to the words of its command line, without the program's name, and gives
 /// the answer's status; but 1 where the write failed.
-pub fn run<R: Read, W: Write>(alloc: Global, words: &[&str], _reader: &mut R, writer: &mut W) -> u8
-    ensures { (answer : Answer) × IsAnswer (map (λ word. word.now) words.now) answer
+///
+/// Standard input is read where the words ask for a proof to be verified, and only there.
+pub fn run<R: Read, W: Write>(alloc: Global, words: &[&str], reader: &mut R, writer: &mut W) -> u8
+    ensures told { (answer : Answer) × IsAnswer (⟦<Demo as Meaning>⟧.rules 1) (map (λ word. word.now) words.now)
+        (R.remaining reader.old) (R.remaining reader.new) answer
         × Tells answer result (W.contents writer.old) (W.contents writer.new) }
+    ensures unread { ((request : Request) → Asks (map (λ word. word.now) words.now) request →
+        ReadsInput request → ⊥) → reader.new ≡ reader.old }
 {
-    write_answer(&answer_to(alloc, words), writer)
+    write_answer(&answer_to(alloc, words, reader), writer)
 }
 
 /// Writes the answer, and gives its status; but 1 where the write failed.
 pub fn write_answer<W: Write>(answer: &Answer, writer: &mut W) -> u8
     ensures { Tells answer.now result (W.contents writer.old) (W.contents writer.new) }
 {
-    match write!(writer, "{answer}") {
+    let written = match answer {
+        Answer::Proof(bytes) => writer.write_all(bytes.as_slice()),
+        _ => write!(writer, "{answer}"),
+    };
+    match written {
         Ok(()) => answer.status(),
         Err(_) => REFUSED,
     }
@@ -98,16 +115,55 @@ pub fn answer_unread(error: &io::Error) -> Answer
     }
 }
 
-/// The answer to the words of a command line.
-pub fn answer_to(alloc: Global, words: &[&str]) -> Answer
-    ensures { IsAnswer (map (λ word. word.now) words.now) result }
+/// The answer to the words of a command line. Standard input is read where they ask for a proof to be verified, and
+/// only there.
+pub fn answer_to<R: Read>(alloc: Global, words: &[&str], reader: &mut R) -> Answer
+    ensures answer { IsAnswer (⟦<Demo as Meaning>⟧.rules 1) (map (λ word. word.now) words.now)
+        (R.remaining reader.old) (R.remaining reader.new) result }
+    ensures unread { ((request : Request) → Asks (map (λ word. word.now) words.now) request →
+        ReadsInput request → ⊥) → reader.new ≡ reader.old }
 {
     match parse(words) {
-        Some(request) => match requested(alloc, request) {
+        Some(request) => answer_request(alloc, request, reader),
+        None => Answer::Usage,
+    }
+}
+
+fn answer_request<R: Read>(alloc: Global, request: Request<'_>, reader: &mut R) -> Answer
+    ensures answer { IsAnswerTo (⟦<Demo as Meaning>⟧.rules 1) request.entry (R.remaining reader.old)
+        (R.remaining reader.new) result }
+    ensures unread { (ReadsInput request.entry → ⊥) → reader.new ≡ reader.old }
+{
+    match request {
+        Request::First(value) => match first_text(alloc, value) {
             Ok(text) => Answer::Done(text),
             Err(error) => Answer::Refused(error),
         },
-        None => Answer::Usage,
+        Request::DemoPattern => match pattern_text(alloc) {
+            Ok(text) => Answer::Done(text),
+            Err(error) => Answer::Refused(error),
+        },
+        Request::Prove(ask) => match script::prove(alloc, &ask) {
+            Ok(proof) => Answer::Proof(proof),
+            Err(error) => Answer::Refused(error),
+        },
+        Request::Verify(public) => verify_input(alloc, public, reader),
+    }
+}
+
+// Reads a proof, and verifies it.
+fn verify_input<R: Read>(alloc: Global, public: BabyBear, reader: &mut R) -> Answer
+    ensures { IsAnswerTo (⟦<Demo as Meaning>⟧.rules 1) (Request.Verify public) (R.remaining reader.old)
+        (R.remaining reader.new) result }
+{
+    let proof = match input::read_all(alloc, reader) {
+        Ok(proof) => proof,
+        Err(Unread::NoEnd) => return Answer::NoInput,
+        Err(Unread::OutOfMemory) => return Answer::Refused(TranscriptError::OutOfMemory),
+    };
+    match script::verify(alloc, public, proof.as_slice()) {
+        Ok(text) => Answer::Done(text),
+        Err(error) => Answer::Refused(error),
     }
 }
 
@@ -128,17 +184,6 @@ pub fn reason(error: &TranscriptError) -> &'static str
         TranscriptError::Challenger(ChallengerError::TooLong) => "too long",
         TranscriptError::Challenger(ChallengerError::OutOfMemory) | TranscriptError::OutOfMemory =>
             "out of memory",
-    }
-}
-
-// The text of what is asked for.
-fn requested(alloc: Global, request: Request) -> Result<String, TranscriptError>
-    ensures ok { IfOk result (λ text. Answers request (string_bytes text)) }
-    ensures err { IfErr result (λ e. Refuses request e) }
-{
-    match request {
-        Request::First(value) => first_text(alloc, value),
-        Request::DemoPattern => pattern_text(alloc),
     }
 }
 
@@ -176,27 +221,4 @@ fn first_lines(alloc: Global, wire: &[u8], challenge: BabyBear) -> Result<String
     let wire = hex::encode(alloc, wire)?;
     let challenge = challenge.as_canonical_u32();
     format!(in alloc; "wire {wire}\nchallenge {challenge}\n")
-}
-
-fn parse(words: &[&str]) -> Option<Request>
-    ensures some { IfSome result (λ request. Asks (map (λ word. word.now) words.now) request) }
-    ensures none { IfNone result ((request : Request) → Asks (map (λ word. word.now) words.now) request → ⊥) }
-{
-    match words {
-        [name] if *name == "pattern" => Some(Request::DemoPattern),
-        [name, scalar] if *name == "first" => Some(Request::First(parse_scalar(scalar)?)),
-        _ => None,
-    }
-}
-
-// The scalar that a text of decimal digits writes, if its number is below the order.
-fn parse_scalar(text: &str) -> Option<BabyBear>
-    ensures some { IfSome result (λ x. IsScalarText text.now x) }
-    ensures none { IfNone result ((x : BabyBear) → IsScalarText text.now x → ⊥) }
-{
-    if text.starts_with('+') {
-        return None;
-    }
-    let value = text.parse::<u64>().ok()?;
-    BabyBear::from_canonical_checked(value)
 }

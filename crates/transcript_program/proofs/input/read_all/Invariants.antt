@@ -1,0 +1,7 @@
+use Rattle.std.specs.Io.KnownBytes.{Consumes}
+use Rattle.transcript_program.proofs.input.read_all.Given as goal
+
+-- the bytes so far are what the reads took
+abbrev pub invariant-loop : goal.invariant-loop
+invariant-loop g l =
+    Consumes (g.R.Read.remaining l.fn.reader) (g.R.Read.remaining l.reader) l.bytes.items
