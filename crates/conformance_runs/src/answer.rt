@@ -1,44 +1,42 @@
 // A script on both sides, and how a file writes what it answers.
 use crate::line::Line;
-use crate::proving::{Found, Proved, prove};
 use crate::recording::record;
-use crate::verifying::{Verdict, verify};
-use crate::world::{Separator, World};
-use anyhow::{Context, Result, bail};
+use crate::world::{Separator, Sponge, World, sponge};
+use anyhow::{Result, bail};
+use conformance_words::symbol::{Symbol, numbers_of};
 use p3_challenger::CanSample;
 use p3_challenger::fs::TranscriptError;
-use p3_field::{F257, PrimeField64};
+use p3_challenger::fs::script::{
+    Drawn, Fault, Proved, Step, Verified, admitted, carried_len, fits, prove, sent_matches, verify,
+};
+use p3_field::F257;
 use std::alloc::Global;
+
+// What the prover leaves: the text of it, the witnesses that the proof does not carry, and the proof.
+struct Written {
+    text: String,
+    carried: Vec<F257>,
+    narg: Vec<u8>,
+}
 
 /// Plays a script with a prover, and then with a verifier of the proof as the line changes it.
 pub fn answer(alloc: Global, line: &Line<'_>) -> Result<String> {
-    let steps = line.steps.as_slice();
     let separator = separator(alloc, line)?;
-    let Proved {
-        wire: mut proof,
-        found: Found {
-            draws,
-            witnesses,
-            carried,
-        },
-        challenger,
-    } = prove(alloc, &separator, steps)?;
-    let wire = hex::encode(alloc, proof.as_slice())?;
-    line.change.apply(&mut proof)?;
-    let verdict = verify(
+    let Written {
+        text,
+        carried,
+        mut narg,
+    } = prover_side(alloc, &separator, line)?;
+    line.change.apply(&mut narg)?;
+    let steps = line.steps.as_slice();
+    let verdict = verifier_side(
         alloc,
         &separator,
         steps,
         carried.as_slice(),
-        proof.as_slice(),
+        narg.as_slice(),
     )?;
-    let draws = spaced(alloc, draws.as_slice())?;
-    let witnesses = spaced(alloc, numbers(alloc, witnesses.as_slice())?.as_slice())?;
-    let next = next_draws(alloc, challenger)?;
-    let verdict = written(alloc, verdict)?;
-    Ok(format!(in alloc;
-        "wire {wire} ; draws {draws} ; witnesses {witnesses} ; next {next} ; verify {verdict}"
-    )?)
+    Ok(format!(in alloc; "{text} ; verify {verdict}")?)
 }
 
 fn separator(alloc: Global, line: &Line<'_>) -> Result<Separator> {
@@ -47,6 +45,9 @@ fn separator(alloc: Global, line: &Line<'_>) -> Result<Separator> {
         bail!("no name of a protocol");
     }
     let pattern = record(alloc, line.steps.as_slice())?;
+    if !fits(line.steps.as_slice(), &pattern) {
+        bail!("other steps than those of the pattern");
+    }
     let mut separator = Separator::new(alloc, line.version, name, pattern)?;
     for chunk in &line.chunks {
         separator.instance(chunk.as_slice())?;
@@ -54,41 +55,90 @@ fn separator(alloc: Global, line: &Line<'_>) -> Result<Separator> {
     Ok(separator)
 }
 
-// The next two elements that are drawn.
-fn next_draws(alloc: Global, mut challenger: World) -> Result<String> {
+fn proved(alloc: Global, separator: &Separator, line: &Line<'_>) -> Result<Proved<World>> {
+    let (steps, sent) = (line.steps.as_slice(), line.sent.as_slice());
+    if !admitted(steps) || !sent_matches(steps, sent) {
+        bail!("steps that are not played here, or not with these values");
+    }
+    Ok(prove::<World>(alloc, sponge(), separator, steps, sent)?)
+}
+
+fn prover_side(alloc: Global, separator: &Separator, line: &Line<'_>) -> Result<Written> {
+    let mut proved = proved(alloc, separator, line)?;
+    let wire = hex::encode(alloc, proved.narg.as_slice())?;
+    let draws = drawn(alloc, proved.challenges.as_slice())?;
+    let witnesses = numbers_of(alloc, proved.witnesses.as_slice())?;
+    let witnesses = spaced(alloc, witnesses.as_slice())?;
+    let next = next_draws(alloc, &mut proved.challenger)?;
+    let text = format!(in alloc;
+        "wire {wire} ; draws {draws} ; witnesses {witnesses} ; next {next}"
+    )?;
+    Ok(Written {
+        text,
+        carried: proved.carried,
+        narg: proved.narg,
+    })
+}
+
+fn verifier_side(
+    alloc: Global,
+    separator: &Separator,
+    steps: &[Step<World>],
+    carried: &[F257],
+    narg: &[u8],
+) -> Result<String> {
+    if !admitted(steps) || carried_len(steps) != carried.len() {
+        bail!("another number of witnesses than these steps carry");
+    }
+    match verify::<World>(alloc, sponge(), separator, steps, carried, narg) {
+        Ok(verified) => accepted(alloc, verified),
+        Err(fault) => refused(alloc, fault),
+    }
+}
+
+fn accepted(alloc: Global, mut verified: Verified<'_, World>) -> Result<String> {
+    let draws = drawn(alloc, verified.challenges.as_slice())?;
+    let next = next_draws(alloc, &mut verified.challenger)?;
+    Ok(format!(in alloc; "accepted {draws} next {next}")?)
+}
+
+fn refused(alloc: Global, fault: Fault) -> Result<String> {
+    let Fault { position, error } = fault;
+    match error {
+        TranscriptError::BadProofShape { reason } => {
+            Ok(format!(in alloc; "refused {position} {reason}")?)
+        }
+        // The other errors say nothing of a proof.
+        error => Err(error.into()),
+    }
+}
+
+fn next_draws(alloc: Global, challenger: &mut Sponge) -> Result<String> {
     let first: F257 = challenger.sample()?;
     let second: F257 = challenger.sample()?;
-    let (first, second) = (first.as_canonical_u64(), second.as_canonical_u64());
-    Ok(format!(in alloc; "{first} {second}")?)
+    spaced(alloc, &[first.number(), second.number()])
 }
 
-fn written(alloc: Global, verdict: Verdict) -> Result<String> {
-    match verdict {
-        Verdict::Accepted { draws, challenger } => {
-            let draws = spaced(alloc, draws.as_slice())?;
-            let next = next_draws(alloc, challenger)?;
-            Ok(format!(in alloc; "accepted {draws} next {next}")?)
-        }
-        Verdict::Refused { position, error } => match error {
-            TranscriptError::BadProofShape { reason } => {
-                Ok(format!(in alloc; "refused {position} {reason}")?)
-            }
-            // The other errors say nothing of a proof.
-            error => Err(error).context(format_args!("step {position}")),
-        },
-    }
-}
-
-// The numbers of elements.
-fn numbers(alloc: Global, elements: &[F257]) -> Result<Vec<u64>> {
+// The numbers that were drawn, with spaces between.
+fn drawn(alloc: Global, challenges: &[Drawn<World>]) -> Result<String> {
     let mut numbers = Vec::new(alloc);
-    for element in elements {
-        numbers.push(element.as_canonical_u64())?;
+    for challenge in challenges {
+        match challenge {
+            Drawn::Scalars(elements) | Drawn::Extensions(elements) => {
+                for element in elements {
+                    numbers.push(element.number())?;
+                }
+            }
+            Drawn::Bits(bits) => {
+                for number in bits {
+                    numbers.push(*number as u64)?;
+                }
+            }
+        }
     }
-    Ok(numbers)
+    spaced(alloc, numbers.as_slice())
 }
 
-// Numbers with spaces between.
 fn spaced(alloc: Global, numbers: &[u64]) -> Result<String> {
     let mut text = String::new(alloc);
     for number in numbers {

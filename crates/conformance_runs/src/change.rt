@@ -8,6 +8,8 @@ use std::alloc::Global;
 pub enum Change {
     /// None.
     Nothing,
+    /// `narg HEX`: these bytes stand in its place.
+    Whole(Vec<u8>),
     /// `flip INDEX MASK`: the bits of the mask turn over, in the byte at this index modulo the number of bytes.
     Flip(usize, u8),
     /// `cut N`: so many bytes fewer at the end.
@@ -24,6 +26,7 @@ impl Change {
                 let (index, mask) = split_first(words)?;
                 Ok(Change::Flip(index.parse()?, mask.parse()?))
             }
+            "narg" => Ok(Change::Whole(hex::decode(alloc, words)?)),
             "cut" => Ok(Change::Cut(words.parse()?)),
             "more" => Ok(Change::More(hex::decode(alloc, words)?)),
             _ => bail!("an unknown change"),
@@ -34,6 +37,10 @@ impl Change {
     pub fn apply(&self, proof: &mut Vec<u8>) -> Result<()> {
         match self {
             Change::Nothing => {}
+            Change::Whole(bytes) => {
+                proof.clear();
+                proof.extend_from_slice(bytes.as_slice())?;
+            }
             Change::Flip(_, _) if proof.is_empty() => {}
             Change::Flip(index, mask) => {
                 let place = *index % proof.len();

@@ -1,8 +1,10 @@
 // One line of a file: a script that both sides play, and what is to be answered.
 use crate::change::Change;
-use crate::steps::Step;
+use crate::steps::parse_step;
+use crate::world::World;
 use anyhow::{Context, Result};
 use conformance_words::words::split_name;
+use p3_challenger::fs::script::{Sent, Step};
 use std::alloc::Global;
 
 /// A script, and the answer to it.
@@ -13,8 +15,9 @@ pub struct Line<'a> {
     pub name: &'a str,
     /// The chunks of the instance's label.
     pub chunks: Vec<Vec<u8>>,
-    /// The steps, in order.
-    pub steps: Vec<Step>,
+    /// The steps, in order, and what the prover sends at those that send something.
+    pub steps: Vec<Step<World>>,
+    pub sent: Vec<Sent<World>>,
     /// What becomes of the proof before it is read.
     pub change: Change,
     /// What is to be answered.
@@ -35,29 +38,35 @@ impl<'a> Line<'a> {
         for word in words {
             chunks.push(hex::decode(alloc, word)?)?;
         }
-        let (steps, change) = parse_script(alloc, script)?;
-        Ok(Line {
+        let mut line = Line {
             version,
             name,
             chunks,
-            steps,
-            change,
+            steps: Vec::new(alloc),
+            sent: Vec::new(alloc),
+            change: Change::Nothing,
             answer,
-        })
+        };
+        for text in script.split(" ; ") {
+            line.read(alloc, text)?;
+        }
+        Ok(line)
     }
-}
 
-// The steps of a script, and the change of the proof that may stand after them.
-fn parse_script(alloc: Global, script: &str) -> Result<(Vec<Step>, Change)> {
-    let mut steps = Vec::new(alloc);
-    let mut change = Change::Nothing;
-    for text in script.split(" ; ") {
+    // Reads a step, or the change of the proof that may stand after them.
+    fn read(&mut self, alloc: Global, text: &str) -> Result<()> {
         let (name, words) = split_name(text);
         match name {
             "" => {}
-            "flip" | "cut" | "more" => change = Change::parse(alloc, name, words)?,
-            _ => steps.push(Step::parse(alloc, text)?)?,
+            "narg" | "flip" | "cut" | "more" => self.change = Change::parse(alloc, name, words)?,
+            _ => {
+                let (step, value) = parse_step(alloc, text)?;
+                self.steps.push(step)?;
+                if let Some(value) = value {
+                    self.sent.push(value)?;
+                }
+            }
         }
+        Ok(())
     }
-    Ok((steps, change))
 }

@@ -5,8 +5,9 @@
 //! the file, which begin with `#`, say where its answers are from. Each other line is
 //! `run s VERSION NAME [CHUNK..] | STEPS | ANSWER`, with ` ; ` between the steps: the version and the name of the
 //! protocol, and in hexadecimal the chunks of the instance's label. The scripts are played in [`world`]. The steps
-//! are those of [`steps::Call`], each with the values that the prover has for it. After them may stand one of
-//! [`change::Change`], which is what becomes of the proof before the verifier reads it.
+//! are those that [`steps`] reads, each with the values that the prover has for it. After them may stand one of
+//! [`change::Change`], which is what becomes of the proof before the verifier reads it. Both sides play it as a script of
+//! the library, by `prove` and `verify`.
 //!
 //! The answer is `wire HEX ; draws n.. ; witnesses n.. ; next a b ; verify VERDICT`: the bytes of the proof, the
 //! numbers that were drawn, the witnesses that were found, and the next two elements that the challenger of the prover
@@ -14,14 +15,11 @@
 //! `refused POSITION REASON`, with the position of the step, counted from 0, or the number of steps for the end.
 #![tactic(auto)]
 
-mod alike;
 mod answer;
 mod change;
 mod line;
-mod proving;
 mod recording;
 mod steps;
-mod verifying;
 mod world;
 
 use answer::answer;

@@ -1,6 +1,6 @@
 // The pattern of a script.
-use crate::steps::{Alike, Bytes, Call, Draw, Step, Value, Values};
-use crate::world::Alphabet;
+use crate::world::{Alphabet, World};
+use p3_challenger::fs::script::Step;
 use p3_challenger::fs::{
     Hierarchy, Interaction, InteractionPattern, Kind, Label, Length, Pattern, PatternState,
     TranscriptError,
@@ -10,7 +10,7 @@ use p3_symmetric::Sha256Hasher;
 use std::alloc::Global;
 
 /// Records the steps.
-pub fn record(alloc: Global, steps: &[Step]) -> Result<InteractionPattern, TranscriptError> {
+pub fn record(alloc: Global, steps: &[Step<World>]) -> Result<InteractionPattern, TranscriptError> {
     let mut recorder = PatternState::<Alphabet>::new(alloc);
     for step in steps {
         if let Err(refused) = recorder.interact(interaction(step)) {
@@ -23,81 +23,78 @@ pub fn record(alloc: Global, steps: &[Step]) -> Result<InteractionPattern, Trans
 }
 
 // The step as a pattern has it.
-fn interaction(step: &Step) -> Interaction {
-    let label = step.label;
-    match &step.call {
-        Call::Alike(alike) => of_alike(label, *alike),
-        Call::Bytes(bytes, items) => {
-            let (kind, length) = of_bytes(*bytes, items.len());
-            Interaction::bytes(Hierarchy::Atomic, kind, label, length)
-        }
-        Call::Value(Value::Public, _) => elements(Kind::Public, label, Length::Scalar),
-        Call::Value(_, _) => elements(Kind::Message, label, Length::Scalar),
-        Call::Values(values, items) => {
-            let (kind, length) = of_values(*values, items.len());
-            elements(kind, label, length)
-        }
-        Call::Draw(draw) => of_draw(label, *draw),
-        Call::Work(_, width) => elements(Kind::Pow, label, Length::Fixed(width.bits)),
-    }
-}
-
-fn of_alike(label: Label, alike: Alike) -> Interaction {
-    match alike {
-        Alike::Begin => Interaction::marker::<()>(Hierarchy::Begin, Kind::Protocol, label),
-        Alike::End => Interaction::marker::<()>(Hierarchy::End, Kind::Protocol, label),
-        Alike::Opaque(_) => {
-            Interaction::opaque(Hierarchy::Atomic, Kind::Message, label, Length::Scalar)
-        }
-        Alike::Extension(_) => elements(Kind::Message, label, Length::Scalar),
-        Alike::Drawn => elements(Kind::Challenge, label, Length::Scalar),
-        Alike::Distinct(n) => elements(Kind::Challenge, label, Length::Fixed(n)),
-    }
-}
-
-fn of_bytes(bytes: Bytes, len: usize) -> (Kind, Length) {
-    match bytes {
-        Bytes::Salt => (Kind::Salt, Length::Fixed(len)),
-        Bytes::Message => (Kind::Message, Length::Fixed(len)),
-        Bytes::MessageAtMost(max) => (Kind::Message, Length::Bounded(max)),
-        Bytes::Hint => (Kind::Hint, Length::Fixed(len)),
-        Bytes::HintAtMost(max) => (Kind::Hint, Length::Bounded(max)),
-    }
-}
-
-fn of_values(values: Values, len: usize) -> (Kind, Length) {
-    match values {
-        Values::Public => (Kind::Public, Length::Fixed(len)),
-        Values::Scalars | Values::Observed => (Kind::Message, Length::Fixed(len)),
-        Values::ScalarsAtMost(max) | Values::ObservedAtMost(max) => {
-            (Kind::Message, Length::Bounded(max))
-        }
-    }
-}
-
-fn of_draw(label: Label, draw: Draw) -> Interaction {
-    match draw {
-        Draw::Scalar => elements(Kind::Challenge, label, Length::Scalar),
-        Draw::Scalars(n) | Draw::Extensions(n) => {
-            elements(Kind::Challenge, label, Length::Fixed(n))
-        }
-        Draw::Bits(width, n) => Interaction::bits(
+fn interaction(step: &Step<World>) -> Interaction {
+    match step {
+        Step::Begin { label, kind } => Interaction::marker::<()>(Hierarchy::Begin, *kind, *label),
+        Step::End { label, kind } => Interaction::marker::<()>(Hierarchy::End, *kind, *label),
+        Step::Salt { label, len } => bytes(Kind::Salt, *label, Length::Fixed(*len)),
+        Step::Bytes { label, len } => bytes(Kind::Message, *label, Length::Fixed(*len)),
+        Step::Hint { label, len } => bytes(Kind::Hint, *label, Length::Fixed(*len)),
+        Step::BytesBounded { label, max } => bytes(Kind::Message, *label, Length::Bounded(*max)),
+        Step::HintBounded { label, max } => bytes(Kind::Hint, *label, Length::Bounded(*max)),
+        Step::PublicScalar { label, .. } => one(Kind::Public, *label),
+        Step::PublicScalars { label, values } => list(Kind::Public, *label, values.len()),
+        Step::Scalar { label } => one(Kind::Message, *label),
+        Step::Scalars { label, n } => list(Kind::Message, *label, *n),
+        Step::ScalarsBounded { label, max } => counted(*label, *max),
+        Step::Extension { label } => one(Kind::Message, *label),
+        Step::ObserveExtension { label, .. } => one(Kind::Message, *label),
+        Step::ObserveExtensions { label, values } => list(Kind::Message, *label, values.len()),
+        Step::ObserveExtensionsBounded { label, max, .. } => counted(*label, *max),
+        Step::Opaque { label, .. } => Interaction::opaque(
+            Hierarchy::Atomic,
+            Kind::Message,
+            *label,
+            Length::Scalar,
+        ),
+        Step::ChallengeScalar { label } => one(Kind::Challenge, *label),
+        Step::ChallengeScalars { label, n } => list(Kind::Challenge, *label, *n),
+        Step::ChallengeExtension { label } => one(Kind::Challenge, *label),
+        Step::ChallengeExtensions { label, n } => list(Kind::Challenge, *label, *n),
+        Step::ChallengeExtensionsRejecting { label, n, .. } => list(Kind::Challenge, *label, *n),
+        Step::ChallengeBits { label, width, n } => Interaction::bits(
             Hierarchy::Atomic,
             Kind::Challenge,
-            label,
-            width.bits,
-            Length::Fixed(n),
+            *label,
+            *width,
+            Length::Fixed(*n),
         ),
-        Draw::UniformBits(width, n) | Draw::DistinctUniformBits(width, n) => {
-            Interaction::uniform_bits(
-                Hierarchy::Atomic,
-                Kind::Challenge,
-                label,
-                width.bits,
-                Length::Fixed(n),
-            )
-        }
+        Step::ChallengeUniformBits { label, width, n } => uniform_bits(*label, *width, *n),
+        Step::ChallengeUniformBitsRejecting {
+            label,
+            width,
+            n,
+            ..
+        } => uniform_bits(*label, *width, *n),
+        Step::Pow { label, bits } => list(Kind::Pow, *label, *bits),
+        Step::ObservePow { label, bits } => list(Kind::Pow, *label, *bits),
     }
+}
+
+fn bytes(kind: Kind, label: Label, length: Length) -> Interaction {
+    Interaction::bytes(Hierarchy::Atomic, kind, label, length)
+}
+
+fn uniform_bits(label: Label, width: usize, n: usize) -> Interaction {
+    Interaction::uniform_bits(
+        Hierarchy::Atomic,
+        Kind::Challenge,
+        label,
+        width,
+        Length::Fixed(n),
+    )
+}
+
+fn one(kind: Kind, label: Label) -> Interaction {
+    elements(kind, label, Length::Scalar)
+}
+
+fn list(kind: Kind, label: Label, n: usize) -> Interaction {
+    elements(kind, label, Length::Fixed(n))
+}
+
+fn counted(label: Label, max: usize) -> Interaction {
+    elements(Kind::Message, label, Length::Bounded(max))
 }
 
 // A step of elements of the field, or of the extension, which is the field itself.

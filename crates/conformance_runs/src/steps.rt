@@ -1,239 +1,166 @@
-// The steps of a script, as a file writes them.
-use crate::world::BitWidth;
+// The steps of a script, as a file writes them: `NAME LABEL WORDS`, the words being what the step has.
+use crate::world::World;
 use anyhow::{Result, bail};
-use conformance_words::symbol::{Symbol, symbols};
-use conformance_words::words::{parse_row, split_name};
-use p3_challenger::fs::Label;
+use conformance_words::symbol::{element, symbols};
+use conformance_words::words::{look_up, parse_row, split_first, split_name};
+use p3_challenger::fs::script::{Distinct, Sent, Step};
+use p3_challenger::fs::{Kind, Label};
 use p3_field::F257;
 use std::alloc::Global;
 
-/// A step: its label, and what it does.
-#[derive(Drop)]
-pub struct Step {
-    pub label: Label,
-    pub call: Call,
-}
+/// A step, and what the prover sends at it, if anything.
+pub type Move = (Step<World>, Option<Sent<World>>);
 
-/// What a step does, with the values that the prover has for it.
-#[derive(Drop)]
-pub enum Call {
-    /// What both sides play by one trait.
-    Alike(Alike),
-    /// Bytes that are sent.
-    Bytes(Bytes, Vec<u8>),
-    /// One value that is sent, or that both sides know.
-    Value(Value, F257),
-    /// So many values as the step says.
-    Values(Values, Vec<F257>),
-    /// A draw.
-    Draw(Draw),
-    /// Proof of work of so many bits.
-    Work(Work, BitWidth),
-}
+// More refusals in a row than any script has.
+const REFUSALS: u64 = 1 << 16;
 
-/// A step that both sides play by one trait.
-#[derive(Clone, Copy)]
-pub enum Alike {
-    /// `begin LABEL protocol`, `end LABEL protocol`: a container.
-    Begin,
-    End,
-    /// `opq LABEL v`: a value as the challenger itself observes it.
-    Opaque(F257),
-    /// `oext LABEL v`: an element of the extension that the proof does not carry.
-    Extension(F257),
-    /// `che LABEL`: a draw of an element of the extension.
-    Drawn,
-    /// `chr LABEL n`: draws until n elements are kept, each of which was not among those before it.
-    Distinct(usize),
-}
-
-/// How bytes are sent.
-#[derive(Clone, Copy)]
-pub enum Bytes {
-    /// `salt LABEL HEX`.
-    Salt,
-    /// `bytes LABEL HEX`.
-    Message,
-    /// `bytesb LABEL max HEX`.
-    MessageAtMost(usize),
-    /// `hint LABEL HEX`.
-    Hint,
-    /// `hintb LABEL max HEX`.
-    HintAtMost(usize),
-}
-
-/// How one value is sent.
-#[derive(Clone, Copy)]
-pub enum Value {
-    /// `pub LABEL v`: both sides know it.
-    Public,
-    /// `sc LABEL v`.
-    Scalar,
-    /// `ext LABEL v`: as an element of the extension.
-    Extension,
-}
-
-/// How several values are sent.
-#[derive(Clone, Copy)]
-pub enum Values {
-    /// `pubs LABEL v..`: both sides know them.
-    Public,
-    /// `scs LABEL v..`.
-    Scalars,
-    /// `scb LABEL max v..`.
-    ScalarsAtMost(usize),
-    /// `oexts LABEL v..`: elements of the extension, which the proof does not carry.
-    Observed,
-    /// `oextb LABEL max v..`.
-    ObservedAtMost(usize),
-}
-
-/// A draw that each side has of its own.
-#[derive(Clone, Copy)]
-pub enum Draw {
-    /// `chs LABEL`.
-    Scalar,
-    /// `chv LABEL n`.
-    Scalars(usize),
-    /// `chev LABEL n`: elements of the extension.
-    Extensions(usize),
-    /// `cb LABEL width n`: n numbers of so many bits.
-    Bits(BitWidth, usize),
-    /// `cu LABEL width n`: n numbers of so many uniform bits.
-    UniformBits(BitWidth, usize),
-    /// `cur LABEL width n`: until n of these are kept, each of which was not among those before it.
-    DistinctUniformBits(BitWidth, usize),
-}
-
-/// How a witness reaches the verifier.
-#[derive(Clone, Copy)]
-pub enum Work {
-    /// `pow LABEL bits`: it is sent.
-    Sent,
-    /// `opow LABEL bits`: it is carried beside the proof.
-    Carried,
-}
-
-// The labels of the file, which are texts of the program itself.
+// The labels of a file, which are texts of the program itself.
 const LABELS: [Label; 10] = ["p", "l0", "l1", "l2", "l3", "l4", "l5", "l6", "l7", "l8"];
 
-impl Step {
-    /// Reads a step. The error says what is none, or that memory ran out.
-    pub fn parse(alloc: Global, text: &str) -> Result<Step> {
-        let (name, words) = split_name(text);
-        let (label, words) = split_name(words);
-        Ok(Step {
-            label: parse_label(label)?,
-            call: Call::parse(alloc, name, words)?,
-        })
+// What a container is of.
+const KINDS: [(&str, Kind); 7] = [
+    ("protocol", Kind::Protocol),
+    ("public", Kind::Public),
+    ("message", Kind::Message),
+    ("hint", Kind::Hint),
+    ("challenge", Kind::Challenge),
+    ("pow", Kind::Pow),
+    ("salt", Kind::Salt),
+];
+
+/// Reads a step. The error says what is none, or that memory ran out.
+pub fn parse_step(alloc: Global, text: &str) -> Result<Move> {
+    let (name, words) = split_name(text);
+    let (label, words) = split_name(words);
+    let label = parse_label(label)?;
+    match name {
+        "salt" | "bytes" | "hint" => parse_bytes(alloc, name, label, words),
+        "bytesb" | "hintb" | "scb" | "oextb" => parse_counted(alloc, name, label, words),
+        "sc" | "ext" | "scs" | "pub" | "pubs" | "oext" | "oexts" | "opq" => {
+            parse_values(alloc, name, label, words)
+        }
+        _ => Ok((parse_plain(name, label, words)?, None)),
     }
 }
 
-impl Call {
-    fn parse(alloc: Global, name: &str, words: &str) -> Result<Call> {
-        match name {
-            "begin" | "end" | "opq" | "oext" | "che" | "chr" => {
-                Ok(Call::Alike(Alike::parse(name, words)?))
-            }
-            "salt" | "bytes" | "bytesb" | "hint" | "hintb" => {
-                let (bytes, word) = Bytes::parse(name, words)?;
-                Ok(Call::Bytes(bytes, hex::decode(alloc, word)?))
-            }
-            "pub" => Ok(Call::Value(Value::Public, element(words)?)),
-            "sc" => Ok(Call::Value(Value::Scalar, element(words)?)),
-            "ext" => Ok(Call::Value(Value::Extension, element(words)?)),
-            "pubs" | "scs" | "scb" | "oexts" | "oextb" => {
-                let (values, words) = Values::parse(name, words)?;
-                let numbers = parse_row(alloc, words)?;
-                Ok(Call::Values(values, symbols(alloc, numbers.as_slice())?))
-            }
-            "pow" => Ok(Call::Work(Work::Sent, BitWidth::new(words.parse()?)?)),
-            "opow" => Ok(Call::Work(Work::Carried, BitWidth::new(words.parse()?)?)),
-            _ => Ok(Call::Draw(Draw::parse(name, words)?)),
+// `salt HEX`, `bytes HEX`, `hint HEX`.
+fn parse_bytes(alloc: Global, name: &str, label: Label, digits: &str) -> Result<Move> {
+    let bytes = hex::decode(alloc, digits)?;
+    let len = bytes.len();
+    let step = match name {
+        "salt" => Step::Salt { label, len },
+        "bytes" => Step::Bytes { label, len },
+        _ => Step::Hint { label, len },
+    };
+    Ok((step, Some(Sent::Bytes(bytes))))
+}
+
+// `bytesb max HEX`, `hintb max HEX`, `scb max v..`, `oextb max v..`: at most so many.
+fn parse_counted(alloc: Global, name: &str, label: Label, words: &str) -> Result<Move> {
+    let (max, words) = split_name(words);
+    let max = number(max)?;
+    match name {
+        "scb" => {
+            let scalars = elements(alloc, words)?;
+            Ok((
+                Step::ScalarsBounded { label, max },
+                Some(Sent::Scalars(scalars)),
+            ))
+        }
+        "oextb" => {
+            let values = elements(alloc, words)?;
+            Ok((Step::ObserveExtensionsBounded { label, values, max }, None))
+        }
+        _ => {
+            let bytes = hex::decode(alloc, words)?;
+            let step = match name {
+                "bytesb" => Step::BytesBounded { label, max },
+                _ => Step::HintBounded { label, max },
+            };
+            Ok((step, Some(Sent::Bytes(bytes))))
         }
     }
 }
 
-impl Alike {
-    fn parse(name: &str, words: &str) -> Result<Alike> {
-        match name {
-            "begin" if words == "protocol" => Ok(Alike::Begin),
-            "end" if words == "protocol" => Ok(Alike::End),
-            "opq" => Ok(Alike::Opaque(element(words)?)),
-            "oext" => Ok(Alike::Extension(element(words)?)),
-            "che" => Ok(Alike::Drawn),
-            "chr" => Ok(Alike::Distinct(words.parse()?)),
-            _ => bail!("no step that both sides play by one trait"),
-        }
+// `sc v`, `ext v`, `scs v..`, which are sent; `pub v`, `pubs v..`, `oext v`, `oexts v..`, `opq v`, which both sides know.
+fn parse_values(alloc: Global, name: &str, label: Label, words: &str) -> Result<Move> {
+    let values = elements(alloc, words)?;
+    let n = values.len();
+    match (name, values.as_slice()) {
+        ("sc", &[value]) => Ok((Step::Scalar { label }, Some(Sent::Scalar(value)))),
+        ("ext", &[value]) => Ok((Step::Extension { label }, Some(Sent::Extension(value)))),
+        ("scs", _) => Ok((Step::Scalars { label, n }, Some(Sent::Scalars(values)))),
+        ("pub", &[value]) => Ok((Step::PublicScalar { label, value }, None)),
+        ("oext", &[value]) => Ok((Step::ObserveExtension { label, value }, None)),
+        ("opq", &[value]) => Ok((Step::Opaque { label, value }, None)),
+        ("pubs", _) => Ok((Step::PublicScalars { label, values }, None)),
+        ("oexts", _) => Ok((Step::ObserveExtensions { label, values }, None)),
+        _ => bail!("no one value"),
     }
 }
 
-impl Bytes {
-    // How the bytes are sent, and their digits.
-    fn parse<'a>(name: &str, words: &'a str) -> Result<(Bytes, &'a str)> {
-        match name {
-            "salt" => Ok((Bytes::Salt, words)),
-            "bytes" => Ok((Bytes::Message, words)),
-            "hint" => Ok((Bytes::Hint, words)),
-            "bytesb" => {
-                let (max, digits) = split_name(words);
-                Ok((Bytes::MessageAtMost(max.parse()?), digits))
-            }
-            "hintb" => {
-                let (max, digits) = split_name(words);
-                Ok((Bytes::HintAtMost(max.parse()?), digits))
-            }
-            _ => bail!("no step of bytes"),
+// `begin KIND`, `end KIND`, a container; `chs`, `che`, `cb width n`, `cu width n`, `cur width n`, draws of a scalar, of an
+// element of the extension, of n numbers of so many bits, of uniform ones, and of uniform ones that differ; and what
+// `parse_count` reads.
+fn parse_plain(name: &str, label: Label, words: &str) -> Result<Step<World>> {
+    match name {
+        "begin" => Ok(Step::Begin {
+            label,
+            kind: look_up(&KINDS, words)?,
+        }),
+        "end" => Ok(Step::End {
+            label,
+            kind: look_up(&KINDS, words)?,
+        }),
+        "chs" => Ok(Step::ChallengeScalar { label }),
+        "che" => Ok(Step::ChallengeExtension { label }),
+        "cb" | "cu" | "cur" => {
+            let (width, n) = split_first(words)?;
+            Ok(bits(name, label, number(width)?, number(n)?))
         }
+        _ => parse_count(name, label, number(words)?),
     }
 }
 
-impl Values {
-    // How the values are sent, and their words.
-    fn parse<'a>(name: &str, words: &'a str) -> Result<(Values, &'a str)> {
-        match name {
-            "pubs" => Ok((Values::Public, words)),
-            "scs" => Ok((Values::Scalars, words)),
-            "oexts" => Ok((Values::Observed, words)),
-            "scb" => {
-                let (max, values) = split_name(words);
-                Ok((Values::ScalarsAtMost(max.parse()?), values))
-            }
-            "oextb" => {
-                let (max, values) = split_name(words);
-                Ok((Values::ObservedAtMost(max.parse()?), values))
-            }
-            _ => bail!("no step of values"),
-        }
+fn bits(name: &str, label: Label, width: usize, n: usize) -> Step<World> {
+    match name {
+        "cb" => Step::ChallengeBits { label, width, n },
+        "cu" => Step::ChallengeUniformBits { label, width, n },
+        _ => Step::ChallengeUniformBitsRejecting {
+            label,
+            width,
+            n,
+            accept: Distinct,
+            limit: REFUSALS,
+        },
     }
 }
 
-impl Draw {
-    fn parse(name: &str, words: &str) -> Result<Draw> {
-        match name {
-            "chs" => Ok(Draw::Scalar),
-            "chv" => Ok(Draw::Scalars(words.parse()?)),
-            "chev" => Ok(Draw::Extensions(words.parse()?)),
-            "cb" | "cu" | "cur" => {
-                let (width, n) = split_name(words);
-                Draw::of_bits(name, BitWidth::new(width.parse()?)?, n.parse()?)
-            }
-            _ => bail!("an unknown step"),
-        }
-    }
-
-    fn of_bits(name: &str, width: BitWidth, n: usize) -> Result<Draw> {
-        match name {
-            "cb" => Ok(Draw::Bits(width, n)),
-            "cu" => Ok(Draw::UniformBits(width, n)),
-            "cur" => Ok(Draw::DistinctUniformBits(width, n)),
-            _ => bail!("no step that draws bits"),
-        }
+// `chv n`, `chev n`, `chr n`: draws of n scalars, of n elements of the extension, and of n that differ. `pow n`, `opow n`:
+// proof of work of so many bits, with the witness in the proof, or carried beside it.
+fn parse_count(name: &str, label: Label, n: usize) -> Result<Step<World>> {
+    match name {
+        "chv" => Ok(Step::ChallengeScalars { label, n }),
+        "chev" => Ok(Step::ChallengeExtensions { label, n }),
+        "chr" => Ok(Step::ChallengeExtensionsRejecting {
+            label,
+            n,
+            accept: Distinct,
+            limit: REFUSALS,
+        }),
+        "pow" => Ok(Step::Pow { label, bits: n }),
+        "opow" => Ok(Step::ObservePow { label, bits: n }),
+        _ => bail!("an unknown step"),
     }
 }
 
-fn element(word: &str) -> Result<F257> {
-    F257::of_number(word.parse()?)
+fn number(word: &str) -> Result<usize> {
+    Ok(word.parse()?)
+}
+
+fn elements(alloc: Global, words: &str) -> Result<Vec<F257>> {
+    let numbers = parse_row(alloc, words)?;
+    symbols(alloc, numbers.as_slice())
 }
 
 fn parse_label(text: &str) -> Result<Label> {
