@@ -32,20 +32,24 @@ type Elements = FieldToFieldCodec<BabyBear>;
 /// What is played: so many steps, with a challenge after each message or without. Its rows are named with what makes
 /// the driver, and without.
 #[derive(Clone, Copy)]
-struct Script {
+pub struct Script {
     whole: &'static str,
     alone: &'static str,
-    steps: u32,
+    /// How many steps there are.
+    pub steps: u32,
     draws: bool,
 }
 
+/// Messages alone.
+pub const MESSAGES: Script = Script {
+    whole: "10^4 scalar steps with seed",
+    alone: "10^4 scalar steps without seed",
+    steps: 10_000,
+    draws: false,
+};
+
 const SCRIPTS: [Script; 4] = [
-    Script {
-        whole: "10^4 scalar steps with seed",
-        alone: "10^4 scalar steps without seed",
-        steps: 10_000,
-        draws: false,
-    },
+    MESSAGES,
     Script {
         whole: "10^4 steps message/challenge",
         alone: "10^4 steps message/challenge without seed",
@@ -163,8 +167,8 @@ fn measure_steps<C: Sponge + CanObserve<U::Item> + Fresh + Drop, U: Unit, Cdc: C
     Ok(sent.wrapping_add(received))
 }
 
-// The pattern of the script's steps, and its separator.
-fn separator<U>(alloc: Global, script: &Script) -> Result<Separator<U>> {
+/// The pattern of the script's steps, and its separator.
+pub fn separator<U>(alloc: Global, script: &Script) -> Result<Separator<U>> {
     let message = Interaction::algebra::<BabyBear, BabyBear, Sha256Hasher>(
         Hierarchy::Atomic,
         Kind::Message,

@@ -8,6 +8,7 @@ mod duplex;
 mod hash;
 mod multi_field;
 mod patterns;
+mod scripts;
 mod seeds;
 mod timing;
 mod work;
@@ -38,8 +39,11 @@ fn main(rt: HostRuntime) -> Result<()> {
     let seeds = seeds::measure(&rt, runs, text.as_slice())?;
     let patterns = patterns::measure(&rt, runs)?;
     let drivers = drivers::measure(&rt, runs)?;
+    let scripts = scripts::measure(&rt, runs)?;
     let work = work::measure(&rt, runs)?;
     // The sums are shown so that nothing of what makes them can be left out.
-    println!(rt; "sums: {duplex} {hash} {multi_field} {seeds} {patterns} {drivers} {work}")?;
+    println!(rt;
+        "sums: {duplex} {hash} {multi_field} {seeds} {patterns} {drivers} {scripts} {work}"
+    )?;
     Ok(())
 }

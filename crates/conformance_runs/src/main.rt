@@ -1,65 +1,145 @@
-//! The program `conformance_runs`: plays the scripts of its file with a prover and a verifier, and compares what is
-//! answered with the answers that stand there.
+//! The program `conformance_runs`: plays the scripts of its files with a prover and a verifier, and compares what
+//! is answered with the answers that stand there.
 //!
-//! Its file `runs.txt` lies in the folder that it runs in, or in the one that its argument names. The first lines of
-//! the file, which begin with `#`, say where its answers are from. Each other line is
-//! `run s VERSION NAME [CHUNK..] | STEPS | ANSWER`, with ` ; ` between the steps: the version and the name of the
-//! protocol, and in hexadecimal the chunks of the instance's label. The scripts are played in [`world`]. The steps
-//! are those that [`steps`] reads, each with the values that the prover has for it. After them may stand one of
-//! [`change::Change`], which is what becomes of the proof before the verifier reads it. Both sides play it as a script of
-//! the library, by `prove` and `verify`.
+//! Its files `runs.txt`, `scripts.txt`, `suites.txt` and `steps.txt` lie in the folder that it runs in, or in the
+//! one that its argument names. Lines that begin with `#` say where the answers are from. Each other line is
+//! `run WORLD VERSION NAME [CHUNK..] | STEPS | ANSWER`, with ` ; ` between the steps: the version and the name of the
+//! protocol, and in hexadecimal the chunks of the instance's label. The world is the suite that plays the script:
+//! one of [`world`] or of [`suites`]. The steps are those that [`steps`] reads, each with what the prover is handed
+//! for it. After them may stand one of [`change::Change`], which is what becomes of the proof before the verifier
+//! reads it; `carried v..`, the witnesses that the verifier's caller carries in place of the prover's; and
+//! `handed VALUE`, one value more for the prover. Where the steps of the pattern are others than those that are played,
+//! they stand in between: `| STEPS | pattern STEPS | ANSWER`.
 //!
-//! The answer is `wire HEX ; draws n.. ; witnesses n.. ; next a b ; verify VERDICT`: the bytes of the proof, the
-//! numbers that were drawn, the witnesses that were found, and the next two elements that the challenger of the prover
-//! draws. The verdict is `accepted n.. next a b`, with what the verifier drew and what its challenger draws next, or
-//! `refused POSITION REASON`, with the position of the step, counted from 0, or the number of steps for the end.
+//! Each side plays the script in two ways, by `prove` or `verify` and step by step on a driver, and both have to
+//! tell the same. A driver that refused a step has to refuse it once more, and the step of the pattern there, and
+//! its end.
+//!
+//! The answer is `PROVER ; verify VERIFIER`. Of a prover it is `wire HEX ; draws n.. ; witnesses n.. ; next a b`:
+//! the bytes of the proof, the numbers that were drawn, the witnesses that were found, and the next two scalars
+//! that its challenger draws; of a verifier `accepted n.. next a b`, with what it drew and what its challenger
+//! draws next. Of either it may be `refused POSITION REASON`, with the position of the step, counted from 0, or the
+//! number of steps for the end; and `not handed` or `not carried`, where the values or the witnesses are not those
+//! of the steps. An answer `not admitted` says that the suite does not play these steps. Where the line has steps
+//! of the pattern, the answer begins with `fits`, or with `other steps`.
+//!
+//! A line `play ..` in place of `run ..` is answered at more length. After a verifier that accepts stands
+//! ` ; received v / v ..`, each value that it read; after a prover that refused a step ` ; wrote HEX ; next a b`, and
+//! after such a verifier ` ; unread N ; next a b`, how many bytes it left. Where the end was refused no challenger is
+//! left to draw from.
+//!
+//! Then it changes each proof at random, twice, and asks that the changed one is refused for a reason, or accepted and just
+//! the encoding of what was received. Its second word is a seed, and its third how often each proof is changed; with that
+//! it prints how many of the changed proofs came to what.
 #![tactic(auto)]
 
+mod alone;
 mod answer;
 mod change;
+mod encoding;
+mod hostile;
 mod line;
+mod mutation;
+mod proving;
 mod recording;
+mod rule;
+mod script;
 mod steps;
+mod suites;
+mod told;
+mod verifying;
+mod whole;
 mod world;
 
-use answer::answer;
-use anyhow::{Context, Result};
+use answer::{Answered, answer};
+use anyhow::{Context, Result, bail};
+use hostile::{Tally, try_changes};
 use line::Line;
+use p3_challenger::fs::script::{BitsPow, Both, Plain};
+use rand_core::SeedableRng;
+use rand_xoshiro::Xoshiro256PlusPlus;
 use std::alloc::Global;
 use std::process::ExitCode;
 use std::{env, fs};
+use test_suites::{HashSuite, MultiFieldSuite, Serializing32Suite, Serializing64Suite};
+use world::{Notes, Small};
+
+// What the files are called.
+const FILES: [&str; 4] = ["runs", "scripts", "suites", "steps"];
+
+// From what proofs are changed, and how often each one is, where the words do not say it.
+const SEED: u64 = 1;
+
+const CHANGES: u64 = 2;
 
 fn main(rt: HostRuntime) -> Result<ExitCode> {
-    let argument = env::args(&rt)?.nth(1);
-    let folder = match &argument {
+    let mut words = env::args(&rt)?.skip(1);
+    let folder = words.next();
+    let folder = match &folder {
         Some(word) => word.as_str(),
         None => ".",
     };
-    let path = format!(in rt.alloc(); "{folder}/runs.txt")?;
-    let text = fs::read_to_string(&rt, path.as_str()).context(path.as_str())?;
-    match compare(rt.alloc(), text.as_str()).context(path.as_str())? {
-        Outcome::Agree { lines, steps } => {
-            println!(rt; "runs: {lines} lines, {steps} steps, all agree")?;
-            Ok(ExitCode::from(0))
+    let seed = number_or(words.next(), SEED)?;
+    let asked = words.next();
+    let shows = asked.is_some();
+    let count = number_or(asked, CHANGES)?;
+    let mut rng = Xoshiro256PlusPlus::seed_from_u64(seed);
+    let mut agree = true;
+    for file in FILES {
+        let path = format!(in rt.alloc(); "{folder}/{file}.txt")?;
+        let text = fs::read_to_string(&rt, path.as_str()).context(path.as_str())?;
+        let outcome = compare(rt.alloc(), text.as_str()).context(path.as_str())?;
+        for (line, answer) in &outcome.differing {
+            agree = false;
+            println!(rt; "{file}: line {line} answers {answer}")?;
         }
-        Outcome::Differs { line, answer } => {
-            println!(rt; "runs: line {line} answers {answer}")?;
-            Ok(ExitCode::from(1))
-        }
+        let Outcome { lines, steps, .. } = &outcome;
+        println!(rt; "{file}: {lines} lines, {steps} steps, agree")?;
+        let tally = changes(rt.alloc(), text.as_str(), &mut rng, count).context(path.as_str())?;
+        tell(&rt, file, &tally, shows)?;
+    }
+    Ok(ExitCode::from(if agree { 0 } else { 1 }))
+}
+
+// The number of a word, or this one without a word.
+fn number_or(word: Option<String>, other: u64) -> Result<u64> {
+    match word {
+        Some(word) => Ok(word.as_str().parse()?),
+        None => Ok(other),
     }
 }
 
-// How a file was played: whole, or up to the first line with another answer. A line is counted from 1.
-#[derive(Drop)]
-enum Outcome {
-    Agree { lines: usize, steps: usize },
-    Differs { line: usize, answer: String },
+// Says how many changed proofs there were, and, where that is asked for, what became of how many.
+fn tell(rt: &HostRuntime, file: &str, tally: &Tally, shows: bool) -> Result<()> {
+    let total = tally.total();
+    println!(rt;
+        "{file}: {total} changed proofs, each refused or the encoding of what was received"
+    )?;
+    if shows {
+        let accepted = tally.accepted;
+        println!(rt; "accepted: {accepted}")?;
+        for (reason, count) in &tally.refused {
+            println!(rt; "{reason}: {count}")?;
+        }
+    }
+    Ok(())
 }
 
-// Plays each line of a file, up to the first one that does not agree.
+// How a file was played: how many lines agree, and the others with what is answered. A line is counted from 1.
+#[derive(Drop)]
+struct Outcome {
+    lines: usize,
+    steps: usize,
+    differing: Vec<(usize, String)>,
+}
+
+// Plays each line of a file.
 fn compare(alloc: Global, text: &str) -> Result<Outcome> {
-    let mut lines = 0usize;
-    let mut steps = 0usize;
+    let mut outcome = Outcome {
+        lines: 0,
+        steps: 0,
+        differing: Vec::new(alloc),
+    };
     let mut number = 0usize;
     for text in text.lines() {
         number = number.saturating_add(1);
@@ -67,15 +147,57 @@ fn compare(alloc: Global, text: &str) -> Result<Outcome> {
             continue;
         }
         let line = Line::parse(alloc, text).context(format_args!("line {number}"))?;
-        let found = answer(alloc, &line).context(format_args!("line {number}"))?;
-        if found.as_str() != line.answer {
-            return Ok(Outcome::Differs {
-                line: number,
-                answer: found,
-            });
+        let found = answer_in(alloc, &line).context(format_args!("line {number}"))?;
+        if found.text.as_str() == line.answer {
+            outcome.lines = outcome.lines.saturating_add(1);
+            outcome.steps = outcome.steps.saturating_add(found.steps);
+        } else {
+            outcome.differing.push((number, found.text))?;
         }
-        lines = lines.saturating_add(1);
-        steps = steps.saturating_add(line.steps.len());
     }
-    Ok(Outcome::Agree { lines, steps })
+    Ok(outcome)
+}
+
+// Changes the proof of each line, so many times.
+fn changes(alloc: Global, text: &str, rng: &mut Xoshiro256PlusPlus, count: u64) -> Result<Tally> {
+    let mut tally = Tally::new(alloc);
+    for text in text.lines() {
+        if !text.starts_with('#') {
+            let line = Line::parse(alloc, text).context(text)?;
+            changes_in(alloc, &line, rng, count, &mut tally).context(text)?;
+        }
+    }
+    Ok(tally)
+}
+
+// Calls a function in the world of a line.
+macro_rules! in_world {
+    ($line:expr, $function:ident($($word:expr),*)) => {
+        match $line.world {
+            "s" => $function::<Small<2, Both>>($($word),*),
+            "s_bits" => $function::<Small<2, BitsPow>>($($word),*),
+            "s_plain" => $function::<Small<2, Plain>>($($word),*),
+            "s_turn1" => $function::<Small<1, Both>>($($word),*),
+            "notes" => $function::<Notes>($($word),*),
+            "hash" => $function::<HashSuite>($($word),*),
+            "ser32" => $function::<Serializing32Suite>($($word),*),
+            "ser64" => $function::<Serializing64Suite>($($word),*),
+            "multi" => $function::<MultiFieldSuite>($($word),*),
+            _ => bail!("an unknown world"),
+        }
+    };
+}
+
+fn answer_in(alloc: Global, line: &Line<'_>) -> Result<Answered> {
+    in_world!(line, answer(alloc, line))
+}
+
+fn changes_in(
+    alloc: Global,
+    line: &Line<'_>,
+    rng: &mut Xoshiro256PlusPlus,
+    count: u64,
+    tally: &mut Tally,
+) -> Result<()> {
+    in_world!(line, try_changes(alloc, line, rng, count, tally))
 }

@@ -1,103 +1,117 @@
 // The pattern of a script.
-use crate::world::{Alphabet, World};
+use crate::world::World;
+use anyhow::Result;
+use p3_challenger::fs::Hierarchy::{Begin, End};
+use p3_challenger::fs::Kind::{Challenge, Hint, Message, Pow, Public, Salt};
+use p3_challenger::fs::Length::{Bounded, Fixed, Scalar};
 use p3_challenger::fs::script::Step;
 use p3_challenger::fs::{
     Hierarchy, Interaction, InteractionPattern, Kind, Label, Length, Pattern, PatternState,
-    TranscriptError,
 };
-use p3_field::F257;
-use p3_symmetric::Sha256Hasher;
 use std::alloc::Global;
 
 /// Records the steps.
-pub fn record(alloc: Global, steps: &[Step<World>]) -> Result<InteractionPattern, TranscriptError> {
-    let mut recorder = PatternState::<Alphabet>::new(alloc);
+pub fn record<S: World>(alloc: Global, steps: &[Step<S>]) -> Result<InteractionPattern> {
+    let mut recorder = PatternState::<S::Unit>::new(alloc);
     for step in steps {
         if let Err(refused) = recorder.interact(interaction(step)) {
             // A recorder has to be spent, also where a step was refused.
             recorder.abort();
-            return Err(refused);
+            return Err(refused.into());
         }
     }
-    recorder.finalize()
+    Ok(recorder.finalize()?)
+}
+
+/// Whether the steps are those of the pattern, in order.
+pub fn are_steps_of<S: World>(steps: &[Step<S>], pattern: &InteractionPattern) -> bool {
+    let mut expected = pattern.interactions().iter();
+    for step in steps {
+        match expected.next() {
+            Some(next) if interaction(step) == *next => {}
+            _ => return false,
+        }
+    }
+    expected.next().is_none()
+}
+
+// The type of a step.
+#[derive(Clone, Copy)]
+enum Type {
+    Marker(Hierarchy),
+    Bytes,
+    Scalars,
+    Extensions,
+    Opaque,
+    Bits(usize),
+    UniformBits(usize),
 }
 
 // The step as a pattern has it.
-fn interaction(step: &Step<World>) -> Interaction {
+fn interaction<S: World>(step: &Step<S>) -> Interaction {
+    let (kind, label, length, of) = parts(step);
+    let atomic = Hierarchy::Atomic;
+    match of {
+        Type::Marker(hierarchy) => Interaction::marker::<()>(hierarchy, kind, label),
+        Type::Bytes => Interaction::bytes(atomic, kind, label, length),
+        Type::Scalars => {
+            Interaction::algebra::<S::Field, S::Field, S::Digest>(atomic, kind, label, length)
+        }
+        Type::Extensions => {
+            Interaction::algebra::<S::Field, S::Extension, S::Digest>(atomic, kind, label, length)
+        }
+        Type::Opaque => Interaction::opaque(atomic, kind, label, length),
+        Type::Bits(width) => Interaction::bits(atomic, kind, label, width, length),
+        Type::UniformBits(width) => Interaction::uniform_bits(atomic, kind, label, width, length),
+    }
+}
+
+// The kind of a step, its label, its length and its type.
+fn parts<S: World>(step: &Step<S>) -> (Kind, Label, Length, Type) {
     match step {
-        Step::Begin { label, kind } => Interaction::marker::<()>(Hierarchy::Begin, *kind, *label),
-        Step::End { label, kind } => Interaction::marker::<()>(Hierarchy::End, *kind, *label),
-        Step::Salt { label, len } => bytes(Kind::Salt, *label, Length::Fixed(*len)),
-        Step::Bytes { label, len } => bytes(Kind::Message, *label, Length::Fixed(*len)),
-        Step::Hint { label, len } => bytes(Kind::Hint, *label, Length::Fixed(*len)),
-        Step::BytesBounded { label, max } => bytes(Kind::Message, *label, Length::Bounded(*max)),
-        Step::HintBounded { label, max } => bytes(Kind::Hint, *label, Length::Bounded(*max)),
-        Step::PublicScalar { label, .. } => one(Kind::Public, *label),
-        Step::PublicScalars { label, values } => list(Kind::Public, *label, values.len()),
-        Step::Scalar { label } => one(Kind::Message, *label),
-        Step::Scalars { label, n } => list(Kind::Message, *label, *n),
-        Step::ScalarsBounded { label, max } => counted(*label, *max),
-        Step::Extension { label } => one(Kind::Message, *label),
-        Step::ObserveExtension { label, .. } => one(Kind::Message, *label),
-        Step::ObserveExtensions { label, values } => list(Kind::Message, *label, values.len()),
-        Step::ObserveExtensionsBounded { label, max, .. } => counted(*label, *max),
-        Step::Opaque { label, .. } => Interaction::opaque(
-            Hierarchy::Atomic,
-            Kind::Message,
-            *label,
-            Length::Scalar,
-        ),
-        Step::ChallengeScalar { label } => one(Kind::Challenge, *label),
-        Step::ChallengeScalars { label, n } => list(Kind::Challenge, *label, *n),
-        Step::ChallengeExtension { label } => one(Kind::Challenge, *label),
-        Step::ChallengeExtensions { label, n } => list(Kind::Challenge, *label, *n),
-        Step::ChallengeExtensionsRejecting { label, n, .. } => list(Kind::Challenge, *label, *n),
-        Step::ChallengeBits { label, width, n } => Interaction::bits(
-            Hierarchy::Atomic,
-            Kind::Challenge,
-            *label,
-            *width,
-            Length::Fixed(*n),
-        ),
-        Step::ChallengeUniformBits { label, width, n } => uniform_bits(*label, *width, *n),
+        Step::Begin { label, kind } => (*kind, *label, Length::None, Type::Marker(Begin)),
+        Step::End { label, kind } => (*kind, *label, Length::None, Type::Marker(End)),
+        Step::Salt { label, len } => (Salt, *label, Fixed(*len), Type::Bytes),
+        Step::Bytes { label, len } => (Message, *label, Fixed(*len), Type::Bytes),
+        Step::Hint { label, len } => (Hint, *label, Fixed(*len), Type::Bytes),
+        Step::BytesBounded { label, max } => (Message, *label, Bounded(*max), Type::Bytes),
+        Step::HintBounded { label, max } => (Hint, *label, Bounded(*max), Type::Bytes),
+        Step::PublicScalar { label, .. } => (Public, *label, Scalar, Type::Scalars),
+        Step::PublicScalars { label, values } => {
+            (Public, *label, Fixed(values.len()), Type::Scalars)
+        }
+        Step::Scalar { label } => (Message, *label, Scalar, Type::Scalars),
+        Step::Scalars { label, n } => (Message, *label, Fixed(*n), Type::Scalars),
+        Step::ScalarsBounded { label, max } => (Message, *label, Bounded(*max), Type::Scalars),
+        Step::Extension { label } => (Message, *label, Scalar, Type::Extensions),
+        Step::ObserveExtension { label, .. } => (Message, *label, Scalar, Type::Extensions),
+        Step::ObserveExtensions { label, values } => {
+            (Message, *label, Fixed(values.len()), Type::Extensions)
+        }
+        Step::ObserveExtensionsBounded { label, max, .. } => {
+            (Message, *label, Bounded(*max), Type::Extensions)
+        }
+        Step::Opaque { label, .. } => (Message, *label, Scalar, Type::Opaque),
+        Step::ChallengeScalar { label } => (Challenge, *label, Scalar, Type::Scalars),
+        Step::ChallengeScalars { label, n } => (Challenge, *label, Fixed(*n), Type::Scalars),
+        Step::ChallengeExtension { label } => (Challenge, *label, Scalar, Type::Extensions),
+        Step::ChallengeExtensions { label, n } => (Challenge, *label, Fixed(*n), Type::Extensions),
+        Step::ChallengeExtensionsRejecting { label, n, .. } => {
+            (Challenge, *label, Fixed(*n), Type::Extensions)
+        }
+        Step::ChallengeBits { label, width, n } => {
+            (Challenge, *label, Fixed(*n), Type::Bits(*width))
+        }
+        Step::ChallengeUniformBits { label, width, n } => {
+            (Challenge, *label, Fixed(*n), Type::UniformBits(*width))
+        }
         Step::ChallengeUniformBitsRejecting {
             label,
             width,
             n,
             ..
-        } => uniform_bits(*label, *width, *n),
-        Step::Pow { label, bits } => list(Kind::Pow, *label, *bits),
-        Step::ObservePow { label, bits } => list(Kind::Pow, *label, *bits),
+        } => { (Challenge, *label, Fixed(*n), Type::UniformBits(*width)) }
+        Step::Pow { label, bits } => (Pow, *label, Fixed(*bits), Type::Scalars),
+        Step::ObservePow { label, bits } => (Pow, *label, Fixed(*bits), Type::Scalars),
     }
-}
-
-fn bytes(kind: Kind, label: Label, length: Length) -> Interaction {
-    Interaction::bytes(Hierarchy::Atomic, kind, label, length)
-}
-
-fn uniform_bits(label: Label, width: usize, n: usize) -> Interaction {
-    Interaction::uniform_bits(
-        Hierarchy::Atomic,
-        Kind::Challenge,
-        label,
-        width,
-        Length::Fixed(n),
-    )
-}
-
-fn one(kind: Kind, label: Label) -> Interaction {
-    elements(kind, label, Length::Scalar)
-}
-
-fn list(kind: Kind, label: Label, n: usize) -> Interaction {
-    elements(kind, label, Length::Fixed(n))
-}
-
-fn counted(label: Label, max: usize) -> Interaction {
-    elements(Kind::Message, label, Length::Bounded(max))
-}
-
-// A step of elements of the field, or of the extension, which is the field itself.
-fn elements(kind: Kind, label: Label, length: Length) -> Interaction {
-    Interaction::algebra::<F257, F257, Sha256Hasher>(Hierarchy::Atomic, kind, label, length)
 }

@@ -1,21 +1,21 @@
 // The steps of a script, as a file writes them: `NAME LABEL WORDS`, the words being what the step has.
-use crate::world::World;
+use crate::world::{World, extensions, one, scalars};
 use anyhow::{Result, bail};
-use conformance_words::symbol::{element, symbols};
-use conformance_words::words::{look_up, parse_row, split_first, split_name};
-use p3_challenger::fs::script::{Distinct, Sent, Step};
+use conformance_words::words::{look_up, split_first, split_name};
+use p3_challenger::fs::script::{Sent, Step};
 use p3_challenger::fs::{Kind, Label};
-use p3_field::F257;
 use std::alloc::Global;
 
-/// A step, and what the prover sends at it, if anything.
-pub type Move = (Step<World>, Option<Sent<World>>);
+/// A step, and what the prover is handed for it, if anything.
+pub type Move<S> = (Step<S>, Option<Sent<S>>);
 
-// More refusals in a row than any script has.
+// More refusals in a row than a script has that names no limit.
 const REFUSALS: u64 = 1 << 16;
 
 // The labels of a file, which are texts of the program itself.
-const LABELS: [Label; 10] = ["p", "l0", "l1", "l2", "l3", "l4", "l5", "l6", "l7", "l8"];
+const LABELS: [Label; 16] = [
+    "p", "l0", "l1", "l2", "l3", "l4", "l5", "l6", "l7", "l8", "another", "c", "t", "v", "w", "x",
+];
 
 // What a container is of.
 const KINDS: [(&str, Kind); 7] = [
@@ -29,80 +29,152 @@ const KINDS: [(&str, Kind); 7] = [
 ];
 
 /// Reads a step. The error says what is none, or that memory ran out.
-pub fn parse_step(alloc: Global, text: &str) -> Result<Move> {
+pub fn parse_step<S: World>(alloc: Global, text: &str) -> Result<Move<S>> {
     let (name, words) = split_name(text);
     let (label, words) = split_name(words);
     let label = parse_label(label)?;
     match name {
         "salt" | "bytes" | "hint" => parse_bytes(alloc, name, label, words),
-        "bytesb" | "hintb" | "scb" | "oextb" => parse_counted(alloc, name, label, words),
-        "sc" | "ext" | "scs" | "pub" | "pubs" | "oext" | "oexts" | "opq" => {
-            parse_values(alloc, name, label, words)
+        "bytesb" | "hintb" | "scb" => parse_counted(alloc, name, label, words),
+        "sc" | "ext" | "scs" => parse_sent(alloc, name, label, words),
+        "pub" | "pubs" | "oext" | "oexts" | "oextb" | "opq" => {
+            Ok((parse_known(alloc, name, label, words)?, None))
         }
         _ => Ok((parse_plain(name, label, words)?, None)),
     }
 }
 
-// `salt HEX`, `bytes HEX`, `hint HEX`.
-fn parse_bytes(alloc: Global, name: &str, label: Label, digits: &str) -> Result<Move> {
-    let bytes = hex::decode(alloc, digits)?;
-    let len = bytes.len();
-    let step = match name {
+/// Reads what is sent: `bytes HEX`, `sc v`, `scs v..` or `ext v..`.
+pub fn parse_value<S: World>(alloc: Global, text: &str) -> Result<Sent<S>> {
+    let (name, words) = split_name(text);
+    match name {
+        "bytes" => Ok(Sent::Bytes(hex::decode(alloc, words)?)),
+        "sc" => Ok(Sent::Scalar(one(scalars::<S>(alloc, words)?.as_slice())?)),
+        "scs" => Ok(Sent::Scalars(scalars::<S>(alloc, words)?)),
+        "ext" => Ok(Sent::Extension(one(extensions::<S>(alloc, words)?.as_slice())?)),
+        _ => bail!("an unknown kind of value"),
+    }
+}
+
+// The number after the sign of a step for which nothing is handed, `#`, or none.
+fn unhanded(words: &str) -> Result<Option<usize>> {
+    match words.strip_prefix('#') {
+        Some(number) => Ok(Some(number.trim().parse()?)),
+        None => Ok(None),
+    }
+}
+
+// `salt HEX`, `bytes HEX`, `hint HEX`, or of so many bytes, `salt # n`, of which none is handed.
+fn parse_bytes<S: World>(alloc: Global, name: &str, label: Label, words: &str) -> Result<Move<S>> {
+    if let Some(len) = unhanded(words)? {
+        return Ok((bytes(name, label, len), None));
+    }
+    let sent = hex::decode(alloc, words)?;
+    Ok((bytes(name, label, sent.len()), Some(Sent::Bytes(sent))))
+}
+
+fn bytes<S: World>(name: &str, label: Label, len: usize) -> Step<S> {
+    match name {
         "salt" => Step::Salt { label, len },
         "bytes" => Step::Bytes { label, len },
         _ => Step::Hint { label, len },
-    };
-    Ok((step, Some(Sent::Bytes(bytes))))
+    }
 }
 
-// `bytesb max HEX`, `hintb max HEX`, `scb max v..`, `oextb max v..`: at most so many.
-fn parse_counted(alloc: Global, name: &str, label: Label, words: &str) -> Result<Move> {
+// `bytesb max HEX`, `hintb max HEX`, `scb max v..`: at most so many.
+fn parse_counted<S: World>(
+    alloc: Global,
+    name: &str,
+    label: Label,
+    words: &str,
+) -> Result<Move<S>> {
     let (max, words) = split_name(words);
     let max = number(max)?;
+    let step = match name {
+        "scb" => Step::ScalarsBounded { label, max },
+        "bytesb" => Step::BytesBounded { label, max },
+        _ => Step::HintBounded { label, max },
+    };
+    let sent = match name {
+        _ if words == "#" => None,
+        "scb" => Some(Sent::Scalars(scalars::<S>(alloc, words)?)),
+        _ => Some(Sent::Bytes(hex::decode(alloc, words)?)),
+    };
+    Ok((step, sent))
+}
+
+// `sc v`, `ext v..`, `scs v..`, or `scs # n`, a list of so many of which none is handed.
+fn parse_sent<S: World>(alloc: Global, name: &str, label: Label, words: &str) -> Result<Move<S>> {
     match name {
-        "scb" => {
-            let scalars = elements(alloc, words)?;
-            Ok((
-                Step::ScalarsBounded { label, max },
-                Some(Sent::Scalars(scalars)),
-            ))
+        "sc" if words == "#" => Ok((Step::Scalar { label }, None)),
+        "ext" if words == "#" => Ok((Step::Extension { label }, None)),
+        "sc" => {
+            let value = one(scalars::<S>(alloc, words)?.as_slice())?;
+            Ok((Step::Scalar { label }, Some(Sent::Scalar(value))))
+        }
+        "ext" => {
+            let value = one(extensions::<S>(alloc, words)?.as_slice())?;
+            Ok((Step::Extension { label }, Some(Sent::Extension(value))))
+        }
+        _ => parse_list(alloc, label, words),
+    }
+}
+
+fn parse_list<S: World>(alloc: Global, label: Label, words: &str) -> Result<Move<S>> {
+    if let Some(n) = unhanded(words)? {
+        return Ok((Step::Scalars { label, n }, None));
+    }
+    let values = scalars::<S>(alloc, words)?;
+    let n = values.len();
+    Ok((Step::Scalars { label, n }, Some(Sent::Scalars(values))))
+}
+
+// `pub v`, `pubs v..`, `oext v..`, `oexts v..`, `oextb max v..`, `opq ..`, which both sides know.
+fn parse_known<S: World>(alloc: Global, name: &str, label: Label, words: &str) -> Result<Step<S>> {
+    match name {
+        "pub" => {
+            let value = one(scalars::<S>(alloc, words)?.as_slice())?;
+            Ok(Step::PublicScalar { label, value })
+        }
+        "pubs" => {
+            let values = scalars::<S>(alloc, words)?;
+            Ok(Step::PublicScalars { label, values })
+        }
+        "opq" => {
+            let value = S::opaque(alloc, words)?;
+            Ok(Step::Opaque { label, value })
+        }
+        _ => parse_known_extensions(alloc, name, label, words),
+    }
+}
+
+fn parse_known_extensions<S: World>(
+    alloc: Global,
+    name: &str,
+    label: Label,
+    words: &str,
+) -> Result<Step<S>> {
+    match name {
+        "oext" => {
+            let value = one(extensions::<S>(alloc, words)?.as_slice())?;
+            Ok(Step::ObserveExtension { label, value })
         }
         "oextb" => {
-            let values = elements(alloc, words)?;
-            Ok((Step::ObserveExtensionsBounded { label, values, max }, None))
+            let (max, words) = split_name(words);
+            let values = extensions::<S>(alloc, words)?;
+            let max = number(max)?;
+            Ok(Step::ObserveExtensionsBounded { label, values, max })
         }
         _ => {
-            let bytes = hex::decode(alloc, words)?;
-            let step = match name {
-                "bytesb" => Step::BytesBounded { label, max },
-                _ => Step::HintBounded { label, max },
-            };
-            Ok((step, Some(Sent::Bytes(bytes))))
+            let values = extensions::<S>(alloc, words)?;
+            Ok(Step::ObserveExtensions { label, values })
         }
     }
 }
 
-// `sc v`, `ext v`, `scs v..`, which are sent; `pub v`, `pubs v..`, `oext v`, `oexts v..`, `opq v`, which both sides know.
-fn parse_values(alloc: Global, name: &str, label: Label, words: &str) -> Result<Move> {
-    let values = elements(alloc, words)?;
-    let n = values.len();
-    match (name, values.as_slice()) {
-        ("sc", &[value]) => Ok((Step::Scalar { label }, Some(Sent::Scalar(value)))),
-        ("ext", &[value]) => Ok((Step::Extension { label }, Some(Sent::Extension(value)))),
-        ("scs", _) => Ok((Step::Scalars { label, n }, Some(Sent::Scalars(values)))),
-        ("pub", &[value]) => Ok((Step::PublicScalar { label, value }, None)),
-        ("oext", &[value]) => Ok((Step::ObserveExtension { label, value }, None)),
-        ("opq", &[value]) => Ok((Step::Opaque { label, value }, None)),
-        ("pubs", _) => Ok((Step::PublicScalars { label, values }, None)),
-        ("oexts", _) => Ok((Step::ObserveExtensions { label, values }, None)),
-        _ => bail!("no one value"),
-    }
-}
-
-// `begin KIND`, `end KIND`, a container; `chs`, `che`, `cb width n`, `cu width n`, `cur width n`, draws of a scalar, of an
-// element of the extension, of n numbers of so many bits, of uniform ones, and of uniform ones that differ; and what
-// `parse_count` reads.
-fn parse_plain(name: &str, label: Label, words: &str) -> Result<Step<World>> {
+// `begin KIND`, `end KIND`, a container; `chs`, `che`, draws of a scalar, of an element of the extension; what
+// `parse_bits` reads, and what `parse_count` does.
+fn parse_plain<S: World>(name: &str, label: Label, words: &str) -> Result<Step<S>> {
     match name {
         "begin" => Ok(Step::Begin {
             label,
@@ -114,53 +186,68 @@ fn parse_plain(name: &str, label: Label, words: &str) -> Result<Step<World>> {
         }),
         "chs" => Ok(Step::ChallengeScalar { label }),
         "che" => Ok(Step::ChallengeExtension { label }),
-        "cb" | "cu" | "cur" => {
-            let (width, n) = split_first(words)?;
-            Ok(bits(name, label, number(width)?, number(n)?))
-        }
-        _ => parse_count(name, label, number(words)?),
+        "cb" | "cu" | "cur" => parse_bits(name, label, words),
+        _ => parse_count(name, label, words),
     }
 }
 
-fn bits(name: &str, label: Label, width: usize, n: usize) -> Step<World> {
+// `cb width n`, `cu width n`, `cur width n [RULE LIMIT]`: draws of n numbers of so many bits, of uniform ones, and of
+// uniform ones that the rule takes.
+fn parse_bits<S: World>(name: &str, label: Label, words: &str) -> Result<Step<S>> {
+    let (width, words) = split_first(words)?;
+    let (n, words) = split_name(words);
+    let width = number(width)?;
+    let n = number(n)?;
     match name {
-        "cb" => Step::ChallengeBits { label, width, n },
-        "cu" => Step::ChallengeUniformBits { label, width, n },
-        _ => Step::ChallengeUniformBitsRejecting {
-            label,
-            width,
-            n,
-            accept: Distinct,
-            limit: REFUSALS,
-        },
+        "cb" => Ok(Step::ChallengeBits { label, width, n }),
+        "cu" => Ok(Step::ChallengeUniformBits { label, width, n }),
+        _ => {
+            let (accept, limit) = parse_rule::<S>(words)?;
+            Ok(Step::ChallengeUniformBitsRejecting {
+                label,
+                width,
+                n,
+                accept,
+                limit,
+            })
+        }
     }
 }
 
-// `chv n`, `chev n`, `chr n`: draws of n scalars, of n elements of the extension, and of n that differ. `pow n`, `opow n`:
-// proof of work of so many bits, with the witness in the proof, or carried beside it.
-fn parse_count(name: &str, label: Label, n: usize) -> Result<Step<World>> {
+// `chv n`, `chev n`, `chr n [RULE LIMIT]`: draws of n scalars, of n elements of the extension, and of n that the rule
+// takes. `pow n`, `opow n`: proof of work of so many bits, with the witness in the proof, or carried beside it.
+fn parse_count<S: World>(name: &str, label: Label, words: &str) -> Result<Step<S>> {
+    let (n, words) = split_name(words);
+    let n = number(n)?;
     match name {
         "chv" => Ok(Step::ChallengeScalars { label, n }),
         "chev" => Ok(Step::ChallengeExtensions { label, n }),
-        "chr" => Ok(Step::ChallengeExtensionsRejecting {
-            label,
-            n,
-            accept: Distinct,
-            limit: REFUSALS,
-        }),
+        "chr" => {
+            let (accept, limit) = parse_rule::<S>(words)?;
+            Ok(Step::ChallengeExtensionsRejecting {
+                label,
+                n,
+                accept,
+                limit,
+            })
+        }
         "pow" => Ok(Step::Pow { label, bits: n }),
         "opow" => Ok(Step::ObservePow { label, bits: n }),
         _ => bail!("an unknown step"),
     }
 }
 
-fn number(word: &str) -> Result<usize> {
-    Ok(word.parse()?)
+// A rule, and after how many refusals in a row the draw is given up; else values that differ are drawn.
+fn parse_rule<S: World>(words: &str) -> Result<(S::Accept, u64)> {
+    if words.is_empty() {
+        return Ok((S::rule("distinct")?, REFUSALS));
+    }
+    let (rule, limit) = split_first(words)?;
+    Ok((S::rule(rule)?, limit.parse()?))
 }
 
-fn elements(alloc: Global, words: &str) -> Result<Vec<F257>> {
-    let numbers = parse_row(alloc, words)?;
-    symbols(alloc, numbers.as_slice())
+fn number(word: &str) -> Result<usize> {
+    Ok(word.parse()?)
 }
 
 fn parse_label(text: &str) -> Result<Label> {

@@ -1,31 +1,116 @@
-// The small world that the scripts are played in: a challenger of three cells of the field of 257 elements, two of
-// them the rate, whose permutation turns them by two places. The field is its own extension, and there are steps of every
-// kind.
+// The worlds that scripts are played in, by the word that a file has for each.
+use crate::rule::Rule;
+use anyhow::{Result, bail};
+use conformance_words::symbol::{element, element_of};
+use conformance_words::words::parse_row;
 use p3_challenger::DuplexChallenger;
-use p3_challenger::fs::script::{Both, Distinct, Suite};
-use p3_challenger::fs::{DomainSeparator, FieldToFieldCodec, FieldUnit};
-use p3_field::F257;
+use p3_challenger::fs::script::{Both, StepGroup, Suite};
+use p3_challenger::fs::{
+    Codec, DomainSeparator, FieldToFieldCodec, FieldUnit, MIN_CHALLENGE_SECURITY_BITS,
+};
+use p3_field::{BasedVectorSpace, F257, PrimeField64};
 use p3_symmetric::{Sha256Hasher, Turn};
+use std::alloc::Global;
+use std::marker::PhantomData;
 
-/// The types of the world.
-pub struct World;
+/// A suite, and what a file needs of it beside.
+pub trait World: Suite {
+    /// A challenger that observed nothing yet.
+    fn fresh(alloc: Global) -> Result<Self::Challenger>;
 
-impl Suite for World {
+    /// `next a b`, the next two scalars that the challenger draws, or what else is to be told of it.
+    fn state(alloc: Global, challenger: &mut Self::Challenger) -> Result<String> {
+        let first = draw::<Self>(challenger)?;
+        let second = draw::<Self>(challenger)?;
+        Ok(format!(in alloc; "next {first} {second}")?)
+    }
+
+    /// The value of these words that the challenger itself knows how to observe.
+    fn opaque(alloc: Global, words: &str) -> Result<Self::Opaque>;
+
+    /// The rule of this word.
+    fn rule(word: &str) -> Result<Self::Accept>;
+}
+
+/// What binds a transcript to a script.
+pub type SeparatorOf<S> = DomainSeparator<<S as Suite>::Unit, <S as Suite>::Digest>;
+
+/// The small world: a challenger of three cells of the field of 257 elements, two of them the rate, whose permutation
+/// turns them by `K` places. The field is its own extension, and there are the steps of the group `G`.
+pub struct Small<const K: usize, G> {
+    group: PhantomData<G>,
+}
+
+/// The challenger of the small world.
+pub type Sponge<const K: usize> = DuplexChallenger<F257, Turn<K>, 3, 2>;
+
+impl<const K: usize, G: StepGroup<Sponge<K>, F257>> Suite for Small<K, G> {
     ghost use Rattle.std.proofs.Common.{lit<};
 
     type Field = F257;
 
     type Extension = F257;
 
-    type Unit = Alphabet;
+    type Unit = FieldUnit<F257>;
 
     type Opaque = F257;
 
-    type Challenger = Sponge;
+    type Challenger = Sponge<K>;
 
     type Codec = FieldToFieldCodec<F257>;
 
-    type Accept = Distinct;
+    type Accept = Rule;
+
+    type Digest = Sha256Hasher;
+
+    type Group = G;
+
+    ghost is_own = { λ _. Unit {0} };
+
+    ghost alphabet = { lit< tt };
+
+    ghost clones = { λ _ _ same. same };
+}
+
+// More draws in a row than any script has refused.
+const DRAW_LIMIT: u64 = 1 << 16;
+
+impl<const K: usize, G: StepGroup<Sponge<K>, F257>> World for Small<K, G> {
+    fn fresh(_alloc: Global) -> Result<Sponge<K>> {
+        Ok(DuplexChallenger::new(Turn, DRAW_LIMIT))
+    }
+
+    fn opaque(_alloc: Global, words: &str) -> Result<F257> {
+        element(words.parse()?)
+    }
+
+    fn rule(word: &str) -> Result<Rule> {
+        Rule::parse(word)
+    }
+}
+
+/// The small world with so many cells that the challenger keeps what it is fed until it draws.
+pub struct Notes;
+
+/// The challenger of [`Notes`].
+pub type WideSponge = DuplexChallenger<F257, Turn<2>, 251, 250>;
+
+impl Suite for Notes {
+    ghost use Rattle.std.proofs.Common.{lit<};
+
+    type Field = F257;
+
+    type Extension = F257;
+
+    type Unit = FieldUnit<F257>;
+
+    type Opaque = F257;
+
+    type Challenger = WideSponge;
+
+    type Codec = FieldToFieldCodec<F257>;
+
+    type Accept = Rule;
 
     type Digest = Sha256Hasher;
 
@@ -38,19 +123,70 @@ impl Suite for World {
     ghost clones = { λ _ _ same. same };
 }
 
-/// The challenger.
-pub type Sponge = DuplexChallenger<F257, Turn<2>, 3, 2>;
+// How many symbols the seed has where there are no chunks.
+const SEED_LEN: usize = 102;
 
-/// How it observes bytes.
-pub type Alphabet = FieldUnit<F257>;
+impl World for Notes {
+    fn fresh(_alloc: Global) -> Result<WideSponge> {
+        Ok(DuplexChallenger::new(Turn, DRAW_LIMIT))
+    }
 
-/// What binds a transcript to a script.
-pub type Separator = DomainSeparator<Alphabet, Sha256Hasher>;
+    // What the challenger was fed since the seed.
+    fn state(alloc: Global, challenger: &mut WideSponge) -> Result<String> {
+        let mut text = String::from_str(alloc, "fed")?;
+        for symbol in challenger.input().iter().skip(SEED_LEN) {
+            write!(text, " {}", symbol.as_canonical_u64())?;
+        }
+        Ok(text)
+    }
 
-// More draws in a row than any script has refused.
-const DRAW_LIMIT: u64 = 1 << 16;
+    fn opaque(_alloc: Global, words: &str) -> Result<F257> {
+        element(words.parse()?)
+    }
 
-/// A challenger that observed nothing yet.
-pub fn sponge() -> Sponge {
-    DuplexChallenger::new(Turn, DRAW_LIMIT)
+    fn rule(word: &str) -> Result<Rule> {
+        Rule::parse(word)
+    }
+}
+
+// The number of a scalar that is drawn through the codec.
+fn draw<S: Suite>(challenger: &mut S::Challenger) -> Result<u64> {
+    if S::Codec::SECURITY_BITS < MIN_CHALLENGE_SECURITY_BITS {
+        bail!("a codec that is not secure");
+    }
+    Ok(S::Codec::sample(challenger)?.as_canonical_u64())
+}
+
+/// The scalars of these numbers.
+pub fn scalars<S: World>(alloc: Global, words: &str) -> Result<Vec<S::Field>> {
+    let mut scalars = Vec::new(alloc);
+    for number in parse_row(alloc, words)? {
+        scalars.push(element(number)?)?;
+    }
+    Ok(scalars)
+}
+
+/// The elements of the extension of which these numbers are the coefficients, one element after the other.
+pub fn extensions<S: World>(alloc: Global, words: &str) -> Result<Vec<S::Extension>> {
+    let mut extensions = Vec::new(alloc);
+    let mut coefficients = Vec::new(alloc);
+    for scalar in scalars::<S>(alloc, words)? {
+        coefficients.push(scalar)?;
+        if coefficients.len() == S::Extension::DIMENSION {
+            extensions.push(element_of(coefficients.as_slice())?)?;
+            coefficients.clear();
+        }
+    }
+    if !coefficients.is_empty() {
+        bail!("no whole element of the extension");
+    }
+    Ok(extensions)
+}
+
+/// The one value of a list of one.
+pub fn one<T: Copy>(values: &[T]) -> Result<T> {
+    match values {
+        &[value] => Ok(value),
+        _ => bail!("no one value"),
+    }
 }

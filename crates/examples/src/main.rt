@@ -3,23 +3,26 @@
 
 ghost use Rattle.std.specs.Prelude.{◌≤◌};
 
+use anyhow::Context;
+use p3_challenger::fs::script::{Drawn, Sent};
 use p3_challenger::fs::{
     BytesToFieldCodec, Codec, DomainSeparator, FieldToFieldCodec, FieldUnit, Hierarchy,
     Interaction, InteractionPattern, Kind, Length, ProverState, TranscriptError, Unit,
     VerifierState,
 };
 use p3_challenger::{CanObserve, HashChallenger, SerializingChallenger32};
-use p3_field::{BabyBear, Coeffs, PrimeCharacteristicRing};
+use p3_field::{BabyBear, Coeffs, Goldilocks, PrimeCharacteristicRing};
 use p3_symmetric::{MerkleCap, Sha256Hasher};
 use std::alloc::Global;
 use uses::commit_phase::{Challenges, Demands};
 use uses::opening::{Leaf, Separator};
 use uses::own_hasher::Polynomial;
 use uses::own_permutation::{StirChallenger, stir_challenger};
-use uses::{Round, commit_phase, opening, protocol, receive_and_draw, send_and_draw};
+use uses::{Round, commit_phase, demo_script, opening, protocol, receive_and_draw, send_and_draw};
 
 fn main(rt: HostRuntime) -> anyhow::Result<()> {
     show_protocol(&rt)?;
+    show_demo_script(&rt)?;
     show_commit_phase(&rt)?;
     show_opening(&rt)?;
     show_rounds(&rt)
@@ -38,6 +41,38 @@ fn show_protocol(rt: &HostRuntime) -> anyhow::Result<()> {
     }
     let claim = protocol::verify(rt.alloc(), &separator, &proof)?;
     println!(rt; "a byte changed: {claim:?}")?;
+    Ok(())
+}
+
+// A script is proved, and the proof verified: from the same number, and from another. The bytes and the draws that are
+// expected were computed by a model of this protocol apart from the library, of some 60 lines of Python.
+fn show_demo_script(rt: &HostRuntime) -> anyhow::Result<()> {
+    let alloc = rt.alloc();
+    let separator = demo_script::separator(alloc)?;
+    let input = Goldilocks::from_u64(7);
+    let values = vec![in alloc; Goldilocks::ONE, Goldilocks::from_u64(2)]?;
+    let sent = [
+        Sent::Bytes(hex::decode(alloc, "0011223344556677")?),
+        Sent::Scalars(values),
+        Sent::Bytes(hex::decode(alloc, "6869")?),
+    ];
+    let agreed = demo_script::prove_and_verify(alloc, &separator, input, &sent)?;
+    let agreed = agreed.context("values that the steps do not have")?;
+    let proof = hex::encode(alloc, agreed.proof.as_slice())?;
+    println!(rt; "demo script: {proof}")?;
+    for drawn in &agreed.verified {
+        match drawn {
+            Drawn::Scalars(scalars) | Drawn::Extensions(scalars) => println!(rt; "{scalars:?}")?,
+            Drawn::Bits(numbers) => println!(rt; "{numbers:?}")?,
+        }
+    }
+    let other = demo_script::verify(alloc, &separator, Goldilocks::ONE, agreed.proof.as_slice());
+    if let Err(fault) = other {
+        println!(rt;
+            "another number: refused at {}, {}",
+            fault.position, fault.error
+        )?;
+    }
     Ok(())
 }
 

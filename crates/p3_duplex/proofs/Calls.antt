@@ -3,6 +3,7 @@ use Rattle.std.proofs.Common.{◌≡◌, ◌<◌, ℕ, zero, suc, ◌+◌, ◌-�
 use Rattle.std.proofs.Common.{add-one, append-nil, arith}
 use Rattle.std.specs.List.{range_with_len}
 use Rattle.p3_field_core.specs.Residues.{Residues}
+use Rattle.p3_challenger_core.specs.Sponge.{after_steps}
 use Rattle.p3_challenger_core.specs.Segments.{observe, draw, Segment, run_calls, run_segments}
 use Rattle.p3_challenger_core.specs.SegmentLaws.{cut-only, run_calls-segments}
 use Rattle.p3_duplex.specs.DuplexCalls.{DuplexSponge, overwritten, duplex_by_calls}
@@ -28,6 +29,11 @@ module _ {F P : Type 0} (r : Residues F) (permute : P → List F → List F) (ra
       → after_drawn r permute rate n c ≡ after_calls r permute rate c (replicate n draw)
   after_drawn-is_calls zero c = refl
   after_drawn-is_calls (suc n) c = after_drawn-is_calls n (after_sampled r permute rate c)
+
+  pub steps-are_calls : (n : ℕ) (c : DuplexState F P)
+      → after_steps (after_sampled r permute rate) n c ≡ after_calls r permute rate c (replicate n draw)
+  steps-are_calls zero c = refl
+  steps-are_calls (suc n) c = steps-are_calls n (after_sampled r permute rate c)
 
 module _ {F : Type 0} (r : Residues F) (permute : List F → List F) (rate : ℕ) where
   -- the outputs from a place on are those at the places from there on

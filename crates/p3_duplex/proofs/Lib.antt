@@ -6,3 +6,4 @@ pub mod DuplexSteps
 pub mod Overwriting
 pub mod Pushing
 pub mod Uniform
+pub mod ReadBack

@@ -1,4 +1,5 @@
 pub mod DuplexCalls
+pub mod DuplexReadBack
 pub mod DuplexSegments
 pub mod DuplexState
 pub mod DuplexStateLaws

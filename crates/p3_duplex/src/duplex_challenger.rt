@@ -20,6 +20,7 @@ ghost use Rattle.p3_challenger_core.specs.Segments.{run_segments, run_segments_t
 ghost use Rattle.p3_challenger_core.specs.Observation.{LeavesInCalls, RefusesObserve};
 ghost use Rattle.p3_challenger_core.specs.Sampling.{RefusesDraws};
 ghost use Rattle.p3_duplex.specs.DuplexSegments.{duplex_by_segments};
+ghost use Rattle.p3_duplex.specs.DuplexReadBack.{ReadsBack, ReadsBackToDigest, ReadsBackOrCollides};
 ghost use Rattle.p3_duplex.specs.DuplexCalls.{absorbing, overwritten, fresh, outputs, duplex_by_calls};
 ghost use Rattle.p3_challenger_core.specs.declared.error.ChallengerError.{ChallengerError};
 
@@ -112,16 +113,28 @@ impl<
     ///
     /// `RATE` is from 1 to 255 and below `WIDTH`. `draw_limit`, at least 1, is for draws that may refuse candidates:
     /// how many they take at most. A draw of one element takes the first. The Rust crate has no limit.
+    ///
+    /// What it permutes tells what it observed, for those who check the permutations and not the calls. Where the order
+    /// of the field exceeds `RATE`, two lists of calls that permute the same states, and leave the same pending, or end
+    /// in a digest, observed the same values. Where they permute equally many states, the same last, and leave the same
+    /// pending, they observed the same values too, or at one place of what they permute stand two different states
+    /// whose images are equal past cell `RATE`, and in cell `RATE` differ by a number from `-RATE` to `RATE`.
     pub fn new(permutation: P, draw_limit: u64) -> Self
         requires rate { 0 < RATE }
         requires capacity { RATE < WIDTH }
         requires count { RATE ≤ 255 }
         requires draws { 1 ≤ draw_limit }
-        ensures { result ≡ record {
+        ensures value { result ≡ record {
           sponge = fresh F.residues WIDTH;
           permutation = permutation;
           draw_limit = draw_limit;
         } }
+        ensures reads_back { RATE < F.residues.order →
+            ReadsBack F.residues (P.permutation permutation) RATE result.sponge }
+        ensures to_digest { RATE < F.residues.order →
+            ReadsBackToDigest F.residues (P.permutation permutation) RATE result.sponge }
+        ensures or_collides { RATE < F.residues.order →
+            ReadsBackOrCollides F.residues (P.permutation permutation) RATE result.sponge }
     {
         DuplexChallenger {
             sponge_state: [zero(); WIDTH],

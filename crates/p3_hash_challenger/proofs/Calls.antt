@@ -2,12 +2,14 @@
 use Rattle.std.proofs.Common.{◌≡◌, ◌<◌, ◌≤◌, ℕ, zero, suc, ◌+◌, ◌-◌, List, [], ◌∷◌, ◌++◌, map, replicate, refl, sym}
 use Rattle.std.proofs.Common.{ap, ◌∙◌, inl, append-nil, arith}
 use Rattle.std.specs.List.{range_with_len}
+use Rattle.p3_challenger_core.specs.Sponge.{after_steps}
 use Rattle.p3_challenger_core.specs.Segments.{Call, observe, observe_empty_array, draw, Segment, nothing, segments}
 use Rattle.p3_challenger_core.specs.Segments.{run_calls, run_segments}
 use Rattle.p3_challenger_core.specs.SegmentLaws.{cut-only, run_calls-segments}
 use Rattle.p3_hash_challenger.specs.HashCalls.{HashFunction, HashSponge, absorbing, hash_by_calls}
 use Rattle.p3_hash_challenger.specs.HashSegments.{output_at, outputs_from, run_draws, hash_by_segments}
 use Rattle.p3_hash_challenger.specs.HashState.{HashState, fed, observed, array_observed, after_calls, calls_of_array}
+use Rattle.p3_hash_challenger.specs.HashState.{after_sampled}
 use Rattle.p3_hash_challenger.specs.HashStateLaws.{fed-append}
 use Rattle.p3_hash_challenger.proofs.HashSteps.{hash_steps}
 
@@ -20,6 +22,11 @@ module _ {T H : Type 0} (function : H → HashFunction T) where
       → array_observed s xs ≡ after_calls function s (calls_of_array xs)
   array-is_calls s [] = refl
   array-is_calls s (x ∷ xs) = fed-is_calls s (x ∷ xs)
+
+  pub steps-are_calls : (n : ℕ) (s : HashState T H)
+      → after_steps (after_sampled function) n s ≡ after_calls function s (replicate n draw)
+  steps-are_calls zero s = refl
+  steps-are_calls (suc n) s = steps-are_calls n (after_sampled function s)
 
 module _ {T : Type 0} (h : HashFunction T) where
   -- the outputs from a place on are those at the places from there on

@@ -3,3 +3,4 @@ pub mod HashHanded
 pub mod HashOutputs
 pub mod HashSteps
 pub mod Observing
+pub mod ReadBack

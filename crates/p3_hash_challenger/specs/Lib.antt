@@ -1,4 +1,5 @@
 pub mod HashCalls
+pub mod HashReadBack
 pub mod HashSegments
 pub mod HashState
 pub mod HashStateLaws

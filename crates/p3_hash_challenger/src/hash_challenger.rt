@@ -16,6 +16,8 @@ ghost use Rattle.std.specs.List.{All};
 ghost use Rattle.p3_challenger_core.specs.Segments.{Call, segments, run_calls, run_calls_to_digest};
 ghost use Rattle.p3_challenger_core.specs.Segments.{run_segments, run_segments_to_digest};
 ghost use Rattle.p3_hash_challenger.specs.HashSegments.{hash_by_segments};
+ghost use Rattle.p3_hash_challenger.specs.HashReadBack.{ReadsBack, ReadsBackToDigest, ReadsBackOrCollides};
+ghost use Rattle.p3_read_back.specs.Handed.{Decides};
 ghost use Rattle.p3_hash_challenger.specs.HashState.{function_of, pending_of};
 ghost use Rattle.p3_hash_challenger.specs.HashCalls.{absorbing, outputs, hash_by_calls};
 ghost use Rattle.p3_challenger_core.specs.Observation.{RefusesObserve};
@@ -79,9 +81,19 @@ impl<T: Copy, H: CryptographicHasher<T, [T; OUT_LEN]>, const OUT_LEN: usize> Has
     ghost use Rattle.p3_hash_challenger.specs.HashState as hash_state;
 
     /// A challenger that has the initial state pending, and no output. `OUT_LEN` is at least 1.
+    ///
+    /// What it hashes tells what it observed, for those who check the hashes and not the calls. Two lists of calls that
+    /// hash the same strings, and leave the same pending, or end in a digest, observed the same values. Where they hash
+    /// equally many strings, and leave the same pending, they observed the same values too, or at one place of what
+    /// they hash stand two different strings with one digest: there values of `T` must be such that two are equal or
+    /// not, as bytes and the elements of a field are.
     pub fn new(initial_state: Vec<T>, hasher: H) -> Self
         requires { 0 < OUT_LEN }
-        ensures { result ≡ record { sponge = absorbing initial_state.items; hasher = hasher } }
+        ensures value { result ≡ record { sponge = absorbing initial_state.items; hasher = hasher } }
+        ensures reads_back { ReadsBack (function_of H.hash OUT_LEN H.filler hasher) result.sponge }
+        ensures to_digest { ReadsBackToDigest (function_of H.hash OUT_LEN H.filler hasher) result.sponge }
+        ensures or_collides { Decides T →
+            ReadsBackOrCollides (function_of H.hash OUT_LEN H.filler hasher) result.sponge }
     {
         HashChallenger {
             input_buffer: initial_state,

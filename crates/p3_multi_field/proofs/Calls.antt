@@ -2,6 +2,7 @@
 use Rattle.std.proofs.Common.{◌≡◌, ◌<◌, ℕ, zero, suc, ◌+◌, ◌-◌, List, [], ◌∷◌, ◌++◌, map, replicate, refl, sym, ap, ◌∙◌}
 use Rattle.std.proofs.Common.{add-one, append-nil, arith, subst}
 use Rattle.std.specs.List.{range_with_len}
+use Rattle.p3_challenger_core.specs.Sponge.{after_steps}
 use Rattle.p3_challenger_core.specs.Segments.{observe, draw, Segment, Run, run_calls, run_segments}
 use Rattle.p3_challenger_core.specs.Segments.{run_before}
 use Rattle.p3_challenger_core.specs.SegmentLaws.{cut-only, run_calls-segments}
@@ -31,6 +32,11 @@ module _ {F PF P : Type 0} (pair : FieldPair F PF) (permute : P → List PF → 
       → after_drawn pair permute rate n c ≡ after_calls pair permute rate c (replicate n draw)
   after_drawn-is_calls zero c = refl
   after_drawn-is_calls (suc n) c = after_drawn-is_calls n (after_sampled pair permute rate c)
+
+  pub steps-are_calls : (n : ℕ) (c : MultiFieldState F PF P)
+      → after_steps (after_sampled pair permute rate) n c ≡ after_calls pair permute rate c (replicate n draw)
+  steps-are_calls zero c = refl
+  steps-are_calls (suc n) c = steps-are_calls n (after_sampled pair permute rate c)
 
 -- scalars alone are one stretch
 stretches-scalars : {F PF : Type 0} (xs : List F)

@@ -7,5 +7,6 @@ pub mod MultiFieldSteps
 pub mod Numbers
 pub mod Overwriting
 pub mod Packing
+pub mod ReadBack
 pub mod WordBlocks
 pub mod WorkedRows

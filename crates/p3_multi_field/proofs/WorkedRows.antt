@@ -106,6 +106,10 @@ one_word_by_segments : drawn_by_segments (digest_observed (5 ∷ []) ∷ four_dr
 unfolding absorbed_words handed_words absorbed_batches handed_batches permuted handed_in_turn outputs_from
 one_word_by_segments = refl
 
+-- nor are they by what is permuted
+one_scalar_and_one_word_handed : handed (observed 5 ∷ four_draws) ≡ handed (digest_observed (5 ∷ []) ∷ four_draws)
+one_scalar_and_one_word_handed = refl
+
 -- ---- proof of work, after the scalars 1 and 2
 
 -- whether a candidate passes a check of so many bits: the bits that are drawn after it are 0

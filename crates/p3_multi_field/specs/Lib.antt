@@ -1,4 +1,5 @@
 pub mod MultiFieldCalls
+pub mod MultiFieldReadBack
 pub mod MultiFieldSegments
 pub mod MultiFieldState
 pub mod MultiFieldStateLaws

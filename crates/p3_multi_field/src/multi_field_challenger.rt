@@ -22,6 +22,7 @@ ghost use Rattle.p3_challenger_core.specs.Observation.{LeavesInCalls, RefusesObs
 ghost use Rattle.p3_challenger_core.specs.Sampling.{RefusesDraws};
 ghost use Rattle.p3_challenger_core.specs.declared.error.ChallengerError.{ChallengerError};
 ghost use Rattle.p3_multi_field.specs.MultiFieldCalls.{Symbol, multi_field_by_calls};
+ghost use Rattle.p3_multi_field.specs.MultiFieldReadBack.{ReadsBack};
 ghost use Rattle.p3_multi_field.specs.MultiFieldSegments.{multi_field_by_segments};
 ghost use Rattle.p3_multi_field.specs.Refusals.{MakeChallenger, Refuses};
 
@@ -139,6 +140,11 @@ impl<
     /// The errors are [`MultiField32ChallengerError::FieldOrderNotIncreasing`], exactly where the order of `F` is not
     /// below that of `PF`, and else [`MultiField32ChallengerError::AbsorbLengthTagOverflow`], exactly where the rate
     /// packs more than 255 scalars. No challenger is made then.
+    ///
+    /// What it permutes tells which scalars it observed, where it observes scalars alone, for those who check the
+    /// permutations and not the calls: where the order of `PF` exceeds how many scalars the rate packs, two lists of
+    /// such calls that permute the same states, and leave the same pending, observed the same scalars. Of a scalar and
+    /// a digest no such thing is said.
     pub fn new(permutation: P) -> Result<Self, MultiField32ChallengerError>
         requires rate { 0 < RATE }
         requires capacity { RATE < WIDTH }
@@ -148,6 +154,8 @@ impl<
           sponge = fresh ⟦<PF as Paired<F>>⟧.pair WIDTH;
           permutation = permutation;
         }) }
+        ensures reads_back { PF.ABSORB_COUNT * RATE < PF.residues.order → IfOk result (λ c.
+            ReadsBack ⟦<PF as Paired<F>>⟧.pair (P.permutation permutation) RATE c.sponge) }
         ensures refused { IfErr result (λ e. Refuses F.residues.order PF.residues.order (PF.ABSORB_COUNT * RATE)
             F.name_bytes PF.name_bytes e) }
     {

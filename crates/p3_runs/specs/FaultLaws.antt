@@ -20,44 +20,44 @@ use Rattle.p3_runs.specs.RefusalLaws.{start-never}
 
 -- ---- the seed and the end
 
-start-told : (IsTooLong : Type 0) (e : TranscriptError) → RefusesStart IsTooLong e → (e ≡ OutOfMemory → ⊥) →
+start-refusal : (IsTooLong : Type 0) (e : TranscriptError) → RefusesStart IsTooLong e → (e ≡ OutOfMemory → ⊥) →
     refusal_of e ≡ challenger_refused TooLong
-start-told L (Challenger TooLong) h other = refl
-start-told L (Challenger DrawLimit) h other = absurd h
-start-told L (Challenger NoWitness) h other = absurd h
-start-told L (Challenger challenger.OutOfMemory) h other = absurd h
-start-told L OutOfMemory h other = absurd (other refl)
-start-told L (Pattern e) h other = absurd h
-start-told L (BadProofShape e) h other = absurd h
-start-told L (MissingBegin x) h other = absurd h
-start-told L (InvalidKind x) h other = absurd h
-start-told L (MismatchedBeginEnd x) h other = absurd h
-start-told L (MissingEnd x) h other = absurd h
-start-told L LabelTooLong h other = absurd h
+start-refusal L (Challenger TooLong) h other = refl
+start-refusal L (Challenger DrawLimit) h other = absurd h
+start-refusal L (Challenger NoWitness) h other = absurd h
+start-refusal L (Challenger challenger.OutOfMemory) h other = absurd h
+start-refusal L OutOfMemory h other = absurd (other refl)
+start-refusal L (Pattern e) h other = absurd h
+start-refusal L (BadProofShape e) h other = absurd h
+start-refusal L (MissingBegin x) h other = absurd h
+start-refusal L (InvalidKind x) h other = absurd h
+start-refusal L (MismatchedBeginEnd x) h other = absurd h
+start-refusal L (MissingEnd x) h other = absurd h
+start-refusal L LabelTooLong h other = absurd h
 
--- what is told in the end: the step that is left, or that bytes are
-abbrev told_end : Option Step → Refusal
-told_end None = bad_proof_shape trailing_bytes
-told_end (Some s) = pattern_error (Unplayed s)
+-- why the end is refused: the step that is left, or that bytes are
+abbrev refusal_at_end : Option Step → Refusal
+refusal_at_end None = bad_proof_shape trailing_bytes
+refusal_at_end (Some s) = pattern_error (Unplayed s)
 
-pub end-told : {S : Type 0} (v : Driving S) (e : TranscriptError) → v.transcript.playing.finished ≡ false →
-    RefusesEnd v e → refusal_of e ≡ told_end (next_step v.transcript.playing)
-end-told v (Pattern Finished) going h = let both : false ≡ true = sym going ∙ h in absurd (cc)
-end-told v (Pattern (Unplayed expected)) going h = sym (ap told_end h.1)
-end-told v (Pattern (NoMoreSteps received)) going h = absurd h
-end-told v (Pattern (WrongStep received expected)) going h = absurd h
-end-told v (Pattern (OverCap len max)) going h = absurd h
-end-told v (BadProofShape reason) going h =
+pub end-refusal : {S : Type 0} (v : Driving S) (e : TranscriptError) → v.transcript.playing.finished ≡ false →
+    RefusesEnd v e → refusal_of e ≡ refusal_at_end (next_step v.transcript.playing)
+end-refusal v (Pattern Finished) going h = let both : false ≡ true = sym going ∙ h in absurd (cc)
+end-refusal v (Pattern (Unplayed expected)) going h = sym (ap refusal_at_end h.1)
+end-refusal v (Pattern (NoMoreSteps received)) going h = absurd h
+end-refusal v (Pattern (WrongStep received expected)) going h = absurd h
+end-refusal v (Pattern (OverCap len max)) going h = absurd h
+end-refusal v (BadProofShape reason) going h =
     let past : next_step v.transcript.playing ≡ None
     = ap (slice_get v.transcript.playing.pattern.steps) h.0.end ∙ get-past v.transcript.playing.pattern.steps in
-    ap bad_proof_shape h.2 ∙ sym (ap told_end past)
-end-told v (Challenger e) going h = absurd h
-end-told v OutOfMemory going h = absurd h
-end-told v (MissingBegin x) going h = absurd h
-end-told v (InvalidKind x) going h = absurd h
-end-told v (MismatchedBeginEnd x) going h = absurd h
-end-told v (MissingEnd x) going h = absurd h
-end-told v LabelTooLong going h = absurd h
+    ap bad_proof_shape h.2 ∙ sym (ap refusal_at_end past)
+end-refusal v (Challenger e) going h = absurd h
+end-refusal v OutOfMemory going h = absurd h
+end-refusal v (MissingBegin x) going h = absurd h
+end-refusal v (InvalidKind x) going h = absurd h
+end-refusal v (MismatchedBeginEnd x) going h = absurd h
+end-refusal v (MissingEnd x) going h = absurd h
+end-refusal v LabelTooLong going h = absurd h
 
 -- what refuses a prover the end would refuse it a verifier
 pub end-read : {S : Type 0} (v : Driving S) (e : TranscriptError) →
@@ -155,7 +155,7 @@ module _ (IsTooLong : Type 0) (AtStep AtEnd : ℕ → TranscriptError → Type 0
 
   pub one-fault : TellOneFault (λ p e. ((p ≡ 0) × RefusesStart IsTooLong e) ⊎ AtStep p e ⊎ AtEnd p e)
   one-fault p q e f (inl s) (inl t) other another =
-      (s.0 ∙ sym t.0, start-told IsTooLong e s.1 other ∙ sym (start-told IsTooLong f t.1 another))
+      (s.0 ∙ sym t.0, start-refusal IsTooLong e s.1 other ∙ sym (start-refusal IsTooLong f t.1 another))
   one-fault p q e f (inl s) (inr t) other another = absurd (start-never IsTooLong e s.1 other (later-short q f t))
   one-fault p q e f (inr r) (inl s) other another = absurd (start-never IsTooLong f s.1 another (later-short p e r))
   one-fault p q e f (inr r) (inr t) other another = later-one p q e f r t other another

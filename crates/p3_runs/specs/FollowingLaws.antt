@@ -15,7 +15,7 @@ use Rattle.p3_runs.specs.Rules.{Rules}
 use Rattle.p3_runs.specs.Runs as runs
 use Rattle.p3_runs.specs.Runs.{interactions, if_in_proof, if_carried, if_drawn}
 use Rattle.p3_runs.specs.RunLaws.{finished-matched, finishes-more, wires-more, picked-more, after-more, challenges-more}
-use Rattle.p3_runs.specs.Stepping.{Takes, Halts, IsCarriedTo, one_of, one_witness, all_witnesses}
+use Rattle.p3_runs.specs.Stepping.{TakesStep, Halts, IsCarriedTo, one_of, one_witness, all_witnesses}
 use Rattle.p3_runs.specs.Values.{Value, Challenge}
 use Rattle.p3_runs.specs.Verdicts.{with_steps, driving_after, IsProof, IsOutcome, RefusesAtStep, RefusesAtEnd}
 
@@ -104,7 +104,7 @@ module _ {X S Symbol I F EF O Ac U D : Type 0} (rules : Rules S Symbol I F EF O 
       (received shown : List (Value F EF)) (drawn : List (Challenge F EF)) (x : X) (w : Option F)
       (t : Option (Challenge F EF)) → drop i script.steps ≡ x ∷ drop (i + 1) script.steps →
       drop j carried ≡ one_of w ++ drop k carried → IsCarriedTo (play x).place w →
-      Follows script bytes carried i j here received drawn → Takes (play x) w here shown t there →
+      Follows script bytes carried i j here received drawn → TakesStep (play x) w here shown t there →
       Follows script bytes carried (i + 1) k there (received ++ shown) (drawn ++ if_drawn (Some t))
   follows-on script bytes carried i j k here there received shown drawn x w t at uses brought f takes =
       let v = takes.value in

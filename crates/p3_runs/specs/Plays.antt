@@ -9,7 +9,7 @@ use Rattle.p3_driver_core.specs.Transcripts.{Meaning, without_wire}
 use Rattle.p3_driver_core.specs.Verifying.{RefusesToRead}
 use Rattle.p3_driver_core.specs.Working.{Work, checking}
 use Rattle.p3_runs.specs.Absorbed.{Absorbed, Nothing}
-use Rattle.p3_runs.specs.Sides.{Sides, Refusal, holds_some, sides_known, sides_sent, sides_ground, sides_carried}
+use Rattle.p3_runs.specs.Sides.{Sides, Refusing, holds_some, sides_known, sides_sent, sides_ground, sides_carried}
 use Rattle.p3_runs.specs.Sides.{RefusesKept}
 use Rattle.p3_runs.specs.Values.{Value, Challenge, IsNothing, witness_in}
 
@@ -82,7 +82,7 @@ known interaction f effect absorbed =
 
 -- the same of a list that may not be so long
 abbrev pub known_within : {S Symbol F EF O A : Type 0} → Step → ℕ → ℕ → Effect S Symbol A → Absorbed F O →
-    Refusal S → Refusal S → Play S Symbol F EF O
+    Refusing S → Refusing S → Play S Symbol F EF O
 known_within interaction len max effect absorbed proving verifying =
     known_with interaction (λ v. IsNothing v × (len ≤ max)) no_challenge effect absorbed
     (sides_known proving verifying)
@@ -100,7 +100,7 @@ effect_some other f (Some x) = f x
 
 -- A value of the type that `found` finds is sent, where it is fit: the meaning of each, and how it is read.
 abbrev pub sends : {S Symbol F EF O A : Type 0} → Step → (Value F EF → Option A) → (A → Type 0) → (A → Type 0) →
-    (A → Meaning S Symbol A) → (A → Absorbed F O) → (A → Refusal S) → Reading S Symbol A → Play S Symbol F EF O
+    (A → Meaning S Symbol A) → (A → Absorbed F O) → (A → Refusing S) → Reading S Symbol A → Play S Symbol F EF O
 sends interaction found IsHanded IsFit sent absorbed proving reading =
     record {
       interaction = interaction;

@@ -6,7 +6,7 @@ use Rattle.p3_fs_core.specs.StepFits.{FitsLength}
 use Rattle.p3_fs_core.specs.declared.error.TranscriptError.{TranscriptError}
 use Rattle.p3_fs_core.specs.declared.error.TranscriptError.TheVariants.{OutOfMemory}
 use Rattle.p3_driver_core.specs.Driving.{Driving}
-use Rattle.p3_runs.specs.FaultLaws.{Stops, GoesPast, one-step, one-fault, end-told}
+use Rattle.p3_runs.specs.FaultLaws.{Stops, GoesPast, one-step, one-fault, end-refusal}
 use Rattle.p3_runs.specs.Faults.{TellOneFault, ProofsTellOneFault}
 use Rattle.p3_runs.specs.FrontLaws.{next-admitted}
 use Rattle.p3_runs.specs.Fronts.{Run, seed}
@@ -121,8 +121,8 @@ module _ {X S Symbol I F EF O Ac U D : Type 0} (rules : Rules S Symbol I F EF O 
 
     ends-one : TellOneFault (RefusesAtEnd rules play script bytes carried)
     ends-one p q e f r t other another =
-        let told = end-told (driving_after rules play (with_steps script script.steps r.values) r.left) e refl r.refuses in
-        let again = end-told (driving_after rules play (with_steps script script.steps t.values) t.left) f refl t.refuses in
+        let told = end-refusal (driving_after rules play (with_steps script script.steps r.values) r.left) e refl r.refuses in
+        let again = end-refusal (driving_after rules play (with_steps script script.steps t.values) t.left) f refl t.refuses in
         (r.place ∙ sym t.place, told ∙ sym again)
 
   pub proofs-one_fault : ProofsTellOneFault U D rules play

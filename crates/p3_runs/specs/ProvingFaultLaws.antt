@@ -5,7 +5,7 @@ use Rattle.p3_fs_core.specs.StepFits.{FitsLength}
 use Rattle.p3_fs_core.specs.declared.error.TranscriptError.{TranscriptError}
 use Rattle.p3_fs_core.specs.declared.error.TranscriptError.TheVariants.{OutOfMemory}
 use Rattle.p3_driver_core.specs.Driving.{Driving}
-use Rattle.p3_runs.specs.FaultLaws.{Stops, GoesPast, one-step, one-fault, end-told, end-read}
+use Rattle.p3_runs.specs.FaultLaws.{Stops, GoesPast, one-step, one-fault, end-refusal, end-read}
 use Rattle.p3_runs.specs.Faults.{TellOneFault, ProvingsTellOneFault}
 use Rattle.p3_runs.specs.FrontLaws.{next-admitted}
 use Rattle.p3_runs.specs.Fronts.{Run, seed}
@@ -114,7 +114,7 @@ module _ {X S Symbol I F EF O Ac U D : Type 0} (rules : Rules S Symbol I F EF O 
     ends-one p q e f r t other another =
         let here = stands script.steps r.values in
         let there = stands script.steps t.values in
-        (r.place ∙ sym t.place, end-told here e refl (end-read here e r.refuses) ∙ sym (end-told there f refl (end-read there f t.refuses)))
+        (r.place ∙ sym t.place, end-refusal here e refl (end-read here e r.refuses) ∙ sym (end-refusal there f refl (end-read there f t.refuses)))
 
   pub provings-one_fault : ProvingsTellOneFault U D rules play
   provings-one_fault script sent admitted =

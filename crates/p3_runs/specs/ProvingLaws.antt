@@ -19,7 +19,7 @@ use Rattle.p3_runs.specs.Runs as runs
 use Rattle.p3_runs.specs.Runs.{if_sent, if_carried, if_witness, if_drawn}
 use Rattle.p3_runs.specs.RunLaws.{finished-matched, finishes-more, wires-more, picked-more, after-more, challenges-more}
 use Rattle.p3_runs.specs.RunLaws.{chosen-more}
-use Rattle.p3_runs.specs.Stepping.{Sends, Halts, one_of, one_witness, all_witnesses}
+use Rattle.p3_runs.specs.Stepping.{SendsStep, Halts, one_of, one_witness, all_witnesses}
 use Rattle.p3_runs.specs.Values.{Value, Challenge}
 use Rattle.p3_runs.specs.Verdicts.{with_steps, driving_after}
 
@@ -102,7 +102,7 @@ module _ {X S Symbol I F EF O Ac U D : Type 0} (rules : Rules S Symbol I F EF O 
       (t : Option (Challenge F EF)) → drop i script.steps ≡ x ∷ drop (i + 1) script.steps →
       drop j sent ≡ if_sent (play x).place given ++ drop k sent →
       Proves script sent i j here witnesses carried drawn →
-      Sends (play x) (if_sent (play x).place given) here w t there →
+      SendsStep (play x) (if_sent (play x).place given) here w t there →
       Proves script sent (i + 1) k there (witnesses ++ one_of w) (carried ++ where_carried (play x).place (one_of w))
       (drawn ++ if_drawn (Some t))
   proves-on script sent i j k here there witnesses carried drawn x given w t at uses f sends =

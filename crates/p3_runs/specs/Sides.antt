@@ -13,19 +13,19 @@ use Rattle.p3_driver_core.specs.Working.{Work, RefusesToGrind, RefusesToCheck}
 use Rattle.p3_runs.specs.Values.{Value, IsNothing, witness_in}
 
 -- of a side at a step: its state before, the error, and its state after
-abbrev pub Refusal : Type 0 → Type 1
-Refusal S = Driving S → TranscriptError → Driving S → Type 0
+abbrev pub Refusing : Type 0 → Type 1
+Refusing S = Driving S → TranscriptError → Driving S → Type 0
 
 -- What a prover is handed for a step, what it then chooses where it has a choice, and why it refuses the step, by what
 -- it was handed; and why a verifier refuses the step, by the witness that its caller carries, if it does.
 pub record Sides (S F EF : Type 0) : Type 1 where
   pub IsHanded : Value F EF → Type 0
   pub IsChosen : S → Value F EF → Type 0
-  pub prover : Value F EF → Refusal S
-  pub verifier : Option F → Refusal S
+  pub prover : Value F EF → Refusing S
+  pub verifier : Option F → Refusing S
 
 -- of what was found, if anything was
-abbrev pub refuses_some : {S A : Type 0} → (A → Refusal S) → Option A → Refusal S
+abbrev pub refuses_some : {S A : Type 0} → (A → Refusing S) → Option A → Refusing S
 refuses_some refuses None before e after = ⊥
 refuses_some refuses (Some x) before e after = refuses x before e after
 
@@ -36,26 +36,26 @@ holds_some P (Some x) = P x
 -- ---- why a side refuses
 
 -- the step is refused, and the bytes of the proof stay as they are
-abbrev pub RefusesKept : {S Symbol A : Type 0} → Meaning S Symbol A → Refusal S
+abbrev pub RefusesKept : {S Symbol A : Type 0} → Meaning S Symbol A → Refusing S
 RefusesKept m before e after =
     RefusesStep m before.transcript e after.transcript × (after.bytes ≡ before.bytes)
 
 -- the same of a list that may not be so long, on the prover's side
-abbrev pub RefusesWithin : {S Symbol A : Type 0} → ℕ → ℕ → Meaning S Symbol A → Refusal S
+abbrev pub RefusesWithin : {S Symbol A : Type 0} → ℕ → ℕ → Meaning S Symbol A → Refusing S
 RefusesWithin len max m before e after =
     (RefusesLongList len max before e after
     ⊎ ((len ≤ max) × RefusesStep m before.transcript e after.transcript))
     × (after.bytes ≡ before.bytes)
 
 -- and on the verifier's
-abbrev pub RefusesCarriedWithin : {S Symbol A : Type 0} → ℕ → ℕ → Meaning S Symbol A → Refusal S
+abbrev pub RefusesCarriedWithin : {S Symbol A : Type 0} → ℕ → ℕ → Meaning S Symbol A → Refusing S
 RefusesCarriedWithin len max m before e after =
     (RefusesCarriedList (max < len) longer_list before e after
     ⊎ ((len ≤ max) × RefusesStep m before.transcript e after.transcript))
     × (after.bytes ≡ before.bytes)
 
 -- the same of a list that has as many elements as the next step says
-abbrev pub RefusesAsRecorded : {S Symbol A : Type 0} → ℕ → Meaning S Symbol A → Refusal S
+abbrev pub RefusesAsRecorded : {S Symbol A : Type 0} → ℕ → Meaning S Symbol A → Refusing S
 RefusesAsRecorded len m before e after =
     (RefusesCarriedList (IsOtherLength len (next_step before.transcript.playing)) another_length before e after
     ⊎ ((IsOtherLength len (next_step before.transcript.playing) → ⊥)
@@ -63,27 +63,27 @@ RefusesAsRecorded len m before e after =
     × (after.bytes ≡ before.bytes)
 
 -- a prover does not write what is sent, where it may be so long
-abbrev pub RefusesToWriteWithin : {S Symbol A : Type 0} → ℕ → ℕ → Meaning S Symbol A → Refusal S
+abbrev pub RefusesToWriteWithin : {S Symbol A : Type 0} → ℕ → ℕ → Meaning S Symbol A → Refusing S
 RefusesToWriteWithin len max m before e after =
     RefusesLongList len max before e after ⊎ ((len ≤ max) × RefusesToWrite m before e after)
 
 -- a prover finds no witness, or does not write it
-abbrev pub RefusesToGrindAndWrite : {S Symbol W : Type 0} → Work S Symbol W → Encoding W → (S → Type 0) → Refusal S
+abbrev pub RefusesToGrindAndWrite : {S Symbol W : Type 0} → Work S Symbol W → Encoding W → (S → Type 0) → Refusing S
 RefusesToGrindAndWrite work enc may_run_out before e after =
     (RefusesToGrind work may_run_out before.transcript e after.transcript × (after.bytes ≡ before.bytes))
     ⊎ Unwritten work enc before e after
 
-abbrev pub RefusesToGrindAndKeep : {S Symbol W : Type 0} → Work S Symbol W → (S → Type 0) → Refusal S
+abbrev pub RefusesToGrindAndKeep : {S Symbol W : Type 0} → Work S Symbol W → (S → Type 0) → Refusing S
 RefusesToGrindAndKeep work may_run_out before e after =
     RefusesToGrind work may_run_out before.transcript e after.transcript × (after.bytes ≡ before.bytes)
 
 -- a verifier reads no witness, or it does not pass
-abbrev pub RefusesToReadWork : {S Symbol W : Type 0} → Work S Symbol W → Encoding W → Refusal S
+abbrev pub RefusesToReadWork : {S Symbol W : Type 0} → Work S Symbol W → Encoding W → Refusing S
 RefusesToReadWork work enc before e after =
     RefusesToRead (received_work work enc) before e after ⊎ FailsWork work enc before e after
 
 -- a witness that its caller carries does not pass
-abbrev pub RefusesCarriedWork : {S Symbol W : Type 0} → Work S Symbol W → W → Refusal S
+abbrev pub RefusesCarriedWork : {S Symbol W : Type 0} → Work S Symbol W → W → Refusing S
 RefusesCarriedWork work x before e after =
     RefusesToCheck work x before.transcript e after.transcript × (after.bytes ≡ before.bytes)
 
@@ -94,12 +94,12 @@ abbrev pub NoChoice : {S F EF : Type 0} → S → Value F EF → Type 0
 NoChoice s v = Unit {0}
 
 -- what both sides know
-abbrev pub sides_known : {S F EF : Type 0} → Refusal S → Refusal S → Sides S F EF
+abbrev pub sides_known : {S F EF : Type 0} → Refusing S → Refusing S → Sides S F EF
 sides_known proving verifying =
     record { IsHanded = IsNothing; IsChosen = NoChoice; prover = λ _. proving; verifier = λ _. verifying }
 
 -- what the prover is handed and sends, and the verifier reads
-abbrev pub sides_sent : {S F EF A : Type 0} → (Value F EF → Option A) → (A → Type 0) → (A → Refusal S) → Refusal S →
+abbrev pub sides_sent : {S F EF A : Type 0} → (Value F EF → Option A) → (A → Type 0) → (A → Refusing S) → Refusing S →
     Sides S F EF
 sides_sent found IsHanded proving verifying =
     record {

@@ -7,7 +7,7 @@ use Rattle.p3_driver_core.specs.Transcripts.{PlaysStep, IsNext}
 use Rattle.p3_step_laws.specs.OneReason.{TellOneReason}
 use Rattle.p3_runs.specs.Plays.{Play, Place, Carried, meaning}
 use Rattle.p3_runs.specs.Runs.{if_in_proof, if_sent, if_carried, if_witness}
-use Rattle.p3_runs.specs.Sides.{Refusal, Sides}
+use Rattle.p3_runs.specs.Sides.{Refusing, Sides}
 use Rattle.p3_runs.specs.Values.{Value, Challenge}
 use Rattle.p3_runs.specs.Values as value
 
@@ -32,7 +32,7 @@ all_witnesses (x ∷ xs) = value.Witness x ∷ all_witnesses xs
 
 -- A verifier plays the step with a value: it fits, its bytes were next in the proof, it is the witness that the caller
 -- carries, if it does, and this of it is received; and this is drawn.
-pub record Takes {S Symbol F EF O : Type 0} (play : Play S Symbol F EF O) (witness : Option F) (before : Driving S)
+pub record TakesStep {S Symbol F EF O : Type 0} (play : Play S Symbol F EF O) (witness : Option F) (before : Driving S)
     (received : List (Value F EF)) (drawn : Option (Challenge F EF)) (after : Driving S) : Type 0 where
   pub value : Value F EF
   pub fits : play.Fits value
@@ -43,7 +43,7 @@ pub record Takes {S Symbol F EF O : Type 0} (play : Play S Symbol F EF O) (witne
 
 -- A prover plays the step with a value: it fits, it is what the prover was handed, or the least witness that passes,
 -- and its bytes are added; and this is drawn.
-pub record Sends {S Symbol F EF O : Type 0} (play : Play S Symbol F EF O) (handed : List (Value F EF))
+pub record SendsStep {S Symbol F EF O : Type 0} (play : Play S Symbol F EF O) (handed : List (Value F EF))
     (before : Driving S) (witness : Option F) (drawn : Option (Challenge F EF)) (after : Driving S) : Type 0 where
   pub value : Value F EF
   pub fits : play.Fits value
@@ -54,11 +54,11 @@ pub record Sends {S Symbol F EF O : Type 0} (play : Play S Symbol F EF O) (hande
   pub written : after.bytes ≡ before.bytes ++ play.wire value
 
 -- memory was refused for what the caller is given: no step may follow
-abbrev pub Halts : {S : Type 0} → Refusal S
+abbrev pub Halts : {S : Type 0} → Refusing S
 Halts before e after = (e ≡ OutOfMemory) × (after.transcript.playing.finished ≡ true)
 
 -- a side refuses the step, or that happens
-abbrev pub OrHalts : {S : Type 0} → Refusal S → Refusal S
+abbrev pub OrHalts : {S : Type 0} → Refusing S → Refusing S
 OrHalts refuses before e after = refuses before e after ⊎ Halts before e after
 
 -- ---- when a step may be played

@@ -12,7 +12,7 @@ use Rattle.p3_driver_core.specs.Transcripts.{Meaning, RefusesStep}
 use Rattle.p3_driver_core.specs.Working.{Work, RefusesToCheck, RefusesToGrind}
 use Rattle.p3_step_laws.specs.OneReason.{TellOneReason}
 use Rattle.p3_runs.specs.Rules.{Rules}
-use Rattle.p3_runs.specs.Sides.{Refusal, RefusesKept, RefusesWithin, RefusesCarriedWithin, RefusesAsRecorded}
+use Rattle.p3_runs.specs.Sides.{Refusing, RefusesKept, RefusesWithin, RefusesCarriedWithin, RefusesAsRecorded}
 use Rattle.p3_runs.specs.Sides.{RefusesToWriteWithin, RefusesToGrindAndWrite, RefusesToGrindAndKeep}
 use Rattle.p3_runs.specs.Sides.{RefusesToReadWork, RefusesCarriedWork, refuses_some, sides_known, sides_sent}
 use Rattle.p3_runs.specs.Sides.{sides_ground, sides_carried}
@@ -26,13 +26,13 @@ use Rattle.p3_script.proofs.Reasoned.{Reasoned, LengthOrStep, LongListOrStep, Ot
 -- ---- what a side adds to a step
 
 -- want of memory is no such error
-halts-one_reason : {S : Type 0} (R : Refusal S) → TellOneReason R → TellOneReason (OrHalts R)
+halts-one_reason : {S : Type 0} (R : Refusing S) → TellOneReason R → TellOneReason (OrHalts R)
 halts-one_reason R one start a b e f (inl x) (inl y) p q = one start a b e f x y p q
 halts-one_reason R one start a b e f (inl x) (inr h) p q = absurd (q h.0)
 halts-one_reason R one start a b e f (inr h) y p q = absurd (p h.0)
 
 -- what was found, if anything was
-some-one_reason : {S A : Type 0} (refuses : A → Refusal S) → ((x : A) → TellOneReason (refuses x)) → (o : Option A) →
+some-one_reason : {S A : Type 0} (refuses : A → Refusing S) → ((x : A) → TellOneReason (refuses x)) → (o : Option A) →
     TellOneReason (refuses_some refuses o)
 some-one_reason refuses one None start a b e f x y p q = absurd x
 some-one_reason refuses one (Some z) start a b e f x y p q = one z start a b e f x y p q
@@ -77,7 +77,7 @@ module _ {S Symbol A : Type 0} (m : Meaning S Symbol A) where
 -- ---- the shapes
 
 -- what both sides know
-known-one_reason : {S F EF : Type 0} (proving verifying : Refusal S) → TellOneReason proving →
+known-one_reason : {S F EF : Type 0} (proving verifying : Refusing S) → TellOneReason proving →
     TellOneReason verifying → RefuseForOneReason (sides_known {F = F} {EF = EF} proving verifying)
 known-one_reason proving verifying proves verifies =
     record {
@@ -92,7 +92,7 @@ same-one_reason m one = known-one_reason (RefusesKept m) (RefusesKept m) (kept m
 
 -- what is sent
 sent-one_reason : {S F EF A : Type 0} (found : Value F EF → Option A) (IsHanded : A → Type 0)
-    (proving : A → Refusal S) (verifying : Refusal S) → ((x : A) → TellOneReason (proving x)) →
+    (proving : A → Refusing S) (verifying : Refusing S) → ((x : A) → TellOneReason (proving x)) →
     TellOneReason verifying → RefuseForOneReason (sides_sent found IsHanded proving verifying)
 sent-one_reason found IsHanded proving verifying proves verifies =
     record {

@@ -34,7 +34,7 @@ use Rattle.p3_runs.specs.Absorbed.{Absorbed}
 use Rattle.p3_runs.specs.Plays.{Play, only_if, known, known_with, sends, sends_witness, carries_witness, giving}
 use Rattle.p3_runs.specs.Plays.{no_challenge, when_some, effect_some, Any, HasLength, HasAtMost}
 use Rattle.p3_runs.specs.Rules.{Rules, Coding}
-use Rattle.p3_runs.specs.Sides.{Refusal, refuses_some, sides_known, RefusesToWriteWithin}
+use Rattle.p3_runs.specs.Sides.{Refusing, refuses_some, sides_known, RefusesToWriteWithin}
 use Rattle.p3_runs.specs.Sides.{RefusesCarriedWork}
 use Rattle.p3_runs.specs.Stepping.{IsTakenWherePossible, IsSentWherePossible, one_witness}
 use Rattle.p3_runs.specs.Values.{Value, Challenge, Witness, IsNothing, bytes_in, scalar_in, scalars_in}
@@ -68,7 +68,7 @@ pub record IsRefusedForMemory {S Symbol F EF O : Type 0} (play : Play S Symbol F
 
 module _ {S Symbol F EF O A : Type 0} (condition : Type 0) (i : Step) (Fits : Value F EF → Type 0)
     (f : A → Option (Challenge F EF)) (E : Effect S Symbol A) (absorbed : Absorbed F O)
-    (proving verifying : Refusal S) where
+    (proving verifying : Refusing S) where
   -- as each side refuses it, it is refused as any step is, where it is next
   known_with-refused : TellsLimits E → ((v : Value F EF) (before after : Driving S) (e : TranscriptError) → Fits v →
       IsNext before.transcript.playing i → verifying before e after →
@@ -104,7 +104,7 @@ known-refused condition i f E absorbed tells =
 
 -- what is sent is next alike, is given back, meets no limit, and is refused and read for want of memory alone
 record Sending {S Symbol A : Type 0} (i : Step) (IsFit : A → Type 0) (sent : A → Meaning S Symbol A)
-    (proving : A → Refusal S) (reading : Reading S Symbol A) : Type 0 where
+    (proving : A → Refusing S) (reading : Reading S Symbol A) : Type 0 where
   interaction : (x : A) → IsFit x → i ≡ (sent x).interaction
   gives : (x : A) (s : S) → (sent x).effect.gives s ≡ Some x
   tells : (x : A) → TellsLimits (sent x).effect
@@ -113,7 +113,7 @@ record Sending {S Symbol A : Type 0} (i : Step) (IsFit : A → Type 0) (sent : A
   reads : (x : A) → IsFit x → OnlyMemoryRefusesToRead (sent x) reading x
 
 module _ {S Symbol F EF O A : Type 0} (i : Step) (found : Value F EF → Option A) (IsHanded IsFit : A → Type 0)
-    (sent : A → Meaning S Symbol A) (absorbed : A → Absorbed F O) (proving : A → Refusal S)
+    (sent : A → Meaning S Symbol A) (absorbed : A → Absorbed F O) (proving : A → Refusing S)
     (reading : Reading S Symbol A) (laws : Sending i IsFit sent proving reading) where
   abbrev effect_of : Option A → Effect S Symbol (Option (Challenge F EF))
   effect_of o = effect_some None (λ x. giving no_challenge (sent x).effect) o
@@ -193,7 +193,7 @@ module _ {S Symbol W : Type 0} (work : Work S Symbol W) (laws : IsResidues work.
   ground OutOfMemory refuses = refl
 
 -- the witness that the caller carries is the step's
-carried_one : {S F EF : Type 0} (refuses : F → Refusal S) (witness : Option F) (v : Value F EF) (x : F)
+carried_one : {S F EF : Type 0} (refuses : F → Refusing S) (witness : Option F) (v : Value F EF) (x : F)
     (before after : Driving S) (e : TranscriptError) → witness_in v ≡ Some x → v ∷ [] ≡ one_witness witness →
     refuses_some refuses witness before e after → refuses x before e after
 carried_one refuses None v x before after e is carried h = absurd h

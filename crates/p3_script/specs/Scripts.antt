@@ -80,17 +80,17 @@ module _ {S Symbol I F EF O Ac : Type 0} (rules : Rules S Symbol I F EF O Ac) wh
 
   -- ---- elements of an algebra, of which each is absorbed as its coefficients
 
-  abbrev pub one_of : {A : Type 0} → Coding S Symbol F A → A → Absorbed F O
-  one_of coding x = Elements (coding.coefficients x ∷ [])
+  abbrev pub element_absorbed : {A : Type 0} → Coding S Symbol F A → A → Absorbed F O
+  element_absorbed coding x = Elements (coding.coefficients x ∷ [])
 
-  abbrev pub all_of : {A : Type 0} → Coding S Symbol F A → List A → Absorbed F O
-  all_of coding xs = Elements (map coding.coefficients xs)
+  abbrev pub elements_absorbed : {A : Type 0} → Coding S Symbol F A → List A → Absorbed F O
+  elements_absorbed coding xs = Elements (map coding.coefficients xs)
 
   -- both sides know one, or a list
   abbrev pub knows_one : {A : Type 0} → Coding S Symbol F A → Kind → List ℕ → A → Play S Symbol F EF O
   knows_one coding kind label x =
       known (algebra_step kind label coding.algebra lengths.Scalar) no_challenge (observing coding.observation x)
-      (one_of coding x)
+      (element_absorbed coding x)
 
   abbrev pub list_known : {A : Type 0} → Coding S Symbol F A → Kind → List ℕ → List A → Meaning S Symbol (List A)
   list_known coding kind label xs =
@@ -98,13 +98,13 @@ module _ {S Symbol I F EF O Ac : Type 0} (rules : Rules S Symbol I F EF O Ac) wh
 
   abbrev pub knows_list : {A : Type 0} → Coding S Symbol F A → Kind → List ℕ → List A → Play S Symbol F EF O
   knows_list coding kind label xs =
-      let m = list_known coding kind label xs in known m.interaction no_challenge m.effect (all_of coding xs)
+      let m = list_known coding kind label xs in known m.interaction no_challenge m.effect (elements_absorbed coding xs)
 
   -- a list of which the verifier says first where it is not as long as the next step's
   abbrev pub knows_as_recorded : {A : Type 0} → Coding S Symbol F A → Kind → List ℕ → List A → Play S Symbol F EF O
   knows_as_recorded coding kind label xs =
       let m = list_known coding kind label xs in
-      known_with m.interaction IsNothing no_challenge m.effect (all_of coding xs)
+      known_with m.interaction IsNothing no_challenge m.effect (elements_absorbed coding xs)
       (sides_known (RefusesKept m) (RefusesAsRecorded (list.length xs) m))
 
   -- a list of at most so many, after its count
@@ -117,14 +117,14 @@ module _ {S Symbol I F EF O Ac : Type 0} (rules : Rules S Symbol I F EF O Ac) wh
   abbrev pub knows_counted : {A : Type 0} → Coding S Symbol F A → Kind → List ℕ → List A → ℕ → Play S Symbol F EF O
   knows_counted coding kind label xs max =
       let m = counted_known coding kind label xs max in
-      known_within m.interaction (list.length xs) max m.effect (all_of coding xs)
+      known_within m.interaction (list.length xs) max m.effect (elements_absorbed coding xs)
       (RefusesWithin (list.length xs) max m) (RefusesCarriedWithin (list.length xs) max m)
 
   -- one is sent, so many, or at most so many after their count
   abbrev pub sends_one : {A : Type 0} → Coding S Symbol F A → (Value F EF → Option A) → List ℕ → Play S Symbol F EF O
   sends_one coding found label =
       let one = algebra_step kind.Message label coding.algebra lengths.Scalar in
-      sends one found Any Any (meaning.sent one coding.observation coding.encoding) (one_of coding)
+      sends one found Any Any (meaning.sent one coding.observation coding.encoding) (element_absorbed coding)
       (λ x. RefusesToWrite (meaning.sent one coding.observation coding.encoding x))
       (reads.received one coding.observation coding.encoding)
 
@@ -137,7 +137,7 @@ module _ {S Symbol I F EF O Ac : Type 0} (rules : Rules S Symbol I F EF O Ac) wh
       Play S Symbol F EF O
   sends_list coding found label n =
       let step = algebra_step kind.Message label coding.algebra (lengths.Fixed n) in
-      sends step found (HasLength n) (HasLength n) (list_sent coding label) (all_of coding)
+      sends step found (HasLength n) (HasLength n) (list_sent coding label) (elements_absorbed coding)
       (λ xs. RefusesToWrite (list_sent coding label xs))
       (reads.received_list step coding.observation coding.encoding n)
 
@@ -146,7 +146,7 @@ module _ {S Symbol I F EF O Ac : Type 0} (rules : Rules S Symbol I F EF O Ac) wh
   sends_counted coding found label max =
       let some = algebra_step kind.Message label coding.algebra (lengths.Bounded max) in
       sends some found Any (HasAtMost max)
-      (meaning.sent_bounded some rules.alphabet max coding.observation coding.encoding) (all_of coding)
+      (meaning.sent_bounded some rules.alphabet max coding.observation coding.encoding) (elements_absorbed coding)
       (λ xs. RefusesToWriteWithin (list.length xs) max
       (meaning.sent_bounded some rules.alphabet max coding.observation coding.encoding xs))
       (reads.received_bounded some rules.alphabet max coding.observation coding.encoding)

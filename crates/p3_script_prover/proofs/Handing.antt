@@ -7,7 +7,7 @@ use Rattle.p3_runs.specs.Plays.{Play}
 use Rattle.p3_runs.specs.Plays as place
 use Rattle.p3_runs.specs.ProverOutcomes.{StartsHanded, where_carried}
 use Rattle.p3_runs.specs.Runs.{if_sent, if_drawn}
-use Rattle.p3_runs.specs.Stepping.{Sends, one_of}
+use Rattle.p3_runs.specs.Stepping.{SendsStep, one_of}
 use Rattle.p3_runs.specs.Values.{Value, Challenge, Nothing}
 use Rattle.p3_script.specs.Scripts.{value_sent, values_sent, challenge_of, challenges_of, drawn_of}
 use Rattle.p3_script.specs.declared.steps.Drawn.{Drawn}
@@ -23,7 +23,7 @@ use Rattle.p3_script.specs.declared.standing.Standing.TheVariants as standing
 -- what was played with a value is sent
 pub sends-played : {S Symbol F EF O : Type 0} (play : Play S Symbol F EF O) (before after : Driving S) (given : Value F EF)
     (witness : Option F) (drawn : Option (Challenge F EF)) → SendsValue play before given witness drawn after →
-    Sends play (if_sent play.place given) before witness drawn after
+    SendsStep play (if_sent play.place given) before witness drawn after
 sends-played play before after given witness drawn s =
     record {
       value = value_played witness given;

@@ -10,7 +10,7 @@ use Rattle.p3_runs.specs.Plays as place
 use Rattle.p3_runs.specs.ProverOutcomes.{IsProverOutcome, where_carried}
 use Rattle.p3_runs.specs.Rules.{Rules}
 use Rattle.p3_runs.specs.Runs.{if_sent, if_drawn}
-use Rattle.p3_runs.specs.Stepping.{Sends, Halts, one_of}
+use Rattle.p3_runs.specs.Stepping.{SendsStep, Halts, one_of}
 use Rattle.p3_runs.specs.Values.{Value, Challenge, Nothing}
 use Rattle.p3_runs.specs.Verdicts.{with_steps}
 use Rattle.p3_script.specs.declared.standing.Standing.{Standing}
@@ -49,7 +49,7 @@ pub record PlaysNext {S Symbol F EF O : Type 0} (play : Play S Symbol F EF O) (s
   pub witness : Option F
   pub drawn : Option (Challenge F EF)
   pub used : drop j sent ≡ if_sent play.place given ++ drop k sent
-  pub sends : Sends play (if_sent play.place given) here witness drawn there
+  pub sends : SendsStep play (if_sent play.place given) here witness drawn there
   pub witnesses_is : witnesses1 ≡ witnesses0 ++ one_of witness
   pub carried_is : carried1 ≡ carried0 ++ where_carried play.place (one_of witness)
   pub drawn_is : drawn1 ≡ drawn0 ++ if_drawn (Some drawn)

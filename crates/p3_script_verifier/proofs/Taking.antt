@@ -14,16 +14,16 @@ use Rattle.p3_driver_core.specs.Verifying.{Receives}
 use Rattle.p3_step_laws.specs.Spelled.{OnlyReads}
 use Rattle.p3_runs.specs.Absorbed.{Absorbed}
 use Rattle.p3_runs.specs.Plays.{Play, sends}
-use Rattle.p3_runs.specs.Sides.{Refusal}
-use Rattle.p3_runs.specs.Stepping.{Takes}
+use Rattle.p3_runs.specs.Sides.{Refusing}
+use Rattle.p3_runs.specs.Stepping.{TakesStep}
 use Rattle.p3_runs.specs.Values.{Value, Challenge}
 
 -- a value that the step sends is received
 pub sent-taken : {S Symbol F EF O A : Type 0} (i : Step) (found : Value F EF → Option A) (IsHanded IsFit : A → Type 0)
-    (sent : A → Meaning S Symbol A) (absorbed : A → Absorbed F O) (proving : A → Refusal S) (r : Reading S Symbol A)
+    (sent : A → Meaning S Symbol A) (absorbed : A → Absorbed F O) (proving : A → Refusing S) (r : Reading S Symbol A)
     (before after : Driving S) (v : Value F EF) (x : A) → r.interaction ≡ i → r.effect x ≡ (sent x).effect →
     OnlyReads r IsFit sent → AreBytes before.bytes → found v ≡ Some x → Receives r before x after →
-    Takes (sends i found IsHanded IsFit sent absorbed proving r) None before (v ∷ []) None after
+    TakesStep (sends i found IsHanded IsFit sent absorbed proving r) None before (v ∷ []) None after
 sent-taken {S} {Symbol} {F} {EF} {O} {A} i found IsHanded IsFit sent absorbed proving r before after v x named same only bytes is p =
     record {
       value = v;
@@ -45,12 +45,12 @@ sent-taken {S} {Symbol} {F} {EF} {O} {A} i found IsHanded IsFit sent absorbed pr
 -- the same where the driver was as it is then for a while
 pub sent-taken_then : {S Symbol F EF O A : Type 0} (i : Step) (found : Value F EF → Option A)
     (IsHanded IsFit : A → Type 0) (sent : A → Meaning S Symbol A) (absorbed : A → Absorbed F O)
-    (proving : A → Refusal S) (r : Reading S Symbol A) (before after there : Driving S) (v : Value F EF) (x : A) →
+    (proving : A → Refusing S) (r : Reading S Symbol A) (before after there : Driving S) (v : Value F EF) (x : A) →
     r.interaction ≡ i → r.effect x ≡ (sent x).effect → OnlyReads r IsFit sent → AreBytes before.bytes →
     found v ≡ Some x → Receives r before x after → there ≡ after →
-    Takes (sends i found IsHanded IsFit sent absorbed proving r) None before (v ∷ []) None there
+    TakesStep (sends i found IsHanded IsFit sent absorbed proving r) None before (v ∷ []) None there
 sent-taken_then i found IsHanded IsFit sent absorbed proving r before after there v x named same only bytes is p stays =
-    subst (λ d. Takes (sends i found IsHanded IsFit sent absorbed proving r) None before (v ∷ []) None d) (sym stays)
+    subst (λ d. TakesStep (sends i found IsHanded IsFit sent absorbed proving r) None before (v ∷ []) None d) (sym stays)
     (sent-taken i found IsHanded IsFit sent absorbed proving r before after v x named same only bytes is p)
 
 -- memory was refused

@@ -4,7 +4,7 @@ use Rattle.p3_fs_core.specs.declared.error.TranscriptError.{TranscriptError}
 use Rattle.p3_driver_core.specs.Driving.{Driving}
 use Rattle.p3_runs.specs.Plays.{Play}
 use Rattle.p3_runs.specs.Runs.{if_drawn}
-use Rattle.p3_runs.specs.Stepping.{Takes, Halts}
+use Rattle.p3_runs.specs.Stepping.{TakesStep, Halts}
 use Rattle.p3_runs.specs.Values.{Value, Challenge}
 
 -- the step is played, with the witness that the caller carries, if it does: this is received, and this drawn; or it is
@@ -12,7 +12,7 @@ use Rattle.p3_runs.specs.Values.{Value, Challenge}
 pub record TakesOrRefuses {S Symbol F EF O R : Type 0} (play : Play S Symbol F EF O) (witness : Option F)
     (before : Driving S) (received : R → List (Value F EF)) (drawn : R → Option (Challenge F EF))
     (result : Result R TranscriptError) (after : Driving S) : Type 0 where
-  pub comes : MatchResult result (λ r. Takes play witness before (received r) (drawn r) after)
+  pub comes : MatchResult result (λ r. TakesStep play witness before (received r) (drawn r) after)
       (λ e. play.sides.verifier witness before e after ⊎ Halts before e after)
 
 -- the step is refused, whatever is left then
@@ -27,6 +27,6 @@ pub record KeepsOne {S Symbol F EF O : Type 0} (play : Play S Symbol F EF O) (wi
     (received_now : List (Value F EF)) (drawn_now : List (Challenge F EF)) : Type 0 where
   pub shown : List (Value F EF)
   pub draws : Option (Challenge F EF)
-  pub takes : Takes play witness before shown draws after
+  pub takes : TakesStep play witness before shown draws after
   pub kept : received_now ≡ received ++ shown
   pub drew : drawn_now ≡ drawn ++ if_drawn (Some draws)

@@ -217,3 +217,9 @@ four_draws_digest_by_segments = refl
 three_values_digest_by_segments : digest_after_segments (five ∷ nought ∷ five ∷ []) ≡ 1 ∷ 11 ∷ []
 unfolding absorbed_blocks handed_blocks permuted handed_in_turn outputs_from
 three_values_digest_by_segments = refl
+
+-- ---- what is read back
+
+-- the count tells one value from the same with a zero after it
+five_is_not_five_nought : handed (five ∷ draw ∷ []) ≡ handed (five ∷ nought ∷ draw ∷ []) → ⊥
+five_is_not_five_nought h = cc

@@ -5,4 +5,5 @@ pub mod FieldRows
 pub mod HashRows
 pub mod Lies
 pub mod Observed
+pub mod ReadBackRows
 pub mod UniformRows

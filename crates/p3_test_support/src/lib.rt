@@ -2,11 +2,13 @@
 //! to write down by hand. The worked rows that need a field or a hash function are computed in its proofs.
 #![tactic(auto)]
 
+mod read_back;
 mod recording_challenger;
 mod sponges;
 mod supply;
 mod test_hashers;
 
+pub use read_back::{length_hasher_collides, turn_collides};
 pub use recording_challenger::RecordingChallenger;
 pub use sponges::{SmallSponge, element, small_sponge};
 pub use supply::Supply;

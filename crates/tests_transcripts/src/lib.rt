@@ -16,6 +16,7 @@ mod errors;
 mod interactions;
 #[cfg(test)]
 mod program;
+#[cfg(test)]
 mod program_scripts;
 #[cfg(test)]
 mod recorders;

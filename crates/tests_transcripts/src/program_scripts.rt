@@ -3,6 +3,7 @@
 use std::alloc::Global;
 use std::io;
 use std::io::{ErrorKind, Read, Write};
+use std::process::Abort;
 use std::test::Fail;
 use transcript_program as program;
 
@@ -104,45 +105,58 @@ fn a_proof_is_written_and_verified(rt: HostRuntime) -> Result<(), Fail> {
     Ok(())
 }
 
+// Asserts that `verify` refuses these bytes for this reason.
+fn assert_refused(
+    rt: &impl Abort,
+    alloc: Global,
+    public: &str,
+    proof: &[u8],
+    reason: &str,
+) -> Result<(), Fail> {
+    let mut reader = proof;
+    let (status, text) = written(alloc, &["verify", public], &mut reader);
+    let told = format!(in alloc; "refused: {reason}\n")?;
+    assert_eq!(rt; status, 1, "{public} {proof:?}");
+    assert_eq!(rt;
+        str::from_utf8(text.as_slice())?,
+        told.as_str(),
+        "{public} {proof:?}"
+    );
+    Ok(())
+}
+
 #[test]
 fn other_bytes_are_refused(rt: HostRuntime) -> Result<(), Fail> {
     let alloc = rt.alloc();
-    let ended = "refused: NARG ended before all expected bytes were read\n";
+    let ended = "NARG ended before all expected bytes were read";
+    for len in 0..PROOF.len() {
+        assert_refused(&rt, alloc, "9", &PROOF[..len], ended)?;
+    }
+    // Five values, the order of the field as the witness, and a note of 17 bytes.
+    let rows: [(usize, &[u8], &str); 3] = [
+        (8, &[5], "message length exceeds declared maximum"),
+        (
+            9,
+            &[0x78, 0, 0, 1],
+            "field encoding outside canonical range",
+        ),
+        (13, &[17], "hint length exceeds declared maximum"),
+    ];
+    for (place, bytes, reason) in rows {
+        let mut proof = PROOF;
+        for (i, byte) in bytes.iter().enumerate() {
+            if let Some(old) = proof.get_mut(place.saturating_add(i)) {
+                *old = *byte;
+            }
+        }
+        assert_refused(&rt, alloc, "9", &proof, reason)?;
+    }
     let mut longer = [0; 15];
     longer[..14].copy_from_slice(&PROOF);
-    let mut over = PROOF;
-    over[8] = 5;
-    let rows: [(&str, &[u8], &str); 4] = [
-        ("9", &[], ended),
-        (
-            "9",
-            &longer,
-            "refused: trailing NARG bytes after final verifier step\n",
-        ),
-        (
-            "9",
-            &over,
-            "refused: message length exceeds declared maximum\n",
-        ),
-        (
-            "8",
-            &PROOF,
-            "refused: pow witness does not produce enough zero bits\n",
-        ),
-    ];
-    for (public, proof, told) in rows {
-        let mut reader = proof;
-        let (status, text) = written(alloc, &["verify", public], &mut reader);
-        assert_eq!(rt; status, 1, "{public}");
-        assert_eq!(rt; str::from_utf8(text.as_slice())?, told);
-    }
-    for len in 0..PROOF.len() {
-        let mut reader = &PROOF[..len];
-        let (status, text) = written(alloc, &["verify", "9"], &mut reader);
-        assert_eq!(rt; status, 1, "{len} bytes");
-        assert_eq!(rt; str::from_utf8(text.as_slice())?, ended, "{len} bytes");
-    }
-    Ok(())
+    let trailing = "trailing NARG bytes after final verifier step";
+    assert_refused(&rt, alloc, "9", &longer, trailing)?;
+    let few = "pow witness does not produce enough zero bits";
+    assert_refused(&rt, alloc, "8", &PROOF, few)
 }
 
 #[test]

@@ -19,7 +19,7 @@ use Rattle.p3_challenger.specs.Reading.{IsPrefixCode, OneBegins}
 use Rattle.p3_challenger.specs.Alphabet.{RefusesBytes, LeavesItems}
 use Rattle.p3_challenger.specs.ChallengerError.{ChallengerError}
 use Rattle.p3_challenger.specs.ChallengerError.TheVariants.{OutOfMemory, DrawLimit, NoWitness, TooLong}
-use Rattle.uses.specs.BoundValues.{in_sequence, RefusesInTurn}
+use Rattle.uses.specs.BoundValues.{of_three, RefusesInTurn}
 use Rattle.uses.proofs.Either.{either, either-is_observation}
 
 -- a byte string in an alphabet, whose items are observed as one slice or one by one
@@ -54,7 +54,7 @@ module _ {S Symbol T : Type 0} (fed : S → List Symbol → S) (fed_nothing : (s
   calls = inl first ∷ inr message ∷ inl second ∷ []
 
   abbrev symbols : List Symbol
-  symbols = in_sequence value.symbols text.symbols first message second
+  symbols = of_three value.symbols text.symbols first message second
 
   same_symbols : flat_map call.symbols calls ≡ symbols
   same_symbols = ap (λ ys. value.symbols first ++ (text.symbols message ++ ys)) (append-nil (value.symbols second))
@@ -114,7 +114,7 @@ begins-equal a b same (inr h) =
 
 module _ {Symbol T : Type 0} (of_value : T → List Symbol) (of_bytes : List ℕ → List Symbol) where
   following : (p : T) (a : List ℕ) (v : T) (x : List Symbol) →
-      in_sequence of_value of_bytes p a v ++ x ≡ of_value p ++ (of_bytes a ++ (of_value v ++ x))
+      of_three of_value of_bytes p a v ++ x ≡ of_value p ++ (of_bytes a ++ (of_value v ++ x))
   following p a v x =
       append_assoc (of_value p) (of_bytes a ++ of_value v) x
       ∙ ap (λ ys. of_value p ++ ys) (append_assoc (of_bytes a) (of_value v) x)
@@ -122,7 +122,7 @@ module _ {Symbol T : Type 0} (of_value : T → List Symbol) (of_bytes : List ℕ
   -- the first value is read off, then the byte string of its length, and then the second value
   pub symbols-bind : IsPrefixCode of_value → (p q v w : T) (a b : List ℕ) (x y : List Symbol) → length a ≡ length b →
       ((r s : List Symbol) → of_bytes a ++ r ≡ of_bytes b ++ s → OneBegins a b × (a ≡ b → r ≡ s)) →
-      in_sequence of_value of_bytes p a v ++ x ≡ in_sequence of_value of_bytes q b w ++ y →
+      of_three of_value of_bytes p a v ++ x ≡ of_three of_value of_bytes q b w ++ y →
       (p ≡ q) × (a ≡ b) × (v ≡ w) × (x ≡ y)
   symbols-bind prefix_code p q v w a b x y same reads e =
       let first = prefix_code p q (of_bytes a ++ (of_value v ++ x)) (of_bytes b ++ (of_value w ++ y))

@@ -4,7 +4,7 @@ use Rattle.std.proofs.Common.{sym, ap, subst, ◌∙◌, length, take, get_or, i
 use Rattle.std.specs.List.{AllByRecursion, IsDistinct, list_any}
 use Rattle.p3_challenger.specs.RoundLaws.{rounds-more, rounds-taken}
 use Rattle.p3_challenger.specs.Sampling.{Sampling}
-use Rattle.uses.specs.CommitPhase.{AreDrawnInTurn, AreKept, DrawsAndKeeps, ObservesAndDraws, kept_with}
+use Rattle.uses.specs.CommitPhase.{AreDrawnInTurn, AreNumbersDrawn, DrawsAndKeeps, ObservesAndDraws, kept_with}
 
 -- a round more: of the caps one is observed, and one more challenge is drawn
 pub round-more : {S T X Y : Type 0} (observed : S → T → S) (d : Sampling S X) (parts : Y → X) (xs : List T) (i : ℕ)
@@ -43,13 +43,13 @@ chosen-distinct true xs x distinct is = distinct
 chosen-distinct false xs x distinct is = distinct-more xs x distinct is
 
 module _ {S : Type 0} (d : Sampling S ℕ) where
-  pub kept-none : (s : S) (kept : List ℕ) → kept ≡ [] → IsDistinct same kept × AreKept d kept s s
+  pub kept-none : (s : S) (kept : List ℕ) → kept ≡ [] → IsDistinct same kept × AreNumbersDrawn d kept s s
   unfolding IsDistinct
   kept-none s kept is = (subst (IsDistinct same) (sym is) tt, ([], ap (λ xs. (s, xs)) is))
 
-  pub kept-more : (s here t : S) (kept more : List ℕ) (x : ℕ) → IsDistinct same kept × AreKept d kept s here →
+  pub kept-more : (s here t : S) (kept more : List ℕ) (x : ℕ) → IsDistinct same kept × AreNumbersDrawn d kept s here →
       d.sampled here ≡ Some x → t ≡ d.after here → more ≡ kept_with kept x →
-      IsDistinct same more × AreKept d more s t
+      IsDistinct same more × AreNumbersDrawn d more s t
   kept-more s here t kept more x so_far gives left is = (
     subst (IsDistinct same) (sym is) (chosen-distinct (list_any (λ y. y == x) kept) kept x so_far.0 refl),
     (

@@ -2,6 +2,7 @@ pub mod Accepting
 pub mod Begun
 pub mod BoundValues
 pub mod CommitPhase
+pub mod DemoLemmas
 pub mod Either
 pub mod MerkleOpening
 pub mod OwnHasher
@@ -10,3 +11,4 @@ pub mod Rejecting
 pub mod Runs
 pub mod SentAndDrawn
 pub mod ThreeCalls
+pub mod TwoRounds

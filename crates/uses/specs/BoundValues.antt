@@ -11,8 +11,8 @@ abbrev pub of_bytes : {Item Symbol : Type 0} → (List ℕ → List Item) → (I
 of_bytes items symbols bytes = flat_map symbols (items bytes)
 
 -- the symbols of the three
-abbrev pub in_sequence : {T Symbol : Type 0} → (T → List Symbol) → (List ℕ → List Symbol) → T → List ℕ → T → List Symbol
-in_sequence of_value of_message first message second = of_value first ++ (of_message message ++ of_value second)
+abbrev pub of_three : {T Symbol : Type 0} → (T → List Symbol) → (List ℕ → List Symbol) → T → List ℕ → T → List Symbol
+of_three of_value of_message first message second = of_value first ++ (of_message message ++ of_value second)
 
 -- What an absorption that answers this error leaves: where memory is refused, a front of the symbols was fed;
 -- where the byte string is too long, those of the first value alone were.

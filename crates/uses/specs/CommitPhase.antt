@@ -24,14 +24,14 @@ abbrev pub DrawsAndKeeps : {S : Type 0} → Sampling S ℕ → S × List ℕ →
 DrawsAndKeeps d (s, kept) x (t, more) = (d.sampled s ≡ Some x) × (more ≡ kept_with kept x) × (t ≡ d.after s)
 
 -- these are the numbers of some draws, each of them once, and the last draw leaves this state
-abbrev pub AreKept : {S : Type 0} → Sampling S ℕ → List ℕ → S → S → Type 0
-AreKept d kept s t = (drawn : List ℕ) × AreRounds (DrawsAndKeeps d) (s, []) drawn (t, kept)
+abbrev pub AreNumbersDrawn : {S : Type 0} → Sampling S ℕ → List ℕ → S → S → Type 0
+AreNumbersDrawn d kept s t = (drawn : List ℕ) × AreRounds (DrawsAndKeeps d) (s, []) drawn (t, kept)
 
 -- so many different numbers are drawn, each where it comes first
 pub record AreQueries {S : Type 0} (d : Sampling S ℕ) (count : ℕ) (queries : List ℕ) (s t : S) : Type 0 where
   pub enough : length queries ≡ count
   pub distinct : IsDistinct (λ x y. x == y) queries
-  pub drawn : AreKept d queries s t
+  pub drawn : AreNumbersDrawn d queries s t
 
 -- all of it: what is committed to, a check that passes on what is left then, and the queries that come last
 pub record IsCommitPhase {S : Type 0} (Commits : S → S → Type 0) (check : Sampling S Bool) (Queries : S → S → Type 0)

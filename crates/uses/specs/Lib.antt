@@ -1,5 +1,6 @@
 pub mod BoundValues
 pub mod CommitPhase
+pub mod DemoScript
 pub mod ExtraValue
 pub mod MerkleOpening
 pub mod OwnAlgebra
@@ -10,3 +11,4 @@ pub mod OwnRounds
 pub mod Protocol
 pub mod SentAndDrawn
 pub mod ThreeCalls
+pub mod TwoRounds

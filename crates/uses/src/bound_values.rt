@@ -3,7 +3,7 @@
 ghost use Rattle.std.specs.Prelude.{◌≡◌, ℕ, List, ◌++◌, length, OnOk, IfErr};
 ghost use Rattle.p3_challenger.specs.Sponge.{IsFed};
 ghost use Rattle.p3_challenger.specs.Reading.{AreBytes, IsPrefixCodeOn};
-ghost use Rattle.uses.specs.BoundValues.{in_sequence, of_bytes, RefusesInTurn};
+ghost use Rattle.uses.specs.BoundValues.{of_three, of_bytes, RefusesInTurn};
 
 use p3_challenger::fs::{Codec, Unit, symbols_begin};
 use p3_challenger::{CanObserve, ChallengerError};
@@ -24,16 +24,16 @@ pub fn absorb_values<T, D: Codec<C, T>, U: Unit, C: CanObserve<U::Item>>(
     requires { U.is_alphabet }
     ensures fits { OnOk result (U.is_too_long (length message.now) → ⊥) }
     ensures fed { OnOk result (IsFed C.fed (C.state challenger.old)
-        (in_sequence D.observation.symbols (of_bytes U.items C.observation.symbols)
+        (of_three D.observation.symbols (of_bytes U.items C.observation.symbols)
         first.now message.now second.now)
         (C.state challenger.new)) }
     // Where a value has symbols, they are fed exactly.
     ensures fed_exactly { D.feeds_prefix_code → OnOk result (C.state challenger.new ≡ C.fed (C.state challenger.old)
-        (in_sequence D.observation.symbols (of_bytes U.items C.observation.symbols)
+        (of_three D.observation.symbols (of_bytes U.items C.observation.symbols)
         first.now message.now second.now)) }
     ensures err { IfErr result (λ e. RefusesInTurn C.fed (U.is_too_long (length message.now))
         (D.observation.symbols first.now)
-        (in_sequence D.observation.symbols (of_bytes U.items C.observation.symbols)
+        (of_three D.observation.symbols (of_bytes U.items C.observation.symbols)
         first.now message.now second.now)
         e (C.state challenger.old) (C.state challenger.new)) }
 {
@@ -54,8 +54,8 @@ pub fn symbols_bind_values<T, D: Codec<C, T>, U: Unit, C: CanObserve<U::Item>>()
     requires items { IsPrefixCodeOn U.is_item C.observation.symbols }
     ensures { (p q v w : T) (a b : List ℕ) (x y : List C.Symbol) → AreBytes a → AreBytes b
         → (U.is_too_long (length a) → ⊥) → (U.is_too_long (length b) → ⊥) → length a ≡ length b
-        → in_sequence D.observation.symbols (of_bytes U.items C.observation.symbols) p a v ++ x
-        ≡ in_sequence D.observation.symbols (of_bytes U.items C.observation.symbols) q b w ++ y
+        → of_three D.observation.symbols (of_bytes U.items C.observation.symbols) p a v ++ x
+        ≡ of_three D.observation.symbols (of_bytes U.items C.observation.symbols) q b w ++ y
         → (p ≡ q) × (a ≡ b) × (v ≡ w) × (x ≡ y) }
 {
     symbols_begin::<U, C>();

@@ -1,6 +1,7 @@
 //! Small callers to start from, each a page that is read by itself, and proved from public contracts alone.
 //!
 //! - [`protocol`]: a pattern, a prover and a verifier; two messages, challenges, one of them with a rule, and a hint.
+//! - [`demo_script`]: a protocol as a list of steps, which one call proves and one verifies.
 //! - [`commit_phase`]: caps, challenges, a proof of work and indices, on the challenger itself, as FRI has them.
 //! - [`opening`]: a Merkle opening read from a hostile proof.
 //! - `round`: generic code over any challenger, codec and alphabet: [`send_and_draw`], [`receive_and_draw`] and
@@ -10,6 +11,7 @@
 //!   by their places, and halts a verifier.
 //! - [`own_permutation`], [`own_rounds`] and [`own_hasher`]: what to hand in for a permutation, one of rounds with a
 //!   table of constants, and a hasher of one's own; [`own_algebra`]: the same of an extension of a field.
+//! - [`read_back`]: what is hashed, or permuted, tells what was observed, or shows a collision.
 //!
 //! Most have wrong versions in `wrong-bodies/` that their contracts refuse: a challenge drawn too early, a message read
 //! as a hint, bytes left over. The program `examples` plays the protocols.
@@ -17,6 +19,7 @@
 
 mod bound_values;
 pub mod commit_phase;
+pub mod demo_script;
 mod extra_value;
 mod lists;
 pub mod opening;
@@ -26,6 +29,7 @@ pub mod own_permutation;
 pub mod own_rounds;
 mod pair;
 pub mod protocol;
+pub mod read_back;
 mod round;
 mod three_calls;
 

@@ -3,6 +3,7 @@ ghost use Rattle.std.specs.Prelude.{◌≡◌, ◌<◌, ◌≤◌, ◌^◌, ◌%
 ghost use Rattle.std.specs.Prelude.{map, replicate};
 ghost use Rattle.std.specs.List.{flat_map, range_with_len};
 ghost use Rattle.p3_symmetric.specs.HashValues.{values_of};
+ghost use Rattle.p3_challenger_core.specs.Sponge.{after_steps};
 ghost use Rattle.p3_challenger_core.specs.Segments.{observe, draw, run_calls_to_digest};
 ghost use Rattle.p3_grinding.specs.Checks.{all_zero, check_of};
 ghost use Rattle.p3_duplex.specs.DuplexCalls.{duplex_by_calls};
@@ -10,7 +11,7 @@ ghost use Rattle.p3_duplex.specs.DuplexSegments.{absorbed_cells, output_at};
 ghost use Rattle.p3_duplex.specs.DuplexState.{DuplexState, run, after_calls};
 
 use crate::DuplexChallenger;
-use p3_challenger_core::{CanFinalizeDigest, CanObserve, CanSample, CanSampleBits};
+use p3_challenger_core::{CanFinalizeDigest, CanObserve, CanSample, CanSampleBits, Sponge};
 use p3_field_core::{BasedVectorSpace, PrimeField64, UniformSamplingField};
 use p3_grinding::{CanSampleUniformBits, PrepareCheck};
 use p3_symmetric::{CryptographicPermutation, Hash, MerkleCap};
@@ -41,6 +42,18 @@ impl<
         ensures lists { (c : DuplexState F P) (lists : _) →
             ⟦<Self as CanObserve<Vec<Vec<F>>>>⟧.observation.observed c lists
             ≡ after_calls F.residues P.permutation RATE c (map observe (flat_map (λ list. list.items) lists.items)) }
+    {}
+
+    /// Symbols that are fed, as values and steps of a transcript feed them, are observed one after another; and the
+    /// smallest draws in a row are as many draws.
+    ///
+    /// A law: the body is empty, and a caller cites the clauses.
+    pub fn symbols_are_calls()
+        ensures fed { (c : DuplexState F P) (symbols : List F) →
+            ⟦<Self as Sponge>⟧.fed c symbols ≡ after_calls F.residues P.permutation RATE c (map observe symbols) }
+        ensures drawn { (n : ℕ) (c : DuplexState F P) →
+            after_steps ⟦<Self as Sponge>⟧.next n c
+            ≡ after_calls F.residues P.permutation RATE c (replicate n draw) }
     {}
 
     /// An element of a space of some dimension is as many draws, whose answers are its coefficients, coefficient 0

@@ -2,13 +2,14 @@
 ghost use Rattle.std.specs.Prelude.{◌≡◌, ◌+◌, ◌++◌, ℕ, List, [], ◌∷◌, Some, map, replicate};
 ghost use Rattle.std.specs.List.{flat_map, range_with_len};
 ghost use Rattle.p3_symmetric.specs.HashValues.{values_of};
+ghost use Rattle.p3_challenger_core.specs.Sponge.{after_steps};
 ghost use Rattle.p3_challenger_core.specs.Segments.{observe, observe_empty_array, draw, run_calls_to_digest};
 ghost use Rattle.p3_hash_challenger.specs.HashCalls.{hash_by_calls};
 ghost use Rattle.p3_hash_challenger.specs.HashSegments.{output_at};
 ghost use Rattle.p3_hash_challenger.specs.HashState.{HashState, function_of, run, after_calls, calls_of_array};
 
 use crate::HashChallenger;
-use p3_challenger_core::{CanFinalizeDigest, CanObserve, CanSample};
+use p3_challenger_core::{CanFinalizeDigest, CanObserve, CanSample, Sponge};
 use p3_symmetric::{CryptographicHasher, Hash, MerkleCap};
 
 impl<T: Copy, H: CryptographicHasher<T, [T; OUT_LEN]>, const OUT_LEN: usize> HashChallenger<
@@ -37,6 +38,19 @@ impl<T: Copy, H: CryptographicHasher<T, [T; OUT_LEN]>, const OUT_LEN: usize> Has
             ⟦<Self as CanObserve<Vec<Vec<T>>>>⟧.observation.observed s lists
             ≡ after_calls (function_of H.hash OUT_LEN H.filler) s
             (map observe (flat_map (λ list. list.items) lists.items)) }
+    {}
+
+    /// Symbols that are fed, as values and steps of a transcript feed them, are observed one after another; and the
+    /// smallest draws in a row are as many draws.
+    ///
+    /// A law: the body is empty, and a caller cites the clauses.
+    pub fn symbols_are_calls()
+        ensures fed { (s : HashState T H) (symbols : List T) →
+            ⟦<Self as Sponge>⟧.fed s symbols
+            ≡ after_calls (function_of H.hash OUT_LEN H.filler) s (map observe symbols) }
+        ensures drawn { (n : ℕ) (s : HashState T H) →
+            after_steps ⟦<Self as Sponge>⟧.next n s
+            ≡ after_calls (function_of H.hash OUT_LEN H.filler) s (replicate n draw) }
     {}
 
     /// A draw is one draw, and the digest is that of the calls before it.

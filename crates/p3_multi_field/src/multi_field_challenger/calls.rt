@@ -2,14 +2,15 @@
 ghost use Rattle.std.specs.Prelude.{◌≡◌, ◌^◌, ◌%◌, ◌==◌, ◌++◌, ℕ, suc, Bool, List, [], ◌∷◌, Some, map, replicate};
 ghost use Rattle.std.specs.List.{flat_map, range_with_len};
 ghost use Rattle.p3_symmetric.specs.HashValues.{values_of};
+ghost use Rattle.p3_challenger_core.specs.Sponge.{after_steps};
 ghost use Rattle.p3_challenger_core.specs.Segments.{observe, draw, run_calls_to_digest};
 ghost use Rattle.p3_grinding.specs.Checks.{all_zero, check_of};
-ghost use Rattle.p3_multi_field.specs.MultiFieldCalls.{scalar, digest, multi_field_by_calls};
+ghost use Rattle.p3_multi_field.specs.MultiFieldCalls.{Symbol, scalar, digest, multi_field_by_calls};
 ghost use Rattle.p3_multi_field.specs.MultiFieldSegments.{absorbed_cells, output_at};
 ghost use Rattle.p3_multi_field.specs.MultiFieldState.{MultiFieldState, run, after_calls};
 
 use crate::{MultiField32Challenger, Paired};
-use p3_challenger_core::{CanFinalizeDigest, CanObserve, CanSample, CanSampleBits};
+use p3_challenger_core::{CanFinalizeDigest, CanObserve, CanSample, CanSampleBits, Sponge};
 use p3_field_bridge::FieldBridge;
 use p3_field_core::{BasedVectorSpace, PrimeField32, PrimeField64};
 use p3_grinding::PrepareCheck;
@@ -43,6 +44,19 @@ impl<
         ensures cap { (c : MultiFieldState F PF P) (cap : List (List PF)) →
             ⟦<Self as CanObserve<MerkleCap<F, [PF; N]>>>⟧.observation.observed c cap
             ≡ after_calls ⟦<PF as Paired<F>>⟧.pair P.permutation RATE c (map observe (map digest cap)) }
+    {}
+
+    /// Symbols that are fed, as values and steps of a transcript feed them, are observed one after another; and the
+    /// smallest draws in a row are as many draws.
+    ///
+    /// A law: the body is empty, and a caller cites the clauses.
+    pub fn symbols_are_calls()
+        ensures fed { (c : MultiFieldState F PF P) (symbols : List (Symbol F PF)) →
+            ⟦<Self as Sponge>⟧.fed c symbols
+            ≡ after_calls ⟦<PF as Paired<F>>⟧.pair P.permutation RATE c (map observe symbols) }
+        ensures drawn { (n : ℕ) (c : MultiFieldState F PF P) →
+            after_steps ⟦<Self as Sponge>⟧.next n c
+            ≡ after_calls ⟦<PF as Paired<F>>⟧.pair P.permutation RATE c (replicate n draw) }
     {}
 
     /// An element of a space of some dimension is as many draws, whose answers are its coefficients, coefficient 0

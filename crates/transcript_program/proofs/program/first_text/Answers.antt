@@ -16,8 +16,8 @@ pub returns-clause-ok : goal.returns-clause-ok
 returns-clause-ok c =
     let value = c.args.value in
     let run = c.in_ok-run.run' in
-    let prover : c.new-2.result ≡ fresh_with [] = c.new-2.ensures ∙ ap fresh_with c.new.ensures.items in
-    let verifier : c.new-4.result ≡ fresh_with [] = c.new-4.ensures ∙ ap fresh_with c.new-3.ensures.items in
+    let prover : c.new-2.result ≡ fresh_with [] = c.new-2.ensures.value ∙ ap fresh_with c.new.ensures.items in
+    let verifier : c.new-4.result ≡ fresh_with [] = c.new-4.ensures.value ∙ ap fresh_with c.new-3.ensures.items in
     let proved = subst (λ (s : HashState ℕ Sha256Hasher). IsRun (function_of (λ _ m. sha256 m) 32 0) s value
     run.challenge run.challenger) prover c.in_ok-run.ensures.run in
     let handed = subst (λ (s : HashState ℕ Sha256Hasher). IsRun (function_of (λ _ m. sha256 m) 32 0) s value

@@ -1,5 +1,7 @@
-use Rattle.std.proofs.Common.{rules, ◌≡◌, ◌<◌, ◌≤◌, ℕ, min, arith}
-use Rattle.p3_multi_field.proofs.Numbers.{keeps_none}
+use Rattle.std.proofs.Common.{rules, ◌≡◌, ◌<◌, ◌≤◌, ℕ, min, replicate, arith}
+use Rattle.p3_multi_field.specs.MultiFieldCalls.{pair_of}
+use Rattle.p3_multi_field.proofs.Numbers.{keeps_none, some_product}
+use Rattle.p3_multi_field.proofs.ReadBack.{reads_back, started, started-fits}
 use Rattle.p3_multi_field.proofs.multi_field_challenger.MultiField32Challenger.new.Goals as goal
 
 least_counted : (product batch count : ℕ) → batch ≡ min product 18446744073709551615 → product ≡ count
@@ -15,3 +17,20 @@ invariant_of-result g c =
     keeps_none _ _ _ _ _ _ c.requires.rate c.requires.capacity increasing (counts.absorb_one increasing)
     (counts.squeeze_one increasing)
     (least_counted _ _ _ c.saturating_mul-batch_len.ensures (search rules) c.if-batch_len-gt-MOST_SCALARS.false)
+
+pub returns-clause-reads_back : goal.returns-clause-reads_back
+returns-clause-reads_back g c below =
+    let inner = g.F.PrimeCharacteristicRing.residues in
+    let outer = g.PF.PrimeCharacteristicRing.residues in
+    let increasing : inner.order < outer.order =
+    omega (arith, c.if-ORDER_U64.false, g.met.F.PrimeField64.order_u64_is, g.met.PF.PrimeField64.order_u64_is) in
+    let bridge = g.PF.FieldBridge in
+    let counts = g.met.PF.FieldBridge.are_counts in
+    let pair = pair_of inner outer bridge.RADIX_BITS bridge.ABSORB_COUNT bridge.SQUEEZE_COUNT in
+    let some_batch = some_product bridge.ABSORB_COUNT g.row.RATE (counts.absorb_one increasing) c.requires.rate in
+    let some_row = some_product g.row.RATE bridge.SQUEEZE_COUNT c.requires.rate (counts.squeeze_one increasing) in
+    let cells = replicate g.row.WIDTH c.zero.result in
+    reads_back pair g.met.F.PrimeCharacteristicRing.are_residues g.met.PF.PrimeCharacteristicRing.are_residues
+    g.met.PF.FieldBridge.are_radix_bits counts increasing g.row.RATE below
+    (g.P.CryptographicPermutation.permutation c.args.permutation) c.requires.rate some_batch some_row (started cells)
+    (started-fits pair g.row.RATE cells some_batch)

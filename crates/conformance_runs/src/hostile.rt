@@ -1,0 +1,112 @@
+// Changed proofs: each is refused for a reason, or accepted with values of which it is the encoding.
+use crate::encoding::{element_width, encoded};
+use crate::line::Line;
+use crate::mutation::change;
+use crate::script::Script;
+use crate::world::{SeparatorOf, World};
+use anyhow::{Result, bail};
+use p3_challenger::ChallengerError;
+use p3_challenger::fs::TranscriptError;
+use p3_challenger::fs::script::{admitted, carried_len, prove, sent_matches, verify};
+use p3_field::PrimeField64;
+use rand_xoshiro::Xoshiro256PlusPlus;
+use std::alloc::Global;
+
+/// How many changed proofs there were: of each reason how many were refused for it, and how many were accepted.
+#[derive(Drop)]
+pub struct Tally {
+    pub accepted: u64,
+    pub refused: Vec<(&'static str, u64)>,
+}
+
+impl Tally {
+    /// None yet.
+    pub fn new(alloc: Global) -> Tally {
+        Tally {
+            accepted: 0,
+            refused: Vec::new(alloc),
+        }
+    }
+
+    /// How many there were.
+    pub fn total(&self) -> u64 {
+        let mut total = self.accepted;
+        for (_, count) in &self.refused {
+            total = total.saturating_add(*count);
+        }
+        total
+    }
+
+    fn refuse(&mut self, reason: &'static str) -> Result<()> {
+        for (known, count) in self.refused.as_mut_slice() {
+            if *known == reason {
+                *count = count.saturating_add(1);
+                return Ok(());
+            }
+        }
+        self.refused.push((reason, 1))?;
+        Ok(())
+    }
+}
+
+/// Proves the script of a line, and verifies so many changes of its proof. The error is a change of which the verdict is
+/// neither of the two, or that memory ran out. A script that is not proved is left out.
+pub fn try_changes<S: World>(
+    alloc: Global,
+    line: &Line<'_>,
+    rng: &mut Xoshiro256PlusPlus,
+    count: u64,
+    tally: &mut Tally,
+) -> Result<()> {
+    let script = Script::<S>::parse(alloc, line)?;
+    let separator = script.separator(alloc, line)?;
+    let (steps, sent) = (
+        script.played.steps.as_slice(),
+        script.played.sent.as_slice(),
+    );
+    if !admitted(steps) || !sent_matches(steps, sent) {
+        return Ok(());
+    }
+    let Ok(proved) = prove::<S>(alloc, S::fresh(alloc)?, &separator, steps, sent) else {
+        return Ok(());
+    };
+    let carried = proved.carried.as_slice();
+    for _ in 0..count {
+        let mut narg = Vec::new(alloc);
+        narg.extend_from_slice(proved.narg.as_slice())?;
+        change(rng, &mut narg, S::Field::ORDER_U64, element_width::<S>())?;
+        judge(alloc, &separator, &script, carried, narg.as_slice(), tally)?;
+    }
+    Ok(())
+}
+
+// Verifies a changed proof.
+fn judge<S: World>(
+    alloc: Global,
+    separator: &SeparatorOf<S>,
+    script: &Script<S>,
+    carried: &[S::Field],
+    narg: &[u8],
+    tally: &mut Tally,
+) -> Result<()> {
+    let steps = script.played.steps.as_slice();
+    if !admitted(steps) || carried_len(steps) != carried.len() {
+        bail!("another number of witnesses than these steps carry");
+    }
+    match verify::<S>(alloc, S::fresh(alloc)?, separator, steps, carried, narg) {
+        Ok(verified) => {
+            let bytes = encoded(alloc, steps, verified.received.as_slice())?;
+            if bytes.as_slice() != narg {
+                bail!("accepted, and not the encoding of what was received");
+            }
+            tally.accepted = tally.accepted.saturating_add(1);
+            Ok(())
+        }
+        Err(fault) => match fault.error {
+            TranscriptError::BadProofShape { reason } => tally.refuse(reason),
+            TranscriptError::Challenger(ChallengerError::DrawLimit) => tally.refuse("draw limit"),
+            TranscriptError::Challenger(ChallengerError::TooLong) => tally.refuse("too long"),
+            error => Err(error.into()),
+        },
+    }
+}

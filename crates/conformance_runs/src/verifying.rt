@@ -1,0 +1,173 @@
+// A script step by step on a verifier.
+use crate::alone::{is_admitted, is_carried, only};
+use crate::told::{Told, refused};
+use crate::whole::accepted;
+use crate::world::{SeparatorOf, World};
+use anyhow::{Result, bail};
+use p3_challenger::fs::script::{
+    Answer, Drawn, Fault, Received, Step, Suite, Verified, verifier_step,
+};
+use p3_challenger::fs::{PatternError, TranscriptError, VerifierState};
+use std::alloc::Global;
+
+type VerifierOf<'a, S> = VerifierState<
+    'a,
+    <S as Suite>::Challenger,
+    <S as Suite>::Unit,
+    <S as Suite>::Digest,
+>;
+
+// What a verifier has received and drawn so far; and where a step was refused, that with what it leaves.
+#[derive(Drop)]
+struct Taken<'a, S: World> {
+    received: Vec<Received<'a, S>>,
+    challenges: Vec<Drawn<S>>,
+    refused: Option<(Fault, String)>,
+}
+
+/// Plays the script by `verifier_step`. Where a step is refused, it is tried once more, and so is the one that the
+/// pattern has there.
+pub fn verify_by_steps<S: World>(
+    alloc: Global,
+    separator: &SeparatorOf<S>,
+    steps: &[Step<S>],
+    pattern: &[Step<S>],
+    carried: &[S::Field],
+    narg: &[u8],
+) -> Result<Told> {
+    let mut verifier = match VerifierState::new(alloc, S::fresh(alloc)?, separator, narg) {
+        Ok(verifier) => verifier,
+        Err(error) => {
+            let text = refused(alloc, &Fault { position: 0, error })?;
+            return Ok(Told::plain(alloc, text));
+        }
+    };
+    let taken = play::<S>(alloc, &mut verifier, steps, pattern, carried);
+    let unread = verifier.remaining_narg();
+    let end = verifier.finish();
+    ended(alloc, taken?, end, steps.len(), unread)
+}
+
+// What is told of a verifier that has ended so, with bytes left.
+fn ended<S: World>(
+    alloc: Global,
+    taken: Taken<'_, S>,
+    end: Result<S::Challenger, TranscriptError>,
+    position: usize,
+    unread: usize,
+) -> Result<Told> {
+    match (taken.refused, end) {
+        (None, Ok(challenger)) => accepted(
+            alloc,
+            Verified {
+                received: taken.received,
+                challenges: taken.challenges,
+                challenger,
+            },
+        ),
+        (None, Err(error)) => Ok(Told {
+            text: refused(alloc, &Fault { position, error })?,
+            more: format!(in alloc; " ; unread {unread}")?,
+        }),
+        (Some((fault, more)), Err(TranscriptError::Pattern(PatternError::Finished))) => {
+            let text = refused(alloc, &fault)?;
+            Ok(Told { text, more })
+        }
+        _ => bail!("a verifier ended after a step that was refused"),
+    }
+}
+
+// Plays the steps up to the first that is refused.
+fn play<'a, S: World>(
+    alloc: Global,
+    verifier: &mut VerifierOf<'a, S>,
+    steps: &[Step<S>],
+    pattern: &[Step<S>],
+    carried: &[S::Field],
+) -> Result<Taken<'a, S>> {
+    let mut taken = Taken {
+        received: Vec::new(alloc),
+        challenges: Vec::new(alloc),
+        refused: None,
+    };
+    let mut carried = carried.iter();
+    for place in 0..steps.len() {
+        let witness = match &steps[place] {
+            Step::ObservePow { .. } => carried.next().copied(),
+            _ => None,
+        };
+        match play_step(alloc, verifier, steps, place, witness)? {
+            Ok(answer) => taken.keep(answer)?,
+            Err(error) => {
+                try_again(alloc, verifier, steps, place)?;
+                try_again(alloc, verifier, pattern, place)?;
+                let unread = verifier.remaining_narg();
+                let state = S::state(alloc, verifier.challenger_mut())?;
+                let left = format!(in alloc; " ; unread {unread} ; {state}")?;
+                taken.refused = Some((
+                    Fault {
+                        position: place,
+                        error,
+                    },
+                    left,
+                ));
+                break;
+            }
+        }
+    }
+    Ok(taken)
+}
+
+impl<'a, S: World> Taken<'a, S> {
+    // Keeps what a step answers.
+    fn keep(&mut self, answer: Answer<'a, S>) -> Result<()> {
+        let (received, drawn) = answer;
+        if let Some(received) = received {
+            self.received.push(received)?;
+        }
+        if let Some(drawn) = drawn {
+            self.challenges.push(drawn)?;
+        }
+        Ok(())
+    }
+}
+
+// Tries the step at a place once more on a verifier that refused one.
+fn try_again<S: World>(
+    alloc: Global,
+    verifier: &mut VerifierOf<'_, S>,
+    steps: &[Step<S>],
+    place: usize,
+) -> Result<()> {
+    if place >= steps.len() {
+        return Ok(());
+    }
+    let witness = match &steps[place] {
+        Step::ObservePow { .. } => Some(S::Field::default()),
+        _ => None,
+    };
+    match play_step(alloc, verifier, steps, place, witness)? {
+        Err(TranscriptError::Pattern(PatternError::Finished)) => Ok(()),
+        _ => bail!("a verifier that refused a step played another"),
+    }
+}
+
+// Plays the step at a place, with the witness that the caller carries to it, if it does.
+fn play_step<'a, S: World>(
+    alloc: Global,
+    verifier: &mut VerifierOf<'a, S>,
+    steps: &[Step<S>],
+    place: usize,
+    witness: Option<S::Field>,
+) -> Result<Result<Answer<'a, S>, TranscriptError>> {
+    let Some(alone) = steps.get(place..place.saturating_add(1)) else {
+        bail!("no step there");
+    };
+    let Some(step) = only(alone) else {
+        bail!("no step there");
+    };
+    if !is_admitted(alone, step) || !is_carried(step, witness) {
+        bail!("a step that is not played here, or not with this witness");
+    }
+    Ok(verifier_step(alloc, verifier, step, witness))
+}

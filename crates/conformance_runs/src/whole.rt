@@ -1,0 +1,94 @@
+// A whole script by one call on each side.
+use crate::script::Steps;
+use crate::told::{Told, drawn, numbers, received, refused};
+use crate::world::{SeparatorOf, World};
+use anyhow::{Result, bail};
+use p3_challenger::fs::script::{
+    Fault, Proved, Step, Verified, admitted, carried_len, prove, sent_matches, verify,
+};
+use std::alloc::Global;
+
+/// What a prover leaves: what is told of it, the proof, and the witnesses that the proof does not carry.
+#[derive(Drop)]
+pub struct Written<S: World> {
+    pub told: Told,
+    pub narg: Vec<u8>,
+    pub carried: Vec<S::Field>,
+}
+
+impl<S: World> Written<S> {
+    /// Of a prover that was refused.
+    pub fn refused(alloc: Global, fault: &Fault, more: String) -> Result<Written<S>> {
+        let text = refused(alloc, fault)?;
+        Ok(Written::nothing(alloc, Told { text, more }))
+    }
+
+    /// Of a prover without a proof.
+    pub fn nothing(alloc: Global, told: Told) -> Written<S> {
+        Written {
+            told,
+            narg: Vec::new(alloc),
+            carried: Vec::new(alloc),
+        }
+    }
+
+    /// Of a prover that has played all steps.
+    pub fn proved(alloc: Global, mut proved: Proved<S>) -> Result<Written<S>> {
+        let wire = hex::encode(alloc, proved.narg.as_slice())?;
+        let draws = drawn::<S>(alloc, proved.challenges.as_slice())?;
+        let witnesses = numbers::<S>(alloc, proved.witnesses.as_slice())?;
+        let state = S::state(alloc, &mut proved.challenger)?;
+        let text = format!(in alloc;
+            "wire {wire} ; draws {draws} ; witnesses {witnesses} ; {state}"
+        )?;
+        Ok(Written {
+            told: Told::plain(alloc, text),
+            narg: proved.narg,
+            carried: proved.carried,
+        })
+    }
+}
+
+/// Plays the script by `prove`.
+pub fn prove_whole<S: World>(
+    alloc: Global,
+    separator: &SeparatorOf<S>,
+    script: &Steps<S>,
+) -> Result<Written<S>> {
+    let steps = script.steps.as_slice();
+    let sent = script.sent.as_slice();
+    if !admitted(steps) || !sent_matches(steps, sent) {
+        bail!("steps that are not played here, or not with these values");
+    }
+    match prove::<S>(alloc, S::fresh(alloc)?, separator, steps, sent) {
+        Ok(proved) => Written::proved(alloc, proved),
+        Err(fault) => Written::refused(alloc, &fault, String::new(alloc)),
+    }
+}
+
+/// Plays the script by `verify`.
+pub fn verify_whole<S: World>(
+    alloc: Global,
+    separator: &SeparatorOf<S>,
+    steps: &[Step<S>],
+    carried: &[S::Field],
+    narg: &[u8],
+) -> Result<Told> {
+    if !admitted(steps) || carried_len(steps) != carried.len() {
+        bail!("another number of witnesses than these steps carry");
+    }
+    match verify::<S>(alloc, S::fresh(alloc)?, separator, steps, carried, narg) {
+        Ok(verified) => accepted(alloc, verified),
+        Err(fault) => Ok(Told::plain(alloc, refused(alloc, &fault)?)),
+    }
+}
+
+/// What is told of a verifier that has accepted a proof.
+pub fn accepted<S: World>(alloc: Global, mut verified: Verified<'_, S>) -> Result<Told> {
+    let draws = drawn::<S>(alloc, verified.challenges.as_slice())?;
+    let state = S::state(alloc, &mut verified.challenger)?;
+    Ok(Told {
+        text: format!(in alloc; "accepted {draws} {state}")?,
+        more: received::<S>(alloc, verified.received.as_slice())?,
+    })
+}

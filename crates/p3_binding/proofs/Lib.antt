@@ -1,0 +1,8 @@
+pub mod Bound
+pub mod Lawful
+pub mod Runs
+pub mod Scripts
+pub mod Shapes
+pub mod Told
+pub mod Uninfluenced
+pub mod WorkedRows

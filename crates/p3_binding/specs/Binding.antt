@@ -1,0 +1,73 @@
+-- What two runs that feed the same symbols have in common.
+use Rattle.std.specs.Prelude.{◌≡◌, ◌↔◌, ℕ, ◌⊎◌, List, [], ◌∷◌, length}
+use Rattle.p3_challenger_core.specs.Reading.{AreBytes}
+use Rattle.p3_fs_core.specs.Steps.{Step, alternate_text}
+use Rattle.p3_patterns.specs.PatternSteps.{PatternSteps, steps_of}
+use Rattle.p3_patterns.specs.Rendering.{rendering, SameButTypeNames}
+use Rattle.p3_domain_separator.specs.SeparatorParts.{separator_of}
+use Rattle.p3_runs.specs.Absorbed.{Absorbed, Bytes, Own}
+use Rattle.p3_runs.specs.Fronts.{Run, pattern, IsFinished, IsWhole, symbols, absorbed}
+use Rattle.p3_runs.specs.Plays.{Play}
+use Rattle.p3_runs.specs.Rules.{Rules}
+
+-- ---- patterns
+
+-- the alternate rendering of a pattern, whose digest is in the seed
+abbrev pub alternate_rendering : List Step → List ℕ
+alternate_rendering steps = rendering alternate_text steps
+
+-- two texts differ and share a digest
+pub record Collide (digest_of : List ℕ → List ℕ) (a b : List ℕ) : Type 0 where
+  pub differ : a ≡ b → ⊥
+  pub share : digest_of a ≡ digest_of b
+
+-- two patterns have one alternate rendering exactly if they are the same but for the names of types
+abbrev pub RenderingsTellPatterns : Type 0
+RenderingsTellPatterns =
+    (x y : PatternSteps) →
+    (alternate_rendering (steps_of x) ≡ alternate_rendering (steps_of y) ↔ SameButTypeNames (steps_of x) (steps_of y))
+
+-- ---- what is absorbed
+
+-- A program can hold what is absorbed: bytes are bytes, and a value of the opaque type is one of its own.
+abbrev pub IsHeld : {F O : Type 0} → (O → Type 0) → Absorbed F O → Type 0
+IsHeld IsOwn (Bytes bytes) = AreBytes bytes
+IsHeld IsOwn (Own x) = IsOwn x
+IsHeld IsOwn _ = Unit {0}
+
+abbrev pub AreHeld : {F O : Type 0} → (O → Type 0) → List (Absorbed F O) → Type 0
+AreHeld IsOwn [] = Unit {0}
+AreHeld IsOwn (a ∷ more) = IsHeld IsOwn a × AreHeld IsOwn more
+
+-- ---- runs
+
+-- the protocols and the instances are the same
+pub record SameProtocol {X F EF S U D : Type 0} (x y : Run X F EF S U D) : Type 0 where
+  pub version : (separator_of x.separator).version ≡ (separator_of y.separator).version
+  pub name : (separator_of x.separator).name ≡ (separator_of y.separator).name
+  pub chunks : (separator_of x.separator).chunks ≡ (separator_of y.separator).chunks
+
+module _ {X S Symbol I F EF O Ac U D : Type 0} (rules : Rules S Symbol I F EF O Ac) (play : X → Play S Symbol F EF O) where
+  -- the patterns are the same but for the names of types, and so is what each step absorbed
+  pub record SameSteps (x y : Run X F EF S U D) : Type 0 where
+    pub patterns : SameButTypeNames (pattern x) (pattern y)
+    pub values : absorbed rules play x ≡ absorbed rules play y
+
+  -- Two runs are finished and feed the same symbols, and what they absorb a program can hold. Either both are whole,
+  -- or they are fronts of equally many steps.
+  pub record FeedTheSame (x y : Run X F EF S U D) : Type 0 where
+    pub finished : IsFinished rules play x × IsFinished rules play y
+    pub held : AreHeld rules.IsOwn (absorbed rules play x) × AreHeld rules.IsOwn (absorbed rules play y)
+    pub as_far : (IsWhole rules play x × IsWhole rules play y) ⊎ (length x.steps ≡ length y.steps)
+    pub same : symbols rules play x ≡ symbols rules play y
+
+  -- Their protocols and instances are the same, and so are their steps, unless the renderings of their patterns collide.
+  pub record AreBound (x y : Run X F EF S U D) : Type 0 where
+    pub protocol : SameProtocol x y
+    pub steps : SameSteps x y ⊎ Collide rules.digest_of (alternate_rendering (pattern x)) (alternate_rendering (pattern y))
+
+-- equal symbols bind: between any two runs, under any separators, from any challengers
+abbrev pub SymbolsBind : {X S Symbol I F EF O Ac : Type 0} (U D : Type 0) → Rules S Symbol I F EF O Ac →
+    (X → Play S Symbol F EF O) → Type 0
+SymbolsBind {X} {S} {Symbol} {I} {F} {EF} U D rules play =
+    (x y : Run X F EF S U D) → FeedTheSame rules play x y → AreBound rules play x y

@@ -1,0 +1,73 @@
+-- What the challenger takes no part in.
+use Rattle.std.specs.Prelude.{◌≡◌, ℕ, zero, suc, List, [], ◌∷◌}
+use Rattle.p3_fs_core.specs.Steps.{Step}
+use Rattle.p3_fs_core.specs.declared.step.Kind.{Kind}
+use Rattle.p3_fs_core.specs.declared.step.Kind.TheVariants.{Hint, Pow}
+use Rattle.p3_fs_core.specs.declared.step.Length.{Length}
+use Rattle.p3_fs_core.specs.declared.step.Length.TheVariants.{Fixed}
+use Rattle.p3_runs.specs.Fronts.{Run, IsFinished, challenges, last}
+use Rattle.p3_runs.specs.Plays.{Play, Place, Nowhere, Sent, Found, Carried}
+use Rattle.p3_runs.specs.Rules.{Rules}
+use Rattle.p3_runs.specs.Values.{Value}
+
+-- ---- values of one step
+
+-- witnesses of so many bits are the same; those of 0 bits may be any
+abbrev pub SameWitness : {V : Type 0} → ℕ → V → V → Type 0
+SameWitness zero v w = Unit {0}
+SameWitness (suc more) v w = v ≡ w
+
+abbrev pub SameOfLength : {V : Type 0} → Length → V → V → Type 0
+SameOfLength (Fixed bits) v w = SameWitness bits v w
+SameOfLength _ v w = v ≡ w
+
+abbrev pub SameOfKind : {V : Type 0} → Kind → Length → V → V → Type 0
+SameOfKind Hint length v w = Unit {0}
+SameOfKind Pow length v w = SameOfLength length v w
+SameOfKind _ length v w = v ≡ w
+
+-- the values of a step are the same; those of a hint, and witnesses of 0 bits, may be any
+abbrev pub SameButHint : {V : Type 0} → Step → V → V → Type 0
+SameButHint step v w = SameOfKind step.kind step.length v w
+
+-- ---- values of steps
+
+-- Of two lists that have a value for each step which the proof carries one of: the first ones are the same in this sense,
+-- and the others in that.
+abbrev pub FirstAre : {V : Type 0} → Place → (V → V → Type 0) → (List V → List V → Type 0) → List V → List V → Type 0
+FirstAre Nowhere Same Others vs ws = Others vs ws
+FirstAre Carried Same Others vs ws = Others vs ws
+FirstAre Sent Same Others (v ∷ vs) (w ∷ ws) = Same v w × Others vs ws
+FirstAre Found Same Others (v ∷ vs) (w ∷ ws) = Same v w × Others vs ws
+FirstAre _ Same Others _ _ = ⊥
+
+module _ {X S Symbol F EF O : Type 0} (play : X → Play S Symbol F EF O) where
+  -- the values at the steps are the same but for hints and witnesses of 0 bits
+  abbrev pub SameButHints : List X → List (Value F EF) → List (Value F EF) → Type 0
+  SameButHints [] [] [] = Unit {0}
+  SameButHints (x ∷ steps) (v ∷ values) (w ∷ others) =
+      SameButHint (play x).interaction v w × SameButHints steps values others
+  SameButHints _ _ _ = ⊥
+
+  -- the same of the values that the proof carries, which a verifier receives
+  abbrev pub ReceivedButHints : List X → List (Value F EF) → List (Value F EF) → Type 0
+  ReceivedButHints [] received again = (received ≡ []) × (again ≡ [])
+  ReceivedButHints (x ∷ steps) received again =
+      FirstAre (play x).place (SameButHint (play x).interaction) (ReceivedButHints steps) received again
+
+-- ---- runs
+
+module _ {X S Symbol I F EF O Ac U D : Type 0} (rules : Rules S Symbol I F EF O Ac) (play : X → Play S Symbol F EF O) where
+  -- the challenges are the same, and so are the final challengers
+  pub record SameEnds (x y : Run X F EF S U D) : Type 0 where
+    pub draws : challenges rules play x ≡ challenges rules play y
+    pub ends : last rules play x ≡ last rules play y
+
+-- hints do not influence: finished runs of one script, separator and challenger, whose values are the same but for hints
+-- and witnesses of 0 bits, have the same challenges and final challengers
+abbrev pub HintsDoNotInfluence : {X S Symbol I F EF O Ac : Type 0} (U D : Type 0) → Rules S Symbol I F EF O Ac →
+    (X → Play S Symbol F EF O) → Type 0
+HintsDoNotInfluence {X} {S} {Symbol} {I} {F} {EF} U D rules play =
+    (x : Run X F EF S U D) (others : List (Value F EF)) → IsFinished rules play x →
+    IsFinished rules play (record x { values = others }) → SameButHints play x.steps x.values others →
+    SameEnds rules play x (record x { values = others })

@@ -1,0 +1,22 @@
+-- What a multi-field challenger permutes tells which scalars it observed, where it observes scalars alone.
+use Rattle.std.specs.Prelude.{ℕ, List, map}
+use Rattle.p3_challenger_core.specs.Segments.{Call, observe, observe_empty_array, draw, Run, run_calls}
+use Rattle.p3_read_back.specs.Handed as handed
+use Rattle.p3_multi_field.specs.MultiFieldCalls.{FieldPair, Symbol, scalar, MultiFieldSponge, multi_field_by_calls}
+
+-- a call with a scalar as one with a symbol
+abbrev pub scalar_call : {F PF : Type 0} → Call F → Call (Symbol F PF)
+scalar_call (observe x) = observe (scalar x)
+scalar_call observe_empty_array = observe_empty_array
+scalar_call draw = draw
+
+-- from a challenger on
+module _ {F PF : Type 0} (pair : FieldPair F PF) (permute : List PF → List PF) (rate : ℕ)
+    (s : MultiFieldSponge F PF) where
+  -- what calls with scalars do
+  abbrev pub run_scalar_calls : List (Call F) → Run F (List PF) (MultiFieldSponge F PF)
+  run_scalar_calls calls = run_calls (multi_field_by_calls pair permute rate) s (map scalar_call calls)
+
+  -- lists of such calls that permute the same states, and leave the same pending, observed the same scalars
+  abbrev pub ReadsBack : Type 0
+  ReadsBack = handed.ReadsBack run_scalar_calls (λ t. t.pending)

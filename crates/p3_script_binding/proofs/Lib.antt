@@ -1,0 +1,4 @@
+pub mod Agreeing
+pub mod Fronts
+pub mod Held
+pub mod Telling

@@ -1,0 +1,65 @@
+-- What the symbols of two runs say of what a verifier, or a prover, answered for them.
+use Rattle.std.specs.Prelude.{◌≡◌, ℕ, List}
+use Rattle.p3_binding.specs.Binding.{AreBound}
+use Rattle.p3_binding.specs.Hints.{ReceivedButHints}
+use Rattle.p3_runs.specs.Fronts.{Run, symbols}
+use Rattle.p3_runs.specs.Rules.{Rules}
+use Rattle.p3_runs.specs.Values.{Value}
+use Rattle.p3_runs.specs.Verdicts.{with_steps}
+use Rattle.p3_script.specs.Scripts.{play_of, values_received, challenges_of}
+use Rattle.p3_script.specs.declared.steps.Step as script
+use Rattle.p3_script_binding.specs.RunsBound.{HoldsProof, FeedTheSameUpTo, front_of}
+use Rattle.p3_script_prover.specs.ProverAnswers.{IsProvedScript}
+use Rattle.p3_script_prover.specs.declared.proving.Proved.{Proved}
+use Rattle.p3_script_verifier.specs.VerifierAnswers.{IsVerifiedScript}
+use Rattle.p3_script_verifier.specs.declared.verifying.Verified.{Verified}
+
+module _ {F EF O Ac : Type 0} (Su U C K D G It S Symbol : Type 0) (rules : Rules S Symbol It F EF O Ac) (state : C → S) where
+  -- a script under a separator from a state, what a verifier answers for it, and what a prover does
+  abbrev Script : Type 0
+  Script = Run (script.Step Su F EF U O C K Ac D G It S Symbol) F EF S U D
+
+  abbrev Accepted : Type 0
+  Accepted = Verified Su F EF U O C K Ac D G It S Symbol
+
+  abbrev Made : Type 0
+  Made = Proved Su F EF U O C K Ac D G It S Symbol
+
+  -- the run of these values at the script's steps
+  abbrev run_of : Script → List (Value F EF) → Script
+  run_of s values = with_steps s s.steps values
+
+  -- What was received is the same but for hints and witnesses of 0 bits; the challenges are the same, and so are the
+  -- final challengers.
+  pub record AgreeButHints (s : Script) (v w : Accepted) : Type 0 where
+    pub received : ReceivedButHints (play_of rules) s.steps (values_received v.received.items)
+        (values_received w.received.items)
+    pub challenges : challenges_of v.challenges.items ≡ challenges_of w.challenges.items
+    pub challengers : state v.challenger ≡ state w.challenger
+
+  -- two accepted proofs of one script whose runs feed the same symbols agree
+  abbrev pub EqualSymbolsHaveEqualValues : Type 0
+  EqualSymbolsHaveEqualValues =
+      (s : Script) (bytes others : List ℕ) (carried brought : List F) (v w : Accepted)
+      (a : IsVerifiedScript rules s bytes carried state v) (b : IsVerifiedScript rules s others brought state w) →
+      HoldsProof rules (play_of rules) s.steps bytes → HoldsProof rules (play_of rules) s.steps others →
+      symbols rules (play_of rules) (run_of s a.values) ≡ symbols rules (play_of rules) (run_of s b.values) →
+      AgreeButHints s v w
+
+  -- the first steps of two accepted proofs that feed the same symbols bind all that came before
+  abbrev pub VerifiedFrontsBind : Type 0
+  VerifiedFrontsBind =
+      (s t : Script) (bytes others : List ℕ) (carried brought : List F) (v w : Accepted)
+      (a : IsVerifiedScript rules s bytes carried state v) (b : IsVerifiedScript rules t others brought state w) →
+      HoldsProof rules (play_of rules) s.steps bytes → HoldsProof rules (play_of rules) t.steps others → (n : ℕ) →
+      FeedTheSameUpTo rules (play_of rules) n (run_of s a.values) (run_of t b.values) →
+      AreBound rules (play_of rules) (front_of n (run_of s a.values)) (front_of n (run_of t b.values))
+
+  -- and so do those of two proofs that provers made
+  abbrev pub ProvedFrontsBind : Type 0
+  ProvedFrontsBind =
+      (s t : Script) (sent handed : List (Value F EF)) (v w : Made)
+      (a : IsProvedScript rules s sent state v) (b : IsProvedScript rules t handed state w) →
+      HoldsProof rules (play_of rules) s.steps v.narg.items → HoldsProof rules (play_of rules) t.steps w.narg.items →
+      (n : ℕ) → FeedTheSameUpTo rules (play_of rules) n (run_of s a.0.values) (run_of t b.0.values) →
+      AreBound rules (play_of rules) (front_of n (run_of s a.0.values)) (front_of n (run_of t b.0.values))

@@ -1,0 +1,2 @@
+pub mod AnswersBound
+pub mod RunsBound

@@ -1,0 +1,41 @@
+//! A suite over `HashChallenger` of bytes.
+
+use p3_challenger::HashChallenger;
+use p3_challenger::fs::BytesToFieldCodec;
+use p3_challenger::fs::script::{AcceptAll, Plain, Suite};
+use p3_field::{BabyBear, Coeffs};
+use p3_symmetric::Sha256Hasher;
+
+/// Scripts over `HashChallenger` of bytes with SHA-256, whose scalars are of `BabyBear` and sent as bytes. The extension
+/// has degree 4, opaque values are arrays of 32 bytes, and there are the plain steps alone.
+#[derive(Clone, Copy, Debug)]
+pub struct HashSuite;
+
+impl Suite for HashSuite {
+    ghost use Rattle.std.specs.Prelude.{◌≡◌, length};
+    ghost use Rattle.std.specs.List.{each_same};
+
+    type Field = BabyBear;
+
+    type Extension = Coeffs<BabyBear, 4>;
+
+    type Unit = u8;
+
+    type Opaque = [u8; 32];
+
+    type Challenger = HashChallenger<u8, Sha256Hasher, 32>;
+
+    type Codec = BytesToFieldCodec<BabyBear>;
+
+    type Accept = AcceptAll;
+
+    type Digest = Sha256Hasher;
+
+    type Group = Plain;
+
+    ghost is_own = { λ values. length values ≡ 32 };
+
+    ghost alphabet = { tt };
+
+    ghost clones = { λ values copy told. each_same values copy told.whole };
+}

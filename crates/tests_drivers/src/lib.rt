@@ -1,0 +1,17 @@
+//! Tests of both drivers of a transcript, of what no script says: what comes back of a value, bytes that outlive the
+//! verifier, a challenger that is lent, code over either driver, markers of other types, a driver that was halted, and
+//! draws by any rule.
+#![tactic(auto)]
+
+#[cfg(test)]
+mod bound;
+#[cfg(test)]
+mod ends;
+#[cfg(test)]
+mod nested;
+#[cfg(test)]
+mod rejecting;
+#[cfg(test)]
+mod serializing;
+#[cfg(test)]
+mod small_world;

@@ -1,0 +1,58 @@
+-- The demo protocol as a script.
+use Rattle.std.specs.Borrow.{Bor}
+use Rattle.std.specs.Prelude.{◌≡◌, ℕ, List, [], ◌∷◌, codes}
+use Rattle.p3_challenger.specs.Goldilocks.{Goldilocks}
+use Rattle.p3_challenger.specs.Sha256Hasher.{Sha256Hasher}
+use Rattle.p3_challenger.specs.FieldUnit.{FieldUnit}
+use Rattle.p3_challenger.specs.FieldToFieldCodec.{FieldToFieldCodec}
+use Rattle.p3_challenger.specs.AcceptAll.{AcceptAll}
+use Rattle.p3_challenger.specs.Both.{Both}
+use Rattle.p3_challenger.specs.Hash.{Hash}
+use Rattle.p3_challenger.specs.HashCalls.{absorbing}
+use Rattle.p3_challenger.specs.HashState.{HashState}
+use Rattle.p3_challenger.specs.Kind.TheVariants as kind
+use Rattle.p3_challenger.specs.SerializingState.{SerializingState}
+use Rattle.p3_challenger.specs.Step as script
+use Rattle.p3_challenger.specs.Step.TheVariants as step
+use Rattle.uses.specs.declared.demo_script.Demo.{Demo}
+
+-- a challenger of scalars over the bytes of SHA-256
+abbrev pub ScriptChallenger : Type 0
+ScriptChallenger = SerializingState (HashState ℕ Sha256Hasher)
+
+-- one that observed nothing, with a limit of 1000 candidates for a scalar
+abbrev pub fresh_challenger : ScriptChallenger
+fresh_challenger = record { inner = record { sponge = absorbing []; hasher = record {} }; draw_limit = 1000 }
+
+-- a step of the script
+abbrev pub ScriptStep : Type 0
+ScriptStep =
+    script.Step Demo Goldilocks Goldilocks (FieldUnit Goldilocks) (Hash Goldilocks ℕ 32) ScriptChallenger
+    (FieldToFieldCodec Goldilocks) AcceptAll Sha256Hasher Both Goldilocks ScriptChallenger ℕ
+
+-- a label, which says this
+pub record Labelled (text : List ℕ) : Type 0 where
+  pub label : Bor (List ℕ)
+  pub says : label.now ≡ text
+
+-- the steps with this number
+pub record AreDemoSteps (input : Goldilocks) (steps : List ScriptStep) : Type 0 where
+  pub opener : Labelled (codes "demo")
+  pub number : Labelled (codes "input")
+  pub salt : Labelled (codes "salt")
+  pub values : Labelled (codes "values")
+  pub work : Labelled (codes "work")
+  pub alpha : Labelled (codes "alpha")
+  pub note : Labelled (codes "note")
+  pub indices : Labelled (codes "indices")
+  pub closer : Labelled (codes "demo")
+  pub are : steps ≡ step.Begin opener.label kind.Protocol
+      ∷ step.PublicScalar number.label input
+      ∷ step.Salt salt.label 8
+      ∷ step.ScalarsBounded values.label 4
+      ∷ step.Pow work.label 8
+      ∷ step.ChallengeScalar alpha.label
+      ∷ step.HintBounded note.label 16
+      ∷ step.ChallengeUniformBits indices.label 4 2
+      ∷ step.End closer.label kind.Protocol
+      ∷ []

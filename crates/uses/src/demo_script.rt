@@ -1,0 +1,202 @@
+//! A protocol as a script: the types that play it, its steps as data, and a call for each side.
+//!
+//! Both sides know a number. The prover sends a salt and at most four values, and finds a witness for 8 bits of work. Then
+//! a challenge is drawn, the prover hands over a note that no challenge depends on, and two places are drawn, of 4 bits
+//! each. No code stands here for any of these steps. The contract of [`verify`] says which bytes are accepted, and what
+//! comes of them; that of [`prove_and_verify`], that both sides end in one state.
+ghost use Rattle.std.specs.Prelude.{◌≡◌, List, [], IfOk, IfErr, IfSome};
+ghost use Rattle.p3_challenger.specs.Runs.{AreAdmitted, carried_count};
+ghost use Rattle.p3_challenger.specs.Scripts.{play_of, challenges_of};
+ghost use Rattle.p3_challenger.specs.Verdicts.{script_of};
+ghost use Rattle.p3_challenger.specs.VerifierAnswers.{IsVerifiedScript, IsRefusedProof};
+ghost use Rattle.uses.specs.DemoScript.{AreDemoSteps, fresh_challenger};
+
+use p3_challenger::fs::script::{
+    AcceptAll, Both, Drawn, Fault, Meaning, Sent, Step, Suite, Verified, sent_matches,
+};
+use p3_challenger::fs::{
+    DomainSeparator, FieldToFieldCodec, FieldUnit, Hierarchy, Interaction, InteractionPattern,
+    Kind, Length, TranscriptError, script,
+};
+use p3_challenger::{HashChallenger, SerializingChallenger64, Sponge};
+use p3_field::Goldilocks;
+use p3_symmetric::{Hash, Sha256Hasher};
+use std::alloc::Global;
+
+/// The types that play the protocol.
+#[derive(Clone, Copy, Debug)]
+pub struct Demo;
+
+impl Suite for Demo {
+    ghost use Rattle.std.proofs.Common.{lit<};
+    ghost use Rattle.std.specs.List.{each_same};
+    ghost use Rattle.p3_challenger.specs.HashValueLaws.{values-injective};
+    ghost use Rattle.p3_challenger.specs.HashValues.{values_of};
+    ghost use Rattle.p3_challenger.specs.Reading.{AreBytes};
+
+    type Field = Goldilocks;
+
+    type Extension = Goldilocks;
+
+    type Unit = FieldUnit<Goldilocks>;
+
+    type Opaque = Hash<Goldilocks, u8, 32>;
+
+    type Challenger = Challenger;
+
+    type Codec = FieldToFieldCodec<Goldilocks>;
+
+    type Accept = AcceptAll;
+
+    type Digest = Sha256Hasher;
+
+    type Group = Both;
+
+    ghost is_own = { λ digest. AreBytes (values_of digest) };
+
+    ghost alphabet = { lit< tt };
+
+    ghost clones = { λ digest copy told. values-injective copy digest
+        (each_same (values_of digest) (values_of copy) told.whole) };
+}
+
+/// A challenger of scalars, over the bytes of SHA-256.
+pub type Challenger = SerializingChallenger64<Goldilocks, HashChallenger<u8, Sha256Hasher, 32>>;
+
+/// What binds a transcript to the protocol: its version, its name and its pattern.
+pub type Separator = DomainSeparator<FieldUnit<Goldilocks>, Sha256Hasher>;
+
+// How many groups of bytes a draw of a scalar tries at most.
+const DRAW_LIMIT: u64 = 1000;
+
+fn challenger(alloc: Global) -> Challenger
+    ensures { result ≡ fresh_challenger }
+{
+    SerializingChallenger64::from_hasher(Vec::new(alloc), Sha256Hasher, DRAW_LIMIT)
+}
+
+/// The steps of the protocol, for this number.
+pub fn steps(input: Goldilocks) -> [Step<Demo>; 9]
+    ensures steps { AreDemoSteps input result }
+    ensures admitted { AreAdmitted (play_of (⟦<Demo as Meaning>⟧.rules 1)) result }
+    ensures carried { carried_count (play_of (⟦<Demo as Meaning>⟧.rules 1)) result ≡ 0 }
+{
+    let kind = Kind::Protocol;
+    [
+        Step::Begin {
+            label: "demo",
+            kind,
+        },
+        Step::PublicScalar {
+            label: "input",
+            value: input,
+        },
+        Step::Salt {
+            label: "salt",
+            len: 8,
+        },
+        Step::ScalarsBounded {
+            label: "values",
+            max: 4,
+        },
+        Step::Pow {
+            label: "work",
+            bits: 8,
+        },
+        Step::ChallengeScalar { label: "alpha" },
+        Step::HintBounded {
+            label: "note",
+            max: 16,
+        },
+        Step::ChallengeUniformBits {
+            label: "indices",
+            width: 4,
+            n: 2,
+        },
+        Step::End {
+            label: "demo",
+            kind,
+        },
+    ]
+}
+
+/// The pattern of these steps, and its separator. The one error in fact is that memory is out.
+pub fn separator(alloc: Global) -> Result<Separator, TranscriptError> {
+    let (leaf, kind) = (Hierarchy::Atomic, Kind::Protocol);
+    let input = Interaction::algebra::<Goldilocks, Goldilocks, Sha256Hasher>(
+        leaf,
+        Kind::Public,
+        "input",
+        Length::Scalar,
+    );
+    let steps = vec![in alloc;
+        Interaction::marker::<()>(Hierarchy::Begin, kind, "demo"),
+        input,
+        Interaction::bytes(leaf, Kind::Salt, "salt", Length::Fixed(8)),
+        input.of_same_type(leaf, Kind::Message, "values", Length::Bounded(4)),
+        input.of_same_type(leaf, Kind::Pow, "work", Length::Fixed(8)),
+        input.of_same_type(leaf, Kind::Challenge, "alpha", Length::Scalar),
+        Interaction::bytes(leaf, Kind::Hint, "note", Length::Bounded(16)),
+        Interaction::uniform_bits(leaf, Kind::Challenge, "indices", 4, Length::Fixed(2)),
+        Interaction::marker::<()>(Hierarchy::End, kind, "demo"),
+    ]?;
+    Ok(Separator::new(alloc, 1, b"demo", InteractionPattern::new(steps)?)?)
+}
+
+/// What both sides drew, and the challenger in the end, on each side.
+#[derive(Drop)]
+pub struct Agreed {
+    /// The bytes of the proof.
+    pub proof: Vec<u8>,
+    /// What the prover drew.
+    pub proved: Vec<Drawn<Demo>>,
+    /// What the verifier drew.
+    pub verified: Vec<Drawn<Demo>>,
+}
+
+/// Proves that these values were sent, and verifies the proof: both sides draw the same.
+///
+/// Nothing is answered where other values are sent than the steps have: a salt of 8 bytes, a list of scalars, and the
+/// bytes of a note. The errors are those of [`script::prove`], and want of memory.
+pub fn prove_and_verify(
+    alloc: Global,
+    separator: &Separator,
+    input: Goldilocks,
+    sent: &[Sent<Demo>],
+) -> Result<Option<Agreed>, Fault>
+    ensures { IfOk result (λ agreed. IfSome agreed (λ a.
+        challenges_of a.verified.items ≡ challenges_of a.proved.items)) }
+{
+    let steps = steps(input);
+    if !sent_matches(&steps, sent) {
+        return Ok(None);
+    }
+    let (prover, verifier) = (challenger(alloc), challenger(alloc));
+    let (proved, verified, _) = script::prove_and_verify::<Demo>(
+        alloc, prover, verifier, separator, &steps, sent,
+    )?;
+    Ok(Some(Agreed {
+        proof: proved.narg,
+        proved: proved.challenges,
+        verified,
+    }))
+}
+
+/// Verifies a proof with this number. Where it is accepted, it is the encoding of just the values that are received, of a
+/// witness that passes, and of nothing more; where it is refused and memory is not out, there are no such values.
+pub fn verify<'a>(
+    alloc: Global,
+    separator: &Separator,
+    input: Goldilocks,
+    proof: &'a [u8],
+) -> Result<Verified<'a, Demo>, Fault>
+    ensures accepted { IfOk result (λ verified. (steps : List _) × AreDemoSteps input steps
+        × IsVerifiedScript (⟦<Demo as Meaning>⟧.rules 1) (script_of fresh_challenger separator.now steps)
+        proof.now [] ⟦<Challenger as Sponge>⟧.state verified) }
+    ensures refused { IfErr result (λ fault. (steps : List _) × AreDemoSteps input steps
+        × IsRefusedProof (⟦<Demo as Meaning>⟧.rules 1) (script_of fresh_challenger separator.now steps)
+        proof.now [] fault) }
+{
+    let steps = steps(input);
+    script::verify::<Demo>(alloc, challenger(alloc), separator, &steps, &[], proof)
+}
