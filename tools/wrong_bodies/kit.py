@@ -4,6 +4,7 @@ import importlib.util
 import os
 import shutil
 import sys
+import threading
 
 
 def loaded(name, path):
@@ -25,5 +26,22 @@ def folder():
 
 # What `rt` knows of crates: their folders, their libraries, and how rattle is called on them.
 rtlib = loaded("rtlib", f"{folder()}/rtlib.py")
+STAMPS = threading.local()
+
+
+def stamp_once(crate, made=rtlib.Crate.stamp):
+    """As rtlib's stamp of a crate, which reads a library's files once for each way that leads to it; this reads them once."""
+    if getattr(STAMPS, "seen", None) is None:
+        STAMPS.seen = {}
+        try:
+            return stamp_once(crate)
+        finally:
+            STAMPS.seen = None
+    if crate.folder not in STAMPS.seen:
+        STAMPS.seen[crate.folder] = made(crate)
+    return STAMPS.seen[crate.folder]
+
+
+rtlib.Crate.stamp = stamp_once
 # Where the functions of a crate's source begin and end.
 bodies = loaded("rt_plant_bodies", f"{folder()}/rt-plant-bodies")

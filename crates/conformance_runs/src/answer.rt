@@ -1,14 +1,14 @@
 // A script on both sides, each in both ways.
-use crate::line::{Form, Line};
 use crate::proving::prove_by_steps;
-use crate::recording::are_steps_of;
-use crate::script::{Script, Steps};
 use crate::told::Told;
 use crate::verifying::verify_by_steps;
 use crate::whole::{Written, prove_whole, verify_whole};
-use crate::world::{SeparatorOf, World};
 use anyhow::{Result, bail};
 use p3_challenger::fs::script::{admitted, carried_len, fits, sent_matches};
+use script_lines::line::{Form, Line};
+use script_lines::recording::are_steps_of;
+use script_lines::script::{Script, Steps};
+use script_lines::world::{SeparatorOf, World};
 use std::alloc::Global;
 
 /// What was answered, and how many steps were played.

@@ -1,12 +1,22 @@
 // The encoding of what a verifier has received, by rules of its own: elements by their numbers, the highest byte first, and
 // counts likewise.
-use crate::world::World;
 use anyhow::{Result, bail};
 use p3_challenger::fs::script::{Received, Step};
 use p3_field::{BasedVectorSpace, PrimeField64};
+use script_lines::world::World;
 use std::alloc::Global;
 
-/// The bytes of the values that were received at the steps, in order.
+// How many bytes or elements a step has.
+#[derive(Clone, Copy)]
+enum Count {
+    // Just so many.
+    Fixed(usize),
+    // At most so many, and their count stands before them.
+    AtMost(usize),
+}
+
+/// The bytes of the values that were received at the steps, in order. The error is a value that its step cannot have, or
+/// that memory ran out.
 pub fn encoded<S: World>(
     alloc: Global,
     steps: &[Step<S>],
@@ -15,9 +25,12 @@ pub fn encoded<S: World>(
     let mut bytes = Vec::new(alloc);
     let mut values = received.iter();
     for step in steps {
-        if let Some(cap) = sends(step) {
+        if let Some(count) = sends(step) {
             match values.next() {
-                Some(value) => push_value(alloc, &mut bytes, cap, value)?,
+                Some(value) => {
+                    push_count(&mut bytes, count, value)?;
+                    push_value(alloc, &mut bytes, value)?;
+                }
                 None => bail!("accepted with a value too few"),
             }
         }
@@ -28,33 +41,38 @@ pub fn encoded<S: World>(
     }
 }
 
-// Whether a value stands in the proof before its length, and the most that this may be; and nothing where none is sent.
-fn sends<S: World>(step: &Step<S>) -> Option<Option<usize>> {
+// How many there are of what the proof has for a step, if it has anything for it.
+fn sends<S: World>(step: &Step<S>) -> Option<Count> {
     match step {
-        Step::Salt { .. } | Step::Bytes { .. } | Step::Hint { .. } => Some(None),
-        Step::Scalar { .. } | Step::Scalars { .. } => Some(None),
-        Step::Extension { .. } | Step::Pow { .. } => Some(None),
-        Step::BytesBounded { max, .. } | Step::HintBounded { max, .. } => Some(Some(*max)),
-        Step::ScalarsBounded { max, .. } => Some(Some(*max)),
+        Step::Salt { len, .. } | Step::Bytes { len, .. } | Step::Hint { len, .. } => {
+            Some(Count::Fixed(*len))
+        }
+        Step::Scalars { n, .. } => Some(Count::Fixed(*n)),
+        Step::Scalar { .. } | Step::Extension { .. } | Step::Pow { .. } => Some(Count::Fixed(1)),
+        Step::BytesBounded { max, .. } | Step::HintBounded { max, .. } => Some(Count::AtMost(*max)),
+        Step::ScalarsBounded { max, .. } => Some(Count::AtMost(*max)),
         _ => None,
     }
 }
 
-fn push_value<S: World>(
-    alloc: Global,
-    bytes: &mut Vec<u8>,
-    cap: Option<usize>,
-    value: &Received<'_, S>,
-) -> Result<()> {
-    let mut numbers = Vec::new(alloc);
-    let count = match value {
+// Adds the count of the value, where one stands before it.
+fn push_count<S: World>(bytes: &mut Vec<u8>, count: Count, value: &Received<'_, S>) -> Result<()> {
+    let found = match value {
         Received::Bytes(items) => items.len(),
         Received::Scalars(items) => items.len(),
         _ => 1,
     };
-    if let Some(max) = cap {
-        push_number(bytes, count as u64, width_of(max as u64))?;
+    match count {
+        Count::Fixed(n) if found == n => Ok(()),
+        Count::AtMost(max) if found <= max => {
+            push_number(bytes, found as u64, width_of(max as u64))
+        }
+        _ => bail!("accepted with more or less than the step has"),
     }
+}
+
+fn push_value<S: World>(alloc: Global, bytes: &mut Vec<u8>, value: &Received<'_, S>) -> Result<()> {
+    let mut numbers = Vec::new(alloc);
     match value {
         Received::Bytes(items) => bytes.extend_from_slice(*items)?,
         Received::Scalar(scalar) | Received::Witness(scalar) => {

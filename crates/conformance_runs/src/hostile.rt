@@ -1,15 +1,15 @@
 // Changed proofs: each is refused for a reason, or accepted with values of which it is the encoding.
 use crate::encoding::{element_width, encoded};
-use crate::line::Line;
 use crate::mutation::change;
-use crate::script::Script;
-use crate::world::{SeparatorOf, World};
 use anyhow::{Result, bail};
 use p3_challenger::ChallengerError;
 use p3_challenger::fs::TranscriptError;
 use p3_challenger::fs::script::{admitted, carried_len, prove, sent_matches, verify};
 use p3_field::PrimeField64;
 use rand_xoshiro::Xoshiro256PlusPlus;
+use script_lines::line::Line;
+use script_lines::script::Script;
+use script_lines::world::{SeparatorOf, World};
 use std::alloc::Global;
 
 /// How many changed proofs there were: of each reason how many were refused for it, and how many were accepted.

@@ -5,11 +5,12 @@
 //! one that its argument names. Lines that begin with `#` say where the answers are from. Each other line is
 //! `run WORLD VERSION NAME [CHUNK..] | STEPS | ANSWER`, with ` ; ` between the steps: the version and the name of the
 //! protocol, and in hexadecimal the chunks of the instance's label. The world is the suite that plays the script:
-//! one of [`world`] or of [`suites`]. The steps are those that [`steps`] reads, each with what the prover is handed
-//! for it. After them may stand one of [`change::Change`], which is what becomes of the proof before the verifier
-//! reads it; `carried v..`, the witnesses that the verifier's caller carries in place of the prover's; and
-//! `handed VALUE`, one value more for the prover. Where the steps of the pattern are others than those that are played,
-//! they stand in between: `| STEPS | pattern STEPS | ANSWER`.
+//! one of [`script_lines::world`], or a suite over another challenger. The steps are those that
+//! [`script_lines::steps`] reads, each with what the prover is handed for it. After them may stand one of
+//! [`script_lines::change::Change`], which is what becomes of the proof before the verifier reads it; `carried v..`,
+//! the witnesses that the verifier's caller carries in place of the prover's; and `handed VALUE`, one value more for
+//! the prover. Where the steps of the pattern are others than those that are played, they stand in between:
+//! `| STEPS | pattern STEPS | ANSWER`.
 //!
 //! Each side plays the script in two ways, by `prove` or `verify` and step by step on a driver, and both have to
 //! tell the same. A driver that refused a step has to refuse it once more, and the step of the pattern there, and
@@ -35,34 +36,26 @@
 
 mod alone;
 mod answer;
-mod change;
 mod encoding;
 mod hostile;
-mod line;
 mod mutation;
 mod proving;
-mod recording;
-mod rule;
-mod script;
-mod steps;
-mod suites;
 mod told;
 mod verifying;
 mod whole;
-mod world;
 
 use answer::{Answered, answer};
 use anyhow::{Context, Result, bail};
 use hostile::{Tally, try_changes};
-use line::Line;
 use p3_challenger::fs::script::{BitsPow, Both, Plain};
 use rand_core::SeedableRng;
 use rand_xoshiro::Xoshiro256PlusPlus;
+use script_lines::line::Line;
+use script_lines::world::{Notes, Small};
 use std::alloc::Global;
 use std::process::ExitCode;
 use std::{env, fs};
 use test_suites::{HashSuite, MultiFieldSuite, Serializing32Suite, Serializing64Suite};
-use world::{Notes, Small};
 
 // What the files are called.
 const FILES: [&str; 4] = ["runs", "scripts", "suites", "steps"];

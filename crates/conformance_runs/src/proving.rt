@@ -1,11 +1,11 @@
 // A script step by step on a prover.
 use crate::alone::{given, is_admitted, only};
-use crate::script::Steps;
 use crate::whole::Written;
-use crate::world::{SeparatorOf, World};
 use anyhow::{Result, bail};
 use p3_challenger::fs::script::{Drawn, Fault, Played, Proved, Step, Suite, prover_step};
 use p3_challenger::fs::{PatternError, ProverState, TranscriptError};
+use script_lines::script::Steps;
+use script_lines::world::{SeparatorOf, World};
 use std::alloc::Global;
 
 type ProverOf<S> = ProverState<<S as Suite>::Challenger, <S as Suite>::Unit, <S as Suite>::Digest>;

@@ -1,9 +1,9 @@
 // How a file writes what a side answers.
-use crate::world::World;
 use anyhow::Result;
 use p3_challenger::fs::TranscriptError;
 use p3_challenger::fs::script::{Drawn, Fault, Received};
 use p3_field::{BasedVectorSpace, PrimeField64};
+use script_lines::world::World;
 use std::alloc::Global;
 
 /// What a side answers, as a text, and what more can be told of it: what was received, or what a refused step leaves.

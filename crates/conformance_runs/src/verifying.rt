@@ -2,12 +2,12 @@
 use crate::alone::{is_admitted, is_carried, only};
 use crate::told::{Told, refused};
 use crate::whole::accepted;
-use crate::world::{SeparatorOf, World};
 use anyhow::{Result, bail};
 use p3_challenger::fs::script::{
     Answer, Drawn, Fault, Received, Step, Suite, Verified, verifier_step,
 };
 use p3_challenger::fs::{PatternError, TranscriptError, VerifierState};
+use script_lines::world::{SeparatorOf, World};
 use std::alloc::Global;
 
 type VerifierOf<'a, S> = VerifierState<

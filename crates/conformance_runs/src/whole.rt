@@ -1,11 +1,11 @@
 // A whole script by one call on each side.
-use crate::script::Steps;
 use crate::told::{Told, drawn, numbers, received, refused};
-use crate::world::{SeparatorOf, World};
 use anyhow::{Result, bail};
 use p3_challenger::fs::script::{
     Fault, Proved, Step, Verified, admitted, carried_len, prove, sent_matches, verify,
 };
+use script_lines::script::Steps;
+use script_lines::world::{SeparatorOf, World};
 use std::alloc::Global;
 
 /// What a prover leaves: what is told of it, the proof, and the witnesses that the proof does not carry.

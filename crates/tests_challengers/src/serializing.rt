@@ -1,3 +1,5 @@
+ghost use Rattle.std.specs.Prelude.{◌≤◌};
+
 use crate::support::{bits, grind, holds, observe_many, observe_one, passes};
 use p3_challenger_core::{
     CanFinalizeDigest, CanObserve, CanSample, CanSampleBits, ChallengerError, FieldChallenger,
@@ -8,7 +10,7 @@ use p3_grinding::{CanSampleUniformBits, GrindingChallenger, Replica};
 use p3_hash_challenger::HashChallenger;
 use p3_serializing::{SerializingChallenger32, SerializingChallenger64};
 use p3_symmetric::{Hash, MerkleCap};
-use p3_test_support::{LengthHasher, SumHasher, length_challenger};
+use p3_test_support::{LengthHasher, SumHasher, Supply, length_challenger};
 use std::alloc::{AllocError, Global};
 use std::process::Abort;
 use std::test::Fail;
@@ -186,6 +188,27 @@ fn limit_is_met_after_as_many_groups(rt: HostRuntime) -> Result<(), Fail> {
     let twice = length_challenger(alloc, 92)?;
     let mut challenger: Over32<BabyBear, LengthHasher> = SerializingChallenger32::new(twice, 2);
     assert!(rt; holds(&rt, draws(&mut challenger, short(1953855095))));
+    Ok(())
+}
+
+// Whether a draw that rejects every group of bytes meets the limit, and leaves one of so many bytes.
+fn meets_the_limit_after(alloc: Global, draw_limit: u64, count: usize) -> Result<bool, AllocError>
+    requires { 1 ≤ draw_limit }
+{
+    let bytes = vec![in alloc; 0xff; count]?;
+    let all = Supply::new(bytes.as_slice());
+    let mut challenger: SerializingChallenger32<BabyBear, Supply<'_>> =
+        SerializingChallenger32::new(all, draw_limit);
+    let met = CanSample::<BabyBear>::sample(&mut challenger) == Err(ChallengerError::DrawLimit);
+    Ok(met && challenger.inner().left().len() == 1)
+}
+
+#[test]
+fn limit_is_met_after_so_many_bytes(rt: HostRuntime) -> Result<(), Fail> {
+    let alloc = rt.alloc();
+    assert!(rt; meets_the_limit_after(alloc, 1, 5)?);
+    assert!(rt; meets_the_limit_after(alloc, 3, 13)?);
+    assert!(rt; meets_the_limit_after(alloc, 1000, 4001)?);
     Ok(())
 }
 

@@ -68,7 +68,8 @@ fn finds_no_witness<C: Replica + GrindingChallenger<Witness = F257> + CanSample<
     let none = grind(rt, &mut copy, 1) == Err(ChallengerError::NoWitness);
     let unchanged = draws(&mut copy, &[2, 1, 5, 3])?;
     challenger.observe(element(5))?;
-    Ok(none && unchanged && grind(rt, &mut challenger, 1)? == element(0))
+    let of_three_bits = grind(rt, &mut challenger, 3) == Err(ChallengerError::NoWitness);
+    Ok(none && unchanged && of_three_bits && grind(rt, &mut challenger, 2)? == element(0))
 }
 
 fn asks_for_no_work<C: UniformGrindingChallenger<Witness = F257> + CanSample<F257>>(

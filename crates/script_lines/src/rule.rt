@@ -23,7 +23,7 @@ impl Rule {
 }
 
 impl AcceptRule<F257> for Rule {
-    ghost use Rattle.conformance_runs.specs.Rules.{takes};
+    ghost use Rattle.script_lines.specs.Rules.{takes};
 
     ghost rule = { takes ⟦<F257 as PartialEq>⟧.eq ⟦<F257 as PrimeCharacteristicRing>⟧.residues.number };
 
@@ -36,7 +36,7 @@ impl AcceptRule<F257> for Rule {
 }
 
 impl AcceptRule<usize> for Rule {
-    ghost use Rattle.conformance_runs.specs.Rules.{takes};
+    ghost use Rattle.script_lines.specs.Rules.{takes};
 
     ghost rule = { takes ⟦<usize as PartialEq>⟧.eq (λ n. n) };
 
