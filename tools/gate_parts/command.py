@@ -20,6 +20,7 @@ The repository's test command. It runs, at the top of the repository,
   rt ci                           every crate proved from nothing, its tests, and its programs as two compilers build them
   tools/memory                    each request of the program for memory refused in turn
   tools/misuse                    wrong programs that must not compile: they let go of what must be spent
+  tools/links                     that each relative link of each page leads somewhere
   tools/wrong-bodies --self-test  that the next command holds the right edits for refused, where tools/ changed since that passed
   tools/wrong-bodies              wrong bodies, which the prover must refuse: those whose refusal is not on record as the text is
                                   now, and a sample of the others
@@ -43,13 +44,15 @@ def main(words):
         if not given.only_wrong_bodies:
             proofs = Part("rt ci", ["rt", "ci"], is_watched=True)
             run_marked(proofs)
-            memory = Part("tools/memory", [f"{ROOT}/tools/memory"])
-            memory.run(ROOT)
-            misuse = Part("tools/misuse", [f"{ROOT}/tools/misuse"])
-            misuse.run(ROOT)
-            test = Part("tools/wrong-bodies --self-test", [f"{ROOT}/tools/wrong-bodies", "--self-test"])
-            test.run(ROOT)
-            parts = [proofs, memory, misuse, test, bodies]
+            others = [
+                Part("tools/memory", [f"{ROOT}/tools/memory"]),
+                Part("tools/misuse", [f"{ROOT}/tools/misuse"]),
+                Part("tools/links", [f"{ROOT}/tools/links"]),
+                Part("tools/wrong-bodies --self-test", [f"{ROOT}/tools/wrong-bodies", "--self-test"]),
+            ]
+            for it in others:
+                it.run(ROOT)
+            parts = [proofs, *others, bodies]
         bodies.run(ROOT)
         rows = rtlib.text_of(f"{room}/rows") or ""
     report(parts, rows)
