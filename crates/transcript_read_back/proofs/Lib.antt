@@ -1,0 +1,3 @@
+pub mod CallByCall
+pub mod HandsOver
+pub mod Steps

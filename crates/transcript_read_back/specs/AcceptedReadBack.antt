@@ -1,0 +1,54 @@
+-- What two accepted proofs of one script handed over tells of them.
+use Rattle.std.specs.Prelude.{◌≡◌, ◌⊎◌, ℕ, List, length}
+use Rattle.p3_challenger.specs.Segments.{Call}
+use Rattle.p3_challenger.specs.Segments as segments
+use Rattle.p3_challenger.specs.Handed.{CollideAtSomePlace}
+use Rattle.p3_challenger.specs.AnswersBound.{AgreeButHints}
+use Rattle.p3_challenger.specs.Fronts.{Run}
+use Rattle.p3_challenger.specs.Rules.{Rules}
+use Rattle.p3_challenger.specs.RunsBound.{HoldsProof}
+use Rattle.p3_challenger.specs.Scripts.{play_of}
+use Rattle.p3_challenger.specs.Step as script
+use Rattle.p3_challenger.specs.Verdicts.{with_steps}
+use Rattle.p3_challenger.specs.Verified.{Verified}
+use Rattle.p3_challenger.specs.VerifierAnswers.{IsVerifiedScript}
+use Rattle.transcript_read_back.specs.TranscriptReadBack.{HandsOver}
+
+module _ {F EF O Ac M : Type 0} (Su U C K D G It S T : Type 0) (rules : Rules S T It F EF O Ac) (state : C → S)
+    (run : S → List (Call T) → segments.Run T M S) (pending : S → List T) where
+  abbrev pub Script : Type 0
+  Script = Run (script.Step Su F EF U O C K Ac D G It S T) F EF S U D
+
+  abbrev pub Accepted : Type 0
+  Accepted = Verified Su F EF U O C K Ac D G It S T
+
+  -- A proof of the script, which a program can hold, was accepted with this answer, and its run
+  -- hands over these.
+  pub record AcceptsAndHands (s : Script) (v : Accepted) (handed : List M) : Type 0 where
+    pub proof : List ℕ
+    pub carried : List F
+    pub accepted : IsVerifiedScript rules s proof carried state v
+    pub holds : HoldsProof rules (play_of rules) s.steps proof
+    pub hands : HandsOver run rules (play_of rules) (with_steps s s.steps accepted.values) handed
+
+  -- a script begins at this state, and the final challengers of two answers have the same pending
+  pub record AnswersEndAlike (start : S) (s : Script) (v w : Accepted) : Type 0 where
+    pub begins : s.challenger ≡ start
+    pub pending_same : pending (state v.challenger) ≡ pending (state w.challenger)
+
+  -- Where two accepted proofs hand over the same, what was received is the same but for hints and
+  -- witnesses of 0 bits, and so are the challenges and the final challengers.
+  abbrev pub AcceptedReadBack : S → Type 0
+  AcceptedReadBack start =
+      (s : Script) (v w : Accepted) (handed : List M) → AnswersEndAlike start s v w →
+      AcceptsAndHands s v handed → AcceptsAndHands s w handed →
+      AgreeButHints Su U C K D G It S T rules state s v w
+
+  -- Where they hand over equally many, the last alike, it is so too, or at one place two collide.
+  abbrev pub AcceptedReadBackOrCollide : (LastAlike : List M → List M → Type 0)
+      (Collide : M → M → Type 0) → S → Type 0
+  AcceptedReadBackOrCollide LastAlike Collide start =
+      (s : Script) (v w : Accepted) (handed others : List M) → AnswersEndAlike start s v w →
+      AcceptsAndHands s v handed → AcceptsAndHands s w others → length handed ≡ length others →
+      LastAlike handed others →
+      AgreeButHints Su U C K D G It S T rules state s v w ⊎ CollideAtSomePlace Collide handed others

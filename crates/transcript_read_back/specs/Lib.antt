@@ -1,0 +1,12 @@
+pub mod AcceptedReadBack
+pub mod AcceptedReadBackLaws
+pub mod AmidLaws
+pub mod CallByCall
+pub mod ChallengerReadBackLaws
+pub mod GroupDraws
+pub mod Recursive
+pub mod RunCallLaws
+pub mod RunCalls
+pub mod ScriptReadBack
+pub mod TranscriptReadBack
+pub mod TranscriptReadBackLaws
