@@ -10,7 +10,7 @@ use Rattle.p3_challenger.specs.Rounds.{AreRounds, steps_of_rounds}
 use Rattle.p3_challenger.specs.Steps.{Step, carried_by, step_with}
 use Rattle.p3_challenger.specs.TranscriptError.{TranscriptError}
 use Rattle.p3_challenger.specs.Transcripts.{AreNext, Transcript, steps_on}
-use Rattle.p3_sumcheck.specs.Sumchecks.{PlaysRound, RefusesToDeclare, Sumcheck, challenge_step, round_steps, steps_of}
+use Rattle.p3_sumcheck.specs.Sumchecks.{PlaysRound, RefusesToDeclare, Sumcheck, drawn_challenge, round_steps}
 use Rattle.p3_sumcheck.specs.declared.round.Round.{Round}
 
 -- a step of the same type as another
@@ -52,15 +52,7 @@ module _ (first second : Step) where
       RefusesToDeclare (steps_of_rounds (first ∷ second ∷ []) k) start e after
   stops-first n k start here after e below so_far refuses =
       let left = left-of n k below in
-      record {
-        done = steps_of_rounds (first ∷ second ∷ []) n;
-        next = first;
-        others = second ∷ left.0;
-        split = left.1;
-        here = here;
-        recorded = so_far;
-        refuses = refuses;
-      }
+      (steps_of_rounds (first ∷ second ∷ []) n, first, second ∷ left.0, here, left.1, so_far, refuses)
 
   pub stops-second : (n k : ℕ) (start here middle after : Recording) (e : TranscriptError) → n < k →
       here.steps ≡ start.steps ++ steps_of_rounds (first ∷ second ∷ []) n → Records here first middle →
@@ -68,17 +60,16 @@ module _ (first second : Step) where
       RefusesToDeclare (steps_of_rounds (first ∷ second ∷ []) k) start e after
   stops-second n k start here middle after e below so_far one refuses =
       let left = left-of n k below in
-      let done = steps_of_rounds (first ∷ second ∷ []) n in
-      record {
-        done = done ++ (first ∷ []);
-        next = second;
-        others = left.0;
-        split = left.1 ∙ sym (append_assoc done (first ∷ []) (second ∷ left.0));
-        here = middle;
-        recorded = ap (λ (r : Recording). r.steps) one.recorded ∙ ap (λ l. l ++ (first ∷ [])) so_far
-            ∙ append_assoc start.steps done (first ∷ []);
-        refuses = refuses;
-      }
+      let done = steps_of_rounds (first ∷ second ∷ []) n in (
+        done ++ (first ∷ []),
+        second,
+        left.0,
+        middle,
+        left.1 ∙ sym (append_assoc done (first ∷ []) (second ∷ left.0)),
+        ap (λ (r : Recording). r.steps) one.recorded ∙ ap (λ l. l ++ (first ∷ [])) so_far
+            ∙ append_assoc start.steps done (first ∷ []),
+        refuses,
+      )
 
 -- the same of equal steps
 pub same-steps : (first second one other : Step) → first ≡ one → second ≡ other → (n : ℕ) (start after : Recording)
@@ -90,13 +81,17 @@ same-steps first second one other is_one is_other n start after e refuses =
 
 -- ---- rounds that are played
 
+-- the steps of so many rounds
+abbrev pub steps_of : {S Symbol F : Type 0} → Sumcheck S Symbol F → ℕ → List Step
+steps_of m n = steps_of_rounds (round_steps m.field) n
+
 module _ {S Symbol F : Type 0} (m : Sumcheck S Symbol F) where
   -- a round has its steps next, and passes them
   pub round-passes : (before : Transcript S) (round : Round F) (after : Transcript S) → PlaysRound m before round after →
       AreNext (round_steps m.field) before.playing × (after.playing ≡ steps_on (round_steps m.field) before.playing)
   round-passes before round after plays =
       let here = plays.sends.playing in
-      let fold = challenge_step m.field in (
+      let fold = (drawn_challenge m).interaction in (
         (plays.sends.is_next, subst (λ p. AreNext (fold ∷ []) p) here (plays.draws.is_next, tt)),
         plays.draws.playing ∙ ap (λ p. steps_on (fold ∷ []) p) here,
       )

@@ -17,14 +17,14 @@ use Rattle.p3_sumcheck.specs.declared.error.SumcheckError.TheVariants as fault
 use Rattle.p3_sumcheck.specs.declared.round.Round.{Round}
 use Rattle.p3_sumcheck.specs.Claims.{HasLuckyRound, Reduces, claim_after, true_rounds}
 use Rattle.p3_sumcheck.specs.Sumchecks.{Accepts, Disagrees, IsMemory, PlaysRound, Proves, ReadsRound, Refuses}
-use Rattle.p3_sumcheck.specs.Sumchecks.{RefusesRound, Sumcheck, WritesRound, bytes_of, challenges_of, drawn_challenge}
-use Rattle.p3_sumcheck.specs.Sumchecks.{read_pair, sent_pair, steps_of}
+use Rattle.p3_sumcheck.specs.Sumchecks.{RefusesRound, Sumcheck, WritesRound, challenges_of, drawn_challenge}
+use Rattle.p3_sumcheck.specs.Sumchecks.{read_pair, sent_pair}
 use Rattle.p3_sumcheck.specs.Tables.{folded_at, total}
 use Rattle.p3_sumcheck.proofs.ClaimLaws.{false-is_lucky, reduces-same, reduces-split, true-reduces, true_rounds-challenges}
 use Rattle.p3_sumcheck.proofs.ClaimLaws.{true_rounds-length}
-use Rattle.p3_sumcheck.proofs.Declaring.{rounds-pass}
+use Rattle.p3_sumcheck.proofs.Declaring.{rounds-pass, steps_of}
 use Rattle.p3_sumcheck.proofs.Sending.{one-power}
-use Rattle.p3_sumcheck.proofs.Reading.{at, pair-same, plays-reads, reads-first, reads-plays, reads-same, reads-stands, wire}
+use Rattle.p3_sumcheck.proofs.Reading.{at, bytes_of, pair-same, plays-reads, reads-first, reads-plays, reads-same, reads-stands, wire}
 
 -- ---- rounds that are accepted so far
 

@@ -11,12 +11,16 @@ use Rattle.p3_challenger.specs.Spelled.{OnlyReads}
 use Rattle.p3_challenger.specs.Transcripts.{PlaysStep, Transcript}
 use Rattle.p3_challenger.specs.Verifying.{Receives}
 use Rattle.p3_sumcheck.specs.declared.round.Round.{Round}
-use Rattle.p3_sumcheck.specs.Sumchecks.{PlaysRound, ReadsPair, ReadsRound, Sumcheck, bytes_of, drawn_challenge, pair_of}
+use Rattle.p3_sumcheck.specs.Sumchecks.{PlaysRound, ReadsPair, ReadsRound, Sumcheck, drawn_challenge, pair_of}
 use Rattle.p3_sumcheck.specs.Sumchecks.{read_pair, sent_pair}
 
 -- a driver at a transcript, with these bytes
 abbrev pub at : {S : Type 0} → Transcript S → List ℕ → Driving S
 at transcript bytes = record { transcript = transcript; bytes = bytes }
+
+-- the bytes of a pair
+abbrev pub bytes_of : {S Symbol F : Type 0} → Sumcheck S Symbol F → List F → List ℕ
+bytes_of m pair = flat_map m.encoding.wire pair
 
 module _ {S Symbol F : Type 0} (m : Sumcheck S Symbol F) where
   -- ---- what the steps say

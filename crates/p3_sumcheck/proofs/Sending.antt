@@ -1,10 +1,9 @@
 -- Rounds that a prover has sent so far, and the table that is left.
 use Rattle.std.proofs.Common.{◌≡◌, ℕ, zero, suc, ◌+◌, ◌-◌, ◌^◌, ◌<◌, ◌≤◌, inl, inr, List, [], ◌∷◌, ◌++◌, length, refl, sym, ap, subst}
-use Rattle.std.proofs.Common.{◌∙◌, arith, get_or, zero-add, Result, Ok, Err, Option, Some}
+use Rattle.std.proofs.Common.{◌∙◌, arith, get_or, zero-add, Option, Some}
 use Rattle.std.proofs.lemmas.List.{length-append}
 use Rattle.std.proofs.lemmas.Nat.{pow_pos}
 use Rattle.std.proofs.Math.Nat.{pow-suc}
-use Rattle.std.specs.Result.{IfErr, IfOk, MatchResult}
 use Rattle.p3_challenger.specs.Completeness.{IsOwnRefusal}
 use Rattle.p3_challenger.specs.CompletenessLaws.{next-own_refusal}
 use Rattle.p3_challenger.specs.Driving.{Driving}
@@ -18,10 +17,10 @@ use Rattle.p3_challenger.specs.Transcripts.{AreNext, IsNext, Meaning, PlaysStep,
 use Rattle.p3_sumcheck.specs.declared.round.Round.{Round}
 use Rattle.p3_sumcheck.specs.Claims.{true_round, true_rounds, true_pair}
 use Rattle.p3_sumcheck.specs.Sumchecks.{PlaysRound, Proves, RefusesToProve, RefusesToSend, Sumcheck, WritesRound}
-use Rattle.p3_sumcheck.specs.Sumchecks.{drawn_challenge, round_steps, sent_pair, steps_of}
+use Rattle.p3_sumcheck.specs.Sumchecks.{drawn_challenge, round_steps, sent_pair}
 use Rattle.p3_sumcheck.specs.Tables.{folded, folded_at, high_half, low_half, total}
 use Rattle.p3_sumcheck.proofs.ClaimLaws.{folded-length, folded_at-more, true_rounds-length, true_rounds-more}
-use Rattle.p3_sumcheck.proofs.Declaring.{rounds-pass}
+use Rattle.p3_sumcheck.proofs.Declaring.{rounds-pass, steps_of}
 
 -- a list of one value
 one-value : {F : Type 0} (xs : List F) (x : F) → length xs ≡ 1 → x ≡ get_or xs 0 x → xs ≡ x ∷ []
@@ -248,15 +247,3 @@ module _ {S Symbol F : Type 0} (m : Sumcheck S Symbol F) where
             ∙ ap (λ k. steps_on (steps_of m k) before.transcript.playing)
             (true_rounds-length m.residues table point ∙ many),
       )
-
-  pub played-or_refused : {R : Type 0} (points : R → List F) (values : R → F) (result : Result R TranscriptError) (n : ℕ)
-      (table : List F) (before after : Driving S) → length table ≡ 2 ^ n →
-      AreNext (steps_of m n) before.transcript.playing →
-      IfOk result (λ r. Proves m table (points r) (values r) before after) →
-      IfErr result (λ e. RefusesToProve m table before e after) →
-      MatchResult result (λ r. (length (points r) ≡ n)
-      × (after.transcript.playing ≡ steps_on (steps_of m n) before.transcript.playing)) IsOwnRefusal
-  played-or_refused points values (Ok r) n table before after size next ok err =
-      passes table (points r) (values r) n before after size ok
-  played-or_refused points values (Err e) n table before after size next ok err =
-      own_refusal n table before after e size next err

@@ -8,9 +8,10 @@ use Rattle.p3_sumcheck.specs.Tables.{folded, high_half, low_half, total, value_a
 abbrev pub claim_after : {F : Type 0} → Residues F → Round F → F
 claim_after r round = value_at r round.challenge round.first round.second
 
--- a round brings one claim to the next: its pair adds to the one, and the other is the claim after it
+-- a round brings one claim to the next: its pair adds to the one, and the other is the claim after
+-- it
 abbrev pub Reduces : {F : Type 0} → Residues F → F → Round F → F → Type 0
-Reduces r claim round next = (sum_of r round.first round.second ≡ claim) × (next ≡ claim_after r round)
+Reduces r x round y = (sum_of r round.first round.second ≡ x) × (y ≡ claim_after r round)
 
 -- the true pair of a table: the sums of its two halves
 abbrev pub true_pair : {F : Type 0} → Residues F → List F → List F
@@ -26,8 +27,8 @@ abbrev pub true_rounds : {F : Type 0} → Residues F → List F → List F → L
 true_rounds r table [] = []
 true_rounds r table (x ∷ point) = true_round r table x ∷ true_rounds r (folded r x table) point
 
--- The pair of some round is not the true one, of the table as it is folded so far, and yet the round's challenge makes
--- one claim of both.
+-- The pair of some round is not the true one, of the table as it is folded so far, and yet the
+-- round's challenge makes one claim of both.
 abbrev pub HasLuckyRound : {F : Type 0} → Residues F → List F → List (Round F) → Type 0
 HasLuckyRound r table [] = ⊥
 HasLuckyRound r table (round ∷ rounds) =

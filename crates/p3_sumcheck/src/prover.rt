@@ -2,9 +2,10 @@
 ghost use Rattle.std.specs.Prelude.{◌≡◌, ◌≤◌, ◌^◌, ℕ, ◌∷◌, [], length, IfErr, IfOk, MatchResult};
 ghost use Rattle.p3_challenger.specs.Completeness.{IsOwnRefusal};
 ghost use Rattle.p3_challenger.specs.Drivers.{proving_of};
+ghost use Rattle.p3_challenger.specs.Rounds.{steps_of_rounds};
 ghost use Rattle.p3_challenger.specs.Transcripts.{AreNext, steps_on};
-ghost use Rattle.p3_sumcheck.specs.Sumchecks.{Proves, RefusesToProve, RefusesToSend, WritesRound, steps_of};
-ghost use Rattle.p3_sumcheck.specs.Sumchecks.{sumcheck_of};
+ghost use Rattle.p3_sumcheck.specs.Sumchecks.{Proves, RefusesToProve, RefusesToSend, WritesRound};
+ghost use Rattle.p3_sumcheck.specs.Sumchecks.{round_steps, sumcheck_of};
 
 use crate::table::{fold, sums_of_halves};
 use p3_challenger::CanObserve;
@@ -13,49 +14,16 @@ use p3_field::ScalarField;
 use p3_symmetric::DigestHasher;
 use std::alloc::Global;
 
-/// Sends the rounds of a table, and gives the point of their challenges and the table's value there.
+/// Sends the rounds of a table, and gives the point of their challenges and the table's value
+/// there.
 ///
 /// The table is folded where it lies, in one pass a round. The errors are those of the steps, and
-/// [`TranscriptError::OutOfMemory`] where there is no room for the point. After one the caller aborts the prover.
+/// [`TranscriptError::OutOfMemory`] where there is no room for the point. After one the caller
+/// aborts the prover.
 ///
 /// Conditions: the table has `2^n` values, and the codec has at least
 /// [`MIN_CHALLENGE_SECURITY_BITS`](p3_challenger::fs::MIN_CHALLENGE_SECURITY_BITS) of security.
 pub fn prove<
-    F: ScalarField,
-    U: Unit,
-    C: CanObserve<U::Item> + Drop,
-    D: DigestHasher,
-    Cdc: Codec<C, F>,
->(
-    alloc: Global,
-    table: Vec<F>,
-    prover: &mut ProverState<C, U, D>,
-) -> Result<(Vec<F>, F), TranscriptError>
-    requires size { (n : ℕ) × (length table.items ≡ 2 ^ n) }
-    requires secure { 128 ≤ Cdc.SECURITY_BITS }
-    // The true pairs are written, and the table's value at the point is answered.
-    ensures ok { let m = sumcheck_of F.residues ⟦<F as Declared<F, D>>⟧.algebra Cdc.observation
-        Cdc.sampling Cdc.encoding in
-        IfOk result (λ sent. Proves m table.items sent.0.items sent.1 (proving_of C.state prover.old)
-        (proving_of C.state prover.new)) }
-    ensures err { let m = sumcheck_of F.residues ⟦<F as Declared<F, D>>⟧.algebra Cdc.observation
-        Cdc.sampling Cdc.encoding in
-        IfErr result (λ e. RefusesToProve m table.items (proving_of C.state prover.old) e
-        (proving_of C.state prover.new)) }
-    // Where the rounds are next they are played, and the prover then stands after them; or the challenger alone
-    // refuses, or memory is out.
-    ensures only { let m = sumcheck_of F.residues ⟦<F as Declared<F, D>>⟧.algebra Cdc.observation
-        Cdc.sampling Cdc.encoding in
-        let before = (proving_of C.state prover.old).transcript.playing in
-        (n : ℕ) → length table.items ≡ 2 ^ n → AreNext (steps_of m n) before →
-        MatchResult result (λ sent. (length sent.0.items ≡ n)
-        × ((proving_of C.state prover.new).transcript.playing ≡ steps_on (steps_of m n) before)) IsOwnRefusal }
-{
-    send_rounds::<F, U, C, D, Cdc>(alloc, table, prover)
-}
-
-// Sends the rounds.
-fn send_rounds<
     F: ScalarField,
     U: Unit,
     C: CanObserve<U::Item> + Drop,
@@ -68,14 +36,25 @@ fn send_rounds<
 ) -> Result<(Vec<F>, F), TranscriptError>
     requires size { (n : ℕ) × (length table.items ≡ 2 ^ n) }
     requires secure { 128 ≤ Cdc.SECURITY_BITS }
-    ensures ok { let m = sumcheck_of F.residues ⟦<F as Declared<F, D>>⟧.algebra Cdc.observation
-        Cdc.sampling Cdc.encoding in
-        IfOk result (λ sent. Proves m table.items sent.0.items sent.1 (proving_of C.state prover.old)
-        (proving_of C.state prover.new)) }
-    ensures err { let m = sumcheck_of F.residues ⟦<F as Declared<F, D>>⟧.algebra Cdc.observation
-        Cdc.sampling Cdc.encoding in
-        IfErr result (λ e. RefusesToProve m table.items (proving_of C.state prover.old) e
-        (proving_of C.state prover.new)) }
+    // The true pairs are written, and the table's value at the point is answered.
+    ensures ok { let m = sumcheck_of F.residues ⟦<F as Declared<F, D>>⟧.algebra
+        Cdc.observation Cdc.sampling Cdc.encoding in
+        let before = proving_of C.state prover.old in
+        let after = proving_of C.state prover.new in
+        IfOk result (λ sent. Proves m table.items sent.0.items sent.1 before after) }
+    ensures err { let m = sumcheck_of F.residues ⟦<F as Declared<F, D>>⟧.algebra
+        Cdc.observation Cdc.sampling Cdc.encoding in
+        let before = proving_of C.state prover.old in
+        let after = proving_of C.state prover.new in
+        IfErr result (λ e. RefusesToProve m table.items before e after) }
+    // Where the rounds are next they are played, and the prover then stands after them; or the
+    // challenger alone refuses, or memory is out.
+    ensures only { let steps = steps_of_rounds (round_steps ⟦<F as Declared<F, D>>⟧.algebra) in
+        let before = (proving_of C.state prover.old).transcript.playing in
+        let after = (proving_of C.state prover.new).transcript.playing in
+        (n : ℕ) → length table.items ≡ 2 ^ n → AreNext (steps n) before →
+        MatchResult result (λ sent. (length sent.0.items ≡ n)
+        × (after ≡ steps_on (steps n) before)) IsOwnRefusal }
 {
     let mut point = Vec::new(alloc);
     let mut pair = sums_of_halves(&table);
@@ -96,14 +75,17 @@ fn send_round<
     Cdc: Codec<C, F>,
 >(prover: &mut ProverState<C, U, D>, pair: (F, F)) -> Result<F, TranscriptError>
     requires { 128 ≤ Cdc.SECURITY_BITS }
-    ensures ok { let m = sumcheck_of F.residues ⟦<F as Declared<F, D>>⟧.algebra Cdc.observation
-        Cdc.sampling Cdc.encoding in
-        IfOk result (λ x. WritesRound m (proving_of C.state prover.old)
-        (record { first = pair.0; second = pair.1; challenge = x }) (proving_of C.state prover.new)) }
-    ensures err { let m = sumcheck_of F.residues ⟦<F as Declared<F, D>>⟧.algebra Cdc.observation
-        Cdc.sampling Cdc.encoding in
-        IfErr result (λ e. RefusesToSend m (pair.0 ∷ pair.1 ∷ []) (proving_of C.state prover.old) e
-        (proving_of C.state prover.new)) }
+    ensures ok { let m = sumcheck_of F.residues ⟦<F as Declared<F, D>>⟧.algebra
+        Cdc.observation Cdc.sampling Cdc.encoding in
+        let before = proving_of C.state prover.old in
+        let after = proving_of C.state prover.new in
+        IfOk result (λ x. WritesRound m before
+        (record { first = pair.0; second = pair.1; challenge = x }) after) }
+    ensures err { let m = sumcheck_of F.residues ⟦<F as Declared<F, D>>⟧.algebra
+        Cdc.observation Cdc.sampling Cdc.encoding in
+        let before = proving_of C.state prover.old in
+        let after = proving_of C.state prover.new in
+        IfErr result (λ e. RefusesToSend m (pair.0 ∷ pair.1 ∷ []) before e after) }
 {
     prover.add_scalars::<F, Cdc>("round", &[pair.0, pair.1])?;
     let challenge = prover.challenge_scalar::<F, Cdc>("fold")?;

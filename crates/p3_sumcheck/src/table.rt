@@ -39,7 +39,8 @@ pub(crate) fn sums_of_halves<F: PrimeField64>(table: &[F]) -> (F, F)
     (sum(low), sum(high))
 }
 
-/// Folds a table at `x` where it lies, in one pass, and gives the sums of the two halves of what is left.
+/// Folds a table at `x` where it lies, in one pass, and gives the sums of the two halves of what is
+/// left.
 pub(crate) fn fold<F: PrimeField64>(table: &mut Vec<F>, x: F) -> (F, F)
     ensures folded { table.new.items ≡ tables.folded F.residues x table.old.items }
     ensures first { result.0 ≡ tables.total F.residues (tables.low_half table.new.items) }
@@ -54,10 +55,12 @@ pub(crate) fn fold<F: PrimeField64>(table: &mut Vec<F>, x: F) -> (F, F)
 // Folds the high half of a table onto its low one, and gives the sums of the two halves of that.
 fn fold_halves<F: PrimeField64>(table: &mut [F], half: usize, x: F) -> (F, F)
     requires { half ≡ length table.old / 2 }
-    ensures folded { let folded = tables.folded F.residues x table.old in take half table.new ≡ folded }
+    ensures folded { take half table.new ≡ tables.folded F.residues x table.old }
     ensures len { length table.new ≡ length table.old }
-    ensures first { result.0 ≡ tables.total F.residues (tables.low_half (tables.folded F.residues x table.old)) }
-    ensures second { result.1 ≡ tables.total F.residues (tables.high_half (tables.folded F.residues x table.old)) }
+    ensures first { let folded = tables.folded F.residues x table.old in
+        result.0 ≡ tables.total F.residues (tables.low_half folded) }
+    ensures second { let folded = tables.folded F.residues x table.old in
+        result.1 ≡ tables.total F.residues (tables.high_half folded) }
 {
     let quarter = half / 2;
     let (low, high) = table.split_at_mut(half);
@@ -68,7 +71,8 @@ fn fold_halves<F: PrimeField64>(table: &mut [F], half: usize, x: F) -> (F, F)
     (first, second)
 }
 
-// Folds the values of `high` onto those of `low`, place by place, and gives the sum of what is there then.
+// Folds the values of `high` onto those of `low`, place by place, and gives the sum of what is
+// there then.
 fn fold_onto<F: PrimeField64>(low: &mut [F], high: &[F], x: F) -> F
     requires { length low.old ≤ length high.now }
     ensures folded { low.new ≡ tables.fold_pairs F.residues x low.old high.now }

@@ -3,11 +3,12 @@ ghost use Rattle.std.specs.Prelude.{◌≡◌, ◌<◌, ◌≤◌, ◌++◌, ◌
 ghost use Rattle.p3_challenger.specs.Driving.{Driving};
 ghost use Rattle.p3_challenger.specs.Drivers.{verifying_of};
 ghost use Rattle.p3_challenger.specs.Residues.{sum_of};
+ghost use Rattle.p3_challenger.specs.Rounds.{steps_of_rounds};
 ghost use Rattle.p3_challenger.specs.Transcripts.{steps_on};
 ghost use Rattle.p3_challenger.specs.Verifying.{ReceivesOrRefuses};
 ghost use Rattle.p3_sumcheck.specs.Claims.{HasLuckyRound};
 ghost use Rattle.p3_sumcheck.specs.Sumchecks.{Accepts, Disagrees, IsMemory, Proves, ReadsRound, Refuses};
-ghost use Rattle.p3_sumcheck.specs.Sumchecks.{RefusesRound, challenges_of, read_pair, steps_of, sumcheck_of};
+ghost use Rattle.p3_sumcheck.specs.Sumchecks.{RefusesRound, challenges_of, read_pair, round_steps, sumcheck_of};
 ghost use Rattle.p3_sumcheck.specs.Tables.{folded_at, total};
 ghost use Rattle.p3_sumcheck.specs.declared.error.SumcheckError.TheVariants as fault;
 ghost use Rattle.p3_sumcheck.specs.declared.round.Round.{Round};
@@ -23,12 +24,12 @@ use p3_field::ScalarField;
 use p3_symmetric::DigestHasher;
 use std::alloc::Global;
 
-/// Reads so many rounds, and gives the point of their challenges and the last claim, which is on the value of the
-/// prover's table there.
+/// Reads so many rounds, and gives the point of their challenges and the last claim, which is on
+/// the value of the prover's table there.
 ///
-/// The error is [`SumcheckError::Round`] at the first pair that does not add to the claim, before that round's challenge
-/// is drawn; else [`SumcheckError::Transcript`] with that of the step, or where there is no room for the point. After
-/// one the caller aborts the verifier.
+/// The error is [`SumcheckError::Round`] at the first pair that does not add to the claim, before
+/// that round's challenge is drawn; else [`SumcheckError::Transcript`] with that of the step, or
+/// where there is no room for the point. After one the caller aborts the verifier.
 ///
 /// Condition: the codec has at least
 /// [`MIN_CHALLENGE_SECURITY_BITS`](p3_challenger::fs::MIN_CHALLENGE_SECURITY_BITS) of security.
@@ -45,53 +46,69 @@ pub fn verify<
     verifier: &mut VerifierState<'_, C, U, D>,
 ) -> Result<(Vec<F>, F), SumcheckError>
     requires { 128 ≤ Cdc.SECURITY_BITS }
-    // What is accepted are so many rounds, each pair next in the proof and adding to the running claim.
-    ensures accepts { let m = sumcheck_of F.residues ⟦<F as Declared<F, D>>⟧.algebra Cdc.observation
-        Cdc.sampling Cdc.encoding in
+    // What is accepted are so many rounds, each pair next in the proof and adding to the running
+    // claim, and each challenge drawn right after its pair.
+    ensures accepts { let m = sumcheck_of F.residues ⟦<F as Declared<F, D>>⟧.algebra
+        Cdc.observation Cdc.sampling Cdc.encoding in
+        let before = verifying_of C.state verifier.old in
+        let after = verifying_of C.state verifier.new in
         IfOk result (λ read. (played : List (Round F)) × (read.0.items ≡ challenges_of played)
-        × Accepts m claim rounds (verifying_of C.state verifier.old) played read.1
-        (verifying_of C.state verifier.new)) }
-    ensures passed { let m = sumcheck_of F.residues ⟦<F as Declared<F, D>>⟧.algebra Cdc.observation
-        Cdc.sampling Cdc.encoding in
-        OnOk result ((verifying_of C.state verifier.new).transcript.playing
-        ≡ steps_on (steps_of m rounds) (verifying_of C.state verifier.old).transcript.playing) }
+        × Accepts m claim rounds before played read.1 after) }
+    ensures passed { let steps = steps_of_rounds (round_steps ⟦<F as Declared<F, D>>⟧.algebra) in
+        let before = (verifying_of C.state verifier.old).transcript.playing in
+        let after = (verifying_of C.state verifier.new).transcript.playing in
+        OnOk result (after ≡ steps_on (steps rounds) before) }
     // Rounds that may be so accepted are, or memory is out.
-    ensures only { let m = sumcheck_of F.residues ⟦<F as Declared<F, D>>⟧.algebra Cdc.observation
-        Cdc.sampling Cdc.encoding in
-        (played : List (Round F)) (last : F) (after : Driving C.State) →
-        Accepts m claim rounds (verifying_of C.state verifier.old) played last after →
-        MatchResult result (λ read. (read.0.items ≡ challenges_of played) × (read.1 ≡ last)
-        × (verifying_of C.state verifier.new ≡ after)) IsMemory }
-    ensures refuses { let m = sumcheck_of F.residues ⟦<F as Declared<F, D>>⟧.algebra Cdc.observation
-        Cdc.sampling Cdc.encoding in
-        IfErr result (λ e. Refuses m claim rounds (verifying_of C.state verifier.old) e
-        (verifying_of C.state verifier.new)) }
-    // The first pair that does not add to the running claim is refused, as that of its round, or memory is out.
-    ensures disagrees { let m = sumcheck_of F.residues ⟦<F as Declared<F, D>>⟧.algebra Cdc.observation
-        Cdc.sampling Cdc.encoding in
-        (i : ℕ) (played : List (Round F)) (current : F) (here after : Driving C.State) → i < rounds →
-        Accepts m claim i (verifying_of C.state verifier.old) played current here → Disagrees m current here after →
-        MatchResult result (λ _. ⊥)
-        (λ e. IsMemory e ⊎ ((e ≡ fault.Round i) × (verifying_of C.state verifier.new ≡ after))) }
-    // What a prover sent of a table from the same transcript is accepted for the table's sum, or memory is out.
-    ensures complete { let m = sumcheck_of F.residues ⟦<F as Declared<F, D>>⟧.algebra Cdc.observation
-        Cdc.sampling Cdc.encoding in
-        (table point : List F) (value : F) (before after : Driving C.State) (sent rest : List ℕ) →
-        Proves m table point value before after → length table ≡ 2 ^ rounds → claim ≡ total F.residues table →
-        after.bytes ≡ before.bytes ++ sent → verifying_of C.state verifier.old
-        ≡ record { transcript = before.transcript; bytes = sent ++ rest } →
-        MatchResult result (λ read. (read.0.items ≡ point) × (read.1 ≡ value) × (verifying_of C.state verifier.new
-        ≡ record { transcript = after.transcript; bytes = rest })) IsMemory }
-    // A claim that is not the sum of a table, and a last claim that is its value at the point: then some round's
-    // challenge makes one claim of its pair and of the true one, which is another.
-    ensures sound { let m = sumcheck_of F.residues ⟦<F as Declared<F, D>>⟧.algebra Cdc.observation
-        Cdc.sampling Cdc.encoding in
-        (table : List F) (played : List (Round F)) → length table ≡ 2 ^ rounds → (claim ≡ total F.residues table → ⊥) →
-        IfOk result (λ read. Accepts m claim rounds (verifying_of C.state verifier.old) played read.1
-        (verifying_of C.state verifier.new) → folded_at F.residues read.0.items table ≡ read.1 ∷ [] →
+    ensures only { let m = sumcheck_of F.residues ⟦<F as Declared<F, D>>⟧.algebra
+        Cdc.observation Cdc.sampling Cdc.encoding in
+        let before = verifying_of C.state verifier.old in
+        let after = verifying_of C.state verifier.new in
+        (played : List (Round F)) (last : F) (end : Driving C.State) →
+        Accepts m claim rounds before played last end → MatchResult result
+        (λ read. (read.0.items ≡ challenges_of played) × (read.1 ≡ last) × (after ≡ end))
+        IsMemory }
+    ensures refuses { let m = sumcheck_of F.residues ⟦<F as Declared<F, D>>⟧.algebra
+        Cdc.observation Cdc.sampling Cdc.encoding in
+        let before = verifying_of C.state verifier.old in
+        let after = verifying_of C.state verifier.new in
+        IfErr result (λ e. Refuses m claim rounds before e after) }
+    // The first pair that does not add to the running claim is refused as that of its round, with
+    // no challenge drawn after it, or memory is out.
+    ensures disagrees { let m = sumcheck_of F.residues ⟦<F as Declared<F, D>>⟧.algebra
+        Cdc.observation Cdc.sampling Cdc.encoding in
+        let before = verifying_of C.state verifier.old in
+        let after = verifying_of C.state verifier.new in
+        (i : ℕ) (played : List (Round F)) (current : F) (here end : Driving C.State) →
+        i < rounds → Accepts m claim i before played current here →
+        Disagrees m current here end → MatchResult result (λ _. ⊥)
+        (λ e. IsMemory e ⊎ ((e ≡ fault.Round i) × (after ≡ end))) }
+    // What a prover sent of a table from the same transcript is accepted for the table's sum, or
+    // memory is out.
+    ensures complete { let m = sumcheck_of F.residues ⟦<F as Declared<F, D>>⟧.algebra
+        Cdc.observation Cdc.sampling Cdc.encoding in
+        (table point : List F) (value : F) (start end : Driving C.State) (sent rest : List ℕ) →
+        Proves m table point value start end → length table ≡ 2 ^ rounds →
+        claim ≡ total F.residues table → end.bytes ≡ start.bytes ++ sent →
+        verifying_of C.state verifier.old
+        ≡ record { transcript = start.transcript; bytes = sent ++ rest } →
+        MatchResult result (λ read. (read.0.items ≡ point) × (read.1 ≡ value)
+        × (verifying_of C.state verifier.new
+        ≡ record { transcript = end.transcript; bytes = rest })) IsMemory }
+    // For every table: where the claim is not its sum, and yet the last claim is its value at the
+    // point, some round's challenge makes one claim of its pair and of the true one, which is
+    // another.
+    ensures sound { let m = sumcheck_of F.residues ⟦<F as Declared<F, D>>⟧.algebra
+        Cdc.observation Cdc.sampling Cdc.encoding in
+        let before = verifying_of C.state verifier.old in
+        let after = verifying_of C.state verifier.new in
+        (table : List F) (played : List (Round F)) → length table ≡ 2 ^ rounds →
+        (claim ≡ total F.residues table → ⊥) →
+        IfOk result (λ read. Accepts m claim rounds before played read.1 after →
+        folded_at F.residues read.0.items table ≡ read.1 ∷ [] →
         HasLuckyRound F.residues table played) }
 {
-    // Laws, which do nothing: where a pair was sent, or a challenge drawn, memory alone can be refused.
+    // Laws, which do nothing: where a pair was sent, or a challenge drawn, memory alone can be
+    // refused.
     only_memory_refuses_sent_values::<F, U, C, Cdc>();
     only_memory_refuses_drawn_values::<F, C, Cdc>();
     receive_rounds::<F, U, C, D, Cdc>(alloc, claim, rounds, verifier)
@@ -111,13 +128,14 @@ fn receive_rounds<
     verifier: &mut VerifierState<'_, C, U, D>,
 ) -> Result<(Vec<F>, F), SumcheckError>
     requires { 128 ≤ Cdc.SECURITY_BITS }
-    ensures accepts { let m = sumcheck_of F.residues ⟦<F as Declared<F, D>>⟧.algebra Cdc.observation
-        Cdc.sampling Cdc.encoding in
+    ensures accepts { let m = sumcheck_of F.residues ⟦<F as Declared<F, D>>⟧.algebra
+        Cdc.observation Cdc.sampling Cdc.encoding in
+        let before = verifying_of C.state verifier.old in
+        let after = verifying_of C.state verifier.new in
         IfOk result (λ read. (played : List (Round F)) × (read.0.items ≡ challenges_of played)
-        × Accepts m claim rounds (verifying_of C.state verifier.old) played read.1
-        (verifying_of C.state verifier.new)) }
-    ensures refuses { let m = sumcheck_of F.residues ⟦<F as Declared<F, D>>⟧.algebra Cdc.observation
-        Cdc.sampling Cdc.encoding in
+        × Accepts m claim rounds before played read.1 after) }
+    ensures refuses { let m = sumcheck_of F.residues ⟦<F as Declared<F, D>>⟧.algebra
+        Cdc.observation Cdc.sampling Cdc.encoding in
         IfErr result (λ e. Refuses m claim rounds (verifying_of C.state verifier.old) e
         (verifying_of C.state verifier.new)) }
 {
@@ -145,16 +163,17 @@ fn receive_round<
 ) -> Result<Round<F>, SumcheckError>
     requires { 128 ≤ Cdc.SECURITY_BITS }
     ensures adds { IfOk result (λ round. sum_of F.residues round.first round.second ≡ claim) }
-    ensures ok { let m = sumcheck_of F.residues ⟦<F as Declared<F, D>>⟧.algebra Cdc.observation
-        Cdc.sampling Cdc.encoding in
+    ensures ok { let m = sumcheck_of F.residues ⟦<F as Declared<F, D>>⟧.algebra
+        Cdc.observation Cdc.sampling Cdc.encoding in
         IfOk result (λ round. ReadsRound m (verifying_of C.state verifier.old) round
         (verifying_of C.state verifier.new)) }
-    ensures err { let m = sumcheck_of F.residues ⟦<F as Declared<F, D>>⟧.algebra Cdc.observation
-        Cdc.sampling Cdc.encoding in
+    ensures err { let m = sumcheck_of F.residues ⟦<F as Declared<F, D>>⟧.algebra
+        Cdc.observation Cdc.sampling Cdc.encoding in
         IfErr result (λ e. RefusesRound m claim place (verifying_of C.state verifier.old) e
         (verifying_of C.state verifier.new)) }
 {
-    // A law, which does nothing: what is read of bytes is spelled so. And what is left to read are bytes.
+    // A law, which does nothing: what is read of bytes is spelled so. And what is left to read are
+    // bytes.
     read_values_are_spelled::<F, U, C, Cdc>();
     let _unread = verifier.unread();
     let (first, second) = receive_pair::<F, U, C, D, Cdc>(verifier)?;
@@ -177,10 +196,10 @@ fn receive_pair<
     D: DigestHasher,
     Cdc: Codec<C, F>,
 >(verifier: &mut VerifierState<'_, C, U, D>) -> Result<(F, F), TranscriptError>
-    ensures { let m = sumcheck_of F.residues ⟦<F as Declared<F, D>>⟧.algebra Cdc.observation
-        Cdc.sampling Cdc.encoding in
-        ReceivesOrRefuses (read_pair m) (verifying_of C.state verifier.old) (λ pair. pair.0 ∷ pair.1 ∷ []) result
-        (verifying_of C.state verifier.new) }
+    ensures { let m = sumcheck_of F.residues ⟦<F as Declared<F, D>>⟧.algebra
+        Cdc.observation Cdc.sampling Cdc.encoding in
+        ReceivesOrRefuses (read_pair m) (verifying_of C.state verifier.old)
+        (λ pair. pair.0 ∷ pair.1 ∷ []) result (verifying_of C.state verifier.new) }
 {
     let pair = verifier.next_scalars::<F, Cdc>("round", 2)?;
     Ok((pair[0].into_inner(), pair[1].into_inner()))

@@ -20,7 +20,8 @@ returns-in_err-interact-clause-err g c =
     let challenge = c.of_same_type-challenge.ensures ∙ ap (alike Challenge (codes "fold") Scalar) pair in
     let p = err_from_is_err_and c.from_residual.result c.from_residual.ensures.1 in
     rw (p.1, p.2)
-    (same-steps _ _ _ _ pair challenge _ _ _ _
+    (same-steps _ _ _ _ pair challenge c.args.rounds c.args.recorder.now c.interact.new.self
+    c.in_err-interact.field-0.0
     (stops-first _ _ c.loop.counter c.args.rounds c.args.recorder.now c.loop.recorder c.interact.new.self _
     c.loop-test.true c.loop.invariant.recorded c.in_err-interact.ensures.err))
 
@@ -31,7 +32,8 @@ returns-in_err-interact-2-clause-err g c =
     let p = err_from_is_err_and c.from_residual-in_err-interact-2.result
     c.from_residual-in_err-interact-2.ensures.1 in
     rw (p.1, p.2)
-    (same-steps _ _ _ _ pair challenge _ _ _ _
+    (same-steps _ _ _ _ pair challenge c.args.rounds c.args.recorder.now c.interact-in-loop.new.self
+    c.in_err-interact-2.field-0.0
     (stops-second _ _ c.loop.counter c.args.rounds c.args.recorder.now c.loop.recorder c.interact.new.self
     c.interact-in-loop.new.self _ c.loop-test.true c.loop.invariant.recorded c.in_ok-interact.ensures.ok
     c.in_err-interact-2.ensures.err))

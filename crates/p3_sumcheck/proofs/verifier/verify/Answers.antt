@@ -1,6 +1,6 @@
 use Rattle.std.proofs.Common.{◌∷◌, []}
 use Rattle.p3_challenger.specs.Drivers.{verifying_of}
-use Rattle.p3_sumcheck.specs.Sumchecks.{challenge_step, pair_step}
+use Rattle.p3_sumcheck.specs.Sumchecks.{drawn_challenge, pair_step}
 use Rattle.p3_sumcheck.proofs.Outcomes.{complete, disagrees, outcome, passed, sound}
 use Rattle.p3_sumcheck.proofs.Over.{over}
 use Rattle.p3_sumcheck.proofs.verifier.verify.Goals as goal
@@ -12,7 +12,7 @@ returns-clause-only g c played last end accepts =
     g.Cdc.Codec.sampling g.Cdc.Codec.encoding in
     outcome m g.met.Cdc.Codec.is_codec.encodes
     (λ a b. c.only_memory_refuses_sent_values.ensures.list (pair_step m.field) (a ∷ b ∷ []))
-    (c.only_memory_refuses_drawn_values.ensures.value (challenge_step m.field)) (λ read. read.0.items) (λ read. read.1)
+    (c.only_memory_refuses_drawn_values.ensures.value (drawn_challenge m).interaction) (λ read. read.0.items) (λ read. read.1)
     c.args.claim c.args.rounds (verifying_of g.C.Sponge.state c.args.verifier.now)
     (verifying_of g.C.Sponge.state c.receive_rounds.new.verifier) c.receive_rounds.result played last end
     c.receive_rounds.ensures.accepts c.receive_rounds.ensures.refuses accepts
@@ -24,7 +24,7 @@ returns-clause-passed g c =
     g.Cdc.Codec.sampling g.Cdc.Codec.encoding in
     passed m g.met.Cdc.Codec.is_codec.encodes
     (λ a b. c.only_memory_refuses_sent_values.ensures.list (pair_step m.field) (a ∷ b ∷ []))
-    (c.only_memory_refuses_drawn_values.ensures.value (challenge_step m.field)) (λ read. read.0.items) (λ read. read.1)
+    (c.only_memory_refuses_drawn_values.ensures.value (drawn_challenge m).interaction) (λ read. read.0.items) (λ read. read.1)
     c.args.claim c.args.rounds (verifying_of g.C.Sponge.state c.args.verifier.now)
     (verifying_of g.C.Sponge.state c.receive_rounds.new.verifier) c.receive_rounds.result
     c.receive_rounds.ensures.accepts
@@ -36,7 +36,7 @@ returns-clause-disagrees g c i played current here end few accepts differs =
     g.Cdc.Codec.sampling g.Cdc.Codec.encoding in
     disagrees m g.met.Cdc.Codec.is_codec.encodes
     (λ a b. c.only_memory_refuses_sent_values.ensures.list (pair_step m.field) (a ∷ b ∷ []))
-    (c.only_memory_refuses_drawn_values.ensures.value (challenge_step m.field)) c.args.claim c.args.rounds i
+    (c.only_memory_refuses_drawn_values.ensures.value (drawn_challenge m).interaction) c.args.claim c.args.rounds i
     (verifying_of g.C.Sponge.state c.args.verifier.now) here end played current accepts differs
     (λ read. read.0.items) (λ read. read.1) (verifying_of g.C.Sponge.state c.receive_rounds.new.verifier)
     c.receive_rounds.result few c.receive_rounds.ensures.accepts c.receive_rounds.ensures.refuses
@@ -48,7 +48,7 @@ returns-clause-complete g c table point value p q sent rest proves many is_claim
     g.Cdc.Codec.sampling g.Cdc.Codec.encoding in
     complete m g.met.Cdc.Codec.is_codec.encodes
     (λ a b. c.only_memory_refuses_sent_values.ensures.list (pair_step m.field) (a ∷ b ∷ []))
-    (c.only_memory_refuses_drawn_values.ensures.value (challenge_step m.field)) (λ read. read.0.items) (λ read. read.1)
+    (c.only_memory_refuses_drawn_values.ensures.value (drawn_challenge m).interaction) (λ read. read.0.items) (λ read. read.1)
     c.args.claim c.args.rounds (verifying_of g.C.Sponge.state c.args.verifier.now)
     (verifying_of g.C.Sponge.state c.receive_rounds.new.verifier) c.receive_rounds.result table point value p q sent
     rest g.met.F.PrimeCharacteristicRing.are_residues c.receive_rounds.ensures.accepts c.receive_rounds.ensures.refuses
@@ -61,7 +61,7 @@ returns-clause-sound g c table played size differs =
     g.Cdc.Codec.sampling g.Cdc.Codec.encoding in
     sound m g.met.Cdc.Codec.is_codec.encodes
     (λ a b. c.only_memory_refuses_sent_values.ensures.list (pair_step m.field) (a ∷ b ∷ []))
-    (c.only_memory_refuses_drawn_values.ensures.value (challenge_step m.field)) (λ read. read.0.items) (λ read. read.1)
+    (c.only_memory_refuses_drawn_values.ensures.value (drawn_challenge m).interaction) (λ read. read.0.items) (λ read. read.1)
     c.args.claim c.args.rounds (verifying_of g.C.Sponge.state c.args.verifier.now)
     (verifying_of g.C.Sponge.state c.receive_rounds.new.verifier) c.receive_rounds.result table played
     g.met.F.PrimeCharacteristicRing.are_residues c.receive_rounds.ensures.accepts size differs

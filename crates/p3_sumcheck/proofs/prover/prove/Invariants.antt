@@ -2,7 +2,7 @@ use Rattle.std.proofs.Common.{length}
 use Rattle.p3_challenger.specs.Drivers.{proving_of}
 use Rattle.p3_sumcheck.proofs.Over.{over}
 use Rattle.p3_sumcheck.proofs.Sending.{Sends}
-use Rattle.p3_sumcheck.proofs.prover.send_rounds.Given as goal
+use Rattle.p3_sumcheck.proofs.prover.prove.Given as goal
 
 -- the rounds so far are sent, and this table is left
 abbrev pub invariant-rounds : goal.invariant-rounds
