@@ -12,3 +12,4 @@ pub mod Runs
 pub mod SentAndDrawn
 pub mod ThreeCalls
 pub mod TwoRounds
+pub mod TwoSums

@@ -12,3 +12,4 @@ pub mod Protocol
 pub mod SentAndDrawn
 pub mod ThreeCalls
 pub mod TwoRounds
+pub mod TwoSums

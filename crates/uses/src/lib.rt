@@ -11,6 +11,7 @@
 //!   by their places, and halts a verifier.
 //! - [`own_permutation`], [`own_rounds`] and [`own_hasher`]: what to hand in for a permutation, one of rounds with a
 //!   table of constants, and a hasher of one's own; [`own_algebra`]: the same of an extension of a field.
+//! - [`two_sums`]: two sumchecks in one transcript, each after the sum that it is of.
 //! - [`read_back`]: what is hashed, or permuted, tells what was observed, or shows a collision.
 //!
 //! Most have wrong versions in `wrong-bodies/` that their contracts refuse: a challenge drawn too early, a message read
@@ -32,6 +33,7 @@ pub mod protocol;
 pub mod read_back;
 mod round;
 mod three_calls;
+pub mod two_sums;
 
 pub use bound_values::{absorb_values, symbols_bind_values};
 pub use extra_value::{receive_after, send_after};

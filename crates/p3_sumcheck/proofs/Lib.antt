@@ -1,0 +1,9 @@
+pub mod ClaimLaws
+pub mod Declaring
+pub mod Folding
+pub mod Outcomes
+pub mod Over
+pub mod Reading
+pub mod Sending
+pub mod Sums
+mod WorkedRows

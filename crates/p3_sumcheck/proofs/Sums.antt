@@ -1,0 +1,47 @@
+-- Sums of tables in parts, and of what is folded.
+use Rattle.std.proofs.Common.{◌≡◌, ℕ, ◌+◌, ◌/◌, ◌<◌, List, [], ◌∷◌, ◌++◌, length, take, sum_by, get_or, sym, ap, ◌∙◌}
+use Rattle.std.proofs.lemmas.List.Sums.{sum_by-cons, sum_by-take-drop, sum_by_more, sum_by_push}
+use Rattle.p3_challenger.specs.Residues.{Residues, IsResidues, sum_of}
+use Rattle.p3_challenger.specs.Rings.{IsRing}
+use Rattle.p3_challenger.specs.RingLaws.{residues-ring}
+use Rattle.p3_sumcheck.specs.Tables.{low_half, high_half, total}
+
+module _ {F : Type 0} (r : Residues F) (laws : IsResidues r) where
+  ring : IsRing r
+  ring = residues-ring r laws
+
+  -- the totals of the halves add to that of the table
+  pub total-halves : (table : List F) → sum_of r (total r (low_half table)) (total r (high_half table)) ≡ total r table
+  total-halves table =
+      ring.sum_of_numbers (sum_by r.number (low_half table)) (sum_by r.number (high_half table))
+      ∙ ap r.of (sum_by-take-drop r.number table (length table / 2))
+
+  -- the total of a list with one value in front
+  pub total-cons : (x : F) (xs : List F) → total r (x ∷ xs) ≡ sum_of r x (total r xs)
+  total-cons x xs =
+      ap r.of (sum_by-cons r.number x xs)
+      ∙ sym (ring.sum_of_numbers (r.number x) (sum_by r.number xs))
+      ∙ ap (λ y. sum_of r y (total r xs)) (laws.of_number x)
+
+  -- of a front of a list, with the next value added
+  pub total-more : (xs : List F) (i : ℕ) (x : F) → i < length xs → x ≡ get_or xs i x → (t u : F) →
+      t ≡ total r (take i xs) → u ≡ sum_of r t x → u ≡ total r (take (i + 1) xs)
+  total-more xs i x below at t u so_far added =
+      let so = sum_by r.number (take i xs) in
+      added
+      ∙ ap (λ v. sum_of r v x) so_far
+      ∙ ap (λ y. sum_of r (r.of so) y) (sym (laws.of_number x))
+      ∙ ring.sum_of_numbers so (r.number x)
+      ∙ ap (λ y. r.of (so + r.number y)) at
+      ∙ ap r.of (sym (sum_by_more r.number xs i x below))
+
+  -- of a list with one value at its end
+  pub total-push : (xs : List F) (x : F) → total r (xs ++ (x ∷ [])) ≡ sum_of r (total r xs) x
+  total-push xs x =
+      ap r.of (sum_by_push r.number xs x)
+      ∙ sym (ring.sum_of_numbers (sum_by r.number xs) (r.number x))
+      ∙ ap (λ y. sum_of r (total r xs) y) (laws.of_number x)
+
+  -- the total of a table of one value is that value
+  pub total-one : (x : F) → total r (x ∷ []) ≡ x
+  total-one x = total-cons x [] ∙ ring.sum_with_zero x

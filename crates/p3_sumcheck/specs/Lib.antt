@@ -1,0 +1,3 @@
+pub mod Claims
+pub mod Sumchecks
+pub mod Tables

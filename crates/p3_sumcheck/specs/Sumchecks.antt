@@ -1,0 +1,163 @@
+-- A sumcheck in a transcript: its rounds, as both sides play them, and what each side makes of
+-- them.
+use Rattle.std.specs.Prelude.{◌≡◌, ℕ, ◌^◌, ◌<◌, ◌≤◌, ◌⊎◌, List, [], ◌∷◌, ◌++◌, codes, length, map}
+use Rattle.p3_challenger.specs.Algebras.{NamedAlgebra, algebra_step}
+use Rattle.p3_challenger.specs.Driving.{Driving}
+use Rattle.p3_challenger.specs.Encoding.{Encoding}
+use Rattle.p3_challenger.specs.Kind.TheVariants.{Challenge, Message}
+use Rattle.p3_challenger.specs.Length.TheVariants.{Fixed, Scalar}
+use Rattle.p3_challenger.specs.Meanings.{drawn, sent_list}
+use Rattle.p3_challenger.specs.Observation.{Observation}
+use Rattle.p3_challenger.specs.Proving.{RefusesToWrite, Writes}
+use Rattle.p3_challenger.specs.Reads.{Reading, received_list}
+use Rattle.p3_challenger.specs.Recording.{Recording, RefusesToRecord}
+use Rattle.p3_challenger.specs.Residues.{Residues, sum_of}
+use Rattle.p3_challenger.specs.Rounds.{AreRounds}
+use Rattle.p3_challenger.specs.Sampling.{Sampling}
+use Rattle.p3_challenger.specs.Steps.{Step}
+use Rattle.p3_challenger.specs.TranscriptError.{TranscriptError}
+use Rattle.p3_challenger.specs.TranscriptError.TheVariants.{OutOfMemory}
+use Rattle.p3_challenger.specs.Transcripts.{Meaning, PlaysStep, RefusesStep, Transcript}
+use Rattle.p3_challenger.specs.Verifying.{RefusesToRead}
+use Rattle.p3_sumcheck.specs.declared.error.SumcheckError.{SumcheckError}
+use Rattle.p3_sumcheck.specs.declared.error.SumcheckError.TheVariants as fault
+use Rattle.p3_sumcheck.specs.declared.round.Round.{Round}
+use Rattle.p3_sumcheck.specs.Claims.{Reduces, true_pair, true_rounds}
+use Rattle.p3_sumcheck.specs.Tables.{folded_at}
+
+-- ---- what is played
+
+-- the steps of a round over a field: a message of two elements, and a challenge
+abbrev pub pair_step : NamedAlgebra → Step
+pair_step field = algebra_step Message (codes "round") field (Fixed 2)
+
+abbrev pub round_steps : NamedAlgebra → List Step
+round_steps field = pair_step field ∷ algebra_step Challenge (codes "fold") field Scalar ∷ []
+
+-- what a sumcheck is played over: a field, what steps say of it, and how an element is observed,
+-- drawn and spelled
+pub record Sumcheck (S Symbol F : Type 0) : Type 1 where
+  pub residues : Residues F
+  pub field : NamedAlgebra
+  pub observation : Observation S Symbol F
+  pub sampling : Sampling S F
+  pub encoding : Encoding F
+
+abbrev pub sumcheck_of : {S Symbol F : Type 0} → Residues F → NamedAlgebra →
+    Observation S Symbol F → Sampling S F → Encoding F → Sumcheck S Symbol F
+sumcheck_of r field o d e =
+    record { residues = r; field = field; observation = o; sampling = d; encoding = e }
+
+abbrev pub pair_of : {F : Type 0} → Round F → List F
+pair_of round = round.first ∷ round.second ∷ []
+
+abbrev pub challenges_of : {F : Type 0} → List (Round F) → List F
+challenges_of rounds = map (λ round. round.challenge) rounds
+
+module _ {S Symbol F : Type 0} (m : Sumcheck S Symbol F) where
+  -- a pair is sent, a pair is read, and a challenge is drawn
+  abbrev pub sent_pair : List F → Meaning S Symbol (List F)
+  sent_pair pair = sent_list (pair_step m.field) m.observation m.encoding pair
+
+  abbrev pub read_pair : Reading S Symbol (List F)
+  read_pair = received_list (pair_step m.field) m.observation m.encoding 2
+
+  abbrev pub drawn_challenge : Meaning S Symbol F
+  drawn_challenge = drawn (algebra_step Challenge (codes "fold") m.field Scalar) m.sampling
+
+  -- a round is played, by either side: its pair is observed, and its challenge is drawn right after
+  -- it
+  pub record PlaysRound (before : Transcript S) (round : Round F) (after : Transcript S) : Type 0
+    where
+      pub here : Transcript S
+      pub sends : PlaysStep (sent_pair (pair_of round)) before (pair_of round) here
+      pub draws : PlaysStep drawn_challenge here round.challenge after
+
+  -- a prover plays it, and adds the bytes of its pair
+  pub record WritesRound (before : Driving S) (round : Round F) (after : Driving S) : Type 0 where
+    pub plays : PlaysRound before.transcript round after.transcript
+    pub bytes : after.bytes ≡ before.bytes ++ (sent_pair (pair_of round)).wire
+
+  -- a verifier plays it, and has the bytes of its pair next
+  pub record ReadsRound (before : Driving S) (round : Round F) (after : Driving S) : Type 0 where
+    pub plays : PlaysRound before.transcript round after.transcript
+    pub bytes : before.bytes ≡ (sent_pair (pair_of round)).wire ++ after.bytes
+
+  -- the same of the pair alone
+  pub record ReadsPair (before : Driving S) (pair : List F) (after : Driving S) : Type 0 where
+    pub plays : PlaysStep (sent_pair pair) before.transcript pair after.transcript
+    pub bytes : before.bytes ≡ (sent_pair pair).wire ++ after.bytes
+
+  -- ---- the prover's side
+
+  -- a prover writes the true rounds of a table at a point, where its value is this one
+  pub record Proves (table point : List F) (value : F) (before after : Driving S) : Type 0 where
+    pub writes : AreRounds WritesRound before (true_rounds m.residues table point) after
+    pub size : length table ≡ 2 ^ length point
+    pub folds : folded_at m.residues point table ≡ value ∷ []
+
+  -- a round is given up: its pair is refused, or it is written and the challenge is refused
+  abbrev pub RefusesToSend : List F → Driving S → TranscriptError → Driving S → Type 0
+  RefusesToSend pair before e after =
+      RefusesToWrite (sent_pair pair) before e after
+      ⊎ ((here : Driving S) × Writes (sent_pair pair) before pair here
+      × RefusesStep drawn_challenge here.transcript e after.transcript × (after.bytes ≡ here.bytes))
+
+  -- the true rounds at a point are written, and then the next one is given up, or there is no room
+  -- for the point
+  pub record RefusesToProve (table : List F) (before : Driving S) (e : TranscriptError)
+      (after : Driving S) : Type 0 where
+    pub point : List F
+    pub here : Driving S
+    pub writes : AreRounds WritesRound before (true_rounds m.residues table point) here
+    pub refuses : (let left = folded_at m.residues point table in
+        (1 < length left) × RefusesToSend (true_pair m.residues left) here e after)
+        ⊎ ((e ≡ OutOfMemory) × (after ≡ here))
+
+  -- ---- the verifier's side
+
+  -- so many rounds are read, and bring the claim to the last one
+  pub record Accepts (claim : F) (n : ℕ) (before : Driving S) (rounds : List (Round F)) (last : F)
+      (after : Driving S) : Type 0 where
+    pub count : length rounds ≡ n
+    pub reads : AreRounds ReadsRound before rounds after
+    pub reduces : AreRounds (Reduces m.residues) claim rounds last
+
+  -- a pair is read, and does not add to the claim
+  abbrev pub Disagrees : F → Driving S → Driving S → Type 0
+  Disagrees claim before after =
+      (first : F) × (second : F) × ReadsPair before (first ∷ second ∷ []) after
+      × (sum_of m.residues first second ≡ claim → ⊥)
+
+  -- a round is given up: its pair is read and does not add to the claim; or the pair is refused, or
+  -- it is read and adds to the claim, and the challenge is refused
+  abbrev pub RefusesRound : F → ℕ → Driving S → SumcheckError → Driving S → Type 0
+  RefusesRound claim i before (fault.Round j) after = (j ≡ i) × Disagrees claim before after
+  RefusesRound claim i before (fault.Transcript e) after =
+      RefusesToRead read_pair before e after
+      ⊎ ((first : F) × (second : F) × (here : Driving S)
+      × ReadsPair before (first ∷ second ∷ []) here × (sum_of m.residues first second ≡ claim)
+      × RefusesStep drawn_challenge here.transcript e after.transcript × (after.bytes ≡ here.bytes))
+
+  -- some rounds are accepted, and then the next one is given up, or there is no room for the point
+  pub record Refuses (claim : F) (n : ℕ) (before : Driving S) (e : SumcheckError)
+      (after : Driving S) : Type 0 where
+    pub rounds : List (Round F)
+    pub current : F
+    pub here : Driving S
+    pub accepts : Accepts claim (length rounds) before rounds current here
+    pub refuses : ((length rounds < n) × RefusesRound current (length rounds) here e after)
+        ⊎ ((length rounds ≤ n) × (e ≡ fault.Transcript OutOfMemory) × (after ≡ here))
+
+-- memory was refused
+abbrev pub IsMemory : SumcheckError → Type 0
+IsMemory e = e ≡ fault.Transcript OutOfMemory
+
+-- ---- the pattern
+
+-- some of these steps are recorded, and the next one is refused
+abbrev pub RefusesToDeclare : List Step → Recording → TranscriptError → Recording → Type 0
+RefusesToDeclare steps before e after =
+    (done : List Step) × (next : Step) × (others : List Step) × (here : Recording)
+    × (steps ≡ done ++ (next ∷ others)) × (here.steps ≡ before.steps ++ done)
+    × RefusesToRecord here next e after

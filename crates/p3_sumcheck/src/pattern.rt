@@ -1,0 +1,56 @@
+//! The steps of a sumcheck in a pattern.
+ghost use Rattle.std.specs.Prelude.{◌≡◌, ◌++◌, ℕ, List, false, length, IfErr, OnOk};
+ghost use Rattle.p3_challenger.specs.Playing.{Playing};
+ghost use Rattle.p3_challenger.specs.Rounds.{steps_of_rounds};
+ghost use Rattle.p3_challenger.specs.Steps.{Step};
+ghost use Rattle.p3_challenger.specs.Transcripts.{AreNext};
+ghost use Rattle.p3_sumcheck.specs.Sumchecks.{RefusesToDeclare, round_steps};
+
+use p3_challenger::fs::{
+    Declared, Hierarchy, Interaction, Kind, Length, Pattern, PatternState, TranscriptError,
+    listed_steps_are_next,
+};
+use p3_field::ScalarField;
+use p3_symmetric::DigestHasher;
+
+/// Records the steps of so many rounds: in each a message of two scalars, `round`, and a scalar
+/// challenge, `fold`.
+///
+/// The errors are those of the recorder: it took the steps before the refused one, and takes no
+/// other.
+pub fn declare<F: ScalarField, U, D: DigestHasher>(
+    recorder: &mut PatternState<U>,
+    rounds: usize,
+) -> Result<(), TranscriptError>
+    ensures steps { let steps = round_steps ⟦<F as Declared<F, D>>⟧.algebra in
+        OnOk result (recorder.new.steps
+        ≡ recorder.old.steps ++ steps_of_rounds steps rounds) }
+    ensures going { OnOk result (recorder.old.finished ≡ false → recorder.new.finished ≡ false) }
+    ensures err { let steps = round_steps ⟦<F as Declared<F, D>>⟧.algebra in
+        IfErr result (λ e. RefusesToDeclare (steps_of_rounds steps rounds) recorder.old e
+        recorder.new) }
+{
+    let leaf = Hierarchy::Atomic;
+    let pair = Interaction::algebra::<F, F, D>(leaf, Kind::Message, "round", Length::Fixed(2));
+    let challenge = pair.of_same_type(leaf, Kind::Challenge, "fold", Length::Scalar);
+    for _ in 0..rounds {
+        recorder.interact(pair)?;
+        recorder.interact(challenge)?;
+    }
+    Ok(())
+}
+
+/// Where a pattern has the steps of [`declare`], a driver that stands before them, and of which no
+/// step was refused, has these rounds next: one that has just begun, where nothing was recorded
+/// before them.
+///
+/// A law: the body does nothing, and a caller cites the clause.
+pub fn declared_rounds_are_next<F: ScalarField, D: DigestHasher>()
+    ensures { let steps = round_steps ⟦<F as Declared<F, D>>⟧.algebra in
+        (n : ℕ) (before after : List Step) (playing : Playing) →
+        playing.pattern.steps ≡ before ++ (steps_of_rounds steps n ++ after) →
+        playing.position ≡ length before → playing.finished ≡ false →
+        AreNext (steps_of_rounds steps n) playing }
+{
+    listed_steps_are_next();
+}

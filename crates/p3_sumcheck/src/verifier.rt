@@ -1,0 +1,206 @@
+//! The verifier's side.
+ghost use Rattle.std.specs.Prelude.{◌≡◌, ◌<◌, ◌≤◌, ◌++◌, ◌^◌, ◌∷◌, ◌⊎◌, [], ℕ, List, length, IfErr, IfOk, MatchResult, OnOk};
+ghost use Rattle.p3_challenger.specs.Driving.{Driving};
+ghost use Rattle.p3_challenger.specs.Drivers.{verifying_of};
+ghost use Rattle.p3_challenger.specs.Residues.{sum_of};
+ghost use Rattle.p3_challenger.specs.Rounds.{steps_of_rounds};
+ghost use Rattle.p3_challenger.specs.Transcripts.{steps_on};
+ghost use Rattle.p3_challenger.specs.Verifying.{ReceivesOrRefuses};
+ghost use Rattle.p3_sumcheck.specs.Claims.{HasLuckyRound};
+ghost use Rattle.p3_sumcheck.specs.Sumchecks.{Accepts, Disagrees, IsMemory, Proves, ReadsRound, Refuses};
+ghost use Rattle.p3_sumcheck.specs.Sumchecks.{RefusesRound, challenges_of, read_pair, round_steps, sumcheck_of};
+ghost use Rattle.p3_sumcheck.specs.Tables.{folded_at, total};
+ghost use Rattle.p3_sumcheck.specs.declared.error.SumcheckError.TheVariants as fault;
+ghost use Rattle.p3_sumcheck.specs.declared.round.Round.{Round};
+
+use crate::table::{adds, value_at};
+use crate::{Round, SumcheckError};
+use p3_challenger::CanObserve;
+use p3_challenger::fs::{
+    Codec, Declared, TranscriptError, Unit, VerifierState, only_memory_refuses_drawn_values,
+    only_memory_refuses_sent_values, read_values_are_spelled,
+};
+use p3_field::ScalarField;
+use p3_symmetric::DigestHasher;
+use std::alloc::Global;
+
+/// Reads so many rounds, and gives the point of their challenges and the last claim, which is on
+/// the value of the prover's table there.
+///
+/// The error is [`SumcheckError::Round`] at the first pair that does not add to the claim, before
+/// that round's challenge is drawn; else [`SumcheckError::Transcript`] with that of the step, or
+/// where there is no room for the point. After one the caller aborts the verifier.
+///
+/// Condition: the codec has at least
+/// [`MIN_CHALLENGE_SECURITY_BITS`](p3_challenger::fs::MIN_CHALLENGE_SECURITY_BITS) of security.
+pub fn verify<
+    F: ScalarField,
+    U: Unit,
+    C: CanObserve<U::Item> + Drop,
+    D: DigestHasher,
+    Cdc: Codec<C, F>,
+>(
+    alloc: Global,
+    claim: F,
+    rounds: usize,
+    verifier: &mut VerifierState<'_, C, U, D>,
+) -> Result<(Vec<F>, F), SumcheckError>
+    requires { 128 ≤ Cdc.SECURITY_BITS }
+    // What is accepted are so many rounds, each pair next in the proof and adding to the running
+    // claim, and each challenge drawn right after its pair.
+    ensures accepts { let m = sumcheck_of F.residues ⟦<F as Declared<F, D>>⟧.algebra
+        Cdc.observation Cdc.sampling Cdc.encoding in
+        let before = verifying_of C.state verifier.old in
+        let after = verifying_of C.state verifier.new in
+        IfOk result (λ read. (played : List (Round F)) × (read.0.items ≡ challenges_of played)
+        × Accepts m claim rounds before played read.1 after) }
+    ensures passed { let steps = steps_of_rounds (round_steps ⟦<F as Declared<F, D>>⟧.algebra) in
+        let before = (verifying_of C.state verifier.old).transcript.playing in
+        let after = (verifying_of C.state verifier.new).transcript.playing in
+        OnOk result (after ≡ steps_on (steps rounds) before) }
+    // Rounds that may be so accepted are, or memory is out.
+    ensures only { let m = sumcheck_of F.residues ⟦<F as Declared<F, D>>⟧.algebra
+        Cdc.observation Cdc.sampling Cdc.encoding in
+        let before = verifying_of C.state verifier.old in
+        let after = verifying_of C.state verifier.new in
+        (played : List (Round F)) (last : F) (end : Driving C.State) →
+        Accepts m claim rounds before played last end → MatchResult result
+        (λ read. (read.0.items ≡ challenges_of played) × (read.1 ≡ last) × (after ≡ end))
+        IsMemory }
+    ensures refuses { let m = sumcheck_of F.residues ⟦<F as Declared<F, D>>⟧.algebra
+        Cdc.observation Cdc.sampling Cdc.encoding in
+        let before = verifying_of C.state verifier.old in
+        let after = verifying_of C.state verifier.new in
+        IfErr result (λ e. Refuses m claim rounds before e after) }
+    // The first pair that does not add to the running claim is refused as that of its round, with
+    // no challenge drawn after it, or memory is out.
+    ensures disagrees { let m = sumcheck_of F.residues ⟦<F as Declared<F, D>>⟧.algebra
+        Cdc.observation Cdc.sampling Cdc.encoding in
+        let before = verifying_of C.state verifier.old in
+        let after = verifying_of C.state verifier.new in
+        (i : ℕ) (played : List (Round F)) (current : F) (here end : Driving C.State) →
+        i < rounds → Accepts m claim i before played current here →
+        Disagrees m current here end → MatchResult result (λ _. ⊥)
+        (λ e. IsMemory e ⊎ ((e ≡ fault.Round i) × (after ≡ end))) }
+    // What a prover sent of a table from the same transcript is accepted for the table's sum, or
+    // memory is out.
+    ensures complete { let m = sumcheck_of F.residues ⟦<F as Declared<F, D>>⟧.algebra
+        Cdc.observation Cdc.sampling Cdc.encoding in
+        (table point : List F) (value : F) (start end : Driving C.State) (sent rest : List ℕ) →
+        Proves m table point value start end → length table ≡ 2 ^ rounds →
+        claim ≡ total F.residues table → end.bytes ≡ start.bytes ++ sent →
+        verifying_of C.state verifier.old
+        ≡ record { transcript = start.transcript; bytes = sent ++ rest } →
+        MatchResult result (λ read. (read.0.items ≡ point) × (read.1 ≡ value)
+        × (verifying_of C.state verifier.new
+        ≡ record { transcript = end.transcript; bytes = rest })) IsMemory }
+    // For every table: where the claim is not its sum, and yet the last claim is its value at the
+    // point, some round's challenge makes one claim of its pair and of the true one, which is
+    // another.
+    ensures sound { let m = sumcheck_of F.residues ⟦<F as Declared<F, D>>⟧.algebra
+        Cdc.observation Cdc.sampling Cdc.encoding in
+        let before = verifying_of C.state verifier.old in
+        let after = verifying_of C.state verifier.new in
+        (table : List F) (played : List (Round F)) → length table ≡ 2 ^ rounds →
+        (claim ≡ total F.residues table → ⊥) →
+        IfOk result (λ read. Accepts m claim rounds before played read.1 after →
+        folded_at F.residues read.0.items table ≡ read.1 ∷ [] →
+        HasLuckyRound F.residues table played) }
+{
+    // Laws, which do nothing: where a pair was sent, or a challenge drawn, memory alone can be
+    // refused.
+    only_memory_refuses_sent_values::<F, U, C, Cdc>();
+    only_memory_refuses_drawn_values::<F, C, Cdc>();
+    receive_rounds::<F, U, C, D, Cdc>(alloc, claim, rounds, verifier)
+}
+
+// Reads the rounds.
+fn receive_rounds<
+    F: ScalarField,
+    U: Unit,
+    C: CanObserve<U::Item> + Drop,
+    D: DigestHasher,
+    Cdc: Codec<C, F>,
+>(
+    alloc: Global,
+    claim: F,
+    rounds: usize,
+    verifier: &mut VerifierState<'_, C, U, D>,
+) -> Result<(Vec<F>, F), SumcheckError>
+    requires { 128 ≤ Cdc.SECURITY_BITS }
+    ensures accepts { let m = sumcheck_of F.residues ⟦<F as Declared<F, D>>⟧.algebra
+        Cdc.observation Cdc.sampling Cdc.encoding in
+        let before = verifying_of C.state verifier.old in
+        let after = verifying_of C.state verifier.new in
+        IfOk result (λ read. (played : List (Round F)) × (read.0.items ≡ challenges_of played)
+        × Accepts m claim rounds before played read.1 after) }
+    ensures refuses { let m = sumcheck_of F.residues ⟦<F as Declared<F, D>>⟧.algebra
+        Cdc.observation Cdc.sampling Cdc.encoding in
+        IfErr result (λ e. Refuses m claim rounds (verifying_of C.state verifier.old) e
+        (verifying_of C.state verifier.new)) }
+{
+    let mut point = Vec::new(alloc);
+    let mut current = claim;
+    for place in 0..rounds {
+        let round = receive_round::<F, U, C, D, Cdc>(verifier, place, current)?;
+        current = value_at(round.challenge, round.first, round.second);
+        point.push(round.challenge)?;
+    }
+    Ok((point, current))
+}
+
+// Reads a pair, which must add to the claim, and draws the challenge after it.
+fn receive_round<
+    F: ScalarField,
+    U: Unit,
+    C: CanObserve<U::Item> + Drop,
+    D: DigestHasher,
+    Cdc: Codec<C, F>,
+>(
+    verifier: &mut VerifierState<'_, C, U, D>,
+    place: usize,
+    claim: F,
+) -> Result<Round<F>, SumcheckError>
+    requires { 128 ≤ Cdc.SECURITY_BITS }
+    ensures adds { IfOk result (λ round. sum_of F.residues round.first round.second ≡ claim) }
+    ensures ok { let m = sumcheck_of F.residues ⟦<F as Declared<F, D>>⟧.algebra
+        Cdc.observation Cdc.sampling Cdc.encoding in
+        IfOk result (λ round. ReadsRound m (verifying_of C.state verifier.old) round
+        (verifying_of C.state verifier.new)) }
+    ensures err { let m = sumcheck_of F.residues ⟦<F as Declared<F, D>>⟧.algebra
+        Cdc.observation Cdc.sampling Cdc.encoding in
+        IfErr result (λ e. RefusesRound m claim place (verifying_of C.state verifier.old) e
+        (verifying_of C.state verifier.new)) }
+{
+    // A law, which does nothing: what is read of bytes is spelled so. And what is left to read are
+    // bytes.
+    read_values_are_spelled::<F, U, C, Cdc>();
+    let _unread = verifier.unread();
+    let (first, second) = receive_pair::<F, U, C, D, Cdc>(verifier)?;
+    if !adds(first, second, claim) {
+        return Err(SumcheckError::Round(place));
+    }
+    let challenge = verifier.challenge_scalar::<F, Cdc>("fold")?.into_inner();
+    Ok(Round {
+        first,
+        second,
+        challenge,
+    })
+}
+
+// Reads a pair.
+fn receive_pair<
+    F: ScalarField,
+    U: Unit,
+    C: CanObserve<U::Item> + Drop,
+    D: DigestHasher,
+    Cdc: Codec<C, F>,
+>(verifier: &mut VerifierState<'_, C, U, D>) -> Result<(F, F), TranscriptError>
+    ensures { let m = sumcheck_of F.residues ⟦<F as Declared<F, D>>⟧.algebra
+        Cdc.observation Cdc.sampling Cdc.encoding in
+        ReceivesOrRefuses (read_pair m) (verifying_of C.state verifier.old)
+        (λ pair. pair.0 ∷ pair.1 ∷ []) result (verifying_of C.state verifier.new) }
+{
+    let pair = verifier.next_scalars::<F, Cdc>("round", 2)?;
+    Ok((pair[0].into_inner(), pair[1].into_inner()))
+}

@@ -1,0 +1,192 @@
+// Sumchecks on both drivers: the rows of the small world, worked out by hand, and a large table of another field.
+ghost use Rattle.std.specs.Prelude.{◌≡◌, ◌^◌, length, vec_len, IfOk};
+
+use crate::small_world::{Alphabet, Scalars, Separator, World, element, world};
+use p3_challenger::HashChallenger;
+use p3_challenger::fs::{
+    BytesToFieldCodec, DomainSeparator, PatternState, ProverState, TranscriptError, VerifierState,
+};
+use p3_field::{BabyBear, F257, PrimeCharacteristicRing, PrimeField64};
+use p3_sumcheck::{SumcheckError, declare, prove, sum, verify};
+use p3_symmetric::Sha256Hasher;
+use std::alloc::{AllocError, Global};
+use std::test::Fail;
+
+// Claim, number of rounds and proof; and what is answered: the point and the last claim, or why it is refused.
+const ROWS: [(u64, usize, &[u8], &str); 6] = [
+    (10, 2, &[0, 3, 0, 7, 0, 11, 0, 12], "5 13 24"),
+    (
+        11,
+        2,
+        &[0, 3, 0, 7, 0, 11, 0, 12],
+        "the values of round 0 do not add to the claim",
+    ),
+    (
+        10,
+        2,
+        &[0, 3, 0, 7, 0, 11, 0, 13],
+        "the values of round 1 do not add to the claim",
+    ),
+    (
+        10,
+        2,
+        &[0, 3],
+        "bad proof shape: step declares more values than the wire holds",
+    ),
+    (9, 0, &[], "9"),
+    (10, 1, &[0, 3, 0, 7], "5 23"),
+];
+
+// The separator of so many rounds.
+fn rounds_alone(alloc: Global, rounds: usize) -> Result<Separator, TranscriptError> {
+    let mut recorder = PatternState::<Alphabet>::new(alloc);
+    let declared = declare::<F257, Alphabet, Sha256Hasher>(&mut recorder, rounds);
+    let pattern = declared.and(recorder.finalize())?;
+    Ok(DomainSeparator::new(alloc, 1, b"world", pattern)?)
+}
+
+// The elements of numbers.
+fn elements(alloc: Global, numbers: &[u64]) -> Result<Vec<F257>, AllocError>
+    ensures { IfOk result (λ elements. vec_len elements ≡ length numbers.now) }
+{
+    numbers.iter().map(|number| element(*number)).collect(alloc)
+}
+
+// The numbers of a point and of a value.
+fn told(alloc: Global, point: &[F257], value: F257) -> Result<String, AllocError> {
+    let mut text = String::new(alloc);
+    for x in point {
+        text.push_str(&format!(in alloc; "{} ", x.as_canonical_u64())?)?;
+    }
+    text.push_str(&format!(in alloc; "{}", value.as_canonical_u64())?)?;
+    Ok(text)
+}
+
+// What is answered to a proof.
+fn verified(
+    alloc: Global,
+    claim: u64,
+    rounds: usize,
+    proof: &[u8],
+) -> Result<(Vec<F257>, F257), SumcheckError> {
+    let separator = rounds_alone(alloc, rounds)?;
+    let mut verifier = VerifierState::new(alloc, world(), &separator, proof)?;
+    let read = verify::<F257, Alphabet, World, Sha256Hasher, Scalars>(
+        alloc,
+        element(claim),
+        rounds,
+        &mut verifier,
+    );
+    let end = verifier.finalize();
+    let read = read?;
+    end?;
+    Ok(read)
+}
+
+#[test]
+fn proofs_of_the_small_world_are_answered(rt: HostRuntime) -> Result<(), Fail> {
+    let alloc = rt.alloc();
+    for (claim, rounds, proof, answer) in ROWS {
+        let text = match verified(alloc, claim, rounds, proof) {
+            Ok((point, value)) => told(alloc, &point, value)?,
+            Err(error) => error.to_string(alloc)?,
+        };
+        assert_eq!(rt; text.as_str(), answer);
+    }
+    Ok(())
+}
+
+// The proof of a table, and what is told of it.
+fn proved(
+    alloc: Global,
+    numbers: &[u64],
+    rounds: usize,
+) -> Result<(Vec<u8>, String), TranscriptError>
+    requires { length numbers.now ≡ 2 ^ rounds }
+{
+    let table = elements(alloc, numbers)?;
+    let separator = rounds_alone(alloc, rounds)?;
+    let mut prover = ProverState::new(alloc, world(), &separator)?;
+    let sent = prove::<F257, Alphabet, World, Sha256Hasher, Scalars>(alloc, table, &mut prover);
+    let proof = prover.finalize();
+    let (point, value) = sent?;
+    Ok((proof?, told(alloc, &point, value)?))
+}
+
+#[test]
+fn tables_of_the_small_world_are_proved(rt: HostRuntime) -> Result<(), Fail> {
+    let (proof, text) = proved(rt.alloc(), &[1, 2, 3, 4], 2)?;
+    assert_eq!(rt; proof.as_slice(), [0, 3, 0, 7, 0, 11, 0, 12].as_slice());
+    assert_eq!(rt; text.as_str(), "5 13 24");
+    let (proof, text) = proved(rt.alloc(), &[9], 0)?;
+    assert!(rt; proof.is_empty());
+    assert_eq!(rt; text.as_str(), "9");
+    Ok(())
+}
+
+type Challenger = HashChallenger<u8, Sha256Hasher, 32>;
+
+type Large = BytesToFieldCodec<BabyBear>;
+
+// A table folded at one place after another, each time into a new table.
+fn folded_plainly(
+    alloc: Global,
+    mut table: Vec<BabyBear>,
+    point: &[BabyBear],
+) -> Result<Vec<BabyBear>, AllocError> {
+    for x in point {
+        let (low, high) = table.split_at(table.len() / 2);
+        table = low
+            .iter()
+            .zip(high)
+            .map(|(a, b)| *a * (BabyBear::ONE - *x) + *b * *x)
+            .collect(alloc)?;
+    }
+    Ok(table)
+}
+
+const ROUNDS: usize = 20;
+
+// The squares of the first numbers.
+fn squares(alloc: Global) -> Result<Vec<BabyBear>, AllocError>
+    ensures { IfOk result (λ table. vec_len table ≡ 2 ^ 20) }
+{
+    (0..1u64 << ROUNDS)
+        .map(|i| BabyBear::from_u64(i) * BabyBear::from_u64(i))
+        .collect(alloc)
+}
+
+#[test]
+fn a_large_table_is_proved_and_verified(rt: HostRuntime) -> Result<(), Fail> {
+    let alloc = rt.alloc();
+    let mut recorder = PatternState::<u8>::new(alloc);
+    let declared = declare::<BabyBear, u8, Sha256Hasher>(&mut recorder, ROUNDS);
+    let pattern = declared.and(recorder.finalize())?;
+    let separator = DomainSeparator::<u8, Sha256Hasher>::new(alloc, 1, b"large", pattern)?;
+    let table = squares(alloc)?;
+    let claim = sum(&table);
+    let challenger = HashChallenger::new(Vec::new(alloc), Sha256Hasher);
+    let mut prover = ProverState::new(alloc, challenger, &separator)?;
+    let sent = prove::<BabyBear, u8, Challenger, Sha256Hasher, Large>(alloc, table, &mut prover);
+    let proof = prover.finalize();
+    let (point, value) = sent?;
+    let proof = proof?;
+    assert_eq!(rt;
+        folded_plainly(alloc, squares(alloc)?, &point)?.as_slice(),
+        [value].as_slice()
+    );
+    let challenger = HashChallenger::new(Vec::new(alloc), Sha256Hasher);
+    let mut verifier = VerifierState::new(alloc, challenger, &separator, &proof)?;
+    let read = verify::<BabyBear, u8, Challenger, Sha256Hasher, Large>(
+        alloc,
+        claim,
+        ROUNDS,
+        &mut verifier,
+    );
+    let end = verifier.finalize();
+    let (read_point, last) = read?;
+    end?;
+    assert_eq!(rt; read_point.as_slice(), point.as_slice());
+    assert_eq!(rt; last, value);
+    Ok(())
+}

@@ -1,0 +1,79 @@
+-- Two sumchecks in one transcript, each after the sum that it is of.
+use Rattle.std.specs.Prelude.{◌≡◌, ℕ, List, [], ◌∷◌, ◌++◌, false, codes}
+use Rattle.p3_challenger.specs.Algebras.{NamedAlgebra, algebra_step}
+use Rattle.p3_challenger.specs.Driving.{Driving}
+use Rattle.p3_challenger.specs.Kind.TheVariants.{Message}
+use Rattle.p3_challenger.specs.Length.TheVariants.{Scalar}
+use Rattle.p3_challenger.specs.Meanings.{sent}
+use Rattle.p3_challenger.specs.PatternSteps.{PatternSteps}
+use Rattle.p3_challenger.specs.Playing.{IsPlayed}
+use Rattle.p3_challenger.specs.Proving.{Writes}
+use Rattle.p3_challenger.specs.Rounds.{steps_of_rounds}
+use Rattle.p3_challenger.specs.Steps.{Step}
+use Rattle.p3_challenger.specs.Transcripts.{Meaning}
+use Rattle.p3_sumcheck.specs.Sumchecks.{Proves, Sumcheck, round_steps}
+use Rattle.p3_sumcheck.specs.Tables.{total}
+use Rattle.uses.specs.declared.two_sums.Reduced.{Reduced}
+
+-- the steps of a sum, and of the rounds after it; and those of two
+abbrev pub sum_step : NamedAlgebra → Step
+sum_step field = algebra_step Message (codes "sum") field Scalar
+
+abbrev pub steps_of_sum : NamedAlgebra → ℕ → List Step
+steps_of_sum field n = sum_step field ∷ steps_of_rounds (round_steps field) n
+
+abbrev pub steps_of_two : NamedAlgebra → ℕ → List Step
+steps_of_two field n = steps_of_sum field n ++ steps_of_sum field n
+
+-- a prover that has begun
+abbrev pub begun : {S : Type 0} → S → PatternSteps → Driving S
+begun challenger pattern =
+    record {
+      transcript = record {
+        challenger = challenger;
+        playing = record { pattern = pattern; position = 0; finished = false };
+      };
+      bytes = [];
+    }
+
+module _ {S Symbol F : Type 0} (m : Sumcheck S Symbol F) where
+  abbrev pub sent_sum : F → Meaning S Symbol F
+  sent_sum x = sent (sum_step m.field) m.observation m.encoding x
+
+  -- the sum of a table is sent, and then its true rounds at a point, where its value is this one
+  pub record SendsSum (table : List F) (before after : Driving S) : Type 0 where
+    pub point : List F
+    pub value : F
+    pub here : Driving S
+    pub sum : Writes (sent_sum (total m.residues table)) before (total m.residues table) here
+    pub rounds : Proves m table point value here after
+
+  -- the same of two tables
+  pub record SendsTwo (first second : List F) (before after : Driving S) : Type 0 where
+    pub here : Driving S
+    pub one : SendsSum first before here
+    pub other : SendsSum second here after
+
+  -- these bytes are a proof of both
+  pub record ProvesTwo (first second : List F) (challenger : S) (pattern : PatternSteps) (proof : List ℕ) : Type 0 where
+    pub end : Driving S
+    pub sends : SendsTwo first second (begun challenger pattern) end
+    pub played : IsPlayed end.transcript.playing
+    pub written : proof ≡ end.bytes
+
+  -- a verifier is left with the sum of the table, and with the value at the point that it was sent at
+  pub record IsReduced (table : List F) {before after : Driving S} (it : SendsSum table before after) (read : Reduced F) :
+      Type 0 where
+    pub sum : read.sum ≡ total m.residues table
+    pub point : read.point.items ≡ it.point
+    pub value : read.value ≡ it.value
+
+  -- the same of two
+  pub record AreReduced (first second : List F) {before after : Driving S} (it : SendsTwo first second before after)
+      (one other : Reduced F) : Type 0 where
+    pub one_is : IsReduced first it.one one
+    pub other_is : IsReduced second it.other other
+
+-- a driver that stands there, with these bytes left
+abbrev pub with_bytes : {S : Type 0} → Driving S → List ℕ → Driving S
+with_bytes driver bytes = record { transcript = driver.transcript; bytes = bytes }
