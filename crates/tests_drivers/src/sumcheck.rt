@@ -15,9 +15,24 @@ use std::test::Fail;
 // Claim, number of rounds and proof; and what is answered: the point and the last claim, or why it is refused.
 const ROWS: [(u64, usize, &[u8], &str); 6] = [
     (10, 2, &[0, 3, 0, 7, 0, 11, 0, 12], "5 13 24"),
-    (11, 2, &[0, 3, 0, 7, 0, 11, 0, 12], "the values of round 0 do not add to the claim"),
-    (10, 2, &[0, 3, 0, 7, 0, 11, 0, 13], "the values of round 1 do not add to the claim"),
-    (10, 2, &[0, 3], "bad proof shape: step declares more values than the wire holds"),
+    (
+        11,
+        2,
+        &[0, 3, 0, 7, 0, 11, 0, 12],
+        "the values of round 0 do not add to the claim",
+    ),
+    (
+        10,
+        2,
+        &[0, 3, 0, 7, 0, 11, 0, 13],
+        "the values of round 1 do not add to the claim",
+    ),
+    (
+        10,
+        2,
+        &[0, 3],
+        "bad proof shape: step declares more values than the wire holds",
+    ),
     (9, 0, &[], "9"),
     (10, 1, &[0, 3, 0, 7], "5 23"),
 ];
@@ -156,7 +171,10 @@ fn a_large_table_is_proved_and_verified(rt: HostRuntime) -> Result<(), Fail> {
     let proof = prover.finalize();
     let (point, value) = sent?;
     let proof = proof?;
-    assert_eq!(rt; folded_plainly(alloc, squares(alloc)?, &point)?.as_slice(), [value].as_slice());
+    assert_eq!(rt;
+        folded_plainly(alloc, squares(alloc)?, &point)?.as_slice(),
+        [value].as_slice()
+    );
     let challenger = HashChallenger::new(Vec::new(alloc), Sha256Hasher);
     let mut verifier = VerifierState::new(alloc, challenger, &separator, &proof)?;
     let read = verify::<BabyBear, u8, Challenger, Sha256Hasher, Large>(
