@@ -1,6 +1,6 @@
 //! Tests of both drivers of a transcript, of what no script says: what comes back of a value, bytes that outlive the
 //! verifier, a challenger that is lent, code over either driver, markers of other types, a driver that was halted, and
-//! draws by any rule; and of sumchecks on both.
+//! draws by any rule.
 #![tactic(auto)]
 
 #[cfg(test)]
@@ -15,5 +15,3 @@ mod rejecting;
 mod serializing;
 #[cfg(test)]
 mod small_world;
-#[cfg(test)]
-mod sumcheck;

@@ -1,16 +1,34 @@
-// Sumchecks on both drivers: the rows of the small world, worked out by hand, and a large table of another field.
+// The rows of the small world, worked out by hand.
 ghost use Rattle.std.specs.Prelude.{◌≡◌, ◌^◌, length, vec_len, IfOk};
 
-use crate::small_world::{Alphabet, Scalars, Separator, World, element, world};
-use p3_challenger::HashChallenger;
+use p3_challenger::DuplexChallenger;
 use p3_challenger::fs::{
-    BytesToFieldCodec, DomainSeparator, PatternState, ProverState, TranscriptError, VerifierState,
+    DomainSeparator, FieldToFieldCodec, FieldUnit, PatternState, ProverState, TranscriptError,
+    VerifierState,
 };
-use p3_field::{BabyBear, F257, PrimeCharacteristicRing, PrimeField64};
-use p3_sumcheck::{SumcheckError, declare, prove, sum, verify};
-use p3_symmetric::Sha256Hasher;
+use p3_field::{F257, PrimeCharacteristicRing, PrimeField64};
+use p3_sumcheck::{SumcheckError, declare, prove, verify};
+use p3_symmetric::{Sha256Hasher, Turn};
 use std::alloc::{AllocError, Global};
 use std::test::Fail;
+
+// The small world: a duplex challenger of three cells, of which two are the rate. Right after the seed, whatever the
+// pattern is, it draws 2, 6, 8, 132, 134, 6.
+type World = DuplexChallenger<F257, Turn<2>, 3, 2>;
+
+type Alphabet = FieldUnit<F257>;
+
+type Scalars = FieldToFieldCodec<F257>;
+
+type Separator = DomainSeparator<Alphabet, Sha256Hasher>;
+
+fn world() -> World {
+    DuplexChallenger::new(Turn, 10)
+}
+
+fn element(number: u64) -> F257 {
+    F257::from_u64(number)
+}
 
 // Claim, number of rounds and proof; and what is answered: the point and the last claim, or why it is refused.
 const ROWS: [(u64, usize, &[u8], &str); 6] = [
@@ -121,72 +139,5 @@ fn tables_of_the_small_world_are_proved(rt: HostRuntime) -> Result<(), Fail> {
     let (proof, text) = proved(rt.alloc(), &[9], 0)?;
     assert!(rt; proof.is_empty());
     assert_eq!(rt; text.as_str(), "9");
-    Ok(())
-}
-
-type Challenger = HashChallenger<u8, Sha256Hasher, 32>;
-
-type Large = BytesToFieldCodec<BabyBear>;
-
-// A table folded at one place after another, each time into a new table.
-fn folded_plainly(
-    alloc: Global,
-    mut table: Vec<BabyBear>,
-    point: &[BabyBear],
-) -> Result<Vec<BabyBear>, AllocError> {
-    for x in point {
-        let (low, high) = table.split_at(table.len() / 2);
-        table = low
-            .iter()
-            .zip(high)
-            .map(|(a, b)| *a * (BabyBear::ONE - *x) + *b * *x)
-            .collect(alloc)?;
-    }
-    Ok(table)
-}
-
-const ROUNDS: usize = 20;
-
-// The squares of the first numbers.
-fn squares(alloc: Global) -> Result<Vec<BabyBear>, AllocError>
-    ensures { IfOk result (λ table. vec_len table ≡ 2 ^ 20) }
-{
-    (0..1u64 << ROUNDS)
-        .map(|i| BabyBear::from_u64(i) * BabyBear::from_u64(i))
-        .collect(alloc)
-}
-
-#[test]
-fn a_large_table_is_proved_and_verified(rt: HostRuntime) -> Result<(), Fail> {
-    let alloc = rt.alloc();
-    let mut recorder = PatternState::<u8>::new(alloc);
-    let declared = declare::<BabyBear, u8, Sha256Hasher>(&mut recorder, ROUNDS);
-    let pattern = declared.and(recorder.finalize())?;
-    let separator = DomainSeparator::<u8, Sha256Hasher>::new(alloc, 1, b"large", pattern)?;
-    let table = squares(alloc)?;
-    let claim = sum(&table);
-    let challenger = HashChallenger::new(Vec::new(alloc), Sha256Hasher);
-    let mut prover = ProverState::new(alloc, challenger, &separator)?;
-    let sent = prove::<BabyBear, u8, Challenger, Sha256Hasher, Large>(alloc, table, &mut prover);
-    let proof = prover.finalize();
-    let (point, value) = sent?;
-    let proof = proof?;
-    assert_eq!(rt;
-        folded_plainly(alloc, squares(alloc)?, &point)?.as_slice(),
-        [value].as_slice()
-    );
-    let challenger = HashChallenger::new(Vec::new(alloc), Sha256Hasher);
-    let mut verifier = VerifierState::new(alloc, challenger, &separator, &proof)?;
-    let read = verify::<BabyBear, u8, Challenger, Sha256Hasher, Large>(
-        alloc,
-        claim,
-        ROUNDS,
-        &mut verifier,
-    );
-    let end = verifier.finalize();
-    let (read_point, last) = read?;
-    end?;
-    assert_eq!(rt; read_point.as_slice(), point.as_slice());
-    assert_eq!(rt; last, value);
     Ok(())
 }
