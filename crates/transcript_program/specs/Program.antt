@@ -7,7 +7,7 @@ use Rattle.std.specs.declared.io.ErrorKind.TheVariants.{InvalidData}
 use Rattle.hex.specs.Hex.{encode_lower}
 use Rattle.sha2.specs.Sha256.{sha256}
 use Rattle.p3_challenger.specs.HashState.{HashState, function_of}
-use Rattle.p3_challenger.specs.HashCalls.{absorbing}
+use Rattle.p3_challenger.specs.HashCalls.{with_pending}
 use Rattle.transcript_program.specs.Scalar.{number, wire}
 use Rattle.p3_challenger.specs.BabyBearResidues.{BabyBear}
 use Rattle.p3_challenger.specs.Sha256Hasher.{Sha256Hasher}
@@ -32,12 +32,12 @@ abbrev pub lines : List ℕ → BabyBear → List ℕ
 lines proof challenge =
     codes "wire " ++ (encode_lower proof ++ 10 ∷ (codes "challenge " ++ (decimal (number challenge) ++ 10 ∷ [])))
 
--- the lines of a scalar: its spelling, and the challenge that SHA-256 draws with nothing before it
+-- the lines of a scalar: its encoding, and the challenge that SHA-256 draws with nothing before it
 pub record IsFirstText (x : BabyBear) (text : List ℕ) : Type 0 where
   pub challenge : BabyBear
   pub after : HashState ℕ Sha256Hasher
   pub run : IsRun (function_of (λ _ message. sha256 message) 32 0)
-      (record { sponge = absorbing []; hasher = record {} }) x challenge after
+      (record { sponge = with_pending []; hasher = record {} }) x challenge after
   pub text_is : text ≡ lines (wire x) challenge
 
 -- why an error refused a run, as the program says it

@@ -1,8 +1,8 @@
-//! What a verifier's step reads of a proof is spelled as the prover's step writes it: of `next_..` as of `add_..`, of
+//! What a verifier's step reads of a proof is encoded as the prover's step writes it: of `next_..` as of `add_..`, of
 //! `check_pow` as of `pow`.
 //!
 //! The laws of mirrors say that what is written is read. These say the converse: bytes of which a step reads a
-//! value begin with the one spelling of that value. So a proof that is read to its end is what a prover writes of the
+//! value begin with the one encoding of that value. So a proof that is read to its end is what a prover writes of the
 //! values that were read.
 ghost use Rattle.std.specs.Prelude.{◌≡◌, ◌≤◌, ℕ, List, length};
 ghost use Rattle.p3_fs_core.specs.Scalar.{encoding};
@@ -10,19 +10,19 @@ ghost use Rattle.p3_fs_core.specs.Steps.{Step};
 ghost use Rattle.p3_driver_core.specs.Meanings as meaning;
 ghost use Rattle.p3_driver_core.specs.Working.{work_of, sent_work};
 ghost use Rattle.p3_driver_core.specs.Reads as reads;
-ghost use Rattle.p3_step_laws.specs.Spelled.{OnlyReads, AnyValue};
+ghost use Rattle.p3_step_laws.specs.Encoded.{OnlyReads, AnyValue};
 
 use p3_challenger_core::{CanObserve, Sponge};
 use p3_codecs::{AlphabetOf, Codec, Unit};
 use p3_fs_core::Kind;
 use p3_grinding::GrindingChallenger;
 
-/// Where a verifier's step reads one value, the bytes begin with its spelling. Where it reads a list of so many, the
-/// list has so many, and the bytes begin with the spellings of its values in order. Where it reads a list after its
-/// count, the list has at most so many, and the bytes begin with its count and these spellings.
+/// Where a verifier's step reads one value, the bytes begin with its encoding. Where it reads a list of so many, the
+/// list has so many, and the bytes begin with the encodings of its values in order. Where it reads a list after its
+/// count, the list has at most so many, and the bytes begin with its count and these encodings.
 ///
 /// A law: the body is empty, and a caller cites the clauses.
-pub fn read_values_are_spelled<A, U: Unit, C: CanObserve<U::Item>, Cdc: Codec<C, A>>()
+pub fn read_values_are_encoded<A, U: Unit, C: CanObserve<U::Item>, Cdc: Codec<C, A>>()
     ensures value { (step : Step) → OnlyReads (reads.received step Cdc.observation Cdc.encoding)
         AnyValue
         (λ x. meaning.sent step Cdc.observation Cdc.encoding x) }
@@ -40,7 +40,7 @@ pub fn read_values_are_spelled<A, U: Unit, C: CanObserve<U::Item>, Cdc: Codec<C,
 /// bytes after their count, they are at most so many, and the proof's bytes begin with their count and them.
 ///
 /// A law: the body is empty, and a caller cites the clauses.
-pub fn read_bytes_are_spelled<U: Unit, C: CanObserve<U::Item>>()
+pub fn read_bytes_are_encoded<U: Unit, C: CanObserve<U::Item>>()
     ensures fixed { let alphabet = ⟦<U as AlphabetOf<C>>⟧.alphabet in
         (kind : Kind) (label : List ℕ) (n : ℕ) →
         OnlyReads (reads.received_bytes kind label alphabet n)
@@ -54,7 +54,7 @@ pub fn read_bytes_are_spelled<U: Unit, C: CanObserve<U::Item>>()
 /// The same of a hint.
 ///
 /// A law: the body is empty, and a caller cites the clauses.
-pub fn read_hints_are_spelled<C: Sponge>()
+pub fn read_hints_are_encoded<C: Sponge>()
     ensures fixed { (label : List ℕ) (n : ℕ) → OnlyReads {S = C.State} {Symbol = C.Symbol}
         (reads.hint_received label n) (λ bytes. length bytes ≡ n)
         (λ bytes. meaning.hinted label bytes) }
@@ -63,13 +63,13 @@ pub fn read_hints_are_spelled<C: Sponge>()
         (λ bytes. meaning.hinted_bounded label max bytes) }
 {}
 
-/// Where a verifier's step reads a witness, the bytes begin with its spelling, whether or not it then passes.
+/// Where a verifier's step reads a witness, the bytes begin with its encoding, whether or not it then passes.
 ///
 /// A law: the body is empty, and a caller cites the clause.
-pub fn read_work_is_spelled<C: GrindingChallenger>()
+pub fn read_work_is_encoded<C: GrindingChallenger>()
     ensures { (step : Step) (bits : ℕ) →
         let work = work_of step C.Witness.residues C.before_witness C.observation C.bits_sampling
         bits in
-        let spelling = encoding C.Witness.residues C.Witness.bit_length in
-        OnlyReads (reads.received_work work spelling) AnyValue (λ x. sent_work work spelling x) }
+        let wire = encoding C.Witness.residues C.Witness.bit_length in
+        OnlyReads (reads.received_work work wire) AnyValue (λ x. sent_work work wire x) }
 {}

@@ -1,4 +1,4 @@
--- What a challenger hands over tells what it observed: to its hash function strings, to its permutation states.
+-- What a challenger queries tells what it observed: its hash function with strings, its permutation with states.
 use Rattle.std.specs.Prelude.{◌≡◌, ℕ, ◌⊎◌, List, [], ◌∷◌, length, slice_get, Some}
 use Rattle.p3_challenger_core.specs.Segments.{Call, observe, observe_empty_array, draw, Run}
 
@@ -28,25 +28,25 @@ module _ {T A M S : Type 0} (run : List (Call T) → Run A M S) (pending : S →
   abbrev pub LeaveSamePending : List (Call T) → List (Call T) → Type 0
   LeaveSamePending calls others = pending (run calls).after ≡ pending (run others).after
 
-  -- calls that hand over the same, and leave the same pending, observed the same values
+  -- calls that query the same, and leave the same pending, observed the same values
   abbrev pub ReadsBack : Type 0
   ReadsBack =
-      (calls others : List (Call T)) → (run calls).handed ≡ (run others).handed → LeaveSamePending calls others
+      (calls others : List (Call T)) → (run calls).queries ≡ (run others).queries → LeaveSamePending calls others
       → observed_values calls ≡ observed_values others
 
-  -- Calls that hand over equally many, and end alike, observed the same values, or at one place of what they hand over
+  -- Calls that query equally many, and end alike, observed the same values, or at one place of what they query
   -- two collide.
   abbrev pub ReadsBackOrCollides :
       (EndAlike : List (Call T) → List (Call T) → Type 0) (Collide : M → M → Type 0) → Type 0
   ReadsBackOrCollides EndAlike Collide =
-      (calls others : List (Call T)) → length (run calls).handed ≡ length (run others).handed → EndAlike calls others
+      (calls others : List (Call T)) → length (run calls).queries ≡ length (run others).queries → EndAlike calls others
       → (observed_values calls ≡ observed_values others)
-      ⊎ CollideAtSomePlace Collide (run calls).handed (run others).handed
+      ⊎ CollideAtSomePlace Collide (run calls).queries (run others).queries
 
 -- A challenger that lists of calls run on, and then a digest.
 module _ {T A M D : Type 0} (run_to_digest : List (Call T) → Run A M D) where
-  -- calls that end in a digest, and hand over the same up to it, observed the same values
+  -- calls that end in a digest, and query the same up to it, observed the same values
   abbrev pub ReadsBackToDigest : Type 0
   ReadsBackToDigest =
-      (calls others : List (Call T)) → (run_to_digest calls).handed ≡ (run_to_digest others).handed
+      (calls others : List (Call T)) → (run_to_digest calls).queries ≡ (run_to_digest others).queries
       → observed_values calls ≡ observed_values others

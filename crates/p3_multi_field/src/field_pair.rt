@@ -6,14 +6,14 @@ use p3_field_core::PrimeField64;
 /// how elements are packed and drawn.
 ///
 /// Not in the Rust crate.
-pub trait Paired<F> {
+pub trait HasFieldPair<F> {
     ghost use Rattle.p3_multi_field.specs.MultiFieldCalls.{FieldPair};
 
-    ghost pair: { FieldPair F Self };
+    ghost field_pair: { FieldPair F Self };
 }
 
-impl<F: PrimeField64, PF: PrimeField64 + FieldBridge<F, PF>> Paired<F> for PF {
+impl<F: PrimeField64, PF: PrimeField64 + FieldBridge<F, PF>> HasFieldPair<F> for PF {
     ghost use Rattle.p3_multi_field.specs.MultiFieldCalls.{pair_of};
 
-    ghost pair = { pair_of F.residues PF.residues PF.RADIX_BITS PF.ABSORB_COUNT PF.SQUEEZE_COUNT };
+    ghost field_pair = { pair_of F.residues PF.residues PF.RADIX_BITS PF.ABSORB_COUNT PF.SQUEEZE_COUNT };
 }

@@ -7,7 +7,7 @@ use p3_challenger_core::{ChallengerError, Sponge};
 /// A challenger that knows what a check of a witness draws before it observes the witness.
 ///
 /// Not in the Rust crate, where each check of a serializing challenger has a body of its own.
-pub trait PrepareCheck: Sponge {
+pub trait BeforeWitness: Sponge {
     // What is drawn before a witness is observed.
     ghost before_witness: { Sampling Self.State (Unit {0}) };
 
@@ -16,7 +16,7 @@ pub trait PrepareCheck: Sponge {
     ///
     /// The errors are those of [`CanSample::sample`](p3_challenger_core::CanSample::sample). They leave what they
     /// leave there.
-    fn prepare_check(&mut self) -> Result<(), ChallengerError>
+    fn draw_before_witness(&mut self) -> Result<(), ChallengerError>
         ensures drawn { OnOk result (before_witness.sampled (Self.state self.old) ≡ Some tt) }
         ensures after { OnOk result (Self.state self.new ≡ before_witness.after (Self.state self.old)) }
         ensures err { IfErr result (λ e.
@@ -26,12 +26,12 @@ pub trait PrepareCheck: Sponge {
     ghost prepares: { IsSampling Self.next before_witness };
 }
 
-impl<C: PrepareCheck> PrepareCheck for &mut C {
+impl<C: BeforeWitness> BeforeWitness for &mut C {
     ghost before_witness = { C.before_witness };
 
     ghost prepares = { C.prepares };
 
-    fn prepare_check(&mut self) -> Result<(), ChallengerError> {
-        (**self).prepare_check()
+    fn draw_before_witness(&mut self) -> Result<(), ChallengerError> {
+        (**self).draw_before_witness()
     }
 }

@@ -8,12 +8,12 @@ use Rattle.p3_driver_core.specs.Reads.{Reading}
 abbrev pub AnyValue : {A : Type 0} → A → Type 0
 AnyValue x = Unit {0}
 
--- A step that reads takes bytes in one spelling alone: whatever it reads of them is a value that fits, the bytes that
+-- A step that reads takes bytes in one encoding alone: whatever it reads of them is a value that fits, the bytes that
 -- it passes are those that a prover's step writes of that value, and what is left are bytes too.
 pub record OnlyReads {S Symbol A : Type 0} (r : Reading S Symbol A) (Fits : A → Type 0) (sent : A → Meaning S Symbol A)
     : Type 0 where
   pub fits : (bytes : List ℕ) (x : A) (rest : List ℕ) → AreBytes bytes → r.read bytes ≡ Ok (x, rest) → Fits x
-  pub spelled : (bytes : List ℕ) (x : A) (rest : List ℕ) → AreBytes bytes → r.read bytes ≡ Ok (x, rest) →
+  pub encoded : (bytes : List ℕ) (x : A) (rest : List ℕ) → AreBytes bytes → r.read bytes ≡ Ok (x, rest) →
       bytes ≡ (sent x).wire ++ rest
   pub bytes_left : (bytes : List ℕ) (x : A) (rest : List ℕ) → AreBytes bytes → r.read bytes ≡ Ok (x, rest) →
       AreBytes rest
