@@ -4,9 +4,9 @@ ghost use Rattle.std.specs.Prelude.{◌<◌, ◌≤◌};
 use crate::names::{ALGEBRAS, AlgebraName, FIELDS, FieldName};
 use anyhow::{Context, Result, bail};
 use conformance_calls::replay::Replayed;
-use conformance_words::answer;
-use conformance_words::symbol::{Symbol, coefficients_of, element_of, numbers_of};
-use conformance_words::words::{look_up, split_name};
+use conformance_tokens::answer;
+use conformance_tokens::symbol::{Symbol, coefficients_of, element_of, numbers_of};
+use conformance_tokens::tokens::{look_up, split_name};
 use p3_challenger::fs::{
     BytesToFieldCodec, Codec, ExtensionFieldCodec, FieldToFieldCodec, FieldUnit, Unit,
 };

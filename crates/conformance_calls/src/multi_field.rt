@@ -5,10 +5,10 @@ use crate::elements::answer_elements;
 use crate::replay::{Replayed, first_difference};
 use crate::subject::{Subject, Way, finalized, observe};
 use anyhow::{Context, Result, bail};
-use conformance_words::answer;
-use conformance_words::line::Step;
-use conformance_words::symbol::{Extended, Symbol, numbers_of, rows_of_symbols};
-use conformance_words::words::{look_up, parse_rows, split_name};
+use conformance_tokens::answer;
+use conformance_tokens::line::Step;
+use conformance_tokens::symbol::{Extended, Symbol, numbers_of, rows_of_symbols};
+use conformance_tokens::tokens::{look_up, parse_rows, split_name};
 use p3_challenger::MultiField32Challenger;
 use p3_field::{
     BabyBear, F257, FieldBridge, Goldilocks, PrimeCharacteristicRing, PrimeField32, PrimeField64,

@@ -18,7 +18,7 @@ use Rattle.p3_challenger.specs.Step.TheVariants as step
 use Rattle.transcript_program.specs.Demo.{demo_steps}
 use Rattle.transcript_program.specs.DemoTypes.{DemoChallenger, DemoStep, DemoRules, DemoRun, DemoValue, DemoDrawn}
 use Rattle.transcript_program.specs.Report.{report}
-use Rattle.transcript_program.specs.declared.words.ToProve.{ToProve}
+use Rattle.transcript_program.specs.declared.arguments.ToProve.{ToProve}
 
 -- a label, which says this
 pub record LabelOf (text : List ℕ) : Type 0 where

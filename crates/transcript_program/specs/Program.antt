@@ -14,15 +14,15 @@ use Rattle.p3_challenger.specs.Sha256Hasher.{Sha256Hasher}
 use Rattle.p3_challenger.specs.ChallengerError.TheVariants as challenger
 use Rattle.p3_challenger.specs.TranscriptError.{TranscriptError}
 use Rattle.p3_challenger.specs.TranscriptError.TheVariants.{BadProofShape, Challenger, OutOfMemory}
-use Rattle.transcript_program.specs.declared.words.Request.{Request}
-use Rattle.transcript_program.specs.declared.words.Request.TheVariants.{First, DemoPattern, Prove, Verify}
+use Rattle.transcript_program.specs.declared.arguments.Request.{Request}
+use Rattle.transcript_program.specs.declared.arguments.Request.TheVariants.{First, DemoPattern, Prove, Verify}
 use Rattle.transcript_program.specs.declared.program.Answer.{Answer}
 use Rattle.transcript_program.specs.declared.program.Answer.TheVariants.{Done, Proof, Refused, NoInput, Usage}
 use Rattle.transcript_program.specs.First.{IsRun}
 use Rattle.transcript_program.specs.Demo.{demo_text}
 use Rattle.transcript_program.specs.DemoTypes.{DemoRules}
 use Rattle.transcript_program.specs.DemoScript.{IsDemoProof, RefusesDemoProof, IsDemoReport, RefusesDemoReport}
-use Rattle.transcript_program.specs.Words.{Asks}
+use Rattle.transcript_program.specs.Arguments.{Asks}
 
 abbrev pub usage_line : List ℕ
 usage_line = codes "usage: transcript first|pattern|prove|verify" ++ 10 ∷ []
@@ -87,12 +87,12 @@ module _ (rules : DemoRules) where
   IsAnswerTo request old new NoInput = ReadsInput request
   IsAnswerTo request old new Usage = ⊥
 
-  -- the answer to the words of a command line: that to what they ask for, or that they ask for nothing
+  -- the answer to the arguments of a command line: that to what they ask for, or that they ask for nothing
   abbrev pub IsAnswer : List (List ℕ) → Option (List ℕ) → Option (List ℕ) → Answer → Type 0
-  IsAnswer words old new Usage = (request : Request) → Asks words request → ⊥
-  IsAnswer words old new answer = (request : Request) × Asks words request × IsAnswerTo request old new answer
+  IsAnswer arguments old new Usage = (request : Request) → Asks arguments request → ⊥
+  IsAnswer arguments old new answer = (request : Request) × Asks arguments request × IsAnswerTo request old new answer
 
--- what is answered where the words could not be read: a word that is no text asks for nothing; else memory was
+-- what is answered where the arguments could not be read: an argument that is no text asks for nothing; else memory was
 -- wanting
 abbrev pub unread : ErrorKind → Answer
 unread InvalidData = Usage

@@ -9,7 +9,7 @@ ghost use Rattle.transcript_program.specs.DemoScript.{DemoLabels, demo_script, d
 ghost use Rattle.transcript_program.specs.DemoScript.{IsDemoProof, RefusesDemoProof, IsDemoReport, RefusesDemoReport};
 ghost use Rattle.transcript_program.specs.DemoScript.{DemoContent, Says, IsReport, sent_by};
 
-use crate::words::{MAX_NOTE_LEN, MAX_VALUES, SALT_LEN, ToProve};
+use crate::arguments::{MAX_NOTE_LEN, MAX_VALUES, SALT_LEN, ToProve};
 use crate::{demo, report};
 use p3_challenger::fs::script::{AcceptAll, Both, Drawn, Meaning, Received, Sent, Step, Suite};
 use p3_challenger::fs::{

@@ -1,5 +1,5 @@
-use Rattle.transcript_program.proofs.WordLemmas.{scalar_texts-none, none_there}
-use Rattle.transcript_program.proofs.words.parse_values.Goals as goal
+use Rattle.transcript_program.proofs.ArgumentLemmas.{scalar_texts-none, none_there}
+use Rattle.transcript_program.proofs.arguments.parse_values.Goals as goal
 
 pub returns-in_err-parse_scalar-clause-none : goal.returns-in_err-parse_scalar-clause-none
 returns-in_err-parse_scalar-clause-none c =

@@ -1,8 +1,8 @@
-// The words of a call.
+// The tokens of a call.
 use anyhow::{Context, Result, bail};
 use std::alloc::Global;
 
-/// The name of a call, and the words after it.
+/// The name of a call, and the tokens after it.
 pub fn split_name(text: &str) -> (&str, &str) {
     text.split_once(' ').unwrap_or((text, ""))
 }
@@ -17,14 +17,14 @@ pub fn look_up<T: Copy>(table: &[(&str, T)], name: &str) -> Result<T> {
     bail!("an unknown name")
 }
 
-/// The first word, and those after it.
-pub fn split_first(words: &str) -> Result<(&str, &str)> {
-    words.split_once(' ').context("too few words")
+/// The first token, and those after it.
+pub fn split_first(tokens: &str) -> Result<(&str, &str)> {
+    tokens.split_once(' ').context("too few tokens")
 }
 
 /// Two numbers with a space between.
-pub fn parse_pair(words: &str) -> Result<(u64, u64)> {
-    let (first, second) = split_first(words)?;
+pub fn parse_pair(tokens: &str) -> Result<(u64, u64)> {
+    let (first, second) = split_first(tokens)?;
     Ok((first.parse()?, second.parse()?))
 }
 
@@ -40,8 +40,8 @@ pub fn parse_rows(alloc: Global, text: &str) -> Result<Vec<Vec<u64>>> {
 /// Numbers with spaces between.
 pub fn parse_row(alloc: Global, text: &str) -> Result<Vec<u64>> {
     let mut row = Vec::new(alloc);
-    for word in text.split_whitespace() {
-        row.push(word.parse()?)?;
+    for token in text.split_whitespace() {
+        row.push(token.parse()?)?;
     }
     Ok(row)
 }

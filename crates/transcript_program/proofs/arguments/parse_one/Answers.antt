@@ -1,5 +1,5 @@
-use Rattle.transcript_program.proofs.WordLemmas.{one_scalar-none}
-use Rattle.transcript_program.proofs.words.parse_one.Goals as goal
+use Rattle.transcript_program.proofs.ArgumentLemmas.{one_scalar-none}
+use Rattle.transcript_program.proofs.arguments.parse_one.Goals as goal
 
 pub returns-in-len1-clause-none : goal.returns-in-len1-clause-none
 returns-in-len1-clause-none c =

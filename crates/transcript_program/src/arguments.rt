@@ -1,8 +1,8 @@
-//! What the words of a command line ask for.
+//! What the arguments of a command line ask for.
 ghost use Rattle.std.specs.Prelude.{◌≤◌, List, ◌∷◌, length, map, IfSome, IfNone};
 ghost use Rattle.p3_challenger.specs.BabyBearResidues.{BabyBear};
-ghost use Rattle.transcript_program.specs.Words.{IsScalarText, IsOneScalar, AreScalarTexts};
-ghost use Rattle.transcript_program.specs.Words.{IsToProve, AreToProve, Asks};
+ghost use Rattle.transcript_program.specs.Arguments.{IsScalarText, IsOneScalar, AreScalarTexts};
+ghost use Rattle.transcript_program.specs.Arguments.{IsToProve, AreToProve, Asks};
 
 use arrayvec::ArrayVec;
 use hex::FromHex;
@@ -41,18 +41,18 @@ pub struct ToProve<'a> {
     pub note: &'a str,
 }
 
-/// What these words ask for, if they ask for anything.
-pub fn parse<'a>(words: &[&'a str]) -> Option<Request<'a>>
-    ensures some { IfSome result (λ request. Asks (map (λ word. word.now) words.now) request) }
-    ensures none { IfNone result ((request : Request) → Asks (map (λ word. word.now) words.now) request → ⊥) }
+/// What these arguments ask for, if they ask for anything.
+pub fn parse<'a>(arguments: &[&'a str]) -> Option<Request<'a>>
+    ensures some { IfSome result (λ request. Asks (map (λ argument. argument.now) arguments.now) request) }
+    ensures none { IfNone result ((request : Request) → Asks (map (λ argument. argument.now) arguments.now) request → ⊥) }
 {
-    let (name, args) = words.split_first()?;
+    let (name, args) = arguments.split_first()?;
     parse_request(*name, args)
 }
 
 fn parse_request<'a>(name: &str, args: &[&'a str]) -> Option<Request<'a>>
-    ensures some { IfSome result (λ request. Asks (name.now ∷ map (λ word. word.now) args.now) request) }
-    ensures none { IfNone result ((request : Request) → Asks (name.now ∷ map (λ word. word.now) args.now) request → ⊥) }
+    ensures some { IfSome result (λ request. Asks (name.now ∷ map (λ argument. argument.now) args.now) request) }
+    ensures none { IfNone result ((request : Request) → Asks (name.now ∷ map (λ argument. argument.now) args.now) request → ⊥) }
 {
     if name == "first" {
         return Some(Request::First(parse_one(args)?));
@@ -70,8 +70,8 @@ fn parse_request<'a>(name: &str, args: &[&'a str]) -> Option<Request<'a>>
 }
 
 fn parse_to_prove<'a>(args: &[&'a str]) -> Option<ToProve<'a>>
-    ensures some { IfSome result (λ ask. AreToProve (map (λ word. word.now) args.now) ask) }
-    ensures none { IfNone result ((ask : ToProve) → AreToProve (map (λ word. word.now) args.now) ask → ⊥) }
+    ensures some { IfSome result (λ ask. AreToProve (map (λ argument. argument.now) args.now) ask) }
+    ensures none { IfNone result ((ask : ToProve) → AreToProve (map (λ argument. argument.now) args.now) ask → ⊥) }
 {
     match args {
         [input, salt, note, values @ ..] => parse_parts(*input, *salt, *note, values),
@@ -81,9 +81,9 @@ fn parse_to_prove<'a>(args: &[&'a str]) -> Option<ToProve<'a>>
 
 fn parse_parts<'a>(input: &str, salt: &str, note: &'a str, values: &[&str]) -> Option<ToProve<'a>>
     ensures some { IfSome result (λ ask.
-        IsToProve input.now salt.now note.now (map (λ word. word.now) values.now) ask) }
+        IsToProve input.now salt.now note.now (map (λ argument. argument.now) values.now) ask) }
     ensures none { IfNone result ((ask : ToProve) →
-        IsToProve input.now salt.now note.now (map (λ word. word.now) values.now) ask → ⊥) }
+        IsToProve input.now salt.now note.now (map (λ argument. argument.now) values.now) ask → ⊥) }
 {
     let input = parse_scalar(input)?;
     let salt = <[u8; SALT_LEN] as FromHex>::from_hex(salt).ok()?;
@@ -101,8 +101,8 @@ fn parse_parts<'a>(input: &str, salt: &str, note: &'a str, values: &[&str]) -> O
 
 // The one scalar that this is.
 fn parse_one(args: &[&str]) -> Option<BabyBear>
-    ensures some { IfSome result (λ x. IsOneScalar (map (λ word. word.now) args.now) x) }
-    ensures none { IfNone result ((x : BabyBear) → IsOneScalar (map (λ word. word.now) args.now) x → ⊥) }
+    ensures some { IfSome result (λ x. IsOneScalar (map (λ argument. argument.now) args.now) x) }
+    ensures none { IfNone result ((x : BabyBear) → IsOneScalar (map (λ argument. argument.now) args.now) x → ⊥) }
 {
     match args {
         [scalar] => parse_scalar(*scalar),

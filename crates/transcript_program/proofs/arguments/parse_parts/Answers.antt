@@ -1,5 +1,5 @@
-use Rattle.transcript_program.proofs.WordLemmas.{none_there}
-use Rattle.transcript_program.proofs.words.parse_parts.Goals as goal
+use Rattle.transcript_program.proofs.ArgumentLemmas.{none_there}
+use Rattle.transcript_program.proofs.arguments.parse_parts.Goals as goal
 
 pub returns-in_err-input-clause-none : goal.returns-in_err-input-clause-none
 returns-in_err-input-clause-none c =

@@ -1,6 +1,6 @@
 use Rattle.std.proofs.Common.{◌≡◌, ◌≤◌, length, map, take}
-use Rattle.transcript_program.specs.Words.{AreScalarTexts}
-use Rattle.transcript_program.proofs.words.parse_values.Given as goal
+use Rattle.transcript_program.specs.Arguments.{AreScalarTexts}
+use Rattle.transcript_program.proofs.arguments.parse_values.Given as goal
 
 -- the texts so far are written by the values so far
 abbrev pub invariant-loop-text : goal.invariant-loop-text

@@ -1,11 +1,11 @@
--- What the words of a command line ask for.
+-- What the arguments of a command line ask for.
 use Rattle.std.specs.Prelude.{◌≡◌, ℕ, ◌≤◌, List, [], ◌∷◌, length, codes, Ok}
 use Rattle.std.specs.Str.Parse.{IsNumeral, digits_value}
 use Rattle.hex.specs.Hex.{decode_sized}
 use Rattle.p3_challenger.specs.BabyBearResidues.{BabyBear, residues}
-use Rattle.transcript_program.specs.declared.words.Request.{Request}
-use Rattle.transcript_program.specs.declared.words.Request.TheVariants.{First, DemoPattern, Prove, Verify}
-use Rattle.transcript_program.specs.declared.words.ToProve.{ToProve}
+use Rattle.transcript_program.specs.declared.arguments.Request.{Request}
+use Rattle.transcript_program.specs.declared.arguments.Request.TheVariants.{First, DemoPattern, Prove, Verify}
+use Rattle.transcript_program.specs.declared.arguments.ToProve.{ToProve}
 
 -- a text writes a scalar: decimal digits, with any number of zeros in front
 pub record IsScalarText (text : List ℕ) (x : BabyBear) : Type 0 where
@@ -40,10 +40,10 @@ abbrev pub AreToProve : List (List ℕ) → ToProve → Type 0
 AreToProve (input ∷ salt ∷ note ∷ values) ask = IsToProve input salt note values ask
 AreToProve _ ask = ⊥
 
--- the words of a command line ask for this
+-- the arguments of a command line ask for this
 abbrev pub Asks : List (List ℕ) → Request → Type 0
 Asks [] request = ⊥
-Asks (word ∷ words) (First x) = (word ≡ codes "first") × IsOneScalar words x
-Asks (word ∷ words) DemoPattern = (word ≡ codes "pattern") × (words ≡ [])
-Asks (word ∷ words) (Prove ask) = (word ≡ codes "prove") × AreToProve words ask
-Asks (word ∷ words) (Verify x) = (word ≡ codes "verify") × IsOneScalar words x
+Asks (argument ∷ arguments) (First x) = (argument ≡ codes "first") × IsOneScalar arguments x
+Asks (argument ∷ arguments) DemoPattern = (argument ≡ codes "pattern") × (arguments ≡ [])
+Asks (argument ∷ arguments) (Prove ask) = (argument ≡ codes "prove") × AreToProve arguments ask
+Asks (argument ∷ arguments) (Verify x) = (argument ≡ codes "verify") × IsOneScalar arguments x
