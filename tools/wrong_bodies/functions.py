@@ -38,7 +38,7 @@ class Item:
         is_new_body = self.head <= change.start and change.end < self.body and change.text.lstrip().startswith("{")
         return not self.is_constant and (change.start >= self.body or is_new_body)
 
-    def forms(self):
+    def spellings(self):
         """Returns the texts that may stand after `refused at:` for it."""
         short = [*[self.owner()] * bool(self.owner()), self.name]
         paths = [[*self.module[at:], *short] for at in range(len(self.module) + 1)]
@@ -157,7 +157,7 @@ class Functions:
 
     def called(self, name):
         """Returns the one item that `refused at:` names."""
-        found = [it for it in self.items if name.replace(" ", "") in it.forms()]
+        found = [it for it in self.items if name.replace(" ", "") in it.spellings()]
         if len(found) == 1:
             return found[0]
         if not found:
