@@ -1,7 +1,7 @@
 // Codecs and alphabets, through their bounds.
 ghost use Rattle.std.specs.Prelude.{◌<◌, ◌≤◌};
 
-use crate::names::{ALGEBRAS, AlgebraName, FIELDS, FieldName};
+use crate::names::{ALGEBRAS, AlgebraName, FIELDS, FieldName, Four, FourOfKoalaBear};
 use anyhow::{Context, Result, bail};
 use conformance_calls::replay::Replayed;
 use conformance_tokens::answer;
@@ -11,7 +11,7 @@ use p3_challenger::fs::{
     BytesToFieldCodec, Codec, ExtensionFieldCodec, FieldToFieldCodec, FieldUnit, Unit,
 };
 use p3_challenger::{CanObserve, DuplexChallenger, Sponge};
-use p3_field::{Algebra, BabyBear, BasedVectorSpace, Coeffs, F257, Goldilocks, PrimeField64};
+use p3_field::{Algebra, BabyBear, BasedVectorSpace, F257, Goldilocks, KoalaBear, PrimeField64};
 use p3_symmetric::Turn;
 use p3_test_support::{RecordingChallenger, Supply};
 use std::alloc::Global;
@@ -54,11 +54,9 @@ pub enum Codecs {
 
 type Cells<F> = DuplexChallenger<F, Turn<1>, 3, 2>;
 
-type Four = Coeffs<BabyBear, 4>;
+type ByBytes<F, A> = ExtensionFieldCodec<F, A, BytesToFieldCodec<F>>;
 
-type FourOfBytes = ExtensionFieldCodec<BabyBear, Four, BytesToFieldCodec<BabyBear>>;
-
-type FourOfElements = ExtensionFieldCodec<BabyBear, Four, FieldToFieldCodec<BabyBear>>;
+type ByElements<F, A> = ExtensionFieldCodec<F, A, FieldToFieldCodec<F>>;
 
 impl CodecCall {
     fn parse(alloc: Global, text: &str) -> Result<CodecCall> {
@@ -95,6 +93,9 @@ impl Replayed for Codecs {
                 FieldName::BabyBear => {
                     encoded::<FieldUnit<BabyBear>, BabyBear>(alloc, bytes.as_slice())
                 }
+                FieldName::KoalaBear => {
+                    spelled::<FieldUnit<KoalaBear>, KoalaBear>(alloc, bytes.as_slice())
+                }
                 FieldName::Goldilocks => {
                     encoded::<FieldUnit<Goldilocks>, Goldilocks>(alloc, bytes.as_slice())
                 }
@@ -109,13 +110,23 @@ fn through_bytes(alloc: Global, algebra: AlgebraName, call: &ElementCall) -> Res
         AlgebraName::Scalars(FieldName::BabyBear) => {
             drawn_or_through::<BabyBear, BabyBear, BytesToFieldCodec<BabyBear>>(alloc, call)
         }
+        AlgebraName::Scalars(FieldName::KoalaBear) => {
+            drawn_or_through::<KoalaBear, KoalaBear, BytesToFieldCodec<KoalaBear>>(alloc, call)
+        }
         AlgebraName::Scalars(FieldName::Goldilocks) => {
             drawn_or_through::<Goldilocks, Goldilocks, BytesToFieldCodec<Goldilocks>>(alloc, call)
         }
         AlgebraName::Scalars(FieldName::F257) => {
             drawn_or_through::<F257, F257, BytesToFieldCodec<F257>>(alloc, call)
         }
-        AlgebraName::Four => drawn_or_through::<BabyBear, Four, FourOfBytes>(alloc, call),
+        AlgebraName::Four => {
+            drawn_or_through::<BabyBear, Four, ByBytes<BabyBear, Four>>(alloc, call)
+        }
+        AlgebraName::FourOfKoalaBear => {
+            drawn_or_through::<KoalaBear, FourOfKoalaBear, ByBytes<KoalaBear, FourOfKoalaBear>>(
+                alloc, call,
+            )
+        }
     }
 }
 
@@ -140,6 +151,11 @@ fn through_elements(alloc: Global, algebra: AlgebraName, call: &ElementCall) -> 
         AlgebraName::Scalars(FieldName::BabyBear) => {
             through::<BabyBear, BabyBear, FieldToFieldCodec<BabyBear>, Cells<BabyBear>>(alloc, call)
         }
+        AlgebraName::Scalars(FieldName::KoalaBear) => {
+            through::<KoalaBear, KoalaBear, FieldToFieldCodec<KoalaBear>, Cells<KoalaBear>>(
+                alloc, call,
+            )
+        }
         AlgebraName::Scalars(FieldName::Goldilocks) => through::<
             Goldilocks,
             Goldilocks,
@@ -149,9 +165,15 @@ fn through_elements(alloc: Global, algebra: AlgebraName, call: &ElementCall) -> 
         AlgebraName::Scalars(FieldName::F257) => {
             through::<F257, F257, FieldToFieldCodec<F257>, Cells<F257>>(alloc, call)
         }
-        AlgebraName::Four => through::<BabyBear, Four, FourOfElements, Cells<BabyBear>>(
-            alloc, call,
-        ),
+        AlgebraName::Four => {
+            through::<BabyBear, Four, ByElements<BabyBear, Four>, Cells<BabyBear>>(alloc, call)
+        }
+        AlgebraName::FourOfKoalaBear => through::<
+            KoalaBear,
+            FourOfKoalaBear,
+            ByElements<KoalaBear, FourOfKoalaBear>,
+            Cells<KoalaBear>,
+        >(alloc, call),
     }
 }
 

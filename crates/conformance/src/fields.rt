@@ -1,5 +1,5 @@
 // Fields, their algebras and names, through their bounds.
-use crate::names::{ALGEBRAS, AlgebraName, FIELDS, FieldName};
+use crate::names::{ALGEBRAS, AlgebraName, FIELDS, FieldName, Four, FourOfKoalaBear};
 use anyhow::{Result, bail};
 use conformance_calls::replay::{Replayed, first_difference};
 use conformance_tokens::answer;
@@ -7,8 +7,8 @@ use conformance_tokens::line::Step;
 use conformance_tokens::symbol::{Symbol, coefficients_of};
 use conformance_tokens::tokens::{look_up, parse_pair, split_name};
 use p3_field::{
-    Algebra, AlgebraIdentity, BabyBear, Coeffs, F257, Field, Goldilocks, Named, PrimeField,
-    PrimeField32, PrimeField64,
+    Algebra, AlgebraIdentity, BabyBear, Coeffs, F257, Field, Goldilocks, KoalaBear, Named,
+    PrimeField, PrimeField32, PrimeField64, UniformSamplingField,
 };
 use std::alloc::Global;
 use std::marker::PhantomData;
@@ -36,6 +36,8 @@ pub enum Constant {
     Bits,
     Order,
     OrderConstant,
+    /// `uniform-bits`: the most uniform bits that are drawn from one element. `field32` has none.
+    UniformBits,
 }
 
 /// What a number gives.
@@ -53,6 +55,8 @@ pub enum Unary {
     Canonical,
     /// `unique n`: the number of its own of the element that it is.
     Unique,
+    /// `uniform-bound n`: below which numbers n uniform bits are drawn. `field32` has none.
+    UniformBound,
 }
 
 /// What the elements of two numbers give.
@@ -66,7 +70,7 @@ pub enum Binary {
     Power,
 }
 
-const CONSTANTS: [(&str, Constant); 7] = [
+const CONSTANTS: [(&str, Constant); 8] = [
     ("zero", Constant::Zero),
     ("one", Constant::One),
     ("negative-one", Constant::NegativeOne),
@@ -74,9 +78,10 @@ const CONSTANTS: [(&str, Constant); 7] = [
     ("bits", Constant::Bits),
     ("order", Constant::Order),
     ("order-constant", Constant::OrderConstant),
+    ("uniform-bits", Constant::UniformBits),
 ];
 
-const UNARY: [(&str, Unary); 7] = [
+const UNARY: [(&str, Unary); 8] = [
     ("u8", Unary::FromU8),
     ("u16", Unary::FromU16),
     ("u32", Unary::FromU32),
@@ -84,6 +89,7 @@ const UNARY: [(&str, Unary); 7] = [
     ("checked", Unary::Checked),
     ("canonical", Unary::Canonical),
     ("unique", Unary::Unique),
+    ("uniform-bound", Unary::UniformBound),
 ];
 
 const BINARY: [(&str, Binary); 4] = [
@@ -162,6 +168,7 @@ pub fn field_difference(
 ) -> Result<Option<(usize, String)>> {
     match look_up(&FIELDS, field)? {
         FieldName::BabyBear => first_difference(alloc, OfField::<BabyBear>(PhantomData), steps),
+        FieldName::KoalaBear => first_difference(alloc, OfField::<KoalaBear>(PhantomData), steps),
         FieldName::Goldilocks => first_difference(alloc, OfField::<Goldilocks>(PhantomData), steps),
         FieldName::F257 => first_difference(alloc, OfField::<F257>(PhantomData), steps),
     }
@@ -175,6 +182,7 @@ pub fn field32_difference(
 ) -> Result<Option<(usize, String)>> {
     match look_up(&FIELDS, field)? {
         FieldName::BabyBear => first_difference(alloc, OfField32::<BabyBear>(PhantomData), steps),
+        FieldName::KoalaBear => first_difference(alloc, OfField32::<KoalaBear>(PhantomData), steps),
         FieldName::F257 => first_difference(alloc, OfField32::<F257>(PhantomData), steps),
         FieldName::Goldilocks => bail!("an order above 2^32"),
     }
@@ -190,6 +198,9 @@ pub fn algebra_difference(
         AlgebraName::Scalars(FieldName::BabyBear) => {
             first_difference(alloc, OfAlgebra::<BabyBear, BabyBear>(PhantomData), steps)
         }
+        AlgebraName::Scalars(FieldName::KoalaBear) => {
+            first_difference(alloc, OfAlgebra::<KoalaBear, KoalaBear>(PhantomData), steps)
+        }
         AlgebraName::Scalars(FieldName::Goldilocks) => {
             first_difference(
                 alloc,
@@ -201,9 +212,12 @@ pub fn algebra_difference(
             first_difference(alloc, OfAlgebra::<F257, F257>(PhantomData), steps)
         }
         AlgebraName::Four => {
+            first_difference(alloc, OfAlgebra::<BabyBear, Four>(PhantomData), steps)
+        }
+        AlgebraName::FourOfKoalaBear => {
             first_difference(
                 alloc,
-                OfAlgebra::<BabyBear, Coeffs<BabyBear, 4>>(PhantomData),
+                OfAlgebra::<KoalaBear, FourOfKoalaBear>(PhantomData),
                 steps,
             )
         }
@@ -221,15 +235,17 @@ pub fn type_difference(
         "usize" => first_difference(alloc, OfType::<usize>(PhantomData), steps),
         "()" => first_difference(alloc, OfType::<()>(PhantomData), steps),
         "bb" => first_difference(alloc, OfType::<BabyBear>(PhantomData), steps),
+        "kb" => first_difference(alloc, OfType::<KoalaBear>(PhantomData), steps),
         "gl" => first_difference(alloc, OfType::<Goldilocks>(PhantomData), steps),
         "f257" => first_difference(alloc, OfType::<F257>(PhantomData), steps),
-        "bb4" => first_difference(alloc, OfType::<Coeffs<BabyBear, 4>>(PhantomData), steps),
+        "bb4" => first_difference(alloc, OfType::<Four>(PhantomData), steps),
+        "kb4" => first_difference(alloc, OfType::<FourOfKoalaBear>(PhantomData), steps),
         "f257_3" => first_difference(alloc, OfType::<Coeffs<F257, 3>>(PhantomData), steps),
         _ => bail!("an unknown type"),
     }
 }
 
-impl<F: PrimeField64> Replayed for OfField<F> {
+impl<F: UniformSamplingField> Replayed for OfField<F> {
     fn answer(&mut self, alloc: Global, call: &str) -> Result<String> {
         let number = match FieldCall::parse(call)? {
             FieldCall::Constant(constant) => constant_of::<F>(constant)?,
@@ -238,6 +254,7 @@ impl<F: PrimeField64> Replayed for OfField<F> {
                 None => return Ok(String::from_str(alloc, "none")?),
             },
             FieldCall::Unary(Unary::Unique, n) => F::from_u64(n).to_unique_u64(),
+            FieldCall::Unary(Unary::UniformBound, n) => F::sampling_bits_m(usize::try_from(n)?),
             FieldCall::Unary(unary, n) => element_of::<F>(unary, n)?.as_canonical_u64(),
             FieldCall::Binary(binary, x, y) => computed::<F>(binary, x, y).as_canonical_u64(),
         };
@@ -245,7 +262,7 @@ impl<F: PrimeField64> Replayed for OfField<F> {
     }
 }
 
-fn constant_of<F: PrimeField64>(constant: Constant) -> Result<u64> {
+fn constant_of<F: UniformSamplingField>(constant: Constant) -> Result<u64> {
     Ok(match constant {
         Constant::Zero => F::ZERO.as_canonical_u64(),
         Constant::One => F::ONE.as_canonical_u64(),
@@ -254,6 +271,7 @@ fn constant_of<F: PrimeField64>(constant: Constant) -> Result<u64> {
         Constant::Bits => F::bits() as u64,
         Constant::Order => u64::try_from(F::order())?,
         Constant::OrderConstant => F::ORDER_U64,
+        Constant::UniformBits => F::MAX_SINGLE_SAMPLE_BITS as u64,
     })
 }
 

@@ -9,10 +9,10 @@
 //!
 //! | SPEC | Calls |
 //! |---|---|
-//! | `field F` | [`fields::FieldCall`], on the field `bb` (BabyBear), `gl` (Goldilocks) or `f257` (F257) |
-//! | `field32 F` | the same by the functions of 32 bits, on `bb` or `f257` |
-//! | `algebra A` | [`fields::AlgebraCall`], on a field or on `bb4`, its elements of four coefficients |
-//! | `type T` | `name`, and `constant`, its constant; T is `u8`, `usize`, `()`, a field, `bb4` or `f257_3` |
+//! | `field F` | [`fields::FieldCall`], on `bb` (BabyBear), `kb` (KoalaBear), `gl` (Goldilocks) or `f257` (F257) |
+//! | `field32 F` | the same by the functions of 32 bits, on `bb`, `kb` or `f257` |
+//! | `algebra A` | [`fields::AlgebraCall`], on a field or on `bb4` or `kb4`, its elements of four coefficients |
+//! | `type T` | `name`, and `constant`, its constant; T is `u8`, `usize`, `()`, a field, `bb4`, `kb4` or `f257_3` |
 //! | `turn K` | `v..`: what the permutation by K places makes of these cells of F257 |
 //! | `duplex F K W R` | the calls of `conformance_calls`, on a new challenger of W cells, R of them the rate |
 //! | `hash H [HEX]` | the same, on a new challenger with these bytes pending; H is `len`, `sum` or `sha256` |

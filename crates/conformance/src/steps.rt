@@ -1,11 +1,11 @@
 // Steps and their parts, as a file writes them.
-use crate::names::{ALGEBRAS, AlgebraName, FieldName};
+use crate::names::{ALGEBRAS, AlgebraName, FieldName, Four, FourOfKoalaBear};
 use anyhow::{Context, Result, bail};
 use conformance_calls::replay::Replayed;
 use conformance_tokens::answer;
 use conformance_tokens::tokens::{look_up, split_first, split_name};
 use p3_challenger::fs::{Hierarchy, Interaction, Kind, Label, Length, TypeTag};
-use p3_field::{BabyBear, Coeffs, F257, Goldilocks};
+use p3_field::{BabyBear, F257, Goldilocks, KoalaBear};
 use p3_symmetric::Sha256Hasher;
 use std::alloc::Global;
 
@@ -116,6 +116,11 @@ impl StepHead {
                 BabyBear,
                 Sha256Hasher,
             >(hierarchy, kind, label, length),
+            AlgebraName::Scalars(FieldName::KoalaBear) => Interaction::algebra::<
+                KoalaBear,
+                KoalaBear,
+                Sha256Hasher,
+            >(hierarchy, kind, label, length),
             AlgebraName::Scalars(FieldName::Goldilocks) => Interaction::algebra::<
                 Goldilocks,
                 Goldilocks,
@@ -124,9 +129,12 @@ impl StepHead {
             AlgebraName::Scalars(FieldName::F257) => {
                 Interaction::algebra::<F257, F257, Sha256Hasher>(hierarchy, kind, label, length)
             }
-            AlgebraName::Four => Interaction::algebra::<
-                BabyBear,
-                Coeffs<BabyBear, 4>,
+            AlgebraName::Four => {
+                Interaction::algebra::<BabyBear, Four, Sha256Hasher>(hierarchy, kind, label, length)
+            }
+            AlgebraName::FourOfKoalaBear => Interaction::algebra::<
+                KoalaBear,
+                FourOfKoalaBear,
                 Sha256Hasher,
             >(hierarchy, kind, label, length),
         }

@@ -1,8 +1,8 @@
 // Bytes and elements of fields, by the numbers that a file writes for them.
 use anyhow::{Context, Result, bail};
 use p3_field::{
-    Algebra, BabyBear, BasedVectorSpace, Coeffs, F257, Goldilocks, PrimeField64,
-    UniformSamplingField,
+    Algebra, BabyBear, BasedVectorSpace, Coeffs, F257, Goldilocks, PrimeField64, SmallOrder,
+    SmallPrime, UniformSamplingField,
 };
 use std::alloc::Global;
 
@@ -25,8 +25,11 @@ impl Symbol for u8 {
     }
 }
 
-impl Symbol for BabyBear {
-    fn of_number(number: u64) -> Result<BabyBear> {
+impl<const ORDER: u32> Symbol for SmallPrime<ORDER>
+where
+    Self: SmallOrder<ORDER>,
+{
+    fn of_number(number: u64) -> Result<SmallPrime<ORDER>> {
         element(number)
     }
 
@@ -37,16 +40,6 @@ impl Symbol for BabyBear {
 
 impl Symbol for Goldilocks {
     fn of_number(number: u64) -> Result<Goldilocks> {
-        element(number)
-    }
-
-    fn number(self) -> u64 {
-        self.as_canonical_u64()
-    }
-}
-
-impl Symbol for F257 {
-    fn of_number(number: u64) -> Result<F257> {
         element(number)
     }
 

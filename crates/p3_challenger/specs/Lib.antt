@@ -178,10 +178,12 @@ pub use Rattle.p3_script_verifier.specs.declared.verifying.Verified
 pub use Rattle.p3_field.specs.Equality
 pub use Rattle.p3_field.specs.UniformBounds
 pub use Rattle.p3_field.specs.UniformBoundLaws
+pub use Rattle.p3_field.specs.PrimeIdentities
 pub use Rattle.p3_field.specs.SmallPrimes
 pub use Rattle.p3_field.specs.SmallPrimeLaws
 pub use Rattle.p3_field.specs.BabyBearResidues
 pub use Rattle.p3_field.specs.F257Residues
+pub use Rattle.p3_field.specs.KoalaBearResidues
 pub use Rattle.p3_field.specs.GoldilocksResidues
 pub use Rattle.p3_field.specs.GoldilocksLaws
 pub use Rattle.p3_field.specs.BridgeLaws

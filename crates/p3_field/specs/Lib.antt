@@ -9,10 +9,12 @@ pub use Rattle.p3_field_core.specs.CoefficientLaws
 pub use Rattle.p3_field_core.specs.Equality
 pub use Rattle.p3_field_core.specs.UniformBounds
 pub use Rattle.p3_field_core.specs.UniformBoundLaws
+pub use Rattle.p3_small_primes.specs.PrimeIdentities
 pub use Rattle.p3_small_primes.specs.SmallPrimes
 pub use Rattle.p3_small_primes.specs.SmallPrimeLaws
 pub use Rattle.p3_small_primes.specs.BabyBearResidues
 pub use Rattle.p3_small_primes.specs.F257Residues
+pub use Rattle.p3_small_primes.specs.KoalaBearResidues
 pub use Rattle.p3_goldilocks.specs.GoldilocksResidues
 pub use Rattle.p3_goldilocks.specs.GoldilocksLaws
 pub use Rattle.p3_field_bridge.specs.BridgeLaws

@@ -7,6 +7,8 @@ mod baby_bear_in_baby_bear;
 mod baby_bear_in_goldilocks;
 mod bridge;
 mod f257_in_baby_bear;
+mod koala_bear_in_goldilocks;
+mod koala_bear_in_koala_bear;
 mod laws;
 
 pub use bridge::FieldBridge;

@@ -1,8 +1,6 @@
 //! The field of order 15 * 2^27 + 1.
 use crate::{SmallOrder, SmallPrime};
-use p3_field_core::{
-    AlgebraIdentity, BinomiallyExtendable, Named, ScalarField, UniformSamplingField,
-};
+use p3_field_core::BinomiallyExtendable;
 
 /// An element of the prime field of order 2013265921 = 15 * 2^27 + 1.
 ///
@@ -10,6 +8,7 @@ use p3_field_core::{
 pub type BabyBear = SmallPrime<2013265921>;
 
 impl SmallOrder<2013265921> for BabyBear {
+    ghost use Rattle.std.specs.Prelude.{codes};
     ghost use Rattle.std.proofs.Common.{lit<, lit≤};
 
     ghost above_one = { lit< tt };
@@ -25,46 +24,26 @@ impl SmallOrder<2013265921> for BabyBear {
     fn order_bits() -> usize {
         31
     }
-}
 
-impl UniformSamplingField for BabyBear {
-    ghost use Rattle.std.proofs.Common.{lit≤};
+    const SINGLE_SAMPLE_BITS: usize = 27;
 
-    const MAX_SINGLE_SAMPLE_BITS: usize = 27;
+    ghost SINGLE_SAMPLE_BITS = { 27 };
 
-    ghost MAX_SINGLE_SAMPLE_BITS = { 27 };
+    ghost single_sample_within = { lit≤ tt };
 
-    ghost max_single_within = { lit≤ tt };
-}
+    const FIELD_NAME: &'static str = "BabyBear";
 
-impl Named for BabyBear {
-    ghost use Rattle.std.specs.Prelude.{codes};
+    ghost field_name_bytes = { codes "BabyBear" };
 
-    const NAME: &'static str = "BabyBear";
-
-    ghost name_bytes = { codes "BabyBear" };
-
-    fn type_name() -> &'static str {
-        Self::NAME
+    fn name_of_field() -> &'static str {
+        Self::FIELD_NAME
     }
-}
 
-impl AlgebraIdentity<BabyBear> for BabyBear {
-    ghost use Rattle.std.specs.Prelude.{codes};
+    ghost field_identity_bytes = { codes "prime:2013265921" };
 
-    ghost identity = { codes "prime:2013265921" };
-
-    fn algebra_id() -> &'static [u8] {
+    fn field_identity() -> &'static [u8] {
         b"prime:2013265921"
     }
-}
-
-impl ScalarField for BabyBear {
-    ghost use Rattle.std.specs.Prelude.{refl};
-
-    ghost one_coefficient = { refl };
-
-    ghost own_coefficient = { λ _. refl };
 }
 
 impl BinomiallyExtendable<4> for BabyBear {

@@ -1,6 +1,5 @@
 //! The field of order 257, small enough for rows that are worked out by hand.
 use crate::{SmallOrder, SmallPrime};
-use p3_field_core::{AlgebraIdentity, Named, ScalarField, UniformSamplingField};
 
 /// An element of the prime field of order 257.
 ///
@@ -8,6 +7,7 @@ use p3_field_core::{AlgebraIdentity, Named, ScalarField, UniformSamplingField};
 pub type F257 = SmallPrime<257>;
 
 impl SmallOrder<257> for F257 {
+    ghost use Rattle.std.specs.Prelude.{codes};
     ghost use Rattle.std.proofs.Common.{lit<, lit≤};
 
     ghost above_one = { lit< tt };
@@ -23,44 +23,24 @@ impl SmallOrder<257> for F257 {
     fn order_bits() -> usize {
         9
     }
-}
 
-impl UniformSamplingField for F257 {
-    ghost use Rattle.std.proofs.Common.{lit≤};
+    const SINGLE_SAMPLE_BITS: usize = 8;
 
-    const MAX_SINGLE_SAMPLE_BITS: usize = 8;
+    ghost SINGLE_SAMPLE_BITS = { 8 };
 
-    ghost MAX_SINGLE_SAMPLE_BITS = { 8 };
+    ghost single_sample_within = { lit≤ tt };
 
-    ghost max_single_within = { lit≤ tt };
-}
+    const FIELD_NAME: &'static str = "F257";
 
-impl Named for F257 {
-    ghost use Rattle.std.specs.Prelude.{codes};
+    ghost field_name_bytes = { codes "F257" };
 
-    const NAME: &'static str = "F257";
-
-    ghost name_bytes = { codes "F257" };
-
-    fn type_name() -> &'static str {
-        Self::NAME
+    fn name_of_field() -> &'static str {
+        Self::FIELD_NAME
     }
-}
 
-impl AlgebraIdentity<F257> for F257 {
-    ghost use Rattle.std.specs.Prelude.{codes};
+    ghost field_identity_bytes = { codes "prime:257" };
 
-    ghost identity = { codes "prime:257" };
-
-    fn algebra_id() -> &'static [u8] {
+    fn field_identity() -> &'static [u8] {
         b"prime:257"
     }
-}
-
-impl ScalarField for F257 {
-    ghost use Rattle.std.specs.Prelude.{refl};
-
-    ghost one_coefficient = { refl };
-
-    ghost own_coefficient = { λ _. refl };
 }

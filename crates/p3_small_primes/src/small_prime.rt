@@ -2,7 +2,8 @@
 ghost use Rattle.std.specs.Prelude.{◌<◌};
 
 use p3_field_core::{
-    Field, Named, PrimeCharacteristicRing, PrimeField, PrimeField32, PrimeField64,
+    AlgebraIdentity, Field, Named, PrimeCharacteristicRing, PrimeField, PrimeField32, PrimeField64,
+    ScalarField, UniformSamplingField,
 };
 use std::fmt;
 use std::hash::Hash;
@@ -23,12 +24,13 @@ pub struct SmallPrime<const ORDER: u32> {
 // The largest order of which 32 bits hold each sum of two numbers below it.
 const LARGEST_OF_SHORT_SUMS: u32 = 1 << 31;
 
-/// An order of a prime field: what [`SmallPrime`] of this order has to know of it. A field is its order, an
-/// `impl` of this, and the texts that name it.
+/// An order of a prime field: what [`SmallPrime`] of this order has to know of it, and the texts that name the
+/// field. A field is its order and an `impl` of this, and from it has all that the other fields have.
 ///
 /// Not in the Rust crate.
 pub trait SmallOrder<const ORDER: u32> {
-    ghost use Rattle.std.specs.Prelude.{ℕ, ◌≡◌, ◌*◌, ◌^◌, ◌≤◌};
+    ghost use Rattle.std.specs.Prelude.{ℕ, List, ◌≡◌, ◌*◌, ◌^◌, ◌≤◌};
+    ghost use Rattle.p3_small_primes.specs.PrimeIdentities.{prime_identity};
 
     // There are a 0 and a 1.
     ghost above_one: { 1 < ORDER };
@@ -45,6 +47,31 @@ pub trait SmallOrder<const ORDER: u32> {
     /// The bit length of the order.
     fn order_bits() -> usize
         ensures { result ≡ bit_length };
+
+    /// The most uniform bits that are drawn from one element. Their power of two is within the order.
+    const SINGLE_SAMPLE_BITS: usize;
+
+    ghost SINGLE_SAMPLE_BITS: { ℕ };
+
+    ghost single_sample_within: { 2 ^ SINGLE_SAMPLE_BITS ≤ ORDER };
+
+    /// The name of the field.
+    const FIELD_NAME: &'static str;
+
+    // The bytes of the name.
+    ghost field_name_bytes: { List ℕ };
+
+    /// The same name, for code whose contract speaks of its bytes.
+    fn name_of_field() -> &'static str
+        ensures { result.now ≡ field_name_bytes };
+
+    // The bytes of the identity.
+    ghost field_identity_bytes: { List ℕ };
+
+    /// The identity of the field: `prime:` and the order in decimal digits.
+    fn field_identity() -> &'static [u8]
+        ensures bytes { result.now ≡ field_identity_bytes }
+        ensures of_order { result.now ≡ prime_identity ORDER };
 }
 
 impl<const ORDER: u32> SmallPrime<ORDER>
@@ -328,4 +355,50 @@ where
     fn as_canonical_u32(&self) -> u32 {
         self.value
     }
+}
+
+impl<const ORDER: u32> UniformSamplingField for SmallPrime<ORDER>
+where
+    Self: SmallOrder<ORDER>,
+{
+    const MAX_SINGLE_SAMPLE_BITS: usize = Self::SINGLE_SAMPLE_BITS;
+
+    ghost MAX_SINGLE_SAMPLE_BITS = { ⟦<Self as SmallOrder<ORDER>>⟧.SINGLE_SAMPLE_BITS };
+
+    ghost max_single_within = { ⟦<Self as SmallOrder<ORDER>>⟧.single_sample_within };
+}
+
+impl<const ORDER: u32> Named for SmallPrime<ORDER>
+where
+    Self: SmallOrder<ORDER>,
+{
+    const NAME: &'static str = Self::FIELD_NAME;
+
+    ghost name_bytes = { ⟦<Self as SmallOrder<ORDER>>⟧.field_name_bytes };
+
+    fn type_name() -> &'static str {
+        Self::name_of_field()
+    }
+}
+
+impl<const ORDER: u32> AlgebraIdentity<SmallPrime<ORDER>> for SmallPrime<ORDER>
+where
+    Self: SmallOrder<ORDER>,
+{
+    ghost identity = { ⟦<Self as SmallOrder<ORDER>>⟧.field_identity_bytes };
+
+    fn algebra_id() -> &'static [u8] {
+        Self::field_identity()
+    }
+}
+
+impl<const ORDER: u32> ScalarField for SmallPrime<ORDER>
+where
+    Self: SmallOrder<ORDER>,
+{
+    ghost use Rattle.std.specs.Prelude.{refl};
+
+    ghost one_coefficient = { refl };
+
+    ghost own_coefficient = { λ _. refl };
 }

@@ -1,7 +1,7 @@
 // Sums, differences, products and negations against arithmetic of whole numbers in 128 bits.
 ghost use Rattle.std.specs.Prelude.{◌<◌};
 
-use p3_field::{BabyBear, F257, Goldilocks, PrimeField64};
+use p3_field::{BabyBear, F257, Goldilocks, KoalaBear, PrimeField64};
 
 const RANDOM_PAIRS: u64 = 100_000;
 
@@ -15,9 +15,11 @@ fn all_pairs_of_f257(rt: HostRuntime) {
 }
 
 #[test]
-fn edges_and_random_pairs_of_baby_bear(rt: HostRuntime) {
+fn edges_and_random_pairs_of_fields_of_31_bits(rt: HostRuntime) {
     assert_eq!(rt; disagreement_at_edges::<BabyBear>(2013265921), None);
     assert_eq!(rt; disagreement_at_random::<BabyBear>(2013265921), None);
+    assert_eq!(rt; disagreement_at_edges::<KoalaBear>(2130706433), None);
+    assert_eq!(rt; disagreement_at_random::<KoalaBear>(2130706433), None);
 }
 
 #[test]

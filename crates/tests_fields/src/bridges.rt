@@ -1,7 +1,9 @@
 // Packing and digits, through the bound and at each bridge.
 ghost use Rattle.std.specs.Prelude.{◌<◌};
 
-use p3_field::{BabyBear, F257, FieldBridge, Goldilocks, PrimeCharacteristicRing, PrimeField64};
+use p3_field::{
+    BabyBear, F257, FieldBridge, Goldilocks, KoalaBear, PrimeCharacteristicRing, PrimeField64,
+};
 
 // The number of the element that packs values.
 fn packed_number<F: PrimeField64, PF: PrimeField64 + FieldBridge<F, PF>>(values: &[F]) -> u64 {
@@ -28,6 +30,8 @@ fn counts_of_bridges(rt: HostRuntime) {
     assert_eq!(rt; counts::<BabyBear, Goldilocks>(), (2, 1, 31));
     assert_eq!(rt; counts::<F257, BabyBear>(), (3, 2, 9));
     assert_eq!(rt; counts::<BabyBear, BabyBear>(), (1, 1, 31));
+    assert_eq!(rt; counts::<KoalaBear, Goldilocks>(), (2, 1, 31));
+    assert_eq!(rt; counts::<KoalaBear, KoalaBear>(), (1, 1, 31));
 }
 
 #[test]
@@ -39,6 +43,9 @@ fn packed_scalars(rt: HostRuntime) {
     let values = [BabyBear::ONE, BabyBear::from_u64(2)];
     assert_eq!(rt; packed_number::<BabyBear, Goldilocks>(&values), 4294967297);
     assert_eq!(rt; packed_number::<BabyBear, BabyBear>(&values[1..]), 2);
+    let values = [KoalaBear::NEG_ONE, KoalaBear::from_u64(2)];
+    assert_eq!(rt; packed_number::<KoalaBear, Goldilocks>(&values), 6425673728);
+    assert_eq!(rt; packed_number::<KoalaBear, KoalaBear>(&values[1..]), 2);
 }
 
 #[test]

@@ -4,9 +4,9 @@ ghost use Rattle.p3_field.specs.GoldilocksResidues as goldilocks;
 ghost use Rattle.p3_field.specs.Residues.{plus};
 
 use p3_field::{
-    Algebra, BabyBear, BasedVectorSpace, Coeffs, F257, Field, Goldilocks, PrimeCharacteristicRing,
-    PrimeField32, PrimeField64, ScalarField, UniformSamplingField, residues_are_a_ring,
-    uniform_bounds_are_whole,
+    Algebra, BabyBear, BasedVectorSpace, Coeffs, F257, Field, Goldilocks, KoalaBear,
+    PrimeCharacteristicRing, PrimeField32, PrimeField64, ScalarField, UniformSamplingField,
+    residues_are_a_ring, uniform_bounds_are_whole,
 };
 use std::test::Fail;
 
@@ -206,6 +206,9 @@ fn bounds_of_uniform_bits(rt: HostRuntime) {
     assert_eq!(rt; whole_bound::<BabyBear>(27), 2013265920);
     assert_eq!(rt; whole_bound::<BabyBear>(30), 1073741824);
     assert_eq!(rt; whole_bound::<BabyBear>(31), 0);
+    assert_eq!(rt; KoalaBear::MAX_SINGLE_SAMPLE_BITS, 24);
+    assert_eq!(rt; whole_bound::<KoalaBear>(24), 2130706432);
+    assert_eq!(rt; whole_bound::<KoalaBear>(25), 2113929216);
     assert_eq!(rt; Goldilocks::MAX_SINGLE_SAMPLE_BITS, 32);
     assert_eq!(rt; whole_bound::<Goldilocks>(32), 18446744069414584320);
     assert_eq!(rt; whole_bound::<Goldilocks>(63), 9223372036854775808);
@@ -242,6 +245,8 @@ fn comparisons(rt: HostRuntime) {
 fn elements_are_shown_by_the_names_of_their_fields(rt: HostRuntime) -> Result<(), Fail> {
     let shown = format!(in rt.alloc(); "{:?} {:?}", F257::NEG_ONE, BabyBear::ONE)?;
     assert_eq!(rt; shown.as_str(), "F257 { value: 256 } BabyBear { value: 1 }");
+    let shown = format!(in rt.alloc(); "{:?}", KoalaBear::NEG_ONE)?;
+    assert_eq!(rt; shown.as_str(), "KoalaBear { value: 2130706432 }");
     let shown = format!(in rt.alloc(); "{:?}", Coeffs::new([F257::ONE]))?;
     assert_eq!(rt;
         shown.as_str(),
