@@ -94,7 +94,7 @@ impl Replayed for Codecs {
                     encoded::<FieldUnit<BabyBear>, BabyBear>(alloc, bytes.as_slice())
                 }
                 FieldName::KoalaBear => {
-                    spelled::<FieldUnit<KoalaBear>, KoalaBear>(alloc, bytes.as_slice())
+                    encoded::<FieldUnit<KoalaBear>, KoalaBear>(alloc, bytes.as_slice())
                 }
                 FieldName::Goldilocks => {
                     encoded::<FieldUnit<Goldilocks>, Goldilocks>(alloc, bytes.as_slice())
