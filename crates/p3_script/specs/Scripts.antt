@@ -218,6 +218,7 @@ module _ {S Symbol I F EF O Ac : Type 0} (rules : Rules S Symbol I F EF O Ac) wh
   play_of (step.HintBounded label max) = hints_counted label.now max
   play_of (step.PublicScalar label x) = knows_one rules.scalar kind.Public label.now x
   play_of (step.PublicScalars label xs) = knows_list rules.scalar kind.Public label.now xs.items
+  play_of (step.PublicScalarsBounded label xs max) = knows_counted rules.scalar kind.Public label.now xs.items max
   play_of (step.Scalar label) = sends_one rules.scalar scalar_in label.now
   play_of (step.Scalars label n) = sends_list rules.scalar scalars_in label.now n
   play_of (step.ScalarsBounded label max) = sends_counted rules.scalar scalars_in label.now max

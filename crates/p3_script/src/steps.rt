@@ -51,6 +51,12 @@ pub enum Step<S: Suite> {
         label: Label,
         values: Vec<S::Field>,
     },
+    /// At most so many scalars are observed, after their count, that both sides know.
+    PublicScalarsBounded {
+        label: Label,
+        values: Vec<S::Field>,
+        max: usize,
+    },
     /// A scalar is sent.
     Scalar {
         label: Label,
