@@ -214,6 +214,8 @@ module _ {S Symbol I F EF O Ac : Type 0} (rules : Rules S Symbol I F EF O Ac) (l
       as-sent _ _ _ _ _ bytes_in Bytes bytes-is _ _ (counted-code (λ x. x) bytes-code max fits)
   step-canonical (step.PublicScalar label x) fits = as-known _ _ _ _ _ _ nothing-is
   step-canonical (step.PublicScalars label xs) fits = as-known _ _ _ _ _ _ nothing-is
+  step-canonical (step.PublicScalarsBounded label xs max) fits =
+      as-known _ _ _ _ _ (λ v. IsNothing v × (length xs.items ≤ max)) (λ v h. nothing-is v h.0)
   step-canonical (step.Scalar label) fits =
       as-sent _ _ _ _ _ scalar_in Scalar scalar-is _ _ (value-code rules.scalar.encoding.wire laws.scalar.code)
   step-canonical (step.Scalars label n) fits =

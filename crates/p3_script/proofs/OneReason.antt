@@ -1,8 +1,9 @@
 -- Each side refuses a step of a script for one reason.
-use Rattle.std.proofs.Common.{ℕ, Option, Some, None, inl, inr}
+use Rattle.std.proofs.Common.{ℕ, List, Option, Some, None, inl, inr}
 use Rattle.std.specs.Prelude as list
 use Rattle.p3_fs_core.specs.Encoding.{Encoding}
 use Rattle.p3_fs_core.specs.declared.error.TranscriptError.{TranscriptError}
+use Rattle.p3_fs_core.specs.declared.step.Kind.{Kind}
 use Rattle.p3_fs_core.specs.declared.step.Kind.TheVariants as kind
 use Rattle.p3_driver_core.specs.Driving.{Driving}
 use Rattle.p3_driver_core.specs.Meanings as meaning
@@ -11,17 +12,17 @@ use Rattle.p3_driver_core.specs.Rejecting.{drawn_rejecting}
 use Rattle.p3_driver_core.specs.Transcripts.{Meaning, RefusesStep}
 use Rattle.p3_driver_core.specs.Working.{Work, RefusesToCheck, RefusesToGrind}
 use Rattle.p3_step_laws.specs.OneReason.{TellOneReason}
-use Rattle.p3_runs.specs.Rules.{Rules}
+use Rattle.p3_runs.specs.Rules.{Rules, Coding}
 use Rattle.p3_runs.specs.Sides.{Refusing, RefusesKept, RefusesWithin, RefusesCarriedWithin, RefusesAsRecorded}
 use Rattle.p3_runs.specs.Sides.{RefusesToWriteWithin, RefusesToGrindAndWrite, RefusesToGrindAndKeep}
 use Rattle.p3_runs.specs.Sides.{RefusesToReadWork, RefusesCarriedWork, refuses_some, sides_known, sides_sent}
 use Rattle.p3_runs.specs.Sides.{sides_ground, sides_carried}
 use Rattle.p3_runs.specs.Stepping.{OrHalts, RefuseForOneReason}
 use Rattle.p3_runs.specs.Values.{Value, bytes_in, scalar_in, scalars_in, extension_in}
-use Rattle.p3_script.specs.Scripts.{play_of, list_known, counted_known, work_in}
+use Rattle.p3_script.specs.Scripts.{play_of, list_known, counted_known, knows_counted, work_in}
 use Rattle.p3_script.specs.declared.steps.Step as script
 use Rattle.p3_script.specs.declared.steps.Step.TheVariants as step
-use Rattle.p3_script.proofs.Reasoned.{Reasoned, LengthOrStep, LongListOrStep, OtherListOrStep}
+use Rattle.p3_script.proofs.Reasoned.{Reasoned, ReasonedCoding, LengthOrStep, LongListOrStep, OtherListOrStep}
 
 -- ---- what a side adds to a step
 
@@ -89,6 +90,17 @@ known-one_reason proving verifying proves verifies =
 same-one_reason : {S Symbol A F EF : Type 0} (m : Meaning S Symbol A) → TellOneReason (RefusesStep m) →
     RefuseForOneReason (sides_known {F = F} {EF = EF} (RefusesKept m) (RefusesKept m))
 same-one_reason m one = known-one_reason (RefusesKept m) (RefusesKept m) (kept m one) (kept m one)
+
+-- a list that both sides know, of at most so many
+counted-one_reason : {S Symbol I F EF O Ac A : Type 0} (rules : Rules S Symbol I F EF O Ac) (c : Coding S Symbol F A) →
+    ReasonedCoding rules c → (kind : Kind) (label : List ℕ) (xs : List A) (max : ℕ) →
+    RefuseForOneReason (knows_counted rules c kind label xs max).sides
+counted-one_reason rules c laws kind label xs max =
+    let m = counted_known rules c kind label xs max in
+    let len = list.length xs in
+    known-one_reason (RefusesWithin len max m) (RefusesCarriedWithin len max m)
+    (kept_within m len max (laws.observed_within _ max xs))
+    (carried_within m len max (laws.carried_within _ max xs))
 
 -- what is sent
 sent-one_reason : {S F EF A : Type 0} (found : Value F EF → Option A) (IsHanded : A → Type 0)
@@ -158,6 +170,8 @@ module _ {S Symbol I F EF O Ac : Type 0} (rules : Rules S Symbol I F EF O Ac) (l
       same-one_reason (meaning.observed _ rules.scalar.observation x) (laws.scalar.observed _ x)
   step-one_reason (step.PublicScalars label xs) may =
       same-one_reason (meaning.observed_list _ rules.scalar.observation xs.items) (laws.scalar.observed_list _ xs.items)
+  step-one_reason (step.PublicScalarsBounded label xs max) may =
+      counted-one_reason rules rules.scalar laws.scalar kind.Public label.now xs.items max
   step-one_reason (step.Scalar label) may =
       sent-one_reason scalar_in _ _ _ (λ x. written _ (laws.scalar.sent _ x)) (laws.scalar.read _)
   step-one_reason (step.Scalars label n) may =
@@ -175,11 +189,7 @@ module _ {S Symbol I F EF O Ac : Type 0} (rules : Rules S Symbol I F EF O Ac) (l
       (kept m (laws.extension.observed_list _ xs.items))
       (as_recorded m (list.length xs.items) (laws.carried_as_recorded _ xs.items))
   step-one_reason (step.ObserveExtensionsBounded label xs max) may =
-      let m = counted_known rules rules.extension kind.Message label.now xs.items max in
-      let len = list.length xs.items in
-      known-one_reason (RefusesWithin len max m) (RefusesCarriedWithin len max m)
-      (kept_within m len max (laws.extension.observed_within _ max xs.items))
-      (carried_within m len max (laws.carried_within _ max xs.items))
+      counted-one_reason rules rules.extension laws.extension kind.Message label.now xs.items max
   step-one_reason (step.Opaque label x) may = same-one_reason (meaning.observed _ rules.opaque x) (laws.opaque _ x)
   step-one_reason (step.ChallengeScalar label) may =
       same-one_reason (meaning.drawn {Symbol = Symbol} _ rules.scalar.sampling) (laws.scalar.drawn _)

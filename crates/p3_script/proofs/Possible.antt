@@ -40,7 +40,7 @@ use Rattle.p3_runs.specs.Stepping.{IsTakenWherePossible, IsSentWherePossible, on
 use Rattle.p3_runs.specs.Values.{Value, Challenge, Witness, IsNothing, bytes_in, scalar_in, scalars_in}
 use Rattle.p3_runs.specs.Values.{extension_in, witness_in}
 use Rattle.p3_runs.specs.Values as value
-use Rattle.p3_script.specs.Scripts.{play_of, list_sent}
+use Rattle.p3_script.specs.Scripts.{play_of, list_sent, knows_counted}
 use Rattle.p3_script.specs.declared.steps.Step as script
 use Rattle.p3_script.specs.declared.steps.Step.TheVariants as step
 use Rattle.p3_script.proofs.Canonical.{fitting}
@@ -405,6 +405,21 @@ module _ {S Symbol I F EF O Ac : Type 0} (rules : Rules S Symbol I F EF O Ac) (l
           reads = λ xs is. lawful.read_counted i max xs is small;
         }
 
+    -- a list that both sides know, of at most so many
+    counted-known : (kind : Kind) (label : List ℕ) (xs : List A) (max : ℕ) →
+        IsRefusedForMemory (knows_counted rules c kind label xs max)
+    counted-known kind label xs max =
+        known_with-refused _ _ (λ v. IsNothing v × (list.length xs ≤ max)) no_challenge _ _ _ _
+        (lawful.observed_counted max xs)
+        (λ v before after e is next refuses. elim refuses.0 [
+          | inl h ↦ absurd (laws.within (list.length xs) max before after e next.0 is.1 h)
+          | inr h ↦ h.1
+        ])
+        (λ v before after e is next refuses. elim refuses.0 [
+          | inl h ↦ absurd (not_long (list.length xs) max before after e next.0 is.1 h)
+          | inr h ↦ h.1
+        ])
+
   -- ---- the kinds
 
   pub step-refused : {Su U C K D G It St Sy : Type 0} (x : script.Step Su F EF U O C K Ac D G It St Sy) →
@@ -426,6 +441,8 @@ module _ {S Symbol I F EF O Ac : Type 0} (rules : Rules S Symbol I F EF O Ac) (l
   step-refused (step.PublicScalar label x) fits may = known-refused _ _ no_challenge _ _ (laws.scalar.observed x)
   step-refused (step.PublicScalars label xs) fits may =
       known-refused _ _ no_challenge _ _ (laws.scalar.observed_list xs.items)
+  step-refused (step.PublicScalarsBounded label xs max) fits may =
+      counted-known rules.scalar laws.scalar kind.Public label.now xs.items max
   step-refused (step.Scalar label) fits may =
       sends-refused _ scalar_in _ _ _ _ _ _ (one-sending rules.scalar laws.scalar _)
   step-refused (step.Scalars label n) fits may =
@@ -443,16 +460,7 @@ module _ {S Symbol I F EF O Ac : Type 0} (rules : Rules S Symbol I F EF O Ac) (l
         | inr h ↦ h.1
       ]) (λ v before after e is next refuses. refuses.0)
   step-refused (step.ObserveExtensionsBounded label xs max) fits may =
-      known_with-refused _ _ (λ v. IsNothing v × (list.length xs.items ≤ max)) no_challenge _ _ _ _
-      (laws.extension.observed_counted max xs.items)
-      (λ v before after e is next refuses. elim refuses.0 [
-        | inl h ↦ absurd (laws.within (list.length xs.items) max before after e next.0 is.1 h)
-        | inr h ↦ h.1
-      ])
-      (λ v before after e is next refuses. elim refuses.0 [
-        | inl h ↦ absurd (not_long (list.length xs.items) max before after e next.0 is.1 h)
-        | inr h ↦ h.1
-      ])
+      counted-known rules.extension laws.extension kind.Message label.now xs.items max
   step-refused (step.Opaque label x) fits may = known-refused _ _ no_challenge _ _ (laws.opaque x)
   step-refused (step.ChallengeScalar label) fits may =
       known-refused _ _ (λ x. Some (value.OfScalars (x ∷ []))) _ _ laws.scalar.drawn

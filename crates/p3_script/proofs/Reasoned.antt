@@ -45,6 +45,8 @@ module _ {S Symbol I F EF O Ac : Type 0} (rules : Rules S Symbol I F EF O Ac) wh
         TellOneReason (RefusesStep (meaning.observed_list step c.observation xs))
     pub observed_within : (step : Step) (max : ℕ) (xs : List A) →
         TellOneReason (LengthOrStep (length xs) max (meaning.observed_bounded step rules.alphabet max c.observation xs))
+    pub carried_within : (step : Step) (max : ℕ) (xs : List A) → TellOneReason (LongListOrStep (length xs) max
+        (meaning.observed_bounded step rules.alphabet max c.observation xs))
     pub drawn : (step : Step) → TellOneReason (RefusesStep {Symbol = Symbol} (meaning.drawn step c.sampling))
     pub drawn_list : (step : Step) (n : ℕ) →
         TellOneReason (RefusesStep {Symbol = Symbol} (meaning.drawn_list step c.sampling n))
@@ -70,8 +72,6 @@ module _ {S Symbol I F EF O Ac : Type 0} (rules : Rules S Symbol I F EF O Ac) wh
   pub record Reasoned : Type 0 where
     pub scalar : ReasonedCoding rules.scalar
     pub extension : ReasonedCoding rules.extension
-    pub carried_within : (step : Step) (max : ℕ) (xs : List EF) → TellOneReason (LongListOrStep (length xs) max
-        (meaning.observed_bounded step rules.alphabet max rules.extension.observation xs))
     pub carried_as_recorded : (step : Step) (xs : List EF) → TellOneReason (OtherListOrStep (length xs)
         (meaning.observed_list step rules.extension.observation xs))
     pub marked : (step : Step) → TellOneReason (RefusesStep {S = S} {Symbol = Symbol} (meaning.marked step))

@@ -44,6 +44,7 @@ pub fn script_steps_are_refused_for_one_reason<S: Suite>()
         S::Challenger,
         ExtensionFieldCodec<S::Field, S::Extension, S::Codec>,
     >();
+    carried_lists_are_refused_for_one_reason::<S::Field, S::Unit, S::Challenger, S::Codec>();
     carried_lists_are_refused_for_one_reason::<
         S::Extension,
         S::Unit,

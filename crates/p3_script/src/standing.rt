@@ -34,6 +34,7 @@ pub fn standing_of<S: Suite>(step: &Step<S>) -> Standing
         Step::HintBounded { .. } => Standing::Sent,
         Step::PublicScalar { .. } => Standing::Nowhere,
         Step::PublicScalars { .. } => Standing::Nowhere,
+        Step::PublicScalarsBounded { .. } => Standing::Nowhere,
         Step::Scalar { .. } => Standing::Sent,
         Step::Scalars { .. } => Standing::Sent,
         Step::ScalarsBounded { .. } => Standing::Sent,
