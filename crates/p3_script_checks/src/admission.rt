@@ -39,6 +39,7 @@ fn is_admitted<S: Suite>(step: &Step<S>) -> bool
         Step::HintBounded { .. } => true,
         Step::PublicScalar { .. } => true,
         Step::PublicScalars { .. } => true,
+        Step::PublicScalarsBounded { .. } => true,
         Step::Scalar { .. } => true,
         Step::Scalars { .. } => true,
         Step::ScalarsBounded { .. } => true,

@@ -110,6 +110,9 @@ fn interaction_of<S: Suite>(carriers: &Carriers, step: &Step<S>) -> Interaction
         Step::PublicScalars { label, values } => {
             like(scalars, Kind::Public, *label, Length::Fixed(values.len()))
         }
+        Step::PublicScalarsBounded { label, max, .. } => {
+            like(scalars, Kind::Public, *label, Length::Bounded(*max))
+        }
         Step::Scalar { label } => like(scalars, Kind::Message, *label, Length::Scalar),
         Step::Scalars { label, n } => like(scalars, Kind::Message, *label, Length::Fixed(*n)),
         Step::ScalarsBounded { label, max } => {

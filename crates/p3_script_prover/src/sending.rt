@@ -89,6 +89,22 @@ pub(crate) fn add_public_scalars<S: Suite>(
     Ok((None, None))
 }
 
+// Adds at most so many scalars that both sides know, after their count.
+pub(crate) fn add_public_scalars_bounded<S: Suite>(
+    prover: &mut ProverState<S::Challenger, S::Unit, S::Digest>,
+    label: Label,
+    scalars: &Vec<S::Field>,
+    max: usize,
+) -> Result<Played<S>, TranscriptError>
+    ensures { let rules = ⟦<S as Meaning>⟧.rules S.Field.DIMENSION in
+        KnowsOrRefuses (knows_counted rules rules.scalar Public label.now scalars.now.items max)
+        (proving_of S.Challenger.state prover.old) played_witness played_draw result
+        (proving_of S.Challenger.state prover.new) }
+{
+    let _bounds = prover.add_public_scalars_bounded::<S::Field, S::Codec>(label, scalars, max)?;
+    Ok((None, None))
+}
+
 // Observes an element of the extension that the proof does not carry.
 pub(crate) fn observe_extension<S: Suite>(
     prover: &mut ProverState<S::Challenger, S::Unit, S::Digest>,

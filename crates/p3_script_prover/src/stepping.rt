@@ -53,6 +53,9 @@ pub fn prover_step<S: Suite>(
         Step::PublicScalars { label, values } => {
             sending::add_public_scalars(prover, *label, values)
         }
+        Step::PublicScalarsBounded { label, values, max } => {
+            sending::add_public_scalars_bounded(prover, *label, values, *max)
+        }
         Step::Scalar { label } => sending::add_scalar(prover, *label, sent),
         Step::Scalars { label, n } => sending::add_scalars(prover, *label, sent, *n),
         Step::ScalarsBounded { label, max } => {

@@ -86,6 +86,23 @@ pub(crate) fn public_scalars<'a, S: Suite>(
     Ok((None, None))
 }
 
+// Observes at most so many scalars that both sides know, after their count.
+pub(crate) fn counted_public_scalars<'a, S: Suite>(
+    verifier: &mut VerifierState<'a, S::Challenger, S::Unit, S::Digest>,
+    label: Label,
+    values: &[S::Field],
+    max: usize,
+) -> Result<Answer<'a, S>, TranscriptError>
+    ensures { let rules = ⟦<S as Meaning>⟧.rules S.Field.DIMENSION in
+        TakesOrRefuses (knows_counted rules rules.scalar kind.Public label.now values.now max) None
+        (verifying_of S.Challenger.state verifier.old) (λ r. received_of r.0) (λ r. drawn_of r.1)
+        result
+        (verifying_of S.Challenger.state verifier.new) }
+{
+    verifier.observe_public_scalars_bounded::<S::Field, S::Codec>(label, values, max)?;
+    Ok((None, None))
+}
+
 // Observes one element of the extension.
 pub(crate) fn extension<'a, S: Suite>(
     verifier: &mut VerifierState<'a, S::Challenger, S::Unit, S::Digest>,

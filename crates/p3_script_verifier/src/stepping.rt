@@ -50,6 +50,9 @@ pub fn verifier_step<'a, S: Suite>(
         }
         Step::PublicScalar { label, value } => known::public_scalar(verifier, *label, value),
         Step::PublicScalars { label, values } => known::public_scalars(verifier, *label, values),
+        Step::PublicScalarsBounded { label, values, max } => {
+            known::counted_public_scalars(verifier, *label, values, *max)
+        }
         Step::Scalar { label } => receives::receive_scalar(verifier, *label),
         Step::Scalars { label, n } => receives::receive_scalars(alloc, verifier, *label, *n),
         Step::ScalarsBounded { label, max } => {

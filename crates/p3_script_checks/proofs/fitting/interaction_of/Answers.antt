@@ -9,6 +9,9 @@ returns-in-PublicScalars g c =
     let long : c.len.result ≡ length c.in-PublicScalars.values.items = search rules in
     λ carry. rw (c.in-PublicScalars.is, ← long) (c.like-in-PublicScalars.ensures _ carry.scalar)
 
+pub returns-in-PublicScalarsBounded : goal.returns-in-PublicScalarsBounded
+returns-in-PublicScalarsBounded g c = λ carry. rw c.in-PublicScalarsBounded.is (c.like-in-PublicScalarsBounded.ensures _ carry.scalar)
+
 pub returns-in-Scalar : goal.returns-in-Scalar
 returns-in-Scalar g c = λ carry. rw c.in-Scalar.is (c.like-in-Scalar.ensures _ carry.scalar)
 

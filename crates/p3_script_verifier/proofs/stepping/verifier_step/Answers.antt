@@ -37,6 +37,10 @@ pub returns-in-PublicScalars : goal.returns-in-PublicScalars
 returns-in-PublicScalars g c =
     let none : c.args.witness ≡ None = rw c.in-PublicScalars.is at c.requires.carried in rw (c.in-PublicScalars.is, none, ← c.deref.ensures.value) c.public_scalars.ensures
 
+pub returns-in-PublicScalarsBounded : goal.returns-in-PublicScalarsBounded
+returns-in-PublicScalarsBounded g c =
+    let none : c.args.witness ≡ None = rw c.in-PublicScalarsBounded.is at c.requires.carried in rw (c.in-PublicScalarsBounded.is, none, ← c.deref-in-PublicScalarsBounded.ensures.value) c.counted_public_scalars.ensures
+
 pub returns-in-Scalar : goal.returns-in-Scalar
 returns-in-Scalar g c =
     let none : c.args.witness ≡ None = rw c.in-Scalar.is at c.requires.carried in rw (c.in-Scalar.is, none) c.receive_scalar.ensures
