@@ -29,6 +29,8 @@ module _ {S Symbol I F EF O Ac : Type 0} (r : Rules S Symbol I F EF O Ac) (laws 
   step-told (step.PublicScalar label x) value.Nothing h b f n = one-told r laws r.scalar laws.scalar x
   step-told (step.PublicScalars label xs) value.Nothing h b f n =
       many-told r laws r.scalar laws.scalar (length xs.items) xs.items refl
+  step-told (step.PublicScalarsBounded label xs max) value.Nothing h b f n =
+      counted-told r laws r.scalar laws.scalar max xs.items h.1 n
   step-told (step.Scalar label) (value.Scalar x) h b f n = one-told r laws r.scalar laws.scalar x
   step-told (step.Scalars label len) (value.Scalars xs) h b f n = many-told r laws r.scalar laws.scalar len xs h
   step-told (step.ScalarsBounded label max) (value.Scalars xs) h b f n =
@@ -50,5 +52,6 @@ module _ {S Symbol I F EF O Ac : Type 0} (r : Rules S Symbol I F EF O Ac) (laws 
   step-told (step.ChallengeUniformBitsRejecting label width len accept limit) value.Nothing h b f n = silent
   step-told (step.Pow label bits) (value.Witness x) h b f n = witness-told r laws bits x h
   step-told (step.ObservePow label bits) (value.Witness x) h b f n = witness-told r laws bits x h
+  step-told (step.PublicScalarsBounded label xs max) _ h b f n = absurd h.0
   step-told (step.ObserveExtensionsBounded label xs max) _ h b f n = absurd h.0
   step-told _ _ h b f n = absurd h

@@ -160,6 +160,7 @@ module _ {S Symbol I F EF O Ac : Type 0} (r : Rules S Symbol I F EF O Ac) (told 
       scalars-tell _ (many-tell r.scalar.coefficients told.scalar O) _ v w p q e
   step-tells (step.Extension label) v w p q e =
       extension-tells _ (one-tells r.extension.coefficients told.extension O) _ v w p q e
+  step-tells (step.PublicScalarsBounded label xs max) v w p q e = nothing-tells v w p.0 q.0
   step-tells (step.ObserveExtensionsBounded label xs max) v w p q e = nothing-tells v w p.0 q.0
   step-tells (step.Pow label bits) v w p q e = witness-tells bits _ v w p q e
   step-tells (step.ObservePow label bits) v w p q e = witness-tells bits _ v w p q e

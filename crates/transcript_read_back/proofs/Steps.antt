@@ -125,6 +125,8 @@ module _ {S Symbol I F EF O Ac : Type 0} (next : S → S) (fed : S → List Symb
     step-exactly (step.PublicScalar label x) v s h b g = fed-exactly next fed _ s _ (laws.scalar x tt s)
     step-exactly (step.PublicScalars label xs) v s h b g =
         fed-exactly next fed _ s _ (list-exactly r.scalar.observation laws.scalar xs.items s)
+    step-exactly (step.PublicScalarsBounded label xs max) v s h b g =
+        fed-exactly next fed _ s _ (counted-exactly r.scalar.observation laws.scalar max xs.items s)
     step-exactly (step.Scalar label) (value.Scalar x) s h b g = fed-exactly next fed _ s _ (laws.scalar x tt s)
     step-exactly (step.Scalars label len) (value.Scalars xs) s h b g =
         fed-exactly next fed _ s _ (list-exactly r.scalar.observation laws.scalar xs s)
