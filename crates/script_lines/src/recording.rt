@@ -80,6 +80,9 @@ fn parts<S: World>(step: &Step<S>) -> (Kind, Label, Length, Type) {
         Step::PublicScalars { label, values } => {
             (Public, *label, Fixed(values.len()), Type::Scalars)
         }
+        Step::PublicScalarsBounded { label, max, .. } => {
+            (Public, *label, Bounded(*max), Type::Scalars)
+        }
         Step::Scalar { label } => (Message, *label, Scalar, Type::Scalars),
         Step::Scalars { label, n } => (Message, *label, Fixed(*n), Type::Scalars),
         Step::ScalarsBounded { label, max } => (Message, *label, Bounded(*max), Type::Scalars),

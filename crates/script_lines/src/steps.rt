@@ -37,7 +37,7 @@ pub fn parse_step<S: World>(alloc: Global, text: &str) -> Result<Move<S>> {
         "salt" | "bytes" | "hint" => parse_bytes(alloc, name, label, tokens),
         "bytesb" | "hintb" | "scb" => parse_counted(alloc, name, label, tokens),
         "sc" | "ext" | "scs" => parse_sent(alloc, name, label, tokens),
-        "pub" | "pubs" | "oext" | "oexts" | "oextb" | "opq" => {
+        "pub" | "pubs" | "pubb" | "oext" | "oexts" | "oextb" | "opq" => {
             Ok((parse_known(alloc, name, label, tokens)?, None))
         }
         _ => Ok((parse_plain(name, label, tokens)?, None)),
@@ -129,7 +129,7 @@ fn parse_list<S: World>(alloc: Global, label: Label, tokens: &str) -> Result<Mov
     Ok((Step::Scalars { label, n }, Some(Sent::Scalars(values))))
 }
 
-// `pub v`, `pubs v..`, `oext v..`, `oexts v..`, `oextb max v..`, `opq ..`, which both sides know.
+// `pub v`, `pubs v..`, `pubb max v..`, `oext v..`, `oexts v..`, `oextb max v..`, `opq ..`, which both sides know.
 fn parse_known<S: World>(alloc: Global, name: &str, label: Label, tokens: &str) -> Result<Step<S>> {
     match name {
         "pub" => {
@@ -139,6 +139,12 @@ fn parse_known<S: World>(alloc: Global, name: &str, label: Label, tokens: &str) 
         "pubs" => {
             let values = scalars::<S>(alloc, tokens)?;
             Ok(Step::PublicScalars { label, values })
+        }
+        "pubb" => {
+            let (max, tokens) = split_name(tokens);
+            let values = scalars::<S>(alloc, tokens)?;
+            let max = number(max)?;
+            Ok(Step::PublicScalarsBounded { label, values, max })
         }
         "opq" => {
             let value = S::opaque(alloc, tokens)?;

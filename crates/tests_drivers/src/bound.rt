@@ -24,6 +24,7 @@ fn steps(alloc: Global) -> Result<Vec<Interaction>, AllocError> {
     Ok(vec![in alloc;
         scalars(Kind::Public, "x", Length::Scalar),
         scalars(Kind::Public, "x", two),
+        scalars(Kind::Public, "x", few),
         scalars(Kind::Message, "x", Length::Scalar),
         scalars(Kind::Message, "x", two),
         scalars(Kind::Message, "x", few),
@@ -48,6 +49,7 @@ fn send(prover: &mut Prover<&mut World>) -> Result<bool, TranscriptError> {
     let two = [element(5), element(256)];
     let public = prover.add_public_scalar::<F257, Scalars>("x", &element(5))?;
     let publics = prover.add_public_scalars::<F257, Scalars>("x", &two)?;
+    let few_publics = prover.add_public_scalars_bounded::<F257, Scalars>("x", &two, 3)?;
     let scalar = prover.add_scalar::<F257, Scalars>("x", &element(256))?;
     let scalars = prover.add_scalars::<F257, Scalars>("x", &two)?;
     let few = prover.add_scalars_bounded::<F257, Scalars>("x", &two, 3)?;
@@ -55,6 +57,7 @@ fn send(prover: &mut Prover<&mut World>) -> Result<bool, TranscriptError> {
     Ok(
         public.into_inner() == element(5)
             && are_two(&publics)
+            && are_two(&few_publics)
             && scalar.into_inner() == element(256)
             && are_two(&scalars)
             && are_two(&few)
@@ -80,6 +83,7 @@ fn receive(verifier: &mut Verifier<'_, &mut World>) -> Result<bool, TranscriptEr
     let two = [element(5), element(256)];
     let public = verifier.observe_public_scalar::<F257, Scalars>("x", &element(5))?;
     let publics = verifier.observe_public_scalars::<F257, Scalars>("x", &two)?;
+    let few_publics = verifier.observe_public_scalars_bounded::<F257, Scalars>("x", &two, 3)?;
     let scalar = verifier.next_scalar::<F257, Scalars>("x")?;
     let scalars = verifier.next_scalars::<F257, Scalars>("x", 2)?;
     let few = verifier.next_scalars_bounded::<F257, Scalars>("x", 3)?;
@@ -87,6 +91,7 @@ fn receive(verifier: &mut Verifier<'_, &mut World>) -> Result<bool, TranscriptEr
     Ok(
         public.into_inner() == element(5)
             && are_two(&publics)
+            && are_two(&few_publics)
             && scalar.into_inner() == element(256)
             && are_two(&scalars)
             && are_two(&few)
