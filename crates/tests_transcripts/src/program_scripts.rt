@@ -9,8 +9,13 @@ use transcript_program as program;
 
 const USAGE: &str = "usage: transcript first|pattern|prove|verify\n";
 
-// What `prove 9 0011223344556677 ""` writes: the salt, no values, the witness 366, and an empty note.
+// What `prove 9 0011223344556677 ""` writes: the salt, no values, the witness 1019, and an empty note.
 const PROOF: [u8; 14] = [
+    0x00, 0x11, 0x22, 0x33, 0x44, 0x55, 0x66, 0x77, 0, 0, 0, 3, 0xfb, 0,
+];
+
+// The same of version 1 of the protocol, whose public step was one scalar: the witness is 366.
+const PROOF_OF_VERSION_1: [u8; 14] = [
     0x00, 0x11, 0x22, 0x33, 0x44, 0x55, 0x66, 0x77, 0, 0, 0, 1, 0x6e, 0,
 ];
 
@@ -61,12 +66,12 @@ fn written<R: Read>(alloc: Global, words: &[&str], reader: &mut R) -> (u8, Vec<u
 #[test]
 fn a_proof_is_written_and_verified(rt: HostRuntime) -> Result<(), Fail> {
     let alloc = rt.alloc();
-    let rows: [(&[&str], &str, &str, &str); 3] = [
+    let rows: [(&[&str], &str, &str, &str); 5] = [
         (
             &["prove", "9", "0011223344556677", ""],
             "9",
-            "0011223344556677000000016e00",
-            "accepted\nvalues\nalpha 1197573316\nnote\nindices 2 10\n",
+            "001122334455667700000003fb00",
+            "accepted\nvalues\nalpha 43369364\nnote\nindices 15 3\n",
         ),
         (
             &[
@@ -78,14 +83,35 @@ fn a_proof_is_written_and_verified(rt: HostRuntime) -> Result<(), Fail> {
                 "002013265920",
             ],
             "09",
-            "00aabbccddeeff77020000000178000000000000a31061206e6f7465206f6620313620627974",
-            "accepted\nvalues 1 2013265920\nalpha 1198687542\nnote 61206e6f7465206f6620313620627974\nindices 10 6\n",
+            "00aabbccddeeff77020000000178000000000001101061206e6f7465206f6620313620627974",
+            "accepted\nvalues 1 2013265920\nalpha 1823214600\nnote 61206e6f7465206f6620313620627974\nindices 9 0\n",
         ),
         (
-            &["prove", "5", "FFFFFFFFFFFFFFFF", "é", "1", "2", "3", "4"],
-            "5",
-            "ffffffffffffffff04000000010000000200000003000000040000005d02c3a9",
-            "accepted\nvalues 1 2 3 4\nalpha 1658365921\nnote c3a9\nindices 10 2\n",
+            &[
+                "prove",
+                "5,6,7,8",
+                "FFFFFFFFFFFFFFFF",
+                "é",
+                "1",
+                "2",
+                "3",
+                "4",
+            ],
+            "5,006,7,8",
+            "ffffffffffffffff04000000010000000200000003000000040000006d02c3a9",
+            "accepted\nvalues 1 2 3 4\nalpha 1237305149\nnote c3a9\nindices 13 14\n",
+        ),
+        (
+            &["prove", "-", "0011223344556677", ""],
+            "-",
+            "001122334455667700000000b900",
+            "accepted\nvalues\nalpha 1466500772\nnote\nindices 4 7\n",
+        ),
+        (
+            &["prove", "9,2013265920", "0011223344556677", "", "1"],
+            "9,2013265920",
+            "001122334455667701000000010000008b00",
+            "accepted\nvalues 1\nalpha 715632418\nnote\nindices 1 10\n",
         ),
     ];
     for (words, public, wire, told) in rows {
@@ -156,14 +182,18 @@ fn other_bytes_are_refused(rt: HostRuntime) -> Result<(), Fail> {
     let trailing = "trailing NARG bytes after final verifier step";
     assert_refused(&rt, alloc, "9", &longer, trailing)?;
     let few = "pow witness does not produce enough zero bits";
-    assert_refused(&rt, alloc, "8", &PROOF, few)
+    assert_refused(&rt, alloc, "9", &PROOF_OF_VERSION_1, few)?;
+    for public in ["8", "-", "0", "9,0", "9,9"] {
+        assert_refused(&rt, alloc, public, &PROOF, few)?;
+    }
+    Ok(())
 }
 
 #[test]
 fn other_words_are_told_before_anything_is_read(rt: HostRuntime) -> Result<(), Fail> {
     let alloc = rt.alloc();
     let salt = "0011223344556677";
-    let rows: [&[&str]; 15] = [
+    let rows: [&[&str]; 26] = [
         &["prove"],
         &["prove", "9", salt],
         &["prove", "9", salt, "", "1", "2", "3", "4", "5"],
@@ -179,6 +209,17 @@ fn other_words_are_told_before_anything_is_read(rt: HostRuntime) -> Result<(), F
         &["verify", "+9"],
         &["verify", "2013265921"],
         &["verify", "9", "9"],
+        &["verify", ""],
+        &["verify", "1,"],
+        &["verify", ",1"],
+        &["verify", "1,,2"],
+        &["verify", "1, 2"],
+        &["verify", "--"],
+        &["verify", "-,1"],
+        &["verify", "1,2013265921"],
+        &["verify", "1,2,3,4,5"],
+        &["prove", "1,2,3,4,5", salt, ""],
+        &["prove", "", salt, ""],
     ];
     for words in rows {
         let mut unread = Trickle {

@@ -3,7 +3,7 @@ use Rattle.std.proofs.Common.{◌≡◌, ℕ, zero, suc, ◌<◌, ◌≤◌, Lis
 use mathlib.Core.Bool.{true≢false}
 use Rattle.std.specs.Cmp.Lexicographic.{pointwise, bytes_decides}
 use Rattle.p3_challenger.specs.BabyBearResidues.{BabyBear}
-use Rattle.transcript_program.specs.Arguments.{IsScalarText, IsOneScalar, AreScalarTexts}
+use Rattle.transcript_program.specs.Arguments.{IsScalarText, IsOneScalar, AreScalarTexts, IsListText, IsOneList}
 
 -- what holds of an answer that there is none
 pub none_there : {T A : Type 0} (found : Option T) → found ≡ None → A → IfNone found A
@@ -34,6 +34,23 @@ pub one_scalar-none : (arguments : List (Bor (List ℕ))) → 1 ≤ length argum
 one_scalar-none [] least below found none = absurd (omega (arith, least))
 one_scalar-none (a ∷ []) least below found none = none
 one_scalar-none (a ∷ b ∷ arguments) least below found none = absurd (omega (arith, below))
+
+-- and no public list
+pub one_list-none : {T : Type 0} (arguments : List (Bor (List ℕ))) → 1 ≤ length arguments → length arguments < 2 →
+    (found : Option T) →
+    IfNone found ((xs : List BabyBear) → IsListText (get_or arguments 0 no_argument).now xs → ⊥) →
+    IfNone found ((xs : List BabyBear) → IsOneList (map (λ argument. argument.now) arguments) xs → ⊥)
+one_list-none [] least below found none = absurd (omega (arith, least))
+one_list-none (a ∷ []) least below found none = none
+one_list-none (a ∷ b ∷ arguments) least below found none = absurd (omega (arith, below))
+
+-- texts write as many scalars as they are
+pub scalar_texts-as_many : (texts : List (List ℕ)) (xs : List BabyBear) → AreScalarTexts texts xs →
+    length texts ≡ length xs
+scalar_texts-as_many [] [] are = refl
+scalar_texts-as_many [] (x ∷ xs) are = absurd are
+scalar_texts-as_many (text ∷ texts) [] are = absurd are
+scalar_texts-as_many (text ∷ texts) (x ∷ xs) are = omega (arith, scalar_texts-as_many texts xs are.1)
 
 -- no arguments
 pub no_arguments : (arguments : List (Bor (List ℕ))) → length arguments ≡ 0 → map (λ argument. argument.now) arguments ≡ []

@@ -2,6 +2,7 @@
 use Rattle.std.proofs.Common.{◌≡◌, ℕ, List, [], ◌∷◌, ◌++◌, Option, Some, None, IsSome, refl, ap, sym, ◌∙◌, subst}
 use Rattle.std.specs.Borrow.{Bor}
 use Rattle.std.specs.Option.{option_map}
+use Rattle.std.specs.Prelude.{Vec}
 use mathlib.Core.Bool.{true≢false}
 use Rattle.p3_challenger.specs.BabyBearResidues.{BabyBear}
 use Rattle.p3_challenger.specs.Coeffs.{Coeffs}
@@ -150,16 +151,16 @@ nine play x0 x1 x2 x3 x4 x5 x6 x7 x8 s Goal k (v0 ∷ v1 ∷ v2 ∷ v3 ∷ v4 �
     absurd f.3.3.3.3.3.3.3.3.3
 
 -- those of the script: a salt, values, a witness and a note, with one challenge and the indices
-shaped : (rules : DemoRules) (labels : DemoLabels) (input : BabyBear) (s : DemoChallenger)
+shaped : (rules : DemoRules) (labels : DemoLabels) (inputs : Vec BabyBear) (s : DemoChallenger)
     (v0 v1 v2 v3 v4 v5 v6 v7 v8 : DemoValue) →
-    Finishes (demo_play rules) (demo_script labels input) (v0 ∷ v1 ∷ v2 ∷ v3 ∷ v4 ∷ v5 ∷ v6 ∷ v7 ∷ v8 ∷ []) s →
+    Finishes (demo_play rules) (demo_script labels inputs) (v0 ∷ v1 ∷ v2 ∷ v3 ∷ v4 ∷ v5 ∷ v6 ∷ v7 ∷ v8 ∷ []) s →
     (content : DemoContent) × Says (v2 ∷ v3 ∷ v4 ∷ v6 ∷ [])
-    (challenges (demo_play rules) (demo_script labels input) (v0 ∷ v1 ∷ v2 ∷ v3 ∷ v4 ∷ v5 ∷ v6 ∷ v7 ∷ v8 ∷ []) s)
+    (challenges (demo_play rules) (demo_script labels inputs) (v0 ∷ v1 ∷ v2 ∷ v3 ∷ v4 ∷ v5 ∷ v6 ∷ v7 ∷ v8 ∷ []) s)
     content
-shaped rules labels input s v0 v1 v2 v3 v4 v5 v6 v7 v8 f =
+shaped rules labels inputs s v0 v1 v2 v3 v4 v5 v6 v7 v8 f =
     let p = λ (x : DemoStep). demo_play rules x in
     let s1 = ((p (step.Begin labels.opener.label kind.Protocol)).effect v0).after s in
-    let s2 = ((p (step.PublicScalar labels.input.label input)).effect v1).after s1 in
+    let s2 = ((p (step.PublicScalarsBounded labels.inputs.label inputs 4)).effect v1).after s1 in
     let s3 = ((p (step.Salt labels.salt.label 8)).effect v2).after s2 in
     let s4 = ((p (step.ScalarsBounded labels.values.label 4)).effect v3).after s3 in
     let s5 = ((p (step.Pow labels.work.label 8)).effect v4).after s4 in
@@ -194,31 +195,31 @@ shaped rules labels input s v0 v1 v2 v3 v4 v5 v6 v7 v8 f =
       },
     )
 
-pub run-says : (rules : DemoRules) (labels : DemoLabels) (input : BabyBear) (values : List DemoValue)
-    (s : DemoChallenger) → Finishes (demo_play rules) (demo_script labels input) values s →
-    (content : DemoContent) × Says (in_proof (demo_play rules) (demo_script labels input) values)
-    (challenges (demo_play rules) (demo_script labels input) values s) content
-run-says rules labels input values s f =
+pub run-says : (rules : DemoRules) (labels : DemoLabels) (inputs : Vec BabyBear) (values : List DemoValue)
+    (s : DemoChallenger) → Finishes (demo_play rules) (demo_script labels inputs) values s →
+    (content : DemoContent) × Says (in_proof (demo_play rules) (demo_script labels inputs) values)
+    (challenges (demo_play rules) (demo_script labels inputs) values s) content
+run-says rules labels inputs values s f =
     nine (λ (x : DemoStep). demo_play rules x) (step.Begin labels.opener.label kind.Protocol)
-    (step.PublicScalar labels.input.label input) (step.Salt labels.salt.label 8)
+    (step.PublicScalarsBounded labels.inputs.label inputs 4) (step.Salt labels.salt.label 8)
     (step.ScalarsBounded labels.values.label 4) (step.Pow labels.work.label 8)
     (step.ChallengeScalar labels.alpha.label) (step.HintBounded labels.note.label 16)
     (step.ChallengeUniformBits labels.indices.label 4 2) (step.End labels.closer.label kind.Protocol) s
     (λ (l : List DemoValue). (content : DemoContent)
-    × Says (in_proof (demo_play rules) (demo_script labels input) l)
-    (challenges (demo_play rules) (demo_script labels input) l s) content)
-    (shaped rules labels input s) values f
+    × Says (in_proof (demo_play rules) (demo_script labels inputs) l)
+    (challenges (demo_play rules) (demo_script labels inputs) l s) content)
+    (shaped rules labels inputs s) values f
 
 -- so what a verifier that accepts has received and drawn says something
-pub accepted-says : (rules : DemoRules) (run : DemoRun) (labels : DemoLabels) (input : BabyBear) (bytes : List ℕ)
+pub accepted-says : (rules : DemoRules) (run : DemoRun) (labels : DemoLabels) (inputs : Vec BabyBear) (bytes : List ℕ)
     (received : List DemoValue) (drawn : List DemoDrawn) (end : DemoChallenger) →
-    run.steps ≡ demo_script labels input → Accepts rules (demo_play rules) run bytes [] received drawn end →
+    run.steps ≡ demo_script labels inputs → Accepts rules (demo_play rules) run bytes [] received drawn end →
     (content : DemoContent) × Says received drawn content
-accepted-says rules run labels input bytes received drawn end steps_are accepted =
+accepted-says rules run labels inputs bytes received drawn end steps_are accepted =
     let seeded = fronts.seeded rules (demo_play rules) run in
     let finishes = subst (λ (steps : List DemoStep). Finishes (demo_play rules) steps accepted.values seeded) steps_are
     accepted.proof.finished.finishes in
-    let says = run-says rules labels input accepted.values seeded finishes in (
+    let says = run-says rules labels inputs accepted.values seeded finishes in (
       says.0,
       record {
         received_is = accepted.outcome.received_is

@@ -1,5 +1,6 @@
 -- What the arguments of a command line ask for.
-use Rattle.std.specs.Prelude.{◌≡◌, ℕ, ◌≤◌, List, [], ◌∷◌, length, codes, Ok}
+use Rattle.std.specs.Prelude.{◌≡◌, ℕ, ◌≤◌, ◌==◌, ◌⊎◌, List, [], ◌∷◌, length, codes, Ok}
+use Rattle.std.specs.List.{slice_split}
 use Rattle.std.specs.Str.Parse.{IsNumeral, digits_value}
 use Rattle.hex.specs.Hex.{decode_sized}
 use Rattle.p3_challenger.specs.BabyBearResidues.{BabyBear, residues}
@@ -23,13 +24,26 @@ AreScalarTexts [] [] = Unit {0}
 AreScalarTexts (text ∷ texts) (x ∷ xs) = IsScalarText text x × AreScalarTexts texts xs
 AreScalarTexts _ _ = ⊥
 
+-- the parts of a text write scalars, one each; commas stand between them
+abbrev pub IsCommaText : List ℕ → List BabyBear → Type 0
+IsCommaText text xs = AreScalarTexts (slice_split (λ byte. byte == 44) text) xs
+
+-- a text writes a public list of at most 4 scalars: `-` the empty one
+abbrev pub IsListText : List ℕ → List BabyBear → Type 0
+IsListText text xs = ((text ≡ codes "-") × (xs ≡ [])) ⊎ (IsCommaText text xs × (length xs ≤ 4))
+
+-- one text, which writes such a list
+abbrev pub IsOneList : List (List ℕ) → List BabyBear → Type 0
+IsOneList (text ∷ []) xs = IsListText text xs
+IsOneList _ xs = ⊥
+
 -- a text is a salt in hexadecimal: two digits for each of its 8 bytes
 abbrev pub IsSaltText : List ℕ → List ℕ → Type 0
 IsSaltText text salt = decode_sized text 8 ≡ Ok salt
 
--- a public input, a salt, a note of at most 16 bytes, and at most 4 values
-pub record IsToProve (input salt note : List ℕ) (values : List (List ℕ)) (ask : ToProve) : Type 0 where
-  pub input_is : IsScalarText input ask.input
+-- a public list, a salt, a note of at most 16 bytes, and at most 4 values
+pub record IsToProve (inputs salt note : List ℕ) (values : List (List ℕ)) (ask : ToProve) : Type 0 where
+  pub inputs_are : IsListText inputs ask.inputs.items
   pub salt_is : IsSaltText salt ask.salt
   pub note_is : ask.note.now ≡ note
   pub note_is_short : length note ≤ 16
@@ -37,7 +51,7 @@ pub record IsToProve (input salt note : List ℕ) (values : List (List ℕ)) (as
   pub values_are_few : length values ≤ 4
 
 abbrev pub AreToProve : List (List ℕ) → ToProve → Type 0
-AreToProve (input ∷ salt ∷ note ∷ values) ask = IsToProve input salt note values ask
+AreToProve (inputs ∷ salt ∷ note ∷ values) ask = IsToProve inputs salt note values ask
 AreToProve _ ask = ⊥
 
 -- the arguments of a command line ask for this
@@ -46,4 +60,4 @@ Asks [] request = ⊥
 Asks (argument ∷ arguments) (First x) = (argument ≡ codes "first") × IsOneScalar arguments x
 Asks (argument ∷ arguments) DemoPattern = (argument ≡ codes "pattern") × (arguments ≡ [])
 Asks (argument ∷ arguments) (Prove ask) = (argument ≡ codes "prove") × AreToProve arguments ask
-Asks (argument ∷ arguments) (Verify x) = (argument ≡ codes "verify") × IsOneScalar arguments x
+Asks (argument ∷ arguments) (Verify inputs) = (argument ≡ codes "verify") × IsOneList arguments inputs.items

@@ -32,7 +32,7 @@ indices = step_with Atomic Challenge (codes "indices") (UniformBits 4) (codes "u
 abbrev pub demo_steps : List Step
 demo_steps =
     container Begin
-    ∷ scalars Public (codes "input") Scalar
+    ∷ scalars Public (codes "inputs") (Bounded 4)
     ∷ bytes Salt (codes "salt") (Fixed 8)
     ∷ scalars Message (codes "values") (Bounded 4)
     ∷ scalars Pow (codes "work") (Fixed 8)

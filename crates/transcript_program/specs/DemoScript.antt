@@ -1,6 +1,6 @@
 -- The demo protocol as a script, and what its two sides answer.
 use Rattle.std.specs.Borrow.{Bor}
-use Rattle.std.specs.Prelude.{◌≡◌, ℕ, List, [], ◌∷◌, codes}
+use Rattle.std.specs.Prelude.{◌≡◌, ℕ, List, [], ◌∷◌, Vec, codes}
 use Rattle.p3_challenger.specs.BabyBearResidues.{BabyBear}
 use Rattle.p3_challenger.specs.HashCalls.{with_pending}
 use Rattle.p3_challenger.specs.Kind.TheVariants as kind
@@ -28,7 +28,7 @@ pub record LabelOf (text : List ℕ) : Type 0 where
 -- the labels of the steps
 pub record DemoLabels : Type 0 where
   pub opener : LabelOf (codes "demo")
-  pub input : LabelOf (codes "input")
+  pub inputs : LabelOf (codes "inputs")
   pub salt : LabelOf (codes "salt")
   pub values : LabelOf (codes "values")
   pub work : LabelOf (codes "work")
@@ -42,18 +42,18 @@ abbrev pub demo_challenger : DemoChallenger
 demo_challenger =
     record { inner = record { sponge = with_pending []; hasher = record {} }; draw_limit = 1000 }
 
--- version 1 of the protocol `demo`, with its pattern, and one chunk
+-- version 2 of the protocol `demo`, with its pattern, and one chunk
 pub record IsDemoSeparator {U D : Type 0} (separator : DomainSeparator U D) : Type 0 where
-  pub version_is : (separator_of separator).version ≡ 1
+  pub version_is : (separator_of separator).version ≡ 2
   pub name_is : (separator_of separator).name ≡ codes "demo"
   pub chunks_are : (separator_of separator).chunks ≡ codes "example" ∷ []
   pub pattern_is : steps_of (separator_of separator).pattern ≡ demo_steps
 
--- its steps, with this public input
-abbrev pub demo_script : DemoLabels → BabyBear → List DemoStep
-demo_script labels input =
+-- its steps, with this public list
+abbrev pub demo_script : DemoLabels → Vec BabyBear → List DemoStep
+demo_script labels inputs =
     step.Begin labels.opener.label kind.Protocol
-    ∷ step.PublicScalar labels.input.label input
+    ∷ step.PublicScalarsBounded labels.inputs.label inputs 4
     ∷ step.Salt labels.salt.label 8
     ∷ step.ScalarsBounded labels.values.label 4
     ∷ step.Pow labels.work.label 8
@@ -63,10 +63,12 @@ demo_script labels input =
     ∷ step.End labels.closer.label kind.Protocol
     ∷ []
 
--- the protocol with this input, from its challenger and under its separator
-pub record IsDemo (input : BabyBear) (run : DemoRun) : Type 0 where
+-- the protocol with these inputs, from its challenger and under its separator
+pub record IsDemo (inputs : List BabyBear) (run : DemoRun) : Type 0 where
   pub labels : DemoLabels
-  pub steps_are : run.steps ≡ demo_script labels input
+  pub list : Vec BabyBear
+  pub list_is : list.items ≡ inputs
+  pub steps_are : run.steps ≡ demo_script labels list
   pub challenger_is : run.challenger ≡ demo_challenger
   pub separator_is : IsDemoSeparator run.separator
 
@@ -99,7 +101,7 @@ module _ (rules : DemoRules) where
   -- the bytes are the proof of a prover with this
   pub record IsDemoProof (ask : ToProve) (bytes : List ℕ) : Type 0 where
     pub run : DemoRun
-    pub is_demo : IsDemo ask.input run
+    pub is_demo : IsDemo ask.inputs.items run
     pub witnesses : List BabyBear
     pub carried : List BabyBear
     pub drawn : List DemoDrawn
@@ -109,26 +111,26 @@ module _ (rules : DemoRules) where
   -- a prover with this is refused so: there is no run of what it sends, or memory was refused
   pub record RefusesDemoProof (ask : ToProve) (e : TranscriptError) : Type 0 where
     pub run : DemoRun
-    pub is_demo : IsDemo ask.input run
+    pub is_demo : IsDemo ask.inputs.items run
     pub position : ℕ
     pub refuses : RefusesToProve rules (play_of rules) run (sent_by ask) position e
     pub no_run : (e ≡ OutOfMemory → ⊥) → (values : List DemoValue) →
         IsProverRun rules (play_of rules) (with_steps run run.steps values) (sent_by ask) → ⊥
 
-  -- the bytes are a proof with this input, and the text is what it says
-  pub record IsDemoReport (input : BabyBear) (bytes text : List ℕ) : Type 0 where
+  -- the bytes are a proof with these inputs, and the text is what it says
+  pub record IsDemoReport (inputs : List BabyBear) (bytes text : List ℕ) : Type 0 where
     pub run : DemoRun
-    pub is_demo : IsDemo input run
+    pub is_demo : IsDemo inputs run
     pub received : List DemoValue
     pub drawn : List DemoDrawn
     pub end : DemoChallenger
     pub accepted : Accepts rules (play_of rules) run bytes [] received drawn end
     pub told : IsReport received drawn text
 
-  -- the bytes are refused so: they are no proof with this input, or memory was refused
-  pub record RefusesDemoReport (input : BabyBear) (bytes : List ℕ) (e : TranscriptError) : Type 0 where
+  -- the bytes are refused so: they are no proof with these inputs, or memory was refused
+  pub record RefusesDemoReport (inputs : List BabyBear) (bytes : List ℕ) (e : TranscriptError) : Type 0 where
     pub run : DemoRun
-    pub is_demo : IsDemo input run
+    pub is_demo : IsDemo inputs run
     pub position : ℕ
     pub refuses : RefusesProof rules (play_of rules) run bytes [] position e
     pub no_proof : (e ≡ OutOfMemory → ⊥) → HasNoProof rules (play_of rules) run bytes []

@@ -54,12 +54,12 @@ reason_of _ = codes "pattern"
 
 -- a request that reads standard input
 abbrev pub ReadsInput : Request → Type 0
-ReadsInput (Verify x) = Unit {0}
+ReadsInput (Verify inputs) = Unit {0}
 ReadsInput _ = ⊥
 
 -- what a request reads of standard input: a proof, up to the end; and else nothing
 abbrev pub Reads : Request → List ℕ → Option (List ℕ) → Option (List ℕ) → Type 0
-Reads (Verify x) input old new = Consumes old new input × IsAtEnd new
+Reads (Verify inputs) input old new = Consumes old new input × IsAtEnd new
 Reads _ input old new = input ≡ []
 
 module _ (rules : DemoRules) where
@@ -68,12 +68,12 @@ module _ (rules : DemoRules) where
   Answers (First x) input bytes = IsFirstText x bytes
   Answers DemoPattern input bytes = bytes ≡ demo_text
   Answers (Prove ask) input bytes = IsDemoProof rules ask bytes
-  Answers (Verify x) input bytes = IsDemoReport rules x input bytes
+  Answers (Verify inputs) input bytes = IsDemoReport rules inputs.items input bytes
 
   -- why it may be refused, but for memory: there is no such proof, or what was read is none
   abbrev pub Refuses : Request → List ℕ → TranscriptError → Type 0
   Refuses (Prove ask) input e = RefusesDemoProof rules ask e
-  Refuses (Verify x) input e = RefusesDemoReport rules x input e
+  Refuses (Verify inputs) input e = RefusesDemoReport rules inputs.items input e
   Refuses _ input e = ⊥
 
   -- the answer to a request

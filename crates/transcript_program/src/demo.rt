@@ -23,25 +23,25 @@ pub fn pattern(alloc: Global) -> Result<InteractionPattern, TranscriptError>
     InteractionPattern::new(steps(alloc)?)
 }
 
-// A public input, a salt, a few values, a proof of work, a challenge, a note that no challenge depends on, and
+// A public list, a salt, a few values, a proof of work, a challenge, a note that no challenge depends on, and
 // two places that are drawn.
 fn steps(alloc: Global) -> Result<Vec<Interaction>, AllocError>
     ensures { IfOk result (λ steps. map step_of steps.items ≡ demo_steps) }
 {
     let leaf = Hierarchy::Atomic;
-    let input = Interaction::algebra::<BabyBear, BabyBear, Sha256Hasher>(
+    let inputs = Interaction::algebra::<BabyBear, BabyBear, Sha256Hasher>(
         leaf,
         Kind::Public,
-        "input",
-        Length::Scalar,
+        "inputs",
+        Length::Bounded(4),
     );
     Ok(vec![in alloc;
         Interaction::marker::<()>(Hierarchy::Begin, Kind::Protocol, DEMO),
-        input,
+        inputs,
         Interaction::bytes(leaf, Kind::Salt, "salt", Length::Fixed(8)),
-        input.of_same_type(leaf, Kind::Message, "values", Length::Bounded(4)),
-        input.of_same_type(leaf, Kind::Pow, "work", Length::Fixed(8)),
-        input.of_same_type(leaf, Kind::Challenge, "alpha", Length::Scalar),
+        inputs.of_same_type(leaf, Kind::Message, "values", Length::Bounded(4)),
+        inputs.of_same_type(leaf, Kind::Pow, "work", Length::Fixed(8)),
+        inputs.of_same_type(leaf, Kind::Challenge, "alpha", Length::Scalar),
         Interaction::bytes(leaf, Kind::Hint, "note", Length::Bounded(16)),
         Interaction::uniform_bits(leaf, Kind::Challenge, "indices", 4, Length::Fixed(2)),
         Interaction::marker::<()>(Hierarchy::End, Kind::Protocol, DEMO),

@@ -7,7 +7,7 @@ ghost use Rattle.transcript_program.specs.Program.{IsAnswer, IsAnswerTo, ReadsIn
 ghost use Rattle.transcript_program.specs.Program.{status_of, reason_of, unread};
 ghost use Rattle.transcript_program.specs.Arguments.{Asks};
 
-use crate::arguments::{Request, parse};
+use crate::arguments::{Request, Scalars, parse};
 use crate::input::Unread;
 use crate::script::Demo;
 use crate::{demo, first, input, script};
@@ -152,13 +152,13 @@ fn answer_request<R: Read>(alloc: Global, request: Request<'_>, reader: &mut R) 
             Ok(proof) => Answer::Proof(proof),
             Err(error) => Answer::Refused(error),
         },
-        Request::Verify(public) => verify_input(alloc, public, reader),
+        Request::Verify(inputs) => verify_input(alloc, &inputs, reader),
     }
 }
 
 // Reads a proof, and verifies it.
-fn verify_input<R: Read>(alloc: Global, public: BabyBear, reader: &mut R) -> Answer
-    ensures { IsAnswerTo (⟦<Demo as Meaning>⟧.rules 1) (Request.Verify public) (R.remaining reader.old)
+fn verify_input<R: Read>(alloc: Global, inputs: &Scalars, reader: &mut R) -> Answer
+    ensures { IsAnswerTo (⟦<Demo as Meaning>⟧.rules 1) (Request.Verify inputs.now) (R.remaining reader.old)
         (R.remaining reader.new) result }
 {
     let proof = match input::read_all(alloc, reader) {
@@ -166,7 +166,7 @@ fn verify_input<R: Read>(alloc: Global, public: BabyBear, reader: &mut R) -> Ans
         Err(Unread::NoEnd) => return Answer::NoInput,
         Err(Unread::OutOfMemory) => return Answer::Refused(TranscriptError::OutOfMemory),
     };
-    match script::verify(alloc, public, proof.as_slice()) {
+    match script::verify(alloc, inputs.as_slice(), proof.as_slice()) {
         Ok(text) => Answer::Done(text),
         Err(error) => Answer::Refused(error),
     }

@@ -9,7 +9,7 @@ ghost use Rattle.transcript_program.specs.DemoScript.{DemoLabels, demo_script, d
 ghost use Rattle.transcript_program.specs.DemoScript.{IsDemoProof, RefusesDemoProof, IsDemoReport, RefusesDemoReport};
 ghost use Rattle.transcript_program.specs.DemoScript.{DemoContent, Says, IsReport, sent_by};
 
-use crate::arguments::{MAX_NOTE_LEN, MAX_VALUES, SALT_LEN, ToProve};
+use crate::arguments::{MAX_NOTE_LEN, MAX_SCALARS, SALT_LEN, ToProve};
 use crate::{demo, report};
 use p3_challenger::fs::script::{AcceptAll, Both, Drawn, Meaning, Received, Sent, Step, Suite};
 use p3_challenger::fs::{
@@ -74,14 +74,14 @@ fn separator(
     ensures ok { IfOk result (λ separator. IsDemoSeparator separator) }
     ensures err { IfErr result (λ e. e ≡ TranscriptError.OutOfMemory) }
 {
-    let mut separator = DomainSeparator::new(alloc, 1, b"demo", demo::pattern(alloc)?)?;
+    let mut separator = DomainSeparator::new(alloc, 2, b"demo", demo::pattern(alloc)?)?;
     separator.instance(b"example")?;
     Ok(separator)
 }
 
-// The script, for this input.
-fn steps(input: BabyBear) -> [Step<Demo>; 9]
-    ensures script { (labels : DemoLabels) × (result ≡ demo_script labels input) }
+// The script, for these inputs.
+fn steps(inputs: Vec<BabyBear>) -> [Step<Demo>; 9]
+    ensures script { (labels : DemoLabels) × (result ≡ demo_script labels inputs) }
     ensures admitted { AreAdmitted (play_of (⟦<Demo as Meaning>⟧.rules 1)) result }
     ensures carried { carried_count (play_of (⟦<Demo as Meaning>⟧.rules 1)) result ≡ 0 }
 {
@@ -90,9 +90,10 @@ fn steps(input: BabyBear) -> [Step<Demo>; 9]
             label: "demo",
             kind: Kind::Protocol,
         },
-        Step::PublicScalar {
-            label: "input",
-            value: input,
+        Step::PublicScalarsBounded {
+            label: "inputs",
+            values: inputs,
+            max: MAX_SCALARS,
         },
         Step::Salt {
             label: "salt",
@@ -100,7 +101,7 @@ fn steps(input: BabyBear) -> [Step<Demo>; 9]
         },
         Step::ScalarsBounded {
             label: "values",
-            max: MAX_VALUES,
+            max: MAX_SCALARS,
         },
         Step::Pow {
             label: "work",
@@ -151,7 +152,7 @@ pub fn prove(alloc: Global, ask: &ToProve<'_>) -> Result<Vec<u8>, TranscriptErro
         ⊎ RefusesDemoProof (⟦<Demo as Meaning>⟧.rules 1) ask.now e) }
 {
     let separator = separator(alloc)?;
-    let steps = steps(ask.input);
+    let steps = steps(copied(alloc, ask.inputs.as_slice())?);
     let sent = sent(alloc, ask)?;
     match script::prove::<Demo>(alloc, challenger(alloc), &separator, &steps, &sent) {
         Ok(proved) => Ok(proved.narg),
@@ -159,17 +160,17 @@ pub fn prove(alloc: Global, ask: &ToProve<'_>) -> Result<Vec<u8>, TranscriptErro
     }
 }
 
-/// What a proof of the demo protocol with this public input says, in lines.
+/// What a proof of the demo protocol with these public inputs says, in lines.
 ///
 /// The errors are those of [`script::verify`], and out of memory.
-pub fn verify(alloc: Global, input: BabyBear, proof: &[u8]) -> Result<String, TranscriptError>
+pub fn verify(alloc: Global, inputs: &[BabyBear], proof: &[u8]) -> Result<String, TranscriptError>
     ensures ok { IfOk result (λ text.
-        IsDemoReport (⟦<Demo as Meaning>⟧.rules 1) input proof.now (string_bytes text)) }
+        IsDemoReport (⟦<Demo as Meaning>⟧.rules 1) inputs.now proof.now (string_bytes text)) }
     ensures err { IfErr result (λ e. (e ≡ TranscriptError.OutOfMemory)
-        ⊎ RefusesDemoReport (⟦<Demo as Meaning>⟧.rules 1) input proof.now e) }
+        ⊎ RefusesDemoReport (⟦<Demo as Meaning>⟧.rules 1) inputs.now proof.now e) }
 {
     let separator = separator(alloc)?;
-    let steps = steps(input);
+    let steps = steps(copied(alloc, inputs)?);
     match script::verify::<Demo>(alloc, challenger(alloc), &separator, &steps, &[], proof) {
         Ok(verified) => Ok(told(
             alloc,

@@ -6,7 +6,7 @@ pub returns-clause-script : goal.returns-clause-script
 returns-clause-script c = (
   record {
     opener = record { label = _; says = refl };
-    input = record { label = _; says = refl };
+    inputs = record { label = _; says = refl };
     salt = record { label = _; says = refl };
     values = record { label = _; says = refl };
     work = record { label = _; says = refl };

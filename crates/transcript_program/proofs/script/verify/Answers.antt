@@ -1,4 +1,4 @@
-use Rattle.std.proofs.Common.{inr}
+use Rattle.std.proofs.Common.{rules, inr}
 use Rattle.transcript_program.proofs.DemoRuns.{accepted-says}
 use Rattle.transcript_program.proofs.script.verify.Goals as goal
 
@@ -14,6 +14,8 @@ returns-in-Ok-clause-ok c =
       run = _;
       is_demo = record {
         labels = c.steps-steps.ensures.script.0;
+        list = _;
+        list_is = search rules;
         steps_are = c.steps-steps.ensures.script.1;
         challenger_is = c.challenger.ensures;
         separator_is = c.in_ok-separator.ensures.ok;
@@ -31,6 +33,8 @@ returns-clause-err c =
       run = _;
       is_demo = record {
         labels = c.steps-steps.ensures.script.0;
+        list = _;
+        list_is = search rules;
         steps_are = c.steps-steps.ensures.script.1;
         challenger_is = c.challenger.ensures;
         separator_is = c.in_ok-separator.ensures.ok;
