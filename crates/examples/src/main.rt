@@ -44,19 +44,20 @@ fn show_protocol(rt: &HostRuntime) -> anyhow::Result<()> {
     Ok(())
 }
 
-// A script is proved, and the proof verified: from the same number, and from another. The bytes and the draws that are
-// expected were computed by a model of this protocol apart from the library, of some 60 lines of Python.
+// A script is proved, and the proof verified: from the same numbers, and from one of them alone. The bytes and the draws
+// that are expected were computed by a model of this protocol apart from the library, of some 60 lines of Python.
 fn show_demo_script(rt: &HostRuntime) -> anyhow::Result<()> {
     let alloc = rt.alloc();
     let separator = demo_script::separator(alloc)?;
-    let input = Goldilocks::from_u64(7);
+    let (seven, eight) = (Goldilocks::from_u64(7), Goldilocks::from_u64(8));
     let values = vec![in alloc; Goldilocks::ONE, Goldilocks::from_u64(2)]?;
     let sent = [
         Sent::Bytes(hex::decode(alloc, "0011223344556677")?),
         Sent::Scalars(values),
         Sent::Bytes(hex::decode(alloc, "6869")?),
     ];
-    let agreed = demo_script::prove_and_verify(alloc, &separator, input, &sent)?;
+    let inputs = vec![in alloc; seven, eight]?;
+    let agreed = demo_script::prove_and_verify(alloc, &separator, inputs, &sent)?;
     let agreed = agreed.context("values that the steps do not have")?;
     let proof = hex::encode(alloc, agreed.proof.as_slice())?;
     println!(rt; "demo script: {proof}")?;
@@ -66,10 +67,11 @@ fn show_demo_script(rt: &HostRuntime) -> anyhow::Result<()> {
             Drawn::Bits(numbers) => println!(rt; "{numbers:?}")?,
         }
     }
-    let other = demo_script::verify(alloc, &separator, Goldilocks::ONE, agreed.proof.as_slice());
+    let fewer = vec![in alloc; seven]?;
+    let other = demo_script::verify(alloc, &separator, fewer, agreed.proof.as_slice());
     if let Err(fault) = other {
         println!(rt;
-            "another number: refused at {}, {}",
+            "a number fewer: refused at {}, {}",
             fault.position, fault.error
         )?;
     }

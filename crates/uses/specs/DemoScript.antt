@@ -1,6 +1,6 @@
 -- The demo protocol as a script.
 use Rattle.std.specs.Borrow.{Bor}
-use Rattle.std.specs.Prelude.{◌≡◌, ℕ, List, [], ◌∷◌, codes}
+use Rattle.std.specs.Prelude.{◌≡◌, ℕ, List, [], ◌∷◌, Vec, codes}
 use Rattle.p3_challenger.specs.Goldilocks.{Goldilocks}
 use Rattle.p3_challenger.specs.Sha256Hasher.{Sha256Hasher}
 use Rattle.p3_challenger.specs.FieldUnit.{FieldUnit}
@@ -35,10 +35,10 @@ pub record Labelled (text : List ℕ) : Type 0 where
   pub label : Bor (List ℕ)
   pub says : label.now ≡ text
 
--- the steps with this number
-pub record AreDemoSteps (input : Goldilocks) (steps : List ScriptStep) : Type 0 where
+-- the steps with these numbers
+pub record AreDemoSteps (inputs : Vec Goldilocks) (steps : List ScriptStep) : Type 0 where
   pub opener : Labelled (codes "demo")
-  pub number : Labelled (codes "input")
+  pub numbers : Labelled (codes "inputs")
   pub salt : Labelled (codes "salt")
   pub values : Labelled (codes "values")
   pub work : Labelled (codes "work")
@@ -47,7 +47,7 @@ pub record AreDemoSteps (input : Goldilocks) (steps : List ScriptStep) : Type 0 
   pub indices : Labelled (codes "indices")
   pub closer : Labelled (codes "demo")
   pub are : steps ≡ step.Begin opener.label kind.Protocol
-      ∷ step.PublicScalar number.label input
+      ∷ step.PublicScalarsBounded numbers.label inputs 4
       ∷ step.Salt salt.label 8
       ∷ step.ScalarsBounded values.label 4
       ∷ step.Pow work.label 8

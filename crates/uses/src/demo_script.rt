@@ -1,9 +1,9 @@
 //! A protocol as a script: the types that play it, its steps as data, and a call for each side.
 //!
-//! Both sides know a number. The prover sends a salt and at most four values, and finds a witness for 8 bits of work. Then
-//! a challenge is drawn, the prover queries a note that no challenge depends on, and two places are drawn, of 4 bits
-//! each. No code stands here for any of these steps. The contract of [`verify`] says which bytes are accepted, and what
-//! comes of them; that of [`prove_and_verify`], that both sides end in one state.
+//! Both sides know a list of at most four numbers. The prover sends a salt and at most four values, and finds a witness
+//! for 8 bits of work. Then a challenge is drawn, the prover sends a note that no challenge depends on, and two places
+//! are drawn, of 4 bits each. No code stands here for any of these steps. The contract of [`verify`] says which bytes
+//! are accepted, and what comes of them; that of [`prove_and_verify`], that both sides end in one state.
 ghost use Rattle.std.specs.Prelude.{◌≡◌, List, [], IfOk, IfErr, IfSome};
 ghost use Rattle.p3_challenger.specs.Runs.{AreAdmitted, carried_count};
 ghost use Rattle.p3_challenger.specs.Scripts.{play_of, challenges_of};
@@ -75,9 +75,9 @@ fn challenger(alloc: Global) -> Challenger
     SerializingChallenger64::from_hasher(Vec::new(alloc), Sha256Hasher, DRAW_LIMIT)
 }
 
-/// The steps of the protocol, for this number.
-pub fn steps(input: Goldilocks) -> [Step<Demo>; 9]
-    ensures steps { AreDemoSteps input result }
+/// The steps of the protocol, for these numbers.
+pub fn steps(inputs: Vec<Goldilocks>) -> [Step<Demo>; 9]
+    ensures steps { AreDemoSteps inputs result }
     ensures admitted { AreAdmitted (play_of (⟦<Demo as Meaning>⟧.rules 1)) result }
     ensures carried { carried_count (play_of (⟦<Demo as Meaning>⟧.rules 1)) result ≡ 0 }
 {
@@ -87,9 +87,10 @@ pub fn steps(input: Goldilocks) -> [Step<Demo>; 9]
             label: "demo",
             kind,
         },
-        Step::PublicScalar {
-            label: "input",
-            value: input,
+        Step::PublicScalarsBounded {
+            label: "inputs",
+            values: inputs,
+            max: 4,
         },
         Step::Salt {
             label: "salt",
@@ -123,24 +124,24 @@ pub fn steps(input: Goldilocks) -> [Step<Demo>; 9]
 /// The pattern of these steps, and its separator. The one error in fact is that memory is out.
 pub fn separator(alloc: Global) -> Result<Separator, TranscriptError> {
     let (leaf, kind) = (Hierarchy::Atomic, Kind::Protocol);
-    let input = Interaction::algebra::<Goldilocks, Goldilocks, Sha256Hasher>(
+    let inputs = Interaction::algebra::<Goldilocks, Goldilocks, Sha256Hasher>(
         leaf,
         Kind::Public,
-        "input",
-        Length::Scalar,
+        "inputs",
+        Length::Bounded(4),
     );
     let steps = vec![in alloc;
         Interaction::marker::<()>(Hierarchy::Begin, kind, "demo"),
-        input,
+        inputs,
         Interaction::bytes(leaf, Kind::Salt, "salt", Length::Fixed(8)),
-        input.of_same_type(leaf, Kind::Message, "values", Length::Bounded(4)),
-        input.of_same_type(leaf, Kind::Pow, "work", Length::Fixed(8)),
-        input.of_same_type(leaf, Kind::Challenge, "alpha", Length::Scalar),
+        inputs.of_same_type(leaf, Kind::Message, "values", Length::Bounded(4)),
+        inputs.of_same_type(leaf, Kind::Pow, "work", Length::Fixed(8)),
+        inputs.of_same_type(leaf, Kind::Challenge, "alpha", Length::Scalar),
         Interaction::bytes(leaf, Kind::Hint, "note", Length::Bounded(16)),
         Interaction::uniform_bits(leaf, Kind::Challenge, "indices", 4, Length::Fixed(2)),
         Interaction::marker::<()>(Hierarchy::End, kind, "demo"),
     ]?;
-    Ok(Separator::new(alloc, 1, b"demo", InteractionPattern::new(steps)?)?)
+    Ok(Separator::new(alloc, 2, b"demo", InteractionPattern::new(steps)?)?)
 }
 
 /// What both sides drew, and the challenger in the end, on each side.
@@ -154,20 +155,21 @@ pub struct Agreed {
     pub verified: Vec<Drawn<Demo>>,
 }
 
-/// Proves that these values were sent, and verifies the proof: both sides draw the same.
+/// Proves that these values were sent, and verifies the proof: both sides draw the same. More than four numbers are
+/// refused at the step of the list.
 ///
 /// Nothing is answered where other values are sent than the steps have: a salt of 8 bytes, a list of scalars, and the
 /// bytes of a note. The errors are those of [`script::prove`], and out of memory.
 pub fn prove_and_verify(
     alloc: Global,
     separator: &Separator,
-    input: Goldilocks,
+    inputs: Vec<Goldilocks>,
     sent: &[Sent<Demo>],
 ) -> Result<Option<Agreed>, Fault>
     ensures { IfOk result (λ agreed. IfSome agreed (λ a.
         challenges_of a.verified.items ≡ challenges_of a.proved.items)) }
 {
-    let steps = steps(input);
+    let steps = steps(inputs);
     if !sent_matches(&steps, sent) {
         return Ok(None);
     }
@@ -182,21 +184,21 @@ pub fn prove_and_verify(
     }))
 }
 
-/// Verifies a proof with this number. Where it is accepted, it is the encoding of just the values that are received, of a
-/// witness that passes, and of nothing more; where it is refused and memory is not out, there are no such values.
+/// Verifies a proof with these numbers. Where it is accepted, it is the encoding of just the values that are received, of
+/// a witness that passes, and of nothing more; where it is refused and memory is not out, there are no such values.
 pub fn verify<'a>(
     alloc: Global,
     separator: &Separator,
-    input: Goldilocks,
+    inputs: Vec<Goldilocks>,
     proof: &'a [u8],
 ) -> Result<Verified<'a, Demo>, Fault>
-    ensures accepted { IfOk result (λ verified. (steps : List _) × AreDemoSteps input steps
+    ensures accepted { IfOk result (λ verified. (steps : List _) × AreDemoSteps inputs steps
         × IsVerifiedScript (⟦<Demo as Meaning>⟧.rules 1) (script_of fresh_challenger separator.now steps)
         proof.now [] ⟦<Challenger as Sponge>⟧.state verified) }
-    ensures refused { IfErr result (λ fault. (steps : List _) × AreDemoSteps input steps
+    ensures refused { IfErr result (λ fault. (steps : List _) × AreDemoSteps inputs steps
         × IsRefusedProof (⟦<Demo as Meaning>⟧.rules 1) (script_of fresh_challenger separator.now steps)
         proof.now [] fault) }
 {
-    let steps = steps(input);
+    let steps = steps(inputs);
     script::verify::<Demo>(alloc, challenger(alloc), separator, &steps, &[], proof)
 }

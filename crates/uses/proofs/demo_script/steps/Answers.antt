@@ -6,7 +6,7 @@ pub returns-clause-steps : goal.returns-clause-steps
 returns-clause-steps c =
     record {
       opener = record { label = _; says = refl };
-      number = record { label = _; says = refl };
+      numbers = record { label = _; says = refl };
       salt = record { label = _; says = refl };
       values = record { label = _; says = refl };
       work = record { label = _; says = refl };
