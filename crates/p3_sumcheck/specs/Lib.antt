@@ -1,3 +1,4 @@
 pub mod Claims
+pub mod ReadingLaws
 pub mod Sumchecks
 pub mod Tables
