@@ -113,7 +113,7 @@ CASES = {
     "callee_asked_too_much": Case([("doubled(n) + n", "let _more = doubled(n + 60); doubled(n) + n")], [], "refused", "[requires]"),
     "two_functions_turned": Case([(NEXT, "doubled(n) + 2"), (GREATER, "a")], [], "refused"),
     "sum_in_another_order": Case([(NEXT, "1 + doubled(n)")], [], "not-refused"),
-    "literal_spelled_otherwise": Case([("n + STEP", "n + 0x2")], [], "not-refused"),
+    "literal_written_otherwise": Case([("n + STEP", "n + 0x2")], [], "not-refused"),
     "one_of_two_functions_turned": Case([(NEXT, "doubled(n) + 2"), (GREATER, "if b > a { b } else { a }")], [], "partly"),
     "refused_in_a_caller_only": Case(ASKS_MORE, [], "elsewhere"),
     "refused_in_the_caller_named": Case(ASKS_MORE, ["tripled_and_one"], "refused", "[requires]"),
@@ -178,7 +178,7 @@ def of_all(root):
         row = row_of(name, lines)
         yield f"{name}: {case.word} {case.mark}".rstrip(), row.startswith(f"{case.word} ") and case.mark in row
     alone = {it for line in lines for it in re.findall(r"# high: check \d+ \((\w+)\):", line)}
-    together = "callee_asked_too_much" not in alone and "literal_spelled_otherwise" in alone
+    together = "callee_asked_too_much" not in alone and "literal_written_otherwise" in alone
     yield "of a batch with a good and a bad edit, only the bad one is tried alone", together
     refused = sum(it.word == "refused" for it in CASES.values())
     yield "the last line counts the refused and the others", lines[-1] == f"{refused} passed, {len(CASES) - refused} failed"

@@ -4,9 +4,9 @@ ghost use Rattle.std.specs.Prelude.{◌<◌, ◌≤◌};
 use crate::names::{ALGEBRAS, AlgebraName, FIELDS, FieldName};
 use anyhow::{Context, Result, bail};
 use conformance_calls::replay::Replayed;
-use conformance_words::answer;
-use conformance_words::symbol::{Symbol, coefficients_of, element_of, numbers_of};
-use conformance_words::words::{look_up, split_name};
+use conformance_tokens::answer;
+use conformance_tokens::symbol::{Symbol, coefficients_of, element_of, numbers_of};
+use conformance_tokens::tokens::{look_up, split_name};
 use p3_challenger::fs::{
     BytesToFieldCodec, Codec, ExtensionFieldCodec, FieldToFieldCodec, FieldUnit, Unit,
 };
@@ -22,19 +22,19 @@ pub enum CodecCall {
     /// A call on the codec of an algebra.
     OfAlgebra(AlgebraName, ElementCall),
     /// `unit F HEX`: the elements that a byte string is, or why it is none.
-    Spell(FieldName, Vec<u8>),
+    UnitOf(FieldName, Vec<u8>),
     /// `unit u8 HEX`: the bytes that a byte string is.
-    SpellBytes(Vec<u8>),
+    UnitOfBytes(Vec<u8>),
 }
 
 /// What is asked of a codec.
 #[derive(Drop)]
 pub enum ElementCall {
-    /// `wire-len A`: how many bytes a spelling has.
+    /// `wire-len A`: how many bytes a encoding has.
     WireLen,
     /// `security-bits A`.
     SecurityBits,
-    /// `enc A HEX`: how the element is spelled whose coefficients are numbers of 8 bytes.
+    /// `enc A HEX`: how the element is encoded whose coefficients are numbers of 8 bytes.
     Encode(Vec<u8>),
     /// `dec A HEX`: the coefficients of the element that bytes begin with, or why they begin with none.
     Decode(Vec<u8>),
@@ -67,8 +67,8 @@ impl CodecCall {
         let bytes = hex::decode(alloc, bytes)?;
         if name == "unit" {
             return match values {
-                "u8" => Ok(CodecCall::SpellBytes(bytes)),
-                _ => Ok(CodecCall::Spell(look_up(&FIELDS, values)?, bytes)),
+                "u8" => Ok(CodecCall::UnitOfBytes(bytes)),
+                _ => Ok(CodecCall::UnitOf(look_up(&FIELDS, values)?, bytes)),
             };
         }
         let algebra = look_up(&ALGEBRAS, values)?;
@@ -90,15 +90,15 @@ impl Replayed for Codecs {
                 Codecs::OfBytes => through_bytes(alloc, algebra, &call),
                 Codecs::OfElements => through_elements(alloc, algebra, &call),
             },
-            CodecCall::SpellBytes(bytes) => spelled::<u8, u8>(alloc, bytes.as_slice()),
-            CodecCall::Spell(field, bytes) => match field {
+            CodecCall::UnitOfBytes(bytes) => encoded::<u8, u8>(alloc, bytes.as_slice()),
+            CodecCall::UnitOf(field, bytes) => match field {
                 FieldName::BabyBear => {
-                    spelled::<FieldUnit<BabyBear>, BabyBear>(alloc, bytes.as_slice())
+                    encoded::<FieldUnit<BabyBear>, BabyBear>(alloc, bytes.as_slice())
                 }
                 FieldName::Goldilocks => {
-                    spelled::<FieldUnit<Goldilocks>, Goldilocks>(alloc, bytes.as_slice())
+                    encoded::<FieldUnit<Goldilocks>, Goldilocks>(alloc, bytes.as_slice())
                 }
-                FieldName::F257 => spelled::<FieldUnit<F257>, F257>(alloc, bytes.as_slice()),
+                FieldName::F257 => encoded::<FieldUnit<F257>, F257>(alloc, bytes.as_slice()),
             },
         }
     }
@@ -191,7 +191,7 @@ fn coefficients<F: PrimeField64>(alloc: Global, numbers: &[u8]) -> Result<Vec<F>
 }
 
 // The symbols that a byte string is, or why it is none.
-fn spelled<U: Unit<Item = T>, T: Symbol>(alloc: Global, bytes: &[u8]) -> Result<String>
+fn encoded<U: Unit<Item = T>, T: Symbol>(alloc: Global, bytes: &[u8]) -> Result<String>
     requires { U.is_alphabet }
 {
     let mut recorder = RecordingChallenger::new(alloc);

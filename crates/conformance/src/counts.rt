@@ -3,7 +3,7 @@ ghost use Rattle.std.specs.Prelude.{◌≤◌};
 
 use anyhow::{Result, bail};
 use conformance_calls::replay::Replayed;
-use conformance_words::words::{split_first, split_name};
+use conformance_tokens::tokens::{split_first, split_name};
 use p3_challenger::fs::{bound_byte_width, decode_len_be, encode_len_be};
 use p3_field::log2_ceil_u64;
 use std::alloc::Global;

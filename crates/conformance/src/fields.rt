@@ -2,10 +2,10 @@
 use crate::names::{ALGEBRAS, AlgebraName, FIELDS, FieldName};
 use anyhow::{Result, bail};
 use conformance_calls::replay::{Replayed, first_difference};
-use conformance_words::answer;
-use conformance_words::line::Step;
-use conformance_words::symbol::{Symbol, coefficients_of};
-use conformance_words::words::{look_up, parse_pair, split_name};
+use conformance_tokens::answer;
+use conformance_tokens::line::Step;
+use conformance_tokens::symbol::{Symbol, coefficients_of};
+use conformance_tokens::tokens::{look_up, parse_pair, split_name};
 use p3_field::{
     Algebra, AlgebraIdentity, BabyBear, Coeffs, F257, Field, Goldilocks, Named, PrimeField,
     PrimeField32, PrimeField64,

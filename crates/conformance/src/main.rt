@@ -41,8 +41,8 @@ use codecs::Codecs;
 use conformance_calls::challengers;
 use conformance_calls::replay::first_difference;
 use conformance_calls::symmetric::Turning;
-use conformance_words::line::{Line, Step};
-use conformance_words::words;
+use conformance_tokens::line::{Line, Step};
+use conformance_tokens::tokens;
 use counts::Counts;
 use patterns::Steps;
 use program::Program;
@@ -130,7 +130,7 @@ fn compare(alloc: Global, text: &str) -> Result<Outcome> {
 
 // The first call of a line with another answer, and its answer.
 fn difference(alloc: Global, line: &Line<'_>) -> Result<Option<(usize, String)>> {
-    let (kind, spec) = words::split_name(line.spec);
+    let (kind, spec) = tokens::split_name(line.spec);
     let steps = line.steps.as_slice();
     match kind {
         "field" => fields::field_difference(alloc, spec, steps),

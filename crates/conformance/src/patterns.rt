@@ -2,8 +2,8 @@
 use crate::steps::{KINDS, StepHead, parse_label, parse_step};
 use anyhow::{Context, Result, bail};
 use conformance_calls::replay::Replayed;
-use conformance_words::answer;
-use conformance_words::words::{look_up, split_name};
+use conformance_tokens::answer;
+use conformance_tokens::tokens::{look_up, split_name};
 use p3_challenger::fs::{
     Interaction, InteractionPattern, Kind, Label, Pattern, PatternPlayer, PatternState,
     TranscriptError,

@@ -1,8 +1,8 @@
 // The program `transcript`: what it writes, and its two sides.
 use anyhow::{Context, Result, bail};
 use conformance_calls::replay::Replayed;
-use conformance_words::answer;
-use conformance_words::words::split_name;
+use conformance_tokens::answer;
+use conformance_tokens::tokens::split_name;
 use p3_challenger::HashChallenger;
 use p3_field::{BabyBear, PrimeField64};
 use p3_symmetric::Sha256Hasher;

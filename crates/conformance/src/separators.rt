@@ -3,10 +3,10 @@ ghost use Rattle.std.specs.Prelude.{◌≤◌, length};
 
 use anyhow::{Result, bail};
 use conformance_calls::replay::{Replayed, first_difference};
-use conformance_words::answer;
-use conformance_words::line::Step;
-use conformance_words::symbol::{Symbol, numbers_of};
-use conformance_words::words::{split_first, split_name};
+use conformance_tokens::answer;
+use conformance_tokens::line::Step;
+use conformance_tokens::symbol::{Symbol, numbers_of};
+use conformance_tokens::tokens::{split_first, split_name};
 use p3_challenger::CanObserve;
 use p3_challenger::fs::{DomainSeparator, FieldUnit, InteractionPattern, Unit};
 use p3_field::{BabyBear, F257};

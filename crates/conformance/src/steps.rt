@@ -2,8 +2,8 @@
 use crate::names::{ALGEBRAS, AlgebraName, FieldName};
 use anyhow::{Context, Result, bail};
 use conformance_calls::replay::Replayed;
-use conformance_words::answer;
-use conformance_words::words::{look_up, split_first, split_name};
+use conformance_tokens::answer;
+use conformance_tokens::tokens::{look_up, split_first, split_name};
 use p3_challenger::fs::{Hierarchy, Interaction, Kind, Label, Length, TypeTag};
 use p3_field::{BabyBear, Coeffs, F257, Goldilocks};
 use p3_symmetric::Sha256Hasher;

@@ -1,6 +1,6 @@
 // Candidates that are tried on a challenger of bytes.
 use anyhow::{Result, bail};
-use conformance_words::words::parse_row;
+use conformance_tokens::tokens::parse_row;
 use p3_challenger::{ByteCandidates, ByteGrindingChallenger, HashChallenger};
 use p3_symmetric::CryptographicHasher;
 use std::alloc::Global;

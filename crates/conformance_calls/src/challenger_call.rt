@@ -1,8 +1,8 @@
 use crate::candidates::Search;
 use crate::work::WorkCall;
 use anyhow::{Result, bail};
-use conformance_words::symbol::{Symbol, rows_of_symbols, symbols};
-use conformance_words::words::{look_up, parse_row, parse_rows, split_name};
+use conformance_tokens::symbol::{Symbol, rows_of_symbols, symbols};
+use conformance_tokens::tokens::{look_up, parse_row, parse_rows, split_name};
 use std::alloc::Global;
 
 /// A call on a challenger of `T`.

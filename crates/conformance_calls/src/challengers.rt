@@ -2,8 +2,8 @@
 use crate::subject::Way;
 use crate::{duplex, hash, multi_field, serializing};
 use anyhow::{Result, bail};
-use conformance_words::line::Step;
-use conformance_words::words::split_name;
+use conformance_tokens::line::Step;
+use conformance_tokens::tokens::split_name;
 use std::alloc::Global;
 
 /// The first call with another answer, on a new challenger: `duplex F K W R`, `hash H [HEX]`, `ser32 F H [HEX]`,

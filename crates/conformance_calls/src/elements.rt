@@ -6,8 +6,8 @@ use crate::subject::{
 };
 use crate::work::{WorkCall, plain_work};
 use anyhow::{Result, bail};
-use conformance_words::answer;
-use conformance_words::symbol::{Extended, coefficients_of, element_of, symbols};
+use conformance_tokens::answer;
+use conformance_tokens::symbol::{Extended, coefficients_of, element_of, symbols};
 use p3_challenger::fs::{ExtensionFieldCodec, FieldToFieldCodec, FieldUnit};
 use p3_challenger::{CanSample, FieldChallenger, GrindingChallenger};
 use p3_field::BasedVectorSpace;

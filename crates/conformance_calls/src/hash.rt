@@ -7,10 +7,10 @@ use crate::subject::{
 };
 use crate::symmetric::digest_of;
 use anyhow::{Context, Result, bail};
-use conformance_words::answer;
-use conformance_words::line::Step;
-use conformance_words::symbol::{Extended, numbers_of, symbols};
-use conformance_words::words::split_name;
+use conformance_tokens::answer;
+use conformance_tokens::line::Step;
+use conformance_tokens::symbol::{Extended, numbers_of, symbols};
+use conformance_tokens::tokens::split_name;
 use p3_challenger::fs::{BytesToFieldCodec, ExtensionFieldCodec};
 use p3_challenger::{CanObserve, CanSample, HashChallenger};
 use p3_field::BabyBear;

@@ -5,10 +5,10 @@ use crate::elements::answer_elements;
 use crate::replay::{Replayed, first_difference};
 use crate::subject::{Subject, Way, finalized, observe};
 use anyhow::{Context, Result, bail};
-use conformance_words::answer;
-use conformance_words::line::Step;
-use conformance_words::symbol::{Extended, Symbol, numbers_of, rows_of_symbols};
-use conformance_words::words::{look_up, parse_rows, split_name};
+use conformance_tokens::answer;
+use conformance_tokens::line::Step;
+use conformance_tokens::symbol::{Extended, Symbol, numbers_of, rows_of_symbols};
+use conformance_tokens::tokens::{look_up, parse_rows, split_name};
 use p3_challenger::MultiField32Challenger;
 use p3_field::{
     BabyBear, F257, FieldBridge, Goldilocks, PrimeCharacteristicRing, PrimeField32, PrimeField64,
@@ -23,7 +23,7 @@ type MultiField<F, PF, P, const W: usize, const R: usize> = Subject<
 // A multi-field challenger and how calls are made on it, and a row of as many places as its digest has: generic code
 // sees by such a row that a digest fits in memory.
 #[derive(Drop)]
-struct Paired<
+struct TwoFields<
     F: PrimeField32,
     PF: PrimeField64 + FieldBridge<F, PF>,
     P,
@@ -60,7 +60,7 @@ pub fn difference(
 
 macro_rules! new_multi_field {
     (($scalars:ty, $cells:ident, $way:expr), $turn:literal, $width:literal, $rate:literal) => {
-        Paired {
+        TwoFields {
             subject: Subject {
                 challenger: MultiField32Challenger::<
                     $scalars,
@@ -106,7 +106,7 @@ impl<
     P: CryptographicPermutation<[PF; W]>,
     const W: usize,
     const R: usize,
-> Replayed for Paired<F, PF, P, W, R> {
+> Replayed for TwoFields<F, PF, P, W, R> {
     fn answer(&mut self, alloc: Global, call: &str) -> Result<String> {
         let (name, words) = split_name(call);
         match name {

@@ -1,6 +1,6 @@
 // The calls of a line, made in order.
 use anyhow::{Context, Result};
-use conformance_words::line::Step;
+use conformance_tokens::line::Step;
 use std::alloc::Global;
 
 /// What calls of a file are made on.

@@ -6,10 +6,10 @@ use crate::replay::{Replayed, first_difference};
 use crate::subject::{DRAW_LIMIT, Subject, Way, finalized, observe};
 use crate::work::{WorkCall, uniform_bits};
 use anyhow::{Context, Result, bail};
-use conformance_words::answer;
-use conformance_words::line::Step;
-use conformance_words::symbol::{Extended, rows_of_symbols};
-use conformance_words::words::{look_up, parse_rows, split_name};
+use conformance_tokens::answer;
+use conformance_tokens::line::Step;
+use conformance_tokens::symbol::{Extended, rows_of_symbols};
+use conformance_tokens::tokens::{look_up, parse_rows, split_name};
 use p3_challenger::{
     ByteGrindingChallenger, CanFinalizeDigest, HashChallenger, SerializedIn, SerializingChallenger,
 };

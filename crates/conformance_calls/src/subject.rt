@@ -4,7 +4,7 @@ ghost use Rattle.std.specs.Prelude.{◌≡◌, ◌≤◌};
 
 use crate::challenger_call::{Draw, Form, ValuesKind};
 use anyhow::{Result, bail};
-use conformance_words::symbol::{Symbol, coefficients_of, element_of, numbers_of};
+use conformance_tokens::symbol::{Symbol, coefficients_of, element_of, numbers_of};
 use p3_challenger::fs::{Codec, Unit};
 use p3_challenger::{
     CanFinalizeDigest, CanObserve, CanSample, CanSampleBits, Sponge, sample_array,

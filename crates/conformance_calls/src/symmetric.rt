@@ -1,9 +1,9 @@
 // Permutations and hash functions, through their bounds.
 use crate::replay::Replayed;
 use anyhow::{Result, bail};
-use conformance_words::answer;
-use conformance_words::symbol::{numbers_of, symbols};
-use conformance_words::words::parse_row;
+use conformance_tokens::answer;
+use conformance_tokens::symbol::{numbers_of, symbols};
+use conformance_tokens::tokens::parse_row;
 use p3_field::F257;
 use p3_symmetric::{CryptographicHasher, CryptographicPermutation, HashOutput, Turn};
 use std::alloc::Global;

@@ -1,7 +1,7 @@
 // Uniform bits and proofs of work on a challenger, through its bounds.
 use crate::subject::{Subject, Way, most_bits};
 use anyhow::{Result, bail};
-use conformance_words::symbol::element;
+use conformance_tokens::symbol::element;
 use p3_challenger::{
     CanSampleUniformBits, GrindingChallenger, UniformBitsError, UniformGrindingChallenger,
 };

@@ -1,4 +1,4 @@
-//! The program `out_of_memory`: it makes calls that ask for memory, and each that is refused for want of it once more.
+//! The program `out_of_memory`: it makes calls that ask for memory, and each refused one once more.
 //!
 //! `tools/memory` refuses each request of it in turn. A call on a challenger that memory ran out of has changed nothing,
 //! and one that makes something has made nothing: so what is printed is the same, unless the program itself finds no

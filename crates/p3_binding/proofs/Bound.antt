@@ -65,11 +65,11 @@ module _ {X S Symbol I F EF O Ac U D : Type 0} (rules : Rules S Symbol I F EF O 
       let xi = x.separator.is_identifier in
       let yi = y.separator.is_identifier in
       let names = of.identifiers xi.version yi.version xi.name yi.name xi.short yi.short
-      (sym xi.spelled ∙ ap (λ (s : SeedParts). s.protocol_id) same ∙ yi.spelled) in
+      (sym xi.encoded ∙ ap (λ (s : SeedParts). s.protocol_id) same ∙ yi.encoded) in
       let xl = x.separator.is_label in
       let yl = y.separator.is_label in
       let chunks = of.labels xl.chunks yl.chunks xl.counted yl.counted
-      (sym xl.spelled ∙ ap (λ (s : SeedParts). s.label) same ∙ yl.spelled) in
+      (sym xl.encoded ∙ ap (λ (s : SeedParts). s.label) same ∙ yl.encoded) in
       record { version = names.0; name = names.1; chunks = chunks }
 
   pub symbols-bind : SymbolsBind U D rules play

@@ -1,6 +1,6 @@
 -- Worked rows: what is no prefix code, what collides, and what may be any value.
 use Rattle.std.proofs.Common.{◌≡◌, ℕ, List, [], ◌∷◌, flat_map, refl}
-use Rattle.p3_challenger_core.specs.Reading.{IsPrefixCode, TellsApart}
+use Rattle.p3_challenger_core.specs.Reading.{IsPrefixCode, IsPrefixFree}
 use Rattle.p3_fs_core.specs.declared.step.Kind.TheVariants.{Hint, Message, Pow}
 use Rattle.p3_fs_core.specs.declared.step.Length.TheVariants.{Fixed}
 use Rattle.p3_binding.specs.Binding.{Collide}
@@ -31,7 +31,7 @@ lists-no_prefix_code code = lists-differ (code two_lists one_list [] [] lists-fe
 -- ---- a codec that feeds nothing
 
 -- it tells no value, so what it says that it needs for telling them is never so
-silent-tells_nothing : TellsApart {T = ℕ} {S = ℕ} (λ _. []) → ⊥
+silent-tells_nothing : IsPrefixFree {T = ℕ} {S = ℕ} (λ _. []) → ⊥
 silent-tells_nothing tells = tells.some 0
 
 -- ---- texts

@@ -124,7 +124,7 @@ pub use Rattle.p3_step_laws.specs.Memory
 pub use Rattle.p3_step_laws.specs.OneReason
 pub use Rattle.p3_step_laws.specs.RoundLaws
 pub use Rattle.p3_step_laws.specs.Rounds
-pub use Rattle.p3_step_laws.specs.Spelled
+pub use Rattle.p3_step_laws.specs.Encoded
 pub use Rattle.p3_field.specs.Residues
 pub use Rattle.p3_field.specs.ResidueLaws
 pub use Rattle.p3_field.specs.Rings

@@ -16,15 +16,15 @@ pub use p3_duplex::{
 };
 pub use p3_field_core::UniformSamplingField;
 pub use p3_grinding::{
-    ByteCandidates, ByteGrindingChallenger, CanSampleUniformBits, GrindingChallenger, PrepareCheck,
-    Replica, ResamplingError, UniformBitsError, UniformGrindingChallenger, least_uniform_witness,
-    least_witness,
+    BeforeWitness, ByteCandidates, ByteGrindingChallenger, CanSampleUniformBits,
+    GrindingChallenger, ResamplingError, TryClone, UniformBitsError, UniformGrindingChallenger,
+    least_uniform_witness, least_witness,
 };
 pub use p3_hash_challenger::{
     HashChallenger, hash_arrays_are_prefix_code, hash_values_are_prefix_code,
 };
 pub use p3_multi_field::{
-    MultiField32Challenger, MultiField32ChallengerError, MultiFieldSymbol, Paired,
+    HasFieldPair, MultiField32Challenger, MultiField32ChallengerError, MultiFieldSymbol,
     multi_field_arrays_are_prefix_code, multi_field_scalars_are_prefix_code,
 };
 pub use p3_serializing::{

@@ -2,15 +2,15 @@
 use Rattle.std.specs.Prelude.{◌≡◌, ℕ, ◌<◌, ◌⊎◌, List, ◌++◌, slice_index}
 use Rattle.p3_challenger_core.specs.Sponge.{IsNonEmpty}
 
--- a prefix code of these values: no spelling begins another, and no two values have one; whatever follows, a
--- spelling is read back
+-- a prefix code of these values: no encoding begins another, and no two values have one; whatever follows, a
+-- encoding is read back
 abbrev pub IsPrefixCodeOn : {T S : Type 0} → (T → Type 0) → (T → List S) → Type 0
-IsPrefixCodeOn {T} {S} IsValue spelling =
-    (x y : T) (a b : List S) → IsValue x → IsValue y → spelling x ++ a ≡ spelling y ++ b → (x ≡ y) × (a ≡ b)
+IsPrefixCodeOn {T} {S} IsValue encoding =
+    (x y : T) (a b : List S) → IsValue x → IsValue y → encoding x ++ a ≡ encoding y ++ b → (x ≡ y) × (a ≡ b)
 
 -- the same of all values
 abbrev pub IsPrefixCode : {T S : Type 0} → (T → List S) → Type 0
-IsPrefixCode {T} {S} spelling = (x y : T) (a b : List S) → spelling x ++ a ≡ spelling y ++ b → (x ≡ y) × (a ≡ b)
+IsPrefixCode {T} {S} encoding = (x y : T) (a b : List S) → encoding x ++ a ≡ encoding y ++ b → (x ≡ y) × (a ≡ b)
 
 -- a number is a byte
 abbrev pub IsByte : ℕ → Type 0
@@ -24,7 +24,7 @@ AreBytes bytes = (i : ℕ) → slice_index bytes i < 256
 abbrev pub OneBegins : {S : Type 0} → List S → List S → Type 0
 OneBegins {S} a b = ((rest : List S) × (a ++ rest ≡ b)) ⊎ ((rest : List S) × (b ++ rest ≡ a))
 
--- the spellings are a prefix code, and no value has an empty one
-pub record TellsApart {T S : Type 0} (spelling : T → List S) : Type 0 where
-  pub prefix_code : IsPrefixCode spelling
-  pub some : (x : T) → IsNonEmpty (spelling x)
+-- the encodings are a prefix code, and no value has an empty one
+pub record IsPrefixFree {T S : Type 0} (encoding : T → List S) : Type 0 where
+  pub prefix_code : IsPrefixCode encoding
+  pub some : (x : T) → IsNonEmpty (encoding x)

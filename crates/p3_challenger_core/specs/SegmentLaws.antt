@@ -130,12 +130,12 @@ module _ {A M S R : Type 0} where
   run_before-assoc a b c =
       λ i. record {
         answers = append_assoc a.answers b.answers c.answers i;
-        handed = append_assoc a.handed b.handed c.handed i;
+        queries = append_assoc a.queries b.queries c.queries i;
         after = c.after;
       }
 
 run_before-stays : {A M S : Type 0} (a : Run A M S) → run_before a (stays a.after) ≡ a
-run_before-stays a = λ i. record { answers = append-nil a.answers i; handed = append-nil a.handed i; after = a.after }
+run_before-stays a = λ i. record { answers = append-nil a.answers i; queries = append-nil a.queries i; after = a.after }
 
 -- Each step of a segment does what one call does, of states that keep something.
 pub record StepsAgree {T A M D S : Type 0} (Keeps : S → Type 0) (calls : ByCalls T A M D S)
@@ -242,7 +242,7 @@ module _ {T A M D S : Type 0} (Keeps : S → Type 0) (by : ByCalls T A M D S) (o
       ap (λ r. run_before r (by.digest r.after)) (run_calls-segments s keeps calls)
       ∙ ap (run_before run) (agree.digest run.after)
 
--- ---- what is handed over is all that matters
+-- ---- the queries are all that matters
 
 all-first : {X : Type 0} (P : X → Type 0) (xs ys : List X) → All P (xs ++ ys) → All P xs
 all-first P [] ys h = All-nil P
@@ -252,26 +252,26 @@ all-second : {X : Type 0} (P : X → Type 0) (xs ys : List X) → All P (xs ++ y
 all-second P [] ys h = h
 all-second P (x ∷ xs) ys h = all-second P xs ys (All-tail P x (xs ++ ys) h)
 
--- one challenger, and another that does the same wherever P holds of all that the one hands over
+-- one challenger, and another that does the same wherever P holds of all that the one queries
 module _ {T A M D S : Type 0} (P : M → Type 0) (by other : ByCalls T A M D S)
-    (same_call : (s : S) (call : Call T) → All P (by.call s call).handed → other.call s call ≡ by.call s call)
-    (same_digest : (s : S) → All P (by.digest s).handed → other.digest s ≡ by.digest s) where
-  pub run_calls-same : (s : S) (calls : List (Call T)) → All P (run_calls by s calls).handed
+    (same_call : (s : S) (call : Call T) → All P (by.call s call).queries → other.call s call ≡ by.call s call)
+    (same_digest : (s : S) → All P (by.digest s).queries → other.digest s ≡ by.digest s) where
+  pub run_calls-same : (s : S) (calls : List (Call T)) → All P (run_calls by s calls).queries
       → run_calls other s calls ≡ run_calls by s calls
   run_calls-same s [] h = refl
   run_calls-same s (call ∷ calls) h =
       let run = by.call s call in
       let rest = run_calls by run.after calls in
-      ap (λ r. run_before r (run_calls other r.after calls)) (same_call s call (all-first P run.handed rest.handed h))
-      ∙ ap (run_before run) (run_calls-same run.after calls (all-second P run.handed rest.handed h))
+      ap (λ r. run_before r (run_calls other r.after calls)) (same_call s call (all-first P run.queries rest.queries h))
+      ∙ ap (run_before run) (run_calls-same run.after calls (all-second P run.queries rest.queries h))
 
-  pub run_calls_to_digest-same : (s : S) (calls : List (Call T)) → All P (run_calls_to_digest by s calls).handed
+  pub run_calls_to_digest-same : (s : S) (calls : List (Call T)) → All P (run_calls_to_digest by s calls).queries
       → run_calls_to_digest other s calls ≡ run_calls_to_digest by s calls
   run_calls_to_digest-same s calls h =
       let run = run_calls by s calls in
-      let last = (by.digest run.after).handed in
-      ap (λ r. run_before r (other.digest r.after)) (run_calls-same s calls (all-first P run.handed last h))
-      ∙ ap (run_before run) (same_digest run.after (all-second P run.handed last h))
+      let last = (by.digest run.after).queries in
+      ap (λ r. run_before r (other.digest r.after)) (run_calls-same s calls (all-first P run.queries last h))
+      ∙ ap (run_before run) (same_digest run.after (all-second P run.queries last h))
 
 -- ---- one challenger, and another that does the same in each state that it comes to
 

@@ -68,24 +68,24 @@ IsCutOf calls cut = AreCutInto cut.first cut.others calls
 
 -- ---- what calls do
 
--- What calls answer, each draw in order; what they hand to the permutation or to the hash function, in
+-- What calls answer, each draw in order; what they query the permutation or the hash function with, in
 -- order; and what they leave: the challenger, or the digest that they end in. An answer is an A, a state
--- or string that is handed over an M, and what is left an S.
+-- or string that is queried an M, and what is left an S.
 pub record Run (A M S : Type 0) : Type 0 where
   pub answers : List A
-  pub handed : List M
+  pub queries : List M
   pub after : S
 
 -- nothing is done
 abbrev pub stays : {A M S : Type 0} → S → Run A M S
-stays s = record { answers = []; handed = []; after = s }
+stays s = record { answers = []; queries = []; after = s }
 
 -- one run and then another
 abbrev pub run_before : {A M S R : Type 0} → Run A M S → Run A M R → Run A M R
 run_before first next =
     record {
       answers = first.answers ++ next.answers;
-      handed = first.handed ++ next.handed;
+      queries = first.queries ++ next.queries;
       after = next.after;
     }
 

@@ -13,16 +13,16 @@ empty_or_not : {S : Type 0} (xs : List S) → (xs ≡ []) ⊎ IsNonEmpty xs
 empty_or_not [] = inl refl
 empty_or_not (x ∷ xs) = inr tt
 
-module _ {T S : Type 0} (IsValue : T → Type 0) (spelling : T → List S) (prefix_code : IsPrefixCodeOn IsValue spelling)
+module _ {T S : Type 0} (IsValue : T → Type 0) (encoding : T → List S) (prefix_code : IsPrefixCodeOn IsValue encoding)
   where
     -- a value that feeds nothing is every value
-    only_value : (x y : T) → IsValue x → IsValue y → spelling x ≡ [] → x ≡ y
+    only_value : (x y : T) → IsValue x → IsValue y → encoding x ≡ [] → x ≡ y
     only_value x y x_is y_is empty =
-        (prefix_code x y (spelling y ++ []) [] x_is y_is (ap (λ a. a ++ (spelling y ++ [])) empty)).0
+        (prefix_code x y (encoding y ++ []) [] x_is y_is (ap (λ a. a ++ (encoding y ++ [])) empty)).0
 
     -- so each feeds something, where two differ
-    pub prefix_code-non_empty : (x y z : T) → IsValue x → IsValue y → IsValue z → (y ≡ z → ⊥) → IsNonEmpty (spelling x)
-    prefix_code-non_empty x y z x_is y_is z_is differ = elim (empty_or_not (spelling x)) [
+    pub prefix_code-non_empty : (x y z : T) → IsValue x → IsValue y → IsValue z → (y ≡ z → ⊥) → IsNonEmpty (encoding x)
+    prefix_code-non_empty x y z x_is y_is z_is differ = elim (empty_or_not (encoding x)) [
       | inl empty ↦ absurd (differ (sym (only_value x y x_is y_is empty) ∙ only_value x z x_is z_is empty))
       | inr some ↦ some
     ]
@@ -71,18 +71,18 @@ bytes-feed symbols each (byte ∷ bytes) are some =
     append-non_empty (symbols byte) (flat_map symbols bytes) (each byte (are zero))
 
 -- as many values in a row are a prefix code, where the values are
-module _ {T S : Type 0} (spelling : T → List S) where
+module _ {T S : Type 0} (encoding : T → List S) where
   after_one : (x : T) (xs : List T) (a : List S)
-      → flat_map spelling (x ∷ xs) ++ a ≡ spelling x ++ (flat_map spelling xs ++ a)
-  after_one x xs a = append_assoc (spelling x) (flat_map spelling xs) a
+      → flat_map encoding (x ∷ xs) ++ a ≡ encoding x ++ (flat_map encoding xs ++ a)
+  after_one x xs a = append_assoc (encoding x) (flat_map encoding xs) a
 
-  pub row-prefix_code : IsPrefixCode spelling → (xs ys : List T) (a b : List S) → length xs ≡ length ys
-      → flat_map spelling xs ++ a ≡ flat_map spelling ys ++ b → (xs ≡ ys) × (a ≡ b)
+  pub row-prefix_code : IsPrefixCode encoding → (xs ys : List T) (a b : List S) → length xs ≡ length ys
+      → flat_map encoding xs ++ a ≡ flat_map encoding ys ++ b → (xs ≡ ys) × (a ≡ b)
   row-prefix_code prefix_code [] [] a b same e = (refl, e)
   row-prefix_code prefix_code [] (y ∷ ys) a b same e = absurd (omega (arith, same))
   row-prefix_code prefix_code (x ∷ xs) [] a b same e = absurd (omega (arith, same))
   row-prefix_code prefix_code (x ∷ xs) (y ∷ ys) a b same e =
-      let first = prefix_code x y (flat_map spelling xs ++ a) (flat_map spelling ys ++ b)
+      let first = prefix_code x y (flat_map encoding xs ++ a) (flat_map encoding ys ++ b)
       (sym (after_one x xs a) ∙ e ∙ after_one y ys b) in
       let fewer : length xs ≡ length ys = omega (arith, same) in
       let others = row-prefix_code prefix_code xs ys a b fewer first.1 in

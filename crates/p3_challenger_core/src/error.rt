@@ -8,7 +8,7 @@ use thiserror::Error;
 
 /// Why a call on a challenger was refused. What stands then the call says.
 ///
-/// Not in the Rust crate, where want of memory or of a witness ends the process, and a draw that rejects values has
+/// Not in the Rust crate, where being out of memory or of a witness ends the process, and a draw that rejects values has
 /// no limit.
 #[derive(Clone, Copy, Debug, PartialEq, Eq, Error)]
 pub enum ChallengerError {

@@ -1,4 +1,4 @@
--- Coefficients that are read, and spelled, one after another.
+-- Coefficients that are read, and encoded, one after another.
 use Rattle.std.proofs.Common.{◌≡◌, ℕ, suc, ◌<◌, ◌≤◌, ◌+◌, ◌-◌, ◌*◌, List, [], ◌∷◌, ◌++◌, length, take, drop, min}
 use Rattle.std.proofs.Common.{get_or, Result, Ok, Err, refl, sym, ap, ◌∙◌, append_assoc, append-nil, add-one, subst}
 use Rattle.std.proofs.Common.{arith}
@@ -88,26 +88,26 @@ module _ {F : Type 0} (base : List ℕ → Result (F × List ℕ) (List ℕ)) (w
       subst (λ (o : Result (List F × List ℕ) (List ℕ)). Decodes (and_then (λ ys. Ok (element ys.0, ys.1)) o) (Ok x))
       (sym all) is
 
--- what is spelled of a row, where a part of the next spelling was added after the first ones
+-- what is encoded of a row, where a part of the next encoding was added after the first ones
 pub row-beginning : {F : Type 0} (wire : F → List ℕ) (xs : List F) (x : F) (ys : List F) (m : ℕ) (old : List ℕ) →
     (n : ℕ) × ((old ++ flat_map wire xs) ++ take m (wire x) ≡ old ++ take n
     (flat_map wire xs ++ (wire x ++ flat_map wire ys)))
 row-beginning wire xs x ys m old =
     let k = min m (length (wire x)) in
-    let spelled = flat_map wire xs in
+    let encoded = flat_map wire xs in
     let short : k ≤ length (wire x) = omega arith in
     let part : take m (wire x) ≡ take k (wire x) = sym (take_min m (wire x)) in (
-      length spelled + k,
-      append_assoc old spelled (take m (wire x))
-          ∙ ap (λ l. old ++ (spelled ++ l)) (part ∙ sym (take-append-le k (wire x) (flat_map wire ys) short))
-          ∙ ap (λ l. old ++ l) (sym (take-append-add spelled (wire x ++ flat_map wire ys) k)),
+      length encoded + k,
+      append_assoc old encoded (take m (wire x))
+          ∙ ap (λ l. old ++ (encoded ++ l)) (part ∙ sym (take-append-le k (wire x) (flat_map wire ys) short))
+          ∙ ap (λ l. old ++ l) (sym (take-append-add encoded (wire x ++ flat_map wire ys) k)),
     )
 
 module _ {F : Type 0} (wire : F → List ℕ) (xs : List F) (old : List ℕ) (i : ℕ) (x : F) (more : i < length xs) where
-  -- a coefficient more is spelled
-  pub spelled-next : (here next : List ℕ) → here ≡ old ++ flat_map wire (take i xs) →
+  -- a coefficient more is encoded
+  pub encoded-next : (here next : List ℕ) → here ≡ old ++ flat_map wire (take i xs) →
       next ≡ here ++ wire (get_or xs i x) → next ≡ old ++ flat_map wire (take (i + 1) xs)
-  spelled-next here next so_far is =
+  encoded-next here next so_far is =
       is
       ∙ ap (λ l. l ++ wire (get_or xs i x)) so_far
       ∙ flat_map_more wire old (take i xs) (get_or xs i x)
@@ -121,10 +121,10 @@ module _ {F : Type 0} (wire : F → List ℕ) (xs : List F) (old : List ℕ) (i 
       ∙ take-append-drop i xs in
       sym (ap (flat_map wire) whole) ∙ flat_map-append wire (take i xs) (get_or xs i x ∷ drop (i + 1) xs)
 
-  -- a beginning of a coefficient's spelling is one of the row's
-  pub spelled-beginning : (here next : List ℕ) (m : ℕ) → here ≡ old ++ flat_map wire (take i xs) →
+  -- a beginning of a coefficient's encoding is one of the row's
+  pub encoded-beginning : (here next : List ℕ) (m : ℕ) → here ≡ old ++ flat_map wire (take i xs) →
       next ≡ here ++ take m (wire (get_or xs i x)) → (n : ℕ) × (next ≡ old ++ take n (flat_map wire xs))
-  spelled-beginning here next m so_far is =
+  encoded-beginning here next m so_far is =
       let part = row-beginning wire (take i xs) (get_or xs i x) (drop (i + 1) xs) m old in (
         part.0,
         is

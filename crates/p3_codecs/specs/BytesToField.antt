@@ -1,5 +1,5 @@
--- An element of a prime field through a challenger of bytes: its spelling is observed, and it is drawn
--- from more bytes than a spelling has.
+-- An element of a prime field through a challenger of bytes: its encoding is observed, and it is drawn
+-- from more bytes than a encoding has.
 use Rattle.std.specs.Prelude.{ℕ, ◌+◌, List}
 use Rattle.p3_field_core.specs.Residues.{Residues}
 use Rattle.p3_challenger_core.specs.Observation.{Observation, in_slice, observed_as}
@@ -8,7 +8,7 @@ use Rattle.p3_challenger_core.specs.Sampling.{Sampling, made_of}
 use Rattle.p3_fs_core.specs.BigEndian.{big_endian, bytes_for}
 use Rattle.p3_fs_core.specs.Scalar.{wire}
 
--- how many bytes an element is drawn from: as many as a spelling has, and 128 bits more
+-- how many bytes an element is drawn from: as many as a encoding has, and 128 bits more
 abbrev pub draw_bytes : ℕ → ℕ
 draw_bytes width = width + 16
 
@@ -16,7 +16,7 @@ draw_bytes width = width + 16
 abbrev pub challenge_of : {F : Type 0} → Residues F → List ℕ → F
 challenge_of r bytes = r.of (big_endian bytes)
 
--- an element is observed as the slice of its spelling's bytes
+-- an element is observed as the slice of its encoding's bytes
 abbrev pub observed_bytes : {F S Symbol : Type 0} → Residues F → ℕ → Observation S Symbol ℕ →
     (S → List ℕ → S → Type 0) → Observation S Symbol F
 observed_bytes r bits byte slice_may_leave = observed_as (wire r (bytes_for bits)) (in_slice byte slice_may_leave)

@@ -3,7 +3,7 @@ use Rattle.std.proofs.Common.{ℕ, ◌<◌, ◌≤◌, ◌^◌, List, [], ◌∷
 use Rattle.std.specs.List.{flat_map}
 use Rattle.p3_field_core.specs.Residues.{Residues, IsResidues}
 use Rattle.p3_challenger_core.specs.Sponge.{IsNonEmpty}
-use Rattle.p3_challenger_core.specs.Reading.{IsPrefixCode, IsPrefixCodeOn, TellsApart, IsByte}
+use Rattle.p3_challenger_core.specs.Reading.{IsPrefixCode, IsPrefixCodeOn, IsPrefixFree, IsByte}
 use Rattle.p3_challenger_core.specs.SymbolLaws.{byte-feeds, bytes-feed, bytes-prefix_code}
 use Rattle.p3_fs_core.specs.BigEndian.{bytes_for}
 use Rattle.p3_fs_core.specs.BigEndianLaws.{AreBytes-in_bytes}
@@ -28,7 +28,7 @@ some_of (x ∷ xs) h = tt
 -- the symbols of an element, where bytes are fed as a prefix code
 pub bytes-tell_apart : {F Symbol : Type 0} (r : Residues F) → IsResidues r → (bits : ℕ) → r.order < 2 ^ bits →
     (symbols : ℕ → List Symbol) → IsPrefixCodeOn IsByte symbols →
-    TellsApart (λ x. flat_map symbols (wire r (bytes_for bits) x))
+    IsPrefixFree (λ x. flat_map symbols (wire r (bytes_for bits) x))
 bytes-tell_apart r laws bits below symbols prefix_code =
     let width = bytes_for bits in
     let fits = order-fits bits r.order below in

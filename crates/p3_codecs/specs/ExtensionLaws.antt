@@ -6,7 +6,7 @@ use Rattle.std.proofs.Math.Nat.{zero-mul}
 use Rattle.std.proofs.lemmas.List.{length-append}
 use Rattle.p3_challenger_core.specs.Sponge.{IsNonEmpty}
 use Rattle.p3_fs_core.specs.Encoding.{Encoding, IsEncoding}
-use Rattle.p3_challenger_core.specs.Reading.{IsPrefixCode, TellsApart, AreBytes}
+use Rattle.p3_challenger_core.specs.Reading.{IsPrefixCode, IsPrefixFree, AreBytes}
 use Rattle.p3_fs_core.specs.BigEndianLaws.{AreBytes-drop, drop-front}
 use Rattle.p3_fs_core.specs.ScalarLaws.{chosen, not_below, read-prefix_code}
 use Rattle.p3_challenger_core.specs.SymbolLaws.{row-feeds, row-prefix_code}
@@ -39,7 +39,7 @@ module _ {F : Type 0} (base_wire : F → List ℕ) (width : ℕ) (fixed : (x : F
 module _ {F : Type 0} (base_wire : F → List ℕ) (base_read : List ℕ → Result (F × List ℕ) (List ℕ)) (width : ℕ)
     (fixed : (x : F) → length (base_wire x) ≡ width) where
   module _ (reads_back : (x : F) (rest : List ℕ) → base_read (base_wire x ++ rest) ≡ Ok (x, rest)) where
-    -- coefficients that are spelled are read
+    -- coefficients that are encoded are read
     pub read_all-row : (xs : List F) (rest : List ℕ) →
         read_all base_read (length xs) (flat_map base_wire xs ++ rest) ≡ Ok (xs, rest)
     unfolding read_all
@@ -54,21 +54,21 @@ module _ {F : Type 0} (base_wire : F → List ℕ) (base_read : List ℕ → Res
     module _ {A : Type 0} (n : ℕ) (coefficients : A → List F) (element : List F → A)
         (as_many : (x : A) → length (coefficients x) ≡ n) (same : (x y : A) → coefficients x ≡ coefficients y → x ≡ y)
         (of_element : (xs : List F) → length xs ≡ n → coefficients (element xs) ≡ xs) where
-      -- an element that is spelled is read
+      -- an element that is encoded is read
       pub read-wire : (x : A) (rest : List ℕ) →
           read base_read width n element (flat_map base_wire (coefficients x) ++ rest) ≡ Ok (x, rest)
       read-wire x rest =
-          let spelled = flat_map base_wire (coefficients x) in
-          let long : n * width ≤ length (spelled ++ rest) = omega (
+          let encoded = flat_map base_wire (coefficients x) in
+          let long : n * width ≤ length (encoded ++ rest) = omega (
             arith,
-            length-append spelled rest,
+            length-append encoded rest,
             length-wire base_wire width fixed n coefficients as_many x,
           ) in
           let itself : element (coefficients x) ≡ x = same (element (coefficients x)) x
           (of_element (coefficients x) (as_many x)) in
           ap (λ b. if b then Err not_enough_bytes else and_then (λ xs. Ok (element xs.0, xs.1))
-          (read_all base_read n (spelled ++ rest))) (not_below (length (spelled ++ rest)) (n * width) long)
-          ∙ ap (λ k. and_then (λ xs. Ok (element xs.0, xs.1)) (read_all base_read k (spelled ++ rest)))
+          (read_all base_read n (encoded ++ rest))) (not_below (length (encoded ++ rest)) (n * width) long)
+          ∙ ap (λ k. and_then (λ xs. Ok (element xs.0, xs.1)) (read_all base_read k (encoded ++ rest)))
           (sym (as_many x))
           ∙ ap (and_then (λ xs. Ok (element xs.0, xs.1))) (read_all-row (coefficients x) rest)
           ∙ ap (λ y. Ok (y, rest)) itself
@@ -85,7 +85,7 @@ module _ {F : Type 0} (base_wire : F → List ℕ) (base_read : List ℕ → Res
     after_coefficient x bytes rest are_bytes e =
         sym (ap (drop width) (only_reads bytes x rest are_bytes e) ∙ drop-front width (base_wire x) rest (fixed x))
 
-    -- coefficients that are read are spelled so
+    -- coefficients that are read are encoded so
     pub read_all-only : (n : ℕ) (bytes : List ℕ) (xs : List F) (rest : List ℕ) → AreBytes bytes →
         read_all base_read n bytes ≡ Ok (xs, rest) → (length xs ≡ n) × (bytes ≡ flat_map base_wire xs ++ rest)
     unfolding read_all
@@ -102,7 +102,7 @@ module _ {F : Type 0} (base_wire : F → List ℕ) (base_read : List ℕ → Res
         let x = first.0.0 in
         let following = first.0.1 in
         let others = bound (λ ys. Ok (x ∷ ys.0, ys.1)) (read_all base_read n following) (xs, rest) first.2 in
-        let spelled = only_reads bytes x following are_bytes first.1 in
+        let encoded = only_reads bytes x following are_bytes first.1 in
         let after_are : AreBytes following = subst (λ (l : List ℕ). AreBytes l)
         (sym (after_coefficient x bytes following are_bytes first.1)) (AreBytes-drop width bytes are_bytes) in
         let row = read_all-only n following others.0.0 others.0.1 after_are others.1 in
@@ -110,14 +110,14 @@ module _ {F : Type 0} (base_wire : F → List ℕ) (base_read : List ℕ → Res
         let values : x ∷ others.0.0 ≡ xs = ap (λ p. p.0) made in
         let end : others.0.1 ≡ rest = ap (λ p. p.1) made in (
           sym (ap length values) ∙ ap suc row.0,
-          spelled
+          encoded
               ∙ ap (λ bs. base_wire x ++ bs) row.1
               ∙ sym (append_assoc (base_wire x) (flat_map base_wire others.0.0) others.0.1)
               ∙ ap (λ ys. flat_map base_wire ys ++ others.0.1) values
               ∙ ap (λ bs. flat_map base_wire xs ++ bs) end,
         )
 
-    -- an element that is read is spelled so
+    -- an element that is read is encoded so
     pub read-only : {A : Type 0} (n : ℕ) (coefficients : A → List F) (element : List F → A) →
         ((xs : List F) → length xs ≡ n → coefficients (element xs) ≡ xs) → (bytes : List ℕ) (x : A) (rest : List ℕ) →
         AreBytes bytes → read base_read width n element bytes ≡ Ok (x, rest) →
@@ -167,9 +167,9 @@ some_of [] h = absurd (omega (arith, h))
 some_of (x ∷ xs) h = tt
 
 -- the symbols of an element, where coefficients are fed as a prefix code
-pub coefficients-tell_apart : {F A Symbol : Type 0} (symbols : F → List Symbol) → TellsApart symbols → (n : ℕ) → 0 < n →
+pub coefficients-tell_apart : {F A Symbol : Type 0} (symbols : F → List Symbol) → IsPrefixFree symbols → (n : ℕ) → 0 < n →
     (coefficients : A → List F) → ((x : A) → length (coefficients x) ≡ n) →
-    ((x y : A) → coefficients x ≡ coefficients y → x ≡ y) → TellsApart (λ x. flat_map symbols (coefficients x))
+    ((x y : A) → coefficients x ≡ coefficients y → x ≡ y) → IsPrefixFree (λ x. flat_map symbols (coefficients x))
 coefficients-tell_apart symbols base n positive coefficients as_many same =
     record {
       prefix_code = symbols-prefix_code symbols base.prefix_code n coefficients as_many same;

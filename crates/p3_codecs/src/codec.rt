@@ -1,9 +1,9 @@
-//! What a codec owes: how a value is spelled in the proof, how a challenger observes it, and how it is drawn.
+//! What a codec owes: how a value is encoded in the proof, how a challenger observes it, and how it is drawn.
 ghost use Rattle.std.specs.Prelude.{◌≡◌, ℕ, ◌<◌, ◌≤◌, List, ◌++◌, take, drop, length, Some, Ok, Err, OnOk, OnErr, IfOk};
 ghost use Rattle.std.specs.Prelude.{IfErr};
 ghost use Rattle.p3_challenger_core.specs.Observation.{Observation, RefusesObserve};
 ghost use Rattle.p3_challenger_core.specs.Sampling.{Sampling, RefusesDraw};
-ghost use Rattle.p3_challenger_core.specs.Reading.{TellsApart};
+ghost use Rattle.p3_challenger_core.specs.Reading.{IsPrefixFree};
 ghost use Rattle.p3_fs_core.specs.Encoding.{Encoding};
 ghost use Rattle.p3_codecs.specs.Codecs.{IsCodec};
 ghost use Rattle.p3_fs_core.specs.Scalar.{outside_range};
@@ -19,8 +19,8 @@ pub const MIN_CHALLENGE_SECURITY_BITS: u32 = 128;
 // The condition of a draw names this number, so that it is the same whatever the constant says.
 const _: () = prove!(MIN_CHALLENGE_SECURITY_BITS == 128);
 
-/// How the values of a type become symbols of a challenger, are drawn from it, and are spelled in the
-/// proof: each value has one spelling, and all spellings have one width.
+/// How the values of a type become symbols of a challenger, are drawn from it, and are encoded in the
+/// proof: each value has one encoding, and all encodings have one width.
 ///
 /// The Rust crate's `Codec`. Here the challenger is a [`Sponge`], and a codec owes its laws.
 pub trait Codec<C: Sponge, T> {
@@ -30,7 +30,7 @@ pub trait Codec<C: Sponge, T> {
 
     ghost SECURITY_BITS: { ℕ };
 
-    // The one spelling of each value, and what is read.
+    // The one encoding of each value, and what is read.
     ghost encoding: { Encoding T };
 
     // What a value feeds the challenger, the state after it, and what is left where it is refused.
@@ -69,7 +69,7 @@ pub trait Codec<C: Sponge, T> {
         ensures err { IfErr result (λ e.
             RefusesDraw sampling e (C.state challenger.old) (C.state challenger.new)) };
 
-    /// Adds the spelling of a value at the end of `out`.
+    /// Adds the encoding of a value at the end of `out`.
     ///
     /// The one error is [`TranscriptError::OutOfMemory`], which leaves a beginning of it added. It answers no error
     /// in the Rust crate.
@@ -78,9 +78,9 @@ pub trait Codec<C: Sponge, T> {
         ensures err { IfErr result (λ e. e ≡ TranscriptError.OutOfMemory) }
         ensures left { OnErr result ((n : ℕ) × (out.new.items ≡ out.old.items ++ take n (encoding.wire value.now))) };
 
-    /// The value whose spelling `bytes` begin with: their first [`wire_len`](Codec::wire_len) bytes.
+    /// The value whose encoding `bytes` begin with: their first [`wire_len`](Codec::wire_len) bytes.
     ///
-    /// The one error is [`TranscriptError::BadProofShape`], where they begin with no spelling; its reason is
+    /// The one error is [`TranscriptError::BadProofShape`], where they begin with no encoding; its reason is
     /// the codec's own.
     fn decode(bytes: &[u8]) -> Result<T, TranscriptError>
         ensures exact { Decodes (encoding.read bytes.now) result }
@@ -90,10 +90,10 @@ pub trait Codec<C: Sponge, T> {
     // Values are encoded, observed and drawn as every codec owes it.
     ghost is_codec: { IsCodec C.fed C.next encoding observation sampling };
 
-    ghost symbols_are_prefix_code: { feeds_prefix_code → TellsApart observation.symbols };
+    ghost symbols_are_prefix_code: { feeds_prefix_code → IsPrefixFree observation.symbols };
 }
 
-/// A codec of the elements of a field. A spelling has at least one byte, and at most 65535, so that an element of
+/// A codec of the elements of a field. A encoding has at least one byte, and at most 65535, so that an element of
 /// a vector space, of at most 65535 coefficients, has a width that is a `usize`. Where there are so many bytes,
 /// the one reason for none of them is `field encoding outside canonical range`.
 ///

@@ -12,7 +12,7 @@ use std::marker::PhantomData;
 
 /// An element of a vector space through the codec of its coefficients, in the order of the basis.
 ///
-/// Its spelling is that of the coefficients one after another. A draw draws coefficient 0 first. `decode`
+/// Its encoding is that of the coefficients one after another. A draw draws coefficient 0 first. `decode`
 /// answers `not enough bytes for an extension-field encoding` where there are not enough for all of them,
 /// before any is read, and else the base codec's reason for the first coefficient that is none.
 ///
@@ -88,7 +88,7 @@ impl<C: Sponge, F: Field, EF: BasedVectorSpace<F>, BaseCodec: ScalarCodec<C, F>>
     }
 }
 
-// The element whose spelling the bytes begin with. Their number is tested before any coefficient is read.
+// The element whose encoding the bytes begin with. Their number is tested before any coefficient is read.
 fn decode_element<C: Sponge, F: Field, EF: BasedVectorSpace<F>, BaseCodec: ScalarCodec<C, F>>(
     bytes: &[u8],
 ) -> Result<EF, TranscriptError>

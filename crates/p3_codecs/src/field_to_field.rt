@@ -7,7 +7,7 @@ use std::marker::PhantomData;
 
 /// A scalar through a challenger of the field's own elements: it is observed and drawn as it is.
 ///
-/// Its spelling in the proof is that of [`TranscriptField`].
+/// Its encoding in the proof is that of [`TranscriptField`].
 ///
 /// The Rust crate's `FieldToFieldCodec`.
 pub struct FieldToFieldCodec<F>(PhantomData<F>);

@@ -10,14 +10,14 @@ use Rattle.p3_domain_separator.specs.Separators.{Separator}
 use Rattle.p3_domain_separator.specs.declared.domain_separator.DomainSeparator.{DomainSeparator}
 
 module _ {U D : Type 0} where
-  -- a separator with these bytes and this pattern is made of what they spell
+  -- a separator with these bytes and this pattern is made of what they encode
   pub made_of : (s : DomainSeparator U D) (version : ℕ) (name : List ℕ) (chunks : List (List ℕ))
       (pattern : PatternSteps) → s.protocol_id ≡ identifier version name → length name ≤ 62 →
       s.instance_label.items ≡ label_of chunks → All FitsCount chunks → s.pattern.value ≡ pattern →
       separator_of s ≡ record { version = version; name = name; chunks = chunks; pattern = pattern }
   made_of s version name chunks pattern id_is short label_is fit pattern_is =
       let id = s.is_identifier in
-      let parts = identifier_injective id.version version id.name name id.short short (sym id.spelled ∙ id_is) in
+      let parts = identifier_injective id.version version id.name name id.short short (sym id.encoded ∙ id_is) in
       let same = only_chunks s.instance_label.items s.is_label chunks fit label_is in
       (λ i. record { version = parts.0 i; name = parts.1 i; chunks = same i; pattern = pattern_is i })
 
@@ -27,9 +27,9 @@ module _ {U D : Type 0} where
       separator_of s ≡ separator_of t
   same_contents s t ids labels patterns =
       made_of s t.is_identifier.version t.is_identifier.name t.is_label.chunks t.pattern.value
-      (ids ∙ t.is_identifier.spelled)
+      (ids ∙ t.is_identifier.encoded)
       t.is_identifier.short
-      (labels ∙ t.is_label.spelled)
+      (labels ∙ t.is_label.encoded)
       t.is_label.counted
       patterns
 
@@ -37,7 +37,7 @@ module _ {U D : Type 0} where
       (s.protocol_id ≡ t.protocol_id) × (s.instance_label.items ≡ t.instance_label.items)
       × (s.pattern.value ≡ t.pattern.value)
   same_bytes s t same = (
-    s.is_identifier.spelled ∙ ap (λ (p : Separator). identifier p.version p.name) same ∙ sym t.is_identifier.spelled,
-    s.is_label.spelled ∙ ap (λ (p : Separator). label_of p.chunks) same ∙ sym t.is_label.spelled,
+    s.is_identifier.encoded ∙ ap (λ (p : Separator). identifier p.version p.name) same ∙ sym t.is_identifier.encoded,
+    s.is_label.encoded ∙ ap (λ (p : Separator). label_of p.chunks) same ∙ sym t.is_label.encoded,
     ap (λ (p : Separator). p.pattern) same,
   )

@@ -50,8 +50,8 @@ label_more chunks chunk =
 
 pub chunk_added : (chunk label grown : List ℕ) → grown ≡ label ++ counted chunk → (chunks : List (List ℕ)) →
     label ≡ label_of chunks → grown ≡ label_of (chunks ++ (chunk ∷ []))
-chunk_added chunk label grown is chunks spelled =
-    is ∙ ap (λ front. front ++ counted chunk) spelled ∙ sym (label_more chunks chunk)
+chunk_added chunk label grown is chunks encoded =
+    is ∙ ap (λ front. front ++ counted chunk) encoded ∙ sym (label_more chunks chunk)
 
 -- ---- seeds
 

@@ -25,57 +25,57 @@ FitsCount-prop bytes = le_prop
 -- that bytes are an identifier has one proof
 pub IsIdentifier-prop : (protocol_id : List ℕ) → IsProp (IsIdentifier protocol_id)
 IsIdentifier-prop protocol_id x y =
-    let parts = identifier_injective x.version y.version x.name y.name x.short y.short (sym x.spelled ∙ y.spelled) in
+    let parts = identifier_injective x.version y.version x.name y.name x.short y.short (sym x.encoded ∙ y.encoded) in
     let Same : ℕ × List ℕ → Type 0 = λ (p : ℕ × List ℕ).
-    (spelled : protocol_id ≡ identifier p.0 p.1) (version_fits : p.0 < 256) (named : 1 ≤ length p.1)
+    (encoded : protocol_id ≡ identifier p.0 p.1) (version_fits : p.0 < 256) (named : 1 ≤ length p.1)
     (short : length p.1 ≤ 62) (bytes : AreBytes p.1)
     → x ≡ record {
       version = p.0;
       name = p.1;
-      spelled = spelled;
+      encoded = encoded;
       version_fits = version_fits;
       named = named;
       short = short;
       bytes = bytes;
     } in
-    let own : Same (x.version, x.name) = λ spelled version_fits named short bytes i. record {
+    let own : Same (x.version, x.name) = λ encoded version_fits named short bytes i. record {
       version = x.version;
       name = x.name;
-      spelled = bytes-prop protocol_id (identifier x.version x.name) x.spelled spelled i;
+      encoded = bytes-prop protocol_id (identifier x.version x.name) x.encoded encoded i;
       version_fits = le_prop x.version_fits version_fits i;
       named = le_prop x.named named i;
       short = le_prop x.short short i;
       bytes = AreBytes-prop x.name x.bytes bytes i;
     } in
-    subst Same (λ i. (parts.0 i, parts.1 i)) own y.spelled y.version_fits y.named y.short y.bytes
+    subst Same (λ i. (parts.0 i, parts.1 i)) own y.encoded y.version_fits y.named y.short y.bytes
 
 -- ---- labels
 
 -- a label is that of its chunks alone
 pub only_chunks : (label : List ℕ) (is : IsLabel label) (chunks : List (List ℕ)) → All FitsCount chunks →
     label ≡ label_of chunks → is.chunks ≡ chunks
-only_chunks label is chunks fit spelled = label_injective is.chunks chunks is.counted fit (sym is.spelled ∙ spelled)
+only_chunks label is chunks fit encoded = label_injective is.chunks chunks is.counted fit (sym is.encoded ∙ encoded)
 
 -- that bytes are a label has one proof
 pub IsLabel-prop : (label : List ℕ) → IsProp (IsLabel label)
 IsLabel-prop label x y =
     let Same : List (List ℕ) → Type 0 = λ (chunks : List (List ℕ)).
-    (spelled : label ≡ label_of chunks) (counts : All FitsCount chunks) (bytes : All AreBytes chunks)
-    → x ≡ record { chunks = chunks; spelled = spelled; counted = counts; bytes = bytes } in
-    let own : Same x.chunks = λ spelled counts bytes i. record {
+    (encoded : label ≡ label_of chunks) (counts : All FitsCount chunks) (bytes : All AreBytes chunks)
+    → x ≡ record { chunks = chunks; encoded = encoded; counted = counts; bytes = bytes } in
+    let own : Same x.chunks = λ encoded counts bytes i. record {
       chunks = x.chunks;
-      spelled = bytes-prop label (label_of x.chunks) x.spelled spelled i;
+      encoded = bytes-prop label (label_of x.chunks) x.encoded encoded i;
       counted = All-prop FitsCount FitsCount-prop x.chunks x.counted counts i;
       bytes = All-prop AreBytes AreBytes-prop x.chunks x.bytes bytes i;
     } in
-    subst Same (only_chunks label x y.chunks y.counted y.spelled) own y.spelled y.counted y.bytes
+    subst Same (only_chunks label x y.chunks y.counted y.encoded) own y.encoded y.counted y.bytes
 
 -- the label of no chunks
 pub IsLabel-none : IsLabel []
 IsLabel-none =
     record {
       chunks = [];
-      spelled = refl;
+      encoded = refl;
       counted = λ k d within. absurd (omega (arith, within));
       bytes = λ k d within. absurd (omega (arith, within));
     }
@@ -86,7 +86,7 @@ pub IsLabel-more : (label chunk grown : List ℕ) → IsLabel label → FitsCoun
 IsLabel-more label chunk grown is fits bytes more =
     record {
       chunks = is.chunks ++ (chunk ∷ []);
-      spelled = more ∙ ap (λ front. front ++ counted chunk) is.spelled ∙ sym (label_more is.chunks chunk);
+      encoded = more ∙ ap (λ front. front ++ counted chunk) is.encoded ∙ sym (label_more is.chunks chunk);
       counted = All-push FitsCount is.chunks chunk is.counted fits;
       bytes = All-push AreBytes is.chunks chunk is.bytes bytes;
     }
@@ -97,4 +97,4 @@ pub chunks-more : (label chunk grown : List ℕ) (is : IsLabel label) (is_grown 
 chunks-more label chunk grown is is_grown fits more =
     only_chunks grown is_grown (is.chunks ++ (chunk ∷ []))
     (All-push FitsCount is.chunks chunk is.counted fits)
-    (more ∙ ap (λ front. front ++ counted chunk) is.spelled ∙ sym (label_more is.chunks chunk))
+    (more ∙ ap (λ front. front ++ counted chunk) is.encoded ∙ sym (label_more is.chunks chunk))

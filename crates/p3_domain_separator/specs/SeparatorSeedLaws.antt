@@ -65,7 +65,7 @@ module _ {U D : Type 0} (digest_of : List ℕ → List ℕ) (digests : (text : L
       AreSeedParts (parts_of digest_of s.protocol_id s.pattern.value s.instance_label.items)
   separator-parts s =
       let id = s.is_identifier in (
-        ap length id.spelled ∙ identifier-long id.version id.name id.short,
+        ap length id.encoded ∙ identifier-long id.version id.name id.short,
         (digests (rendering alternate_text (steps_of s.pattern.value))).places,
         s.label_fits,
       )
@@ -77,9 +77,9 @@ module _ {U D : Type 0} (digest_of : List ℕ → List ℕ) (digests : (text : L
       let digest = digest_of (rendering alternate_text (steps_of s.pattern.value)) in
       let end : List ℕ = 0x80 ∷ [] in
       let instance = counted s.instance_label.items in
-      let id_bytes = subst AreBytes (sym id.spelled)
+      let id_bytes = subst AreBytes (sym id.encoded)
       (identifier-bytes id.version id.name id.version_fits id.short id.bytes) in
-      let label_are = subst AreBytes (sym label.spelled) (label-bytes label.chunks label.bytes) in
+      let label_are = subst AreBytes (sym label.encoded) (label-bytes label.chunks label.bytes) in
       bytes-append s.protocol_id (digest ++ (instance ++ end)) id_bytes
       (bytes-append digest (instance ++ end) (digests (rendering alternate_text (steps_of s.pattern.value))).bytes
       (bytes-append instance end (bytes-counted s.instance_label.items label_are) (bytes-one 0x80 (lit< tt))))

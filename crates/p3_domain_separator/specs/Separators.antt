@@ -9,7 +9,7 @@ use Rattle.p3_domain_separator.specs.Seed.{identifier, label_of, FitsCount}
 pub record IsIdentifier (protocol_id : List ℕ) : Type 0 where
   pub version : ℕ
   pub name : List ℕ
-  pub spelled : protocol_id ≡ identifier version name
+  pub encoded : protocol_id ≡ identifier version name
   pub version_fits : version < 256
   pub named : 1 ≤ length name
   pub short : length name ≤ 62
@@ -18,7 +18,7 @@ pub record IsIdentifier (protocol_id : List ℕ) : Type 0 where
 -- the bytes are the label of an instance: that of chunks whose lengths fit in four bytes
 pub record IsLabel (label : List ℕ) : Type 0 where
   pub chunks : List (List ℕ)
-  pub spelled : label ≡ label_of chunks
+  pub encoded : label ≡ label_of chunks
   pub counted : All FitsCount chunks
   pub bytes : All AreBytes chunks
 

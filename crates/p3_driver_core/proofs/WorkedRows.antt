@@ -38,8 +38,8 @@ counts = (refl, refl, refl)
 abbrev numbers : Residues ℕ
 numbers = record { order = 257; number = λ x. x; of = λ n. n % 257 }
 
-abbrev spelled : Encoding ℕ
-spelled = scalar.encoding numbers 9
+abbrev encoded : Encoding ℕ
+encoded = scalar.encoding numbers 9
 
 -- each number is kept as it is
 abbrev kept : Observation (List ℕ) ℕ ℕ
@@ -59,15 +59,15 @@ list_step = algebra_step Message (codes "xs") (algebra_of 257 1 (codes "prime:25
 abbrev after_nine : {A : Type 0} → Meaning (List ℕ) ℕ A → List ℕ
 after_nine m = m.effect.after (9 ∷ [])
 
-five_sent : let m = sent list_step kept spelled 5 in
+five_sent : let m = sent list_step kept encoded 5 in
     (m.wire ≡ 0 ∷ 5 ∷ []) × (m.effect.symbols ≡ 5 ∷ []) × (after_nine m ≡ 9 ∷ 5 ∷ [])
 five_sent = (refl, refl, refl)
 
-greatest_sent : (sent list_step kept spelled 256).wire ≡ 1 ∷ 0 ∷ []
+greatest_sent : (sent list_step kept encoded 256).wire ≡ 1 ∷ 0 ∷ []
 greatest_sent = refl
 
 -- 5 and 256 after their count, of at most three
-two_sent : let m = sent_bounded list_step in_field 3 kept spelled (5 ∷ 256 ∷ []) in
+two_sent : let m = sent_bounded list_step in_field 3 kept encoded (5 ∷ 256 ∷ []) in
     (m.wire ≡ 2 ∷ 0 ∷ 5 ∷ 1 ∷ 0 ∷ [])
     × (m.effect.symbols ≡ 1 ∷ 2 ∷ 5 ∷ 256 ∷ [])
     × (after_nine m ≡ 9 ∷ 1 ∷ 2 ∷ 5 ∷ 256 ∷ [])
@@ -82,18 +82,18 @@ unfolding count_width first_chunks
 two_observed = (refl, refl)
 
 -- no values, of at most three and of at most none
-none_of_three : let m = sent_bounded list_step in_field 3 kept spelled [] in
+none_of_three : let m = sent_bounded list_step in_field 3 kept encoded [] in
     (m.wire ≡ 0 ∷ []) × (m.effect.symbols ≡ 1 ∷ 0 ∷ [])
 unfolding count_width first_chunks
 none_of_three = (refl, refl)
 
-none_of_none : let m = sent_bounded list_step in_field 0 kept spelled [] in
+none_of_none : let m = sent_bounded list_step in_field 0 kept encoded [] in
     (m.wire ≡ []) × (m.effect.symbols ≡ 0 ∷ [])
 unfolding count_width first_chunks
 none_of_none = (refl, refl)
 
 -- bytes as they are have no symbol for a count of none
-none_as_they_are : (sent_bounded list_step as_they_are 0 kept spelled []).effect.symbols ≡ []
+none_as_they_are : (sent_bounded list_step as_they_are 0 kept encoded []).effect.symbols ≡ []
 unfolding count_width
 none_as_they_are = refl
 

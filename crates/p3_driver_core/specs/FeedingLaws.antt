@@ -193,7 +193,7 @@ module _ {S Symbol : Type 0} (fed : S → List Symbol → S) (fed_nothing : (s :
 
   -- ---- steps as drivers play them
 
-  -- want of memory leaves a state to which a front of the symbols was fed
+  -- being out of memory leaves a state to which a front of the symbols was fed
   pub beginning-fed : {A : Type 0} (effect : Effect S Symbol A) → Feeds fed effect → (s t : S) →
       LeavesPart effect s t → LeavesFed fed s effect.symbols t
   beginning-fed effect is s t (inl none) = unchanged-fed effect.symbols s t none
@@ -343,7 +343,7 @@ module _ {S : Type 0} (next : S → S) where
           leaves = turns-leave;
         }
 
-  -- want of memory leaves a state after some number of the smallest draws
+  -- being out of memory leaves a state after some number of the smallest draws
   pub beginning-drawn : {Symbol A : Type 0} (effect : Effect S Symbol A) → OnlyDraws next effect → (s t : S) →
       LeavesPart effect s t → IsStepsOn next s t
   beginning-drawn effect is s t (inl none) = unchanged-steps s t none

@@ -99,7 +99,7 @@ pub record Abandons {S : Type 0} (s : Step) (before : Transcript S) (Leaves : S 
   pub leaves : Leaves before.challenger after.challenger
   pub finished : after.playing.finished ≡ true
 
--- what want of memory leaves of the challenger: it took no part in the step, or all of it, or a beginning
+-- what being out of memory leaves of the challenger: it took no part in the step, or all of it, or a beginning
 abbrev pub LeavesPart : {S Symbol A : Type 0} → Effect S Symbol A → S → S → Type 0
 LeavesPart effect s t = (t ≡ s) ⊎ (t ≡ effect.after s) ⊎ effect.refuses challenger.OutOfMemory s t
 
@@ -156,7 +156,7 @@ KeepsOrder s before result after =
     MatchResult result (λ _. IsNext before.playing s × (after.playing ≡ step_on before.playing))
     (λ e. RefusesOrder s before e after ⊎ (IsNext before.playing s × (after.playing.finished ≡ true)))
 
--- what a refused step leaves of the bytes written so far: with want of memory a beginning of its own is added
+-- what a refused step leaves of the bytes written so far: with being out of memory a beginning of its own is added
 abbrev pub LeavesWire : List ℕ → TranscriptError → List ℕ → List ℕ → Type 0
 LeavesWire wire OutOfMemory before after = (n : ℕ) × (after ≡ before ++ take n wire)
 LeavesWire wire _ before after = after ≡ before

@@ -30,8 +30,8 @@ use Rattle.p3_driver_core.specs.Proving.{Writes, RefusesToWrite, RefusesLongList
 abbrev numbers : Residues ℕ
 numbers = record { order = 257; number = λ x. x; of = λ n. n % 257 }
 
-abbrev spelled : Encoding ℕ
-spelled = scalar.encoding numbers 9
+abbrev encoded : Encoding ℕ
+encoded = scalar.encoding numbers 9
 
 abbrev kept : Observation (List ℕ) ℕ ℕ
 kept = unrefused_observe (λ x. x ∷ []) (λ s x. x ∷ s)
@@ -44,7 +44,7 @@ in_field = alphabet_of (packed numbers 1) (λ len. 257 ≤ len) kept (λ _ _ _. 
 abbrev two_numbers : Meaning (List ℕ) ℕ (List ℕ)
 two_numbers =
     sent_bounded (algebra_step Message (codes "xs") (algebra_of 257 1 (replicate 32 0) (codes "F257")) (Bounded 3)) in_field 3 kept
-    spelled (5 ∷ 256 ∷ [])
+    encoded (5 ∷ 256 ∷ [])
 
 -- a prover whose challenger was fed 9, and which has written the byte aa; and one later
 abbrev proving : Playing → List ℕ → List ℕ → Driving (List ℕ)
@@ -184,7 +184,7 @@ seven_is_least : IsLeast numbers (work 3).check (9 ∷ []) 7
 seven_is_least = record { passes = refl; least = below_seven }
 
 seven_written : (playing : Playing) → IsNext playing (work 3).interaction →
-    Writes (sent_work (work 3) spelled 7) (before playing) 7
+    Writes (sent_work (work 3) encoded 7) (before playing) 7
     (proving (step_on playing) (0 ∷ 7 ∷ 9 ∷ []) (0xaa ∷ 0 ∷ 7 ∷ []))
 seven_written playing next =
     record {
@@ -194,7 +194,7 @@ seven_written playing next =
 
 -- memory is refused where one byte of it was written
 seven_cut : (playing : Playing) → IsNext playing (work 3).interaction →
-    Unwritten (work 3) spelled (before playing) OutOfMemory
+    Unwritten (work 3) encoded (before playing) OutOfMemory
     (proving (closed playing) (0 ∷ 7 ∷ 9 ∷ []) (0xaa ∷ 0 ∷ []))
 seven_cut playing next =
     record {
@@ -207,7 +207,7 @@ seven_cut playing next =
 
 -- of no bits: 0 is written, and the challenger is as it was
 zero_written : (playing : Playing) → IsNext playing (work 0).interaction →
-    Writes (sent_work (work 0) spelled 0) (before playing) 0
+    Writes (sent_work (work 0) encoded 0) (before playing) 0
     (proving (step_on playing) (9 ∷ []) (0xaa ∷ 0 ∷ 0 ∷ []))
 zero_written playing next =
     record {

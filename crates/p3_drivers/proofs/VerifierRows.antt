@@ -28,8 +28,8 @@ use Rattle.p3_driver_core.specs.Verifying.{Receives, ReadsNothing, FailsWork, En
 abbrev numbers : Residues ℕ
 numbers = record { order = 2013265921; number = λ x. x; of = λ n. n % 2013265921 }
 
-abbrev spelled : Encoding ℕ
-spelled = scalar.encoding numbers 31
+abbrev encoded : Encoding ℕ
+encoded = scalar.encoding numbers 31
 
 abbrev kept : Observation (List ℕ) ℕ ℕ
 kept = unrefused_observe (λ x. x ∷ []) (λ s x. x ∷ s)
@@ -49,7 +49,7 @@ nothing_read reason left absorbed = Err (record { reason = reason; left = left; 
 -- ---- one value
 
 abbrev read_one : List ℕ → Read (List ℕ) ℕ
-read_one = (received (step_of Scalar) kept spelled).read
+read_one = (received (step_of Scalar) kept encoded).read
 
 greatest : read_one (0x78 ∷ 0 ∷ 0 ∷ 0 ∷ 9 ∷ []) ≡ Ok (2013265920, 9 ∷ [])
 greatest = refl
@@ -66,7 +66,7 @@ short = refl
 -- ---- lists
 
 abbrev read_two : List ℕ → Read (List ℕ) (List ℕ)
-read_two = (received_list (step_of (Fixed 2)) kept spelled 2).read
+read_two = (received_list (step_of (Fixed 2)) kept encoded 2).read
 
 two_read : read_two (0 ∷ 0 ∷ 0 ∷ 7 ∷ 0x78 ∷ 0 ∷ 0 ∷ 0 ∷ []) ≡ Ok (7 ∷ 2013265920 ∷ [], [])
 unfolding read_each
@@ -87,7 +87,7 @@ second_outside = refl
 
 -- at most so many
 abbrev read_at_most : ℕ → List ℕ → Read (List ℕ) (List ℕ)
-read_at_most max = (received_bounded (step_of (Bounded max)) as_they_are max kept spelled).read
+read_at_most max = (received_bounded (step_of (Bounded max)) as_they_are max kept encoded).read
 
 -- a count of four, where three are the most, is passed, and nothing is absorbed
 count_over : read_at_most 3 (4 ∷ 9 ∷ [])
@@ -194,7 +194,7 @@ abbrev closed : Playing → Playing
 closed playing = record { pattern = playing.pattern; position = playing.position; finished = true }
 
 abbrev at_most_three : Reading (List ℕ) ℕ (List ℕ)
-at_most_three = received_bounded (step_of (Bounded 3)) as_they_are 3 kept spelled
+at_most_three = received_bounded (step_of (Bounded 3)) as_they_are 3 kept encoded
 
 list_received : (playing : Playing) → IsNext playing at_most_three.interaction →
     Receives at_most_three (before playing (2 ∷ 0 ∷ 0 ∷ 0 ∷ 7 ∷ 0x78 ∷ 0 ∷ 0 ∷ 0 ∷ 1 ∷ [])) (7 ∷ 2013265920 ∷ [])
@@ -257,7 +257,7 @@ work bits =
 
 -- of three bits: 9 and 15 are 24, though 9 and 7 would do
 fifteen_passes : (playing : Playing) → IsNext playing (work 3).interaction →
-    Receives (received_work (work 3) spelled) (before playing (0 ∷ 0 ∷ 0 ∷ 15 ∷ 1 ∷ [])) 15
+    Receives (received_work (work 3) encoded) (before playing (0 ∷ 0 ∷ 0 ∷ 15 ∷ 1 ∷ [])) 15
     (verifying (step_on playing) (0 ∷ 15 ∷ 9 ∷ []) (1 ∷ []))
 fifteen_passes playing next =
     record { is_next = next; read = refl; fits = tt; gives = refl; challenger = refl; playing = refl }
@@ -265,7 +265,7 @@ fifteen_passes playing next =
 -- 9 and 8 are not: the witness is read and checked
 eight_fails : (playing : Playing) (reason : Bor (List ℕ)) → IsNext playing (work 3).interaction →
     reason.now ≡ codes "pow witness does not produce enough zero bits" →
-    FailsWork (work 3) spelled (before playing (0 ∷ 0 ∷ 0 ∷ 8 ∷ 1 ∷ [])) (BadProofShape reason)
+    FailsWork (work 3) encoded (before playing (0 ∷ 0 ∷ 0 ∷ 8 ∷ 1 ∷ [])) (BadProofShape reason)
     (verifying (closed playing) (0 ∷ 8 ∷ 9 ∷ []) (1 ∷ []))
 eight_fails playing reason next is =
     record {
@@ -279,12 +279,12 @@ eight_fails playing reason next is =
 
 -- of no bits: a witness is read all the same, and the challenger is as it was
 any_passes : (playing : Playing) → IsNext playing (work 0).interaction →
-    Receives (received_work (work 0) spelled) (before playing (0 ∷ 0 ∷ 0 ∷ 5 ∷ [])) 5
+    Receives (received_work (work 0) encoded) (before playing (0 ∷ 0 ∷ 0 ∷ 5 ∷ [])) 5
     (verifying (step_on playing) (9 ∷ []) [])
 any_passes playing next =
     record { is_next = next; read = refl; fits = tt; gives = refl; challenger = refl; playing = refl }
 
 -- and bytes that are none are passed and refused
-none_passes : (received_work (work 0) spelled).read (0x78 ∷ 0 ∷ 0 ∷ 1 ∷ [])
+none_passes : (received_work (work 0) encoded).read (0x78 ∷ 0 ∷ 0 ∷ 1 ∷ [])
     ≡ nothing_read (codes "field encoding outside canonical range") [] (λ s. s)
 none_passes = refl

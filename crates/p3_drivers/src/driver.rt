@@ -3,7 +3,7 @@
 //!
 //! ```text
 //! prover                                                      verifier
-//! add_scalar ..        value -> its spelling -> the proof     next_scalar ..   the proof -> its spelling -> value
+//! add_scalar ..        value -> its encoding -> the proof     next_scalar ..   the proof -> its encoding -> value
 //!                      value -> its symbols -> the challenger                  value -> its symbols -> the challenger
 //! challenge_scalar ..  the challenger -> value                challenge_scalar ..    the challenger -> value
 //! observe_extension .. value -> its symbols -> the challenger observe_extension ..   the same

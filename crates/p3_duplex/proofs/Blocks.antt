@@ -5,15 +5,15 @@ use Rattle.std.proofs.lemmas.Bool.Decides.{nat_tests}
 use Rattle.std.proofs.lemmas.List.{length-append}
 use Rattle.p3_field_core.specs.Residues.{Residues}
 use Rattle.p3_duplex.specs.DuplexCalls as calls
-use Rattle.p3_duplex.specs.DuplexCalls.{DuplexSponge, overwritten, absorbing, duplexed, appended}
+use Rattle.p3_duplex.specs.DuplexCalls.{DuplexSponge, overwritten, permutation_input, duplexed, appended}
 use Rattle.p3_duplex.specs.DuplexState.{DuplexState, observed, fed}
 use Rattle.p3_duplex.proofs.Pushing.{observed-full}
 
 -- what is permuted where there is a block
-pub absorbing-some : {F : Type 0} (r : Residues F) (rate : ℕ) (cells block : List F) → 0 < length block
-    → overwritten r rate cells block ≡ absorbing r rate cells block
-absorbing-some r rate cells [] some = absurd (omega (arith, some))
-absorbing-some r rate cells (x ∷ xs) some = refl
+pub permutation_input-some : {F : Type 0} (r : Residues F) (rate : ℕ) (cells block : List F) → 0 < length block
+    → overwritten r rate cells block ≡ permutation_input r rate cells block
+permutation_input-some r rate cells [] some = absurd (omega (arith, some))
+permutation_input-some r rate cells (x ∷ xs) some = refl
 
 one_longer : {F : Type 0} (pending : List F) (x : F) → length (pending ++ x ∷ []) ≡ length pending + 1
 one_longer pending x = length-append pending (x ∷ [])

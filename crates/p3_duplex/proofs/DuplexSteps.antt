@@ -9,11 +9,11 @@ use Rattle.p3_field_core.specs.Residues.{Residues}
 use Rattle.p3_challenger_core.specs.Segments.{Call, observe, observe_empty_array, draw, stays, run_before}
 use Rattle.p3_challenger_core.specs.SegmentLaws.{StepsAgree}
 use Rattle.p3_duplex.specs.DuplexState.{KeepsRate}
-use Rattle.p3_duplex.specs.DuplexCalls.{DuplexSponge, DuplexRun, cell, overwritten, absorbing, duplexed, appended}
+use Rattle.p3_duplex.specs.DuplexCalls.{DuplexSponge, DuplexRun, cell, overwritten, permutation_input, duplexed, appended}
 use Rattle.p3_duplex.specs.DuplexCalls.{observed, last_output, one_taken, after_sampled, run_call, run_digest}
 use Rattle.p3_duplex.specs.DuplexCalls.{duplex_by_calls}
-use Rattle.p3_duplex.specs.DuplexSegments.{absorbed_blocks, handed_blocks, outputs_after, absorbed, run_values}
-use Rattle.p3_duplex.specs.DuplexSegments.{permuted, handed_in_turn, output_at, left_after, outputs_from, draws_from}
+use Rattle.p3_duplex.specs.DuplexSegments.{absorbed_blocks, block_queries, outputs_after, absorbed, run_values}
+use Rattle.p3_duplex.specs.DuplexSegments.{permuted, queries_in_order, output_at, left_after, outputs_from, draws_from}
 use Rattle.p3_duplex.specs.DuplexSegments.{run_draws, digest_after, duplex_by_segments}
 
 -- what a challenger keeps: fewer values are pending than the rate has cells, no more outputs are left
@@ -44,14 +44,14 @@ not_zero : (m : ℕ) → (suc m == 0) ≡ false
 not_zero m = grind (arith, nat_tests)
 
 -- what is permuted where a value is pending
-pub absorbing-snoc : {F : Type 0} (r : Residues F) (rate : ℕ) (cells pending : List F) (x : F)
-    → absorbing r rate cells (pending ++ x ∷ []) ≡ overwritten r rate cells (pending ++ x ∷ [])
-absorbing-snoc r rate cells [] x = refl
-absorbing-snoc r rate cells (y ∷ ys) x = refl
+pub permutation_input-snoc : {F : Type 0} (r : Residues F) (rate : ℕ) (cells pending : List F) (x : F)
+    → permutation_input r rate cells (pending ++ x ∷ []) ≡ overwritten r rate cells (pending ++ x ∷ [])
+permutation_input-snoc r rate cells [] x = refl
+permutation_input-snoc r rate cells (y ∷ ys) x = refl
 
--- a state that is handed over first
-abbrev handed_first : {F : Type 0} → List F → DuplexRun F → DuplexRun F
-handed_first state run = record run { handed = state ∷ run.handed }
+-- a state that is queried first
+abbrev queries_first : {F : Type 0} → List F → DuplexRun F → DuplexRun F
+queries_first state run = record run { queries = state ∷ run.queries }
 
 module _ {F : Type 0} (r : Residues F) (permute : List F → List F) (n : ℕ) (positive : 0 < n) where
   -- ---- what is absorbed
@@ -60,12 +60,12 @@ module _ {F : Type 0} (r : Residues F) (permute : List F → List F) (n : ℕ) (
   absorbed-short : (cells values : List F) → length values < n
       → absorbed r permute n cells values ≡ stays
       (record { cells = cells; pending = values; outputs_left = outputs_after n values })
-  unfolding absorbed_blocks handed_blocks
+  unfolding absorbed_blocks block_queries
   absorbed-short cells values short =
       let none : n * 0 ≡ 0 = omega arith in
       ap (λ k. record {
         answers = [];
-        handed = handed_blocks r permute n k cells values;
+        queries = block_queries r permute n k cells values;
         after =
             record {
               cells = absorbed_blocks r permute n k cells values;
@@ -78,9 +78,9 @@ module _ {F : Type 0} (r : Residues F) (permute : List F → List F) (n : ℕ) (
 
   -- a whole block is absorbed, and then what is after it
   absorbed-block : (cells block more : List F) → length block ≡ n
-      → absorbed r permute n cells (block ++ more) ≡ handed_first (overwritten r n cells block)
+      → absorbed r permute n cells (block ++ more) ≡ queries_first (overwritten r n cells block)
       (absorbed r permute n (permute (overwritten r n cells block)) more)
-  unfolding absorbed_blocks handed_blocks
+  unfolding absorbed_blocks block_queries
   absorbed-block cells block more whole =
       let all = block ++ more in
       let q = length more / n in
@@ -93,7 +93,7 @@ module _ {F : Type 0} (r : Residues F) (permute : List F → List F) (n : ℕ) (
       ∙ ap (drop (n * q)) rest in
       ap (λ k. record {
         answers = [];
-        handed = handed_blocks r permute n k cells all;
+        queries = block_queries r permute n k cells all;
         after =
             record {
               cells = absorbed_blocks r permute n k cells all;
@@ -103,7 +103,7 @@ module _ {F : Type 0} (r : Residues F) (permute : List F → List F) (n : ℕ) (
       }) blocks
       ∙ (λ i. record {
         answers = [];
-        handed = overwritten r n cells (front i) ∷ handed_blocks r permute n q
+        queries = overwritten r n cells (front i) ∷ block_queries r permute n q
             (permute (overwritten r n cells (front i))) (rest i);
         after =
             record {
@@ -123,21 +123,21 @@ module _ {F : Type 0} (r : Residues F) (permute : List F → List F) (n : ℕ) (
       (observe x) ≡ (let block_over = overwritten r n s.cells (s.pending ++ x ∷ []) in
       record {
         answers = [];
-        handed = block_over ∷ [];
+        queries = block_over ∷ [];
         after = record { cells = permute block_over; pending = []; outputs_left = n };
       })
   observed-full s x full =
       ap (λ b. record {
         answers = [];
-        handed = if b then overwritten r n s.cells (s.pending ++ x ∷ []) ∷ [] else [];
+        queries = if b then overwritten r n s.cells (s.pending ++ x ∷ []) ∷ [] else [];
         after = if b then duplexed r permute n (appended s x) else appended s x;
       }) full
       ∙ ap (λ c. record {
         answers = [];
-        handed = overwritten r n s.cells (s.pending ++ x ∷ []) ∷ [];
+        queries = overwritten r n s.cells (s.pending ++ x ∷ []) ∷ [];
         after = record { cells = permute c; pending = []; outputs_left = n };
       })
-      (absorbing-snoc r n s.cells s.pending x)
+      (permutation_input-snoc r n s.cells s.pending x)
 
   -- one that does not is pending
   observed-short : (s : DuplexSponge F) (x : F) → (length (s.pending ++ x ∷ []) == n) ≡ false
@@ -145,7 +145,7 @@ module _ {F : Type 0} (r : Residues F) (permute : List F → List F) (n : ℕ) (
   observed-short s x short =
       ap (λ b. record {
         answers = [];
-        handed = if b then overwritten r n s.cells (s.pending ++ x ∷ []) ∷ [] else [];
+        queries = if b then overwritten r n s.cells (s.pending ++ x ∷ []) ∷ [] else [];
         after = if b then duplexed r permute n (appended s x) else appended s x;
       }) short
 
@@ -166,7 +166,7 @@ module _ {F : Type 0} (r : Residues F) (permute : List F → List F) (n : ℕ) (
   values-by true s x [] fits full =
       let block_over = overwritten r n s.cells (s.pending ++ x ∷ []) in
       ap (λ run. run_before run (run_values r permute n run.after [])) (observed-full s x full)
-      ∙ ap (handed_first block_over) (sym (absorbed-short (permute block_over) [] positive))
+      ∙ ap (queries_first block_over) (sym (absorbed-short (permute block_over) [] positive))
       ∙ sym (absorbed-block s.cells (s.pending ++ x ∷ []) [] (is_whole s x full))
       ∙ ap (absorbed r permute n s.cells) (append-nil (s.pending ++ x ∷ []))
   values-by true s x (y ∷ ys) fits full =
@@ -233,15 +233,15 @@ module _ {F : Type 0} (r : Residues F) (permute : List F → List F) (n : ℕ) (
 
   -- the cells themselves are permuted before that
   draws_from-further : (cells : List F) (q k : ℕ)
-      → draws_from r permute n cells (n + q) k ≡ handed_first cells (draws_from r permute n (permute cells) q k)
-  unfolding handed_in_turn
+      → draws_from r permute n cells (n + q) k ≡ queries_first cells (draws_from r permute n (permute cells) q k)
+  unfolding queries_in_order
   draws_from-further cells q k =
       let same : n + q + k ≡ n + (q + k) = omega arith in
       let turns : (n + q + k) / n ≡ suc ((q + k) / n) = ap (λ p. p / n) same ∙ further-div n (q + k) positive in
       let following = ap (left_after permute n cells) same ∙ left_after-further cells (q + k) in
       λ i. record {
         answers = outputs_from-further cells q (suc k) i;
-        handed = handed_in_turn permute (turns i) cells;
+        queries = queries_in_order permute (turns i) cells;
         after = following i;
       }
 
@@ -276,14 +276,14 @@ module _ {F : Type 0} (r : Residues F) (permute : List F → List F) (n : ℕ) (
       → draws_from r permute n cells (n - left)
       k ≡ (let next = run_draws r permute n (record { cells = cells; pending = []; outputs_left = left - 1 }) k in
       record next { answers = cell r cells (left - 1) ∷ next.answers })
-  unfolding outputs_from handed_in_turn
+  unfolding outputs_from queries_in_order
   taken-next cells left zero more h =
       let same : n - left + 0 ≡ n - left = omega arith in
       let turns : (n - left + 0) / n ≡ 0 = ap (λ p. p / n) same ∙ here-div left more h in
       let following = ap (left_after permute n cells) same ∙ left_after-here cells left more h in
       λ i. record {
         answers = output_at-here cells left more h i ∷ [];
-        handed = handed_in_turn permute (turns i) cells;
+        queries = queries_in_order permute (turns i) cells;
         after = following i;
       }
   taken-next cells left (suc k) more h =
@@ -291,7 +291,7 @@ module _ {F : Type 0} (r : Residues F) (permute : List F → List F) (n : ℕ) (
       let further : n - left + suc k ≡ n - (left - 1) + k = omega arith in
       λ i. record {
         answers = output_at-here cells left more h i ∷ outputs_from r permute n cells (next i) (suc k);
-        handed = handed_in_turn permute (further i / n) cells;
+        queries = queries_in_order permute (further i / n) cells;
         after = left_after permute n cells (further i);
       }
 
@@ -300,7 +300,7 @@ module _ {F : Type 0} (r : Residues F) (permute : List F → List F) (n : ℕ) (
       → run_call r permute n (record { cells = cells; pending = []; outputs_left = suc m }) draw
       ≡ record {
         answers = cell r cells (suc m - 1) ∷ [];
-        handed = [];
+        queries = [];
         after = record { cells = cells; pending = []; outputs_left = suc m - 1 };
       }
   drawn-left cells m =
@@ -308,7 +308,7 @@ module _ {F : Type 0} (r : Residues F) (permute : List F → List F) (n : ℕ) (
       ap (λ b. let t = if b then duplexed r permute n s
       else s in record {
         answers = last_output r t ∷ [];
-        handed = if b then cells ∷ [] else [];
+        queries = if b then cells ∷ [] else [];
         after = one_taken t;
       }) (not_zero m)
 
@@ -322,7 +322,7 @@ module _ {F : Type 0} (r : Residues F) (permute : List F → List F) (n : ℕ) (
       let start : 0 ≡ n - n = omega arith in
       ap (λ p. draws_from r permute n cells p k) there
       ∙ draws_from-further cells 0 k
-      ∙ ap (handed_first cells)
+      ∙ ap (queries_first cells)
       (ap (λ p. draws_from r permute n (permute cells) p k) start
       ∙ taken-next (permute cells) n k positive (omega arith))
   next-by cells [] (suc m) k h none =
@@ -330,7 +330,7 @@ module _ {F : Type 0} (r : Residues F) (permute : List F → List F) (n : ℕ) (
       ∙ sym (ap (λ run. run_before run (run_draws r permute n run.after k)) (drawn-left cells m))
   next-by cells (x ∷ xs) zero k h none =
       let block_over = overwritten r n cells (x ∷ xs) in
-      ap (handed_first block_over) (taken-next (permute block_over) n k positive (omega arith))
+      ap (queries_first block_over) (taken-next (permute block_over) n k positive (omega arith))
   next-by cells (x ∷ xs) (suc m) k h none =
       let some : 0 < length (x ∷ xs) = omega arith in
       let no : suc m ≡ 0 = none some in

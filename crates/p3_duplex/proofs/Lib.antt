@@ -1,7 +1,7 @@
 pub mod Blocks
 pub mod Calls
 pub mod Drawing
-pub mod DuplexHanded
+pub mod DuplexQueries
 pub mod DuplexSteps
 pub mod Overwriting
 pub mod Pushing

@@ -6,14 +6,14 @@ use Rattle.std.proofs.lemmas.Bool.{cases_lt}
 use Rattle.std.proofs.lemmas.List.{take_at, drop_at, get_or_at, length-replicate}
 use Rattle.p3_field_core.specs.Residues.{Residues, IsResidues, plus}
 use Rattle.p3_challenger_core.specs.Segments.{Call, observe, observe_empty_array, draw, run_calls, run_calls_to_digest}
-use Rattle.p3_read_back.specs.Handed.{observed_values, CollideAtSomePlace}
-use Rattle.p3_read_back.specs.HandedLaws.{list-decides, collide-first, collide-later}
+use Rattle.p3_read_back.specs.Queries.{observed_values, CollideAtSomePlace}
+use Rattle.p3_read_back.specs.QueriesLaws.{list-decides, collide-first, collide-later}
 use Rattle.p3_read_back.specs.BlockLaws.{AreRead, reads_back-of_blocks, reads_back_to_digest-of_blocks}
 use Rattle.p3_read_back.specs.SumLaws.{element-decides, plus-zero, counts-told, difference-of_sums}
-use Rattle.p3_duplex.specs.DuplexCalls.{DuplexSponge, DuplexRun, cell, overwritten, absorbing, duplexed, appended}
-use Rattle.p3_duplex.specs.DuplexCalls.{one_taken, handed_by_value, handed_by_draw, handed_by_digest, duplex_by_calls}
+use Rattle.p3_duplex.specs.DuplexCalls.{DuplexSponge, DuplexRun, cell, overwritten, permutation_input, duplexed, appended}
+use Rattle.p3_duplex.specs.DuplexCalls.{one_taken, queries_by_value, queries_by_draw, queries_by_digest, duplex_by_calls}
 use Rattle.p3_duplex.specs.DuplexReadBack.{Collide, ReadsBack, ReadsBackToDigest, ReadsBackOrCollides}
-use Rattle.p3_duplex.proofs.DuplexSteps.{Fits, duplex_steps, absorbing-snoc}
+use Rattle.p3_duplex.proofs.DuplexSteps.{Fits, duplex_steps, permutation_input-snoc}
 
 module _ {F : Type 0} (r : Residues F) (laws : IsResidues r) (rate : ℕ) (below : rate < r.order) where
   -- the block with zeros up to the rate
@@ -33,7 +33,7 @@ module _ {F : Type 0} (r : Residues F) (laws : IsResidues r) (rate : ℕ) (below
 
   -- the cell after the rate has the count of the block added
   counted-cell : (cells block : List F) → length block ≤ rate
-      → cell r (absorbing r rate cells block) rate ≡ plus r (cell r cells rate) (length block)
+      → cell r (permutation_input r rate cells block) rate ≡ plus r (cell r cells rate) (length block)
   counted-cell cells [] within = sym (plus-zero r laws (cell r cells rate) (omega (arith, below)))
   counted-cell cells (x ∷ xs) within =
       let block = x ∷ xs in
@@ -42,10 +42,10 @@ module _ {F : Type 0} (r : Residues F) (laws : IsResidues r) (rate : ℕ) (below
       (filled-length block within)
 
   -- the cells past that one are as they were
-  past-absorbing : (cells block : List F) → length block ≤ rate
-      → drop (rate + 1) (absorbing r rate cells block) ≡ drop (rate + 1) cells
-  past-absorbing cells [] within = refl
-  past-absorbing cells (x ∷ xs) within =
+  past-permutation_input : (cells block : List F) → length block ≤ rate
+      → drop (rate + 1) (permutation_input r rate cells block) ≡ drop (rate + 1) cells
+  past-permutation_input cells [] within = refl
+  past-permutation_input cells (x ∷ xs) within =
       let block = x ∷ xs in
       let count = plus r (cell r cells rate) (length block) in
       let front = filled block ++ count ∷ [] in
@@ -56,7 +56,7 @@ module _ {F : Type 0} (r : Residues F) (laws : IsResidues r) (rate : ℕ) (below
       ∙ drop_at front (drop (rate + 1) cells) (rate + 1) long
 
   -- the block stands in front
-  block-front : (cells block : List F) → take (length block) (absorbing r rate cells block) ≡ block
+  block-front : (cells block : List F) → take (length block) (permutation_input r rate cells block) ≡ block
   block-front cells [] = refl
   block-front cells (x ∷ xs) =
       let block = x ∷ xs in
@@ -65,7 +65,7 @@ module _ {F : Type 0} (r : Residues F) (laws : IsResidues r) (rate : ℕ) (below
 
   -- blocks over the same cells are told by what is permuted
   block-told : (cells one other : List F) → length one ≤ rate → length other ≤ rate
-      → absorbing r rate cells one ≡ absorbing r rate cells other → one ≡ other
+      → permutation_input r rate cells one ≡ permutation_input r rate cells other → one ≡ other
   block-told cells one other one_within other_within e =
       let counts : plus r (cell r cells rate) (length one) ≡ plus r (cell r cells rate) (length other) =
       sym (counted-cell cells one one_within) ∙ ap (λ state. cell r state rate) e
@@ -79,7 +79,7 @@ module _ {F : Type 0} (r : Residues F) (laws : IsResidues r) (rate : ℕ) (below
 
   -- cells over which two blocks come to the same
   near-cells : (c d one other : List F) → length one ≤ rate → length other ≤ rate
-      → absorbing r rate c one ≡ absorbing r rate d other → (n : ℕ) × (n ≤ rate)
+      → permutation_input r rate c one ≡ permutation_input r rate d other → (n : ℕ) × (n ≤ rate)
       × ((plus r (cell r c rate) n ≡ cell r d rate) ⊎ (plus r (cell r d rate) n ≡ cell r c rate))
   near-cells c d one other one_within other_within e =
       let sums : plus r (cell r c rate) (length one) ≡ plus r (cell r d rate) (length other) =
@@ -102,9 +102,9 @@ module _ {F : Type 0} (r : Residues F) (laws : IsResidues r) (rate : ℕ) (below
       ]
 
   past-cells : (c d one other : List F) → length one ≤ rate → length other ≤ rate
-      → absorbing r rate c one ≡ absorbing r rate d other → drop (rate + 1) c ≡ drop (rate + 1) d
+      → permutation_input r rate c one ≡ permutation_input r rate d other → drop (rate + 1) c ≡ drop (rate + 1) d
   past-cells c d one other one_within other_within e =
-      sym (past-absorbing c one one_within) ∙ ap (drop (rate + 1)) e ∙ past-absorbing d other other_within
+      sym (past-permutation_input c one one_within) ∙ ap (drop (rate + 1)) e ∙ past-permutation_input d other other_within
 
   module _ (permute : List F → List F) where
     abbrev run : DuplexSponge F → List (Call F) → DuplexRun F
@@ -112,7 +112,7 @@ module _ {F : Type 0} (r : Residues F) (laws : IsResidues r) (rate : ℕ) (below
 
     -- values are read from states and a rest
     abbrev AreReadFrom : List F → List (List F) → List F → List F → Type 0
-    AreReadFrom = AreRead (absorbing r rate) permute rate
+    AreReadFrom = AreRead (permutation_input r rate) permute rate
 
     observe-read : (b : Bool) (s : DuplexSponge F) (x : F) (values : List F) (states : List (List F)) (rest : List F)
         → length s.pending < rate
@@ -122,7 +122,7 @@ module _ {F : Type 0} (r : Residues F) (laws : IsResidues r) (rate : ℕ) (below
         (s.pending ++ x ∷ values) rest
     observe-read true s x values states rest short k =
         let block = s.pending ++ x ∷ [] in
-        let over = absorbing-snoc r rate s.cells s.pending x in (
+        let over = permutation_input-snoc r rate s.cells s.pending x in (
           block,
           values,
           omega (arith, length-append s.pending (x ∷ []), short),
@@ -137,7 +137,7 @@ module _ {F : Type 0} (r : Residues F) (laws : IsResidues r) (rate : ℕ) (below
         → length s.pending < rate
         → let t : DuplexSponge F = one_taken (if b then duplexed r permute rate s else s) in
         AreReadFrom t.cells states (t.pending ++ values) rest
-        → AreReadFrom s.cells ((if b then absorbing r rate s.cells s.pending ∷ [] else []) ++ states)
+        → AreReadFrom s.cells ((if b then permutation_input r rate s.cells s.pending ∷ [] else []) ++ states)
         (s.pending ++ values) rest
     draw-read true s values states rest short k = (s.pending, values, omega (arith, short), refl, refl, k)
     draw-read false s values states rest short k = k
@@ -156,52 +156,52 @@ module _ {F : Type 0} (r : Residues F) (laws : IsResidues r) (rate : ℕ) (below
       -- what is pending, and then what calls observe, is read from what they permute, and from what is permuted after
       reads-before : (calls : List (Call F)) (s : DuplexSponge F) → Fits rate s → (more : List (List F)) (rest : List F)
           → AreReadFrom (run s calls).after.cells more (run s calls).after.pending rest
-          → AreReadFrom s.cells ((run s calls).handed ++ more) (s.pending ++ observed_values calls) rest
+          → AreReadFrom s.cells ((run s calls).queries ++ more) (s.pending ++ observed_values calls) rest
       reads-before [] s fits more rest k =
           subst (λ (values : List F). AreReadFrom s.cells more values rest) (sym (append-nil s.pending)) k
       reads-before (observe x ∷ calls) s fits more rest k =
           let t = after_call s (observe x) in
-          let later = (run t calls).handed in
+          let later = (run t calls).queries in
           subst (λ (states : List (List F)). AreReadFrom s.cells states (s.pending ++ x ∷ observed_values calls) rest)
-          (sym (append_assoc (handed_by_value r rate s x) later more))
+          (sym (append_assoc (queries_by_value r rate s x) later more))
           (observe-read (length (s.pending ++ x ∷ []) == rate) s x (observed_values calls) (later ++ more) rest
           fits.short (reads-before calls t (call-fits s fits (observe x)) more rest k))
       reads-before (observe_empty_array ∷ calls) s fits more rest k = reads-before calls s fits more rest k
       reads-before (draw ∷ calls) s fits more rest k =
           let t = after_call s draw in
-          let later = (run t calls).handed in
+          let later = (run t calls).queries in
           subst (λ (states : List (List F)). AreReadFrom s.cells states (s.pending ++ observed_values calls) rest)
-          (sym (append_assoc (handed_by_draw r rate s) later more))
+          (sym (append_assoc (queries_by_draw r rate s) later more))
           (draw-read (s.outputs_left == 0) s (observed_values calls) (later ++ more) rest fits.short
           (reads-before calls t (call-fits s fits draw) more rest k))
 
       -- from what they permute and leave pending
       reads : (calls : List (Call F)) (s : DuplexSponge F) → Fits rate s
-          → AreReadFrom s.cells (run s calls).handed (s.pending ++ observed_values calls) (run s calls).after.pending
+          → AreReadFrom s.cells (run s calls).queries (s.pending ++ observed_values calls) (run s calls).after.pending
       reads calls s fits =
           let after = (run s calls).after in
           let values = s.pending ++ observed_values calls in
           subst (λ (states : List (List F)). AreReadFrom s.cells states values after.pending)
-          (append-nil (run s calls).handed) (reads-before calls s fits [] after.pending refl)
+          (append-nil (run s calls).queries) (reads-before calls s fits [] after.pending refl)
 
       -- or permute up to a digest
       reads_to_digest : (calls : List (Call F)) (s : DuplexSponge F) → Fits rate s
-          → AreReadFrom s.cells (run_calls_to_digest (duplex_by_calls r permute rate) s calls).handed
+          → AreReadFrom s.cells (run_calls_to_digest (duplex_by_calls r permute rate) s calls).queries
           (s.pending ++ observed_values calls) []
       reads_to_digest calls s fits =
           let after = (run s calls).after in
           let short : length after.pending ≤ rate = omega (arith, (run-fits calls s fits).short) in
-          reads-before calls s fits (handed_by_digest r rate after) []
+          reads-before calls s fits (queries_by_digest r rate after) []
           (after.pending, [], short, refl, sym (append-nil after.pending), refl)
 
       pub reads_back : (s : DuplexSponge F) → Fits rate s → ReadsBack r permute rate s
       reads_back s fits =
-          reads_back-of_blocks (absorbing r rate) permute rate block-told (run s) (λ t. t.pending) s.cells s.pending
+          reads_back-of_blocks (permutation_input r rate) permute rate block-told (run s) (λ t. t.pending) s.cells s.pending
           (λ calls. reads calls s fits)
 
       pub reads_back_to_digest : (s : DuplexSponge F) → Fits rate s → ReadsBackToDigest r permute rate s
       reads_back_to_digest s fits =
-          reads_back_to_digest-of_blocks (absorbing r rate) permute rate block-told
+          reads_back_to_digest-of_blocks (permutation_input r rate) permute rate block-told
           (run_calls_to_digest (duplex_by_calls r permute rate) s) s.cells s.pending
           (λ calls. reads_to_digest calls s fits)
 
@@ -266,11 +266,11 @@ module _ {F : Type 0} (r : Residues F) (laws : IsResidues r) (rate : ℕ) (below
     reads_back_or_collides positive s fits calls others counts ends =
         let one = run s calls in
         let other = run s others in
-        elim (same-or_collide one.handed other.handed s.cells s.cells (s.pending ++ observed_values calls)
+        elim (same-or_collide one.queries other.queries s.cells s.cells (s.pending ++ observed_values calls)
         (s.pending ++ observed_values others) one.after.pending other.after.pending (reads positive calls s fits)
         (reads positive others s fits) counts ends.last)
         as (λ _. (observed_values calls ≡ observed_values others)
-        ⊎ CollideAtSomePlace (Collide r permute rate) one.handed other.handed) [
+        ⊎ CollideAtSomePlace (Collide r permute rate) one.queries other.queries) [
           | inl same ↦ inl (reads_back positive s fits calls others same ends.pending)
           | inr found ↦ inr found
         ]

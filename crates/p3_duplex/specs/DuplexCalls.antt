@@ -28,15 +28,15 @@ overwritten r rate cells block =
     (r.of 0) ++ (plus r (cell r cells rate) (length block) ∷ drop (rate + 1) cells))
 
 -- what is permuted: where nothing is pending, the cells as they are
-abbrev pub absorbing : {F : Type 0} → Residues F → ℕ → List F → List F → List F
-absorbing r rate cells [] = cells
-absorbing r rate cells (x ∷ xs) = overwritten r rate cells (x ∷ xs)
+abbrev pub permutation_input : {F : Type 0} → Residues F → ℕ → List F → List F → List F
+permutation_input r rate cells [] = cells
+permutation_input r rate cells (x ∷ xs) = overwritten r rate cells (x ∷ xs)
 
 -- after a permutation of what is pending: all outputs are left
 abbrev pub duplexed : {F : Type 0} → Residues F → (List F → List F) → ℕ → DuplexSponge F → DuplexSponge F
 duplexed r permute rate s =
     record {
-      cells = permute (absorbing r rate s.cells s.pending);
+      cells = permute (permutation_input r rate s.cells s.pending);
       pending = [];
       outputs_left = rate;
     }
@@ -78,20 +78,20 @@ after_sampled r permute rate s = one_taken (ready r permute rate s)
 abbrev pub digest : {F : Type 0} → Residues F → (List F → List F) → ℕ → DuplexSponge F → List F
 digest r permute rate s = take rate (duplexed r permute rate s).cells
 
--- ---- what is handed to the permutation
+-- ---- the queries to the permutation
 
--- a value hands over the cells with the block that it fills
-abbrev pub handed_by_value : {F : Type 0} → Residues F → ℕ → DuplexSponge F → F → List (List F)
-handed_by_value r rate s x =
+-- a value queries the cells with the block that it fills
+abbrev pub queries_by_value : {F : Type 0} → Residues F → ℕ → DuplexSponge F → F → List (List F)
+queries_by_value r rate s x =
     let block = s.pending ++ x ∷ [] in if length block == rate then overwritten r rate s.cells block ∷ [] else []
 
--- a draw that finds no output hands over the cells with what is pending, or as they are
-abbrev pub handed_by_draw : {F : Type 0} → Residues F → ℕ → DuplexSponge F → List (List F)
-handed_by_draw r rate s = if s.outputs_left == 0 then absorbing r rate s.cells s.pending ∷ [] else []
+-- a draw that finds no output queries the cells with what is pending, or as they are
+abbrev pub queries_by_draw : {F : Type 0} → Residues F → ℕ → DuplexSponge F → List (List F)
+queries_by_draw r rate s = if s.outputs_left == 0 then permutation_input r rate s.cells s.pending ∷ [] else []
 
 -- so does a digest, whatever outputs are left
-abbrev pub handed_by_digest : {F : Type 0} → Residues F → ℕ → DuplexSponge F → List (List F)
-handed_by_digest r rate s = absorbing r rate s.cells s.pending ∷ []
+abbrev pub queries_by_digest : {F : Type 0} → Residues F → ℕ → DuplexSponge F → List (List F)
+queries_by_digest r rate s = permutation_input r rate s.cells s.pending ∷ []
 
 -- ---- what a call does
 
@@ -101,18 +101,18 @@ DuplexRun F = Run F (List F) (DuplexSponge F)
 -- an array of no places does nothing
 abbrev pub run_call : {F : Type 0} → Residues F → (List F → List F) → ℕ → DuplexSponge F → Call F → DuplexRun F
 run_call r permute rate s (observe x) =
-    record { answers = []; handed = handed_by_value r rate s x; after = observed r permute rate s x }
+    record { answers = []; queries = queries_by_value r rate s x; after = observed r permute rate s x }
 run_call r permute rate s observe_empty_array = stays s
 run_call r permute rate s draw =
     record {
       answers = sampled r permute rate s ∷ [];
-      handed = handed_by_draw r rate s;
+      queries = queries_by_draw r rate s;
       after = after_sampled r permute rate s;
     }
 
 abbrev pub run_digest : {F : Type 0} → Residues F → (List F → List F) → ℕ → DuplexSponge F → Run F (List F) (List F)
 run_digest r permute rate s =
-    record { answers = []; handed = handed_by_digest r rate s; after = digest r permute rate s }
+    record { answers = []; queries = queries_by_digest r rate s; after = digest r permute rate s }
 
 -- a duplex challenger call by call
 abbrev pub DuplexCalls : Type 0 → Type 0

@@ -2,8 +2,8 @@
 use Rattle.std.specs.Prelude.{◌≡◌, ℕ, ◌+◌, ◌-◌, ◌≤◌, ◌⊎◌, List, length, drop, slice_get, Option}
 use Rattle.p3_field_core.specs.Residues.{Residues, plus}
 use Rattle.p3_challenger_core.specs.Segments.{Call, run_calls, run_calls_to_digest}
-use Rattle.p3_read_back.specs.Handed as handed
-use Rattle.p3_read_back.specs.Handed.{LeaveSamePending}
+use Rattle.p3_read_back.specs.Queries as queries
+use Rattle.p3_read_back.specs.Queries.{LeaveSamePending}
 use Rattle.p3_duplex.specs.DuplexCalls.{DuplexSponge, cell, duplex_by_calls}
 
 module _ {F : Type 0} (r : Residues F) (permute : List F → List F) (rate : ℕ) where
@@ -22,24 +22,24 @@ module _ {F : Type 0} (r : Residues F) (permute : List F → List F) (rate : ℕ
   module _ (s : DuplexSponge F) where
     -- lists of calls that permute the same states, and leave the same pending, observed the same values
     abbrev pub ReadsBack : Type 0
-    ReadsBack = handed.ReadsBack (run_calls (duplex_by_calls r permute rate) s) (λ t. t.pending)
+    ReadsBack = queries.ReadsBack (run_calls (duplex_by_calls r permute rate) s) (λ t. t.pending)
 
     -- lists of calls that end in a digest, and permute the same states up to it, observed the same values
     abbrev pub ReadsBackToDigest : Type 0
-    ReadsBackToDigest = handed.ReadsBackToDigest (run_calls_to_digest (duplex_by_calls r permute rate) s)
+    ReadsBackToDigest = queries.ReadsBackToDigest (run_calls_to_digest (duplex_by_calls r permute rate) s)
 
     -- the state that calls permute last, if there is one
-    abbrev pub last_handed : List (Call F) → Option (List F)
-    last_handed calls =
-        let states = (run_calls (duplex_by_calls r permute rate) s calls).handed in slice_get states (length states - 1)
+    abbrev pub last_queries : List (Call F) → Option (List F)
+    last_queries calls =
+        let states = (run_calls (duplex_by_calls r permute rate) s calls).queries in slice_get states (length states - 1)
 
     -- two lists of calls permute the same state last, and leave the same pending
     pub record EndAlike (calls others : List (Call F)) : Type 0 where
-      pub last : last_handed calls ≡ last_handed others
+      pub last : last_queries calls ≡ last_queries others
       pub pending : LeaveSamePending (run_calls (duplex_by_calls r permute rate) s) (λ t. t.pending) calls others
 
     -- lists of calls that permute equally many states, and end alike, observed the same values, or at one place of what
     -- they permute two states collide
     abbrev pub ReadsBackOrCollides : Type 0
     ReadsBackOrCollides =
-        handed.ReadsBackOrCollides (run_calls (duplex_by_calls r permute rate) s) (λ t. t.pending) EndAlike Collide
+        queries.ReadsBackOrCollides (run_calls (duplex_by_calls r permute rate) s) (λ t. t.pending) EndAlike Collide

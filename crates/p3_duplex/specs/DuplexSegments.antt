@@ -1,4 +1,4 @@
--- A duplex challenger over segments of calls: what it draws, and what it hands to its permutation, as a function
+-- A duplex challenger over segments of calls: what it draws, and what it queries its permutation with, as a function
 -- of whole segments.
 use Rattle.std.specs.Prelude.{ℕ, zero, suc, ◌+◌, ◌-◌, ◌*◌, ◌/◌, ◌%◌, List, [], ◌∷◌, ◌++◌, length, take, drop}
 use Rattle.p3_field_core.specs.Residues.{Residues}
@@ -13,12 +13,12 @@ absorbed_blocks r permute rate zero cells values = cells
 absorbed_blocks r permute rate (suc n) cells values =
     absorbed_blocks r permute rate n (permute (overwritten r rate cells (take rate values))) (drop rate values)
 
--- what those n blocks hand to the permutation: each one, written over the cells
-unfoldable pub handed_blocks : {F : Type 0} → Residues F → (List F → List F) → ℕ → ℕ → List F → List F → List (List F)
-handed_blocks r permute rate zero cells values = []
-handed_blocks r permute rate (suc n) cells values =
+-- the queries of those n blocks: each one, written over the cells
+unfoldable pub block_queries : {F : Type 0} → Residues F → (List F → List F) → ℕ → ℕ → List F → List F → List (List F)
+block_queries r permute rate zero cells values = []
+block_queries r permute rate (suc n) cells values =
     let block_over = overwritten r rate cells (take rate values) in
-    block_over ∷ handed_blocks r permute rate n (permute block_over) (drop rate values)
+    block_over ∷ block_queries r permute rate n (permute block_over) (drop rate values)
 
 -- how many outputs are left after the blocks: none where a shorter block is pending
 abbrev pub outputs_after : {F : Type 0} → ℕ → List F → ℕ
@@ -32,7 +32,7 @@ absorbed r permute rate cells values =
     let pending = drop (rate * blocks) values in
     record {
       answers = [];
-      handed = handed_blocks r permute rate blocks cells values;
+      queries = block_queries r permute rate blocks cells values;
       after = record {
         cells = absorbed_blocks r permute rate blocks cells values;
         pending = pending;
@@ -52,10 +52,10 @@ unfoldable pub permuted : {F : Type 0} → (List F → List F) → ℕ → List 
 permuted permute zero cells = cells
 permuted permute (suc n) cells = permuted permute n (permute cells)
 
--- what that hands to the permutation: the cells, the cells permuted once, and so on, n of them
-unfoldable pub handed_in_turn : {F : Type 0} → (List F → List F) → ℕ → List F → List (List F)
-handed_in_turn permute zero cells = []
-handed_in_turn permute (suc n) cells = cells ∷ handed_in_turn permute n (permute cells)
+-- the queries of that: the cells, the cells permuted once, and so on, n of them
+unfoldable pub queries_in_order : {F : Type 0} → (List F → List F) → ℕ → List F → List (List F)
+queries_in_order permute zero cells = []
+queries_in_order permute (suc n) cells = cells ∷ queries_in_order permute n (permute cells)
 
 -- The outputs of cells stand in a row: those of the cells themselves, from the last cell of the rate
 -- to the first, then those of the cells permuted once, and so on. Draw k of a segment that observes
@@ -79,7 +79,7 @@ abbrev pub draws_from : {F : Type 0} → Residues F → (List F → List F) → 
 draws_from r permute rate cells place n =
     record {
       answers = outputs_from r permute rate cells place (suc n);
-      handed = handed_in_turn permute ((place + n) / rate) cells;
+      queries = queries_in_order permute ((place + n) / rate) cells;
       after = left_after permute rate cells (place + n);
     }
 
@@ -91,7 +91,7 @@ opened r permute rate cells (x ∷ xs) outputs_left =
     let block_over = overwritten r rate cells (x ∷ xs) in
     record {
       answers = [];
-      handed = block_over ∷ [];
+      queries = block_over ∷ [];
       after = record { cells = permute block_over; pending = []; outputs_left = rate };
     }
 
@@ -115,10 +115,10 @@ absorbed_cells r permute rate start values =
 -- The digest after segments is the rate after one step more: the block that is pending is absorbed, or,
 -- where none is, the cells are permuted.
 abbrev pub digest_after : {F : Type 0} → Residues F → (List F → List F) → ℕ → List F → List F → Run F (List F) (List F)
-digest_after r permute rate cells [] = record { answers = []; handed = cells ∷ []; after = take rate (permute cells) }
+digest_after r permute rate cells [] = record { answers = []; queries = cells ∷ []; after = take rate (permute cells) }
 digest_after r permute rate cells (x ∷ xs) =
     let block_over = overwritten r rate cells (x ∷ xs) in
-    record { answers = []; handed = block_over ∷ []; after = take rate (permute block_over) }
+    record { answers = []; queries = block_over ∷ []; after = take rate (permute block_over) }
 
 -- ---- segments
 

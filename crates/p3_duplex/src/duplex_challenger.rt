@@ -21,7 +21,7 @@ ghost use Rattle.p3_challenger_core.specs.Observation.{LeavesInCalls, RefusesObs
 ghost use Rattle.p3_challenger_core.specs.Sampling.{RefusesDraws};
 ghost use Rattle.p3_duplex.specs.DuplexSegments.{duplex_by_segments};
 ghost use Rattle.p3_duplex.specs.DuplexReadBack.{ReadsBack, ReadsBackToDigest, ReadsBackOrCollides};
-ghost use Rattle.p3_duplex.specs.DuplexCalls.{absorbing, overwritten, fresh, outputs, duplex_by_calls};
+ghost use Rattle.p3_duplex.specs.DuplexCalls.{permutation_input, overwritten, fresh, outputs, duplex_by_calls};
 ghost use Rattle.p3_challenger_core.specs.declared.error.ChallengerError.{ChallengerError};
 
 mod bits;
@@ -147,9 +147,9 @@ impl<
     }
 
     /// The segments of calls, whole: from this challenger on, every list of calls gives the answers,
-    /// hands over the states to the permutation, and leaves the sponge, that its segments name; and so
+    /// makes the queries to the permutation, and leaves the sponge, that its segments name; and so
     /// do calls that end in a digest. No state is left out: a permutation that gives the same on those
-    /// that are handed over makes the calls do the same.
+    /// that are queried makes the calls do the same.
     ///
     /// A law: the body does nothing, and a caller cites the clauses.
     pub fn follows_segments(&self)
@@ -161,15 +161,15 @@ impl<
             let permute = P.permutation self.now.permutation in
             run_calls_to_digest (duplex_by_calls F.residues permute RATE) self.now.sponge calls
             ≡ run_segments_to_digest (duplex_by_segments F.residues permute RATE) self.now.sponge (segments calls) }
-        ensures handed { (calls : List (Call F)) (other : List F → List F) →
+        ensures queries { (calls : List (Call F)) (other : List F → List F) →
             let permute = P.permutation self.now.permutation in
             let run = run_calls (duplex_by_calls F.residues permute RATE) self.now.sponge calls in
-            All (λ state. other state ≡ permute state) run.handed
+            All (λ state. other state ≡ permute state) run.queries
             → run_calls (duplex_by_calls F.residues other RATE) self.now.sponge calls ≡ run }
-        ensures handed_to_digest { (calls : List (Call F)) (other : List F → List F) →
+        ensures queries_to_digest { (calls : List (Call F)) (other : List F → List F) →
             let permute = P.permutation self.now.permutation in
             let run = run_calls_to_digest (duplex_by_calls F.residues permute RATE) self.now.sponge calls in
-            All (λ state. other state ≡ permute state) run.handed
+            All (λ state. other state ≡ permute state) run.queries
             → run_calls_to_digest (duplex_by_calls F.residues other RATE) self.now.sponge calls ≡ run }
     {
         let _ = &self.outputs_left;
@@ -546,7 +546,7 @@ fn absorb<
 >(cells: &mut [F; WIDTH], block: &[F], permutation: &P)
     requires fits { length block.now ≤ RATE }
     requires capacity { RATE < WIDTH }
-    ensures { cells.new ≡ P.permutation permutation.now (absorbing F.residues RATE cells.old block.now) }
+    ensures { cells.new ≡ P.permutation permutation.now (permutation_input F.residues RATE cells.old block.now) }
 {
     if !block.is_empty() {
         overwrite(&mut cells[..], block, RATE);

@@ -29,10 +29,10 @@ module _ (max width : ℕ) (fits : max < 2 ^ 64) (is : width ≡ div_ceil (64 - 
   width-least k enough =
       subst (λ (w : ℕ). w ≤ k) (sym bit_length.1) (bytes_for-least bit_length.0 max k bit_length.3 enough)
 
--- a count that is spelled is read
-pub counted_read_back : (width len : ℕ) (spelled : List ℕ) → len < 256 ^ width →
-    spelled ≡ in_bytes width len ++ replicate (8 - width) 0 → big_endian (take width spelled) ≡ len
-counted_read_back width len spelled fits is =
+-- a count that is encoded is read
+pub counted_read_back : (width len : ℕ) (encoded : List ℕ) → len < 256 ^ width →
+    encoded ≡ in_bytes width len ++ replicate (8 - width) 0 → big_endian (take width encoded) ≡ len
+counted_read_back width len encoded fits is =
     let front : take width (in_bytes width len ++ replicate (8 - width) 0) ≡ in_bytes width len =
     take-front width (in_bytes width len) (replicate (8 - width) 0) (length-in_bytes width len) in
     ap (λ bytes. big_endian (take width bytes)) is ∙ ap big_endian front ∙ big_endian-in_bytes width len fits
@@ -45,10 +45,10 @@ counted_fits width number buf are_bytes long is =
     let as_long : length (take width buf) ≡ width = length-take-le width buf long in
     subst (λ (n : ℕ). n < 256 ^ width) (sym is) (subst (λ (k : ℕ). big_endian (take width buf) < 256 ^ k) as_long below)
 
--- a count that is read is spelled so
-pub counted_spelled_back : (width number : ℕ) (buf : List ℕ) → AreBytes buf → width ≤ length buf →
+-- a count that is read is encoded so
+pub counted_encoded_back : (width number : ℕ) (buf : List ℕ) → AreBytes buf → width ≤ length buf →
     number ≡ big_endian (take width buf) → in_bytes width number ≡ take width buf
-counted_spelled_back width number buf are_bytes long is =
+counted_encoded_back width number buf are_bytes long is =
     ap (in_bytes width) is
     ∙ in_bytes-big_endian width (take width buf) (length-take-le width buf long) (AreBytes-take width buf are_bytes)
 

@@ -188,9 +188,9 @@ number_of_padded bytes padded n short are_bytes is fits read =
     let k = 8 - length bytes in
     let zeros = replicate k 0 ++ bytes in
     let eight : length zeros ≡ 8 = omega (arith, length-append (replicate k 0) bytes, length-replicate {A = ℕ} k 0) in
-    let spelled : in_bytes 8 n ≡ zeros = be_bytes_8 zeros n eight (AreBytes-zeros k bytes are_bytes) (read
+    let encoded : in_bytes 8 n ≡ zeros = be_bytes_8 zeros n eight (AreBytes-zeros k bytes are_bytes) (read
     ∙ ap (from_be_bytes w64) is) in
-    sym (big_endian-in_bytes 8 n fits) ∙ ap big_endian spelled ∙ big_endian-zeros k bytes
+    sym (big_endian-in_bytes 8 n fits) ∙ ap big_endian encoded ∙ big_endian-zeros k bytes
 
 -- what a machine word of zeros is, whose end bytes are written over
 pub written_after : (k : ℕ) (back bytes : List ℕ) → k ≤ 8 → back ≡ bytes →

@@ -4,34 +4,34 @@ use Rattle.std.specs.Result.{IfOk}
 use Rattle.p3_fs_core.specs.Errors.{Decodes, IsBadShape}
 use Rattle.p3_fs_core.specs.declared.error.TranscriptError.{TranscriptError}
 
-module _ {T : Type 0} (spelling : T → List ℕ) (reading : List ℕ → Result (T × List ℕ) (List ℕ)) where
+module _ {T : Type 0} (encoding : T → List ℕ) (reading : List ℕ → Result (T × List ℕ) (List ℕ)) where
   module _ (width : ℕ) (bytes : List ℕ) (reads_only : (x : T) (rest : List ℕ) → reading bytes ≡ Ok (x, rest) →
-      bytes ≡ spelling x ++ rest) (following : (x : T) (rest : List ℕ) → drop width (spelling x ++ rest) ≡ rest) where
+      bytes ≡ encoding x ++ rest) (following : (x : T) (rest : List ℕ) → drop width (encoding x ++ rest) ≡ rest) where
     found_in : (o : Result (T × List ℕ) (List ℕ)) (r : Result T TranscriptError) → reading bytes ≡ o → Decodes o r →
-        IfOk r (λ x. bytes ≡ spelling x ++ drop width bytes)
+        IfOk r (λ x. bytes ≡ encoding x ++ drop width bytes)
     found_in (Ok found) (Ok x) is decodes =
-        let spelled = reads_only found.0 found.1 is in
-        let rest : drop width bytes ≡ found.1 = ap (drop width) spelled ∙ following found.0 found.1 in
-        spelled ∙ ap (λ y. spelling y ++ found.1) (sym decodes) ∙ ap (λ end. spelling x ++ end) (sym rest)
+        let encoded = reads_only found.0 found.1 is in
+        let rest : drop width bytes ≡ found.1 = ap (drop width) encoded ∙ following found.0 found.1 in
+        encoded ∙ ap (λ y. encoding y ++ found.1) (sym decodes) ∙ ap (λ end. encoding x ++ end) (sym rest)
     found_in (Ok found) (Err e) is decodes = tt
     found_in (Err reason) (Ok x) is decodes = absurd decodes
     found_in (Err reason) (Err e) is decodes = tt
 
-    -- what is decoded is spelled at the head of the bytes
+    -- what is decoded is encoded at the head of the bytes
     pub decoded-found : (r : Result T TranscriptError) → Decodes (reading bytes) r →
-        IfOk r (λ x. bytes ≡ spelling x ++ drop width bytes)
+        IfOk r (λ x. bytes ≡ encoding x ++ drop width bytes)
     decoded-found r decodes = found_in (reading bytes) r (λ _. reading bytes) decodes
 
   decodes-ok : (found : T × List ℕ) (r : Result T TranscriptError) → Decodes (Ok found) r → r ≡ Ok found.0
   decodes-ok found (Ok x) decodes = ap Ok decodes
   decodes-ok found (Err e) decodes = absurd decodes
 
-  -- what is spelled at the head of the bytes is decoded
-  pub decoded-only : ((x : T) (rest : List ℕ) → reading (spelling x ++ rest) ≡ Ok (x, rest)) →
+  -- what is encoded at the head of the bytes is decoded
+  pub decoded-only : ((x : T) (rest : List ℕ) → reading (encoding x ++ rest) ≡ Ok (x, rest)) →
       (bytes : List ℕ) (r : Result T TranscriptError) → Decodes (reading bytes) r → (x : T) (rest : List ℕ) →
-      bytes ≡ spelling x ++ rest → r ≡ Ok x
-  decoded-only reads_back bytes r decodes x rest spelled =
-      decodes-ok (x, rest) r (subst (λ (o : Result (T × List ℕ) (List ℕ)). Decodes o r) (ap reading spelled
+      bytes ≡ encoding x ++ rest → r ≡ Ok x
+  decoded-only reads_back bytes r decodes x rest encoded =
+      decodes-ok (x, rest) r (subst (λ (o : Result (T × List ℕ) (List ℕ)). Decodes o r) (ap reading encoded
       ∙ reads_back x rest) decodes)
 
 -- what a decoder's answer says of reading

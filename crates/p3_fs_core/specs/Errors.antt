@@ -13,7 +13,7 @@ use Rattle.p3_fs_core.specs.declared.error.TranscriptError.TheVariants.{MissingB
 use Rattle.p3_fs_core.specs.declared.error.TranscriptError.TheVariants.{MissingEnd, BadProofShape, Pattern}
 use Rattle.p3_fs_core.specs.declared.error.TranscriptError.TheVariants.{Challenger, LabelTooLong, OutOfMemory}
 
--- a challenger's refusal inside a transcript: want of memory is the transcript's own
+-- a challenger's refusal inside a transcript: being out of memory is the transcript's own
 abbrev pub transcript_error : ChallengerError → TranscriptError
 transcript_error challenger.OutOfMemory = OutOfMemory
 transcript_error challenger.DrawLimit = Challenger challenger.DrawLimit

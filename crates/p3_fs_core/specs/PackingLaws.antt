@@ -109,9 +109,9 @@ number_of_filled bytes filled n short are_bytes is fits read =
     let k = 8 - length bytes in
     let zeros = bytes ++ replicate k 0 in
     let eight : length zeros ≡ 8 = omega (arith, length-append bytes (replicate k 0), length-replicate {A = ℕ} k 0) in
-    let spelled : bytes_low_first 0 8 n ≡ zeros = le_bytes_8 zeros n eight (AreBytes-padded bytes k are_bytes) (read
+    let encoded : bytes_low_first 0 8 n ≡ zeros = le_bytes_8 zeros n eight (AreBytes-padded bytes k are_bytes) (read
     ∙ ap (from_le_bytes w64) is) in
-    sym (little_endian-word n fits) ∙ ap little_endian spelled ∙ little_endian-padded bytes k
+    sym (little_endian-word n fits) ∙ ap little_endian encoded ∙ little_endian-padded bytes k
 
 -- what a machine word of zeros is, whose front bytes are written over
 pub written_before : (front bytes : List ℕ) → front ≡ bytes → front ++ drop (length bytes) (replicate 8 0)

@@ -5,7 +5,7 @@ use Rattle.p3_field_core.specs.Residues.{Residues}
 use Rattle.p3_fs_core.specs.BigEndian.{big_endian, in_bytes, bytes_for}
 use Rattle.p3_fs_core.specs.Encoding.{Encoding}
 
--- the one spelling of an element
+-- the one encoding of an element
 abbrev pub wire : {F : Type 0} → Residues F → ℕ → F → List ℕ
 wire r width x = in_bytes width (r.number x)
 

@@ -1,4 +1,4 @@
--- Laws of an element's spelling.
+-- Laws of an element's encoding.
 use Rattle.std.proofs.Common.{◌≡◌, ℕ, zero, suc, ◌<◌, ◌≤◌, ◌*◌, ◌^◌, List, ◌++◌, length, take, drop, Bool, true}
 use Rattle.std.proofs.Common.{false, nat_lt, if◌then◌else◌, Result, Ok, Err, refl, sym, ap, ◌∙◌, inl, inr, pow_mono}
 use Rattle.std.proofs.Common.{arith}
@@ -36,10 +36,10 @@ at_least n m h = grind (arith, nat_tests)
 is_below : (n m : ℕ) → nat_lt n m ≡ true → n < m
 is_below n m h = grind (arith, nat_tests)
 
--- what is read back is a prefix code, whatever is read and however it is spelled
-pub read-prefix_code : {T : Type 0} (spelling : T → List ℕ) (reading : List ℕ → Result (T × List ℕ) (List ℕ)) →
-    ((x : T) (rest : List ℕ) → reading (spelling x ++ rest) ≡ Ok (x, rest)) → IsPrefixCode spelling
-read-prefix_code {T} spelling reading reads x y a b h =
+-- what is read back is a prefix code, whatever is read and however it is encoded
+pub read-prefix_code : {T : Type 0} (encoding : T → List ℕ) (reading : List ℕ → Result (T × List ℕ) (List ℕ)) →
+    ((x : T) (rest : List ℕ) → reading (encoding x ++ rest) ≡ Ok (x, rest)) → IsPrefixCode encoding
+read-prefix_code {T} encoding reading reads x y a b h =
     let both : ◌≡◌ {A = Result (T × List ℕ) (List ℕ)} (Ok (x, a)) (Ok (y, b)) = sym (reads x a) ∙ ap reading h
     ∙ reads y b in
     let same : ◌≡◌ {A = T × List ℕ} (x, a) (y, b) = cc in
@@ -60,20 +60,20 @@ module _ {F : Type 0} (r : Residues F) (laws : IsResidues r) (width : ℕ) (fits
       (below (r.number x) r.order (laws.below x))
       ∙ ap (λ y. Ok (y, rest)) (laws.of_number x)
 
-  -- what is spelled is read, whatever follows
+  -- what is encoded is read, whatever follows
   pub read-wire : (x : F) (rest : List ℕ) → read r width (wire r width x ++ rest) ≡ Ok (x, rest)
   read-wire x rest =
-      let spelled = wire r width x in
-      let long : width ≤ length (spelled ++ rest) = omega (arith, length-append spelled rest, length-wire x) in
-      ap (λ b. if b then Err not_enough_bytes else element_of r (big_endian (take width (spelled ++ rest)))
-      (drop width (spelled ++ rest))) (not_below (length (spelled ++ rest)) width long)
-      ∙ ap (λ bytes. element_of r (big_endian bytes) (drop width (spelled ++ rest)))
-      (take-front width spelled rest (length-wire x))
-      ∙ ap (λ following. element_of r (big_endian spelled) following) (drop-front width spelled rest (length-wire x))
+      let encoded = wire r width x in
+      let long : width ≤ length (encoded ++ rest) = omega (arith, length-append encoded rest, length-wire x) in
+      ap (λ b. if b then Err not_enough_bytes else element_of r (big_endian (take width (encoded ++ rest)))
+      (drop width (encoded ++ rest))) (not_below (length (encoded ++ rest)) width long)
+      ∙ ap (λ bytes. element_of r (big_endian bytes) (drop width (encoded ++ rest)))
+      (take-front width encoded rest (length-wire x))
+      ∙ ap (λ following. element_of r (big_endian encoded) following) (drop-front width encoded rest (length-wire x))
       ∙ ap (λ n. element_of r n rest) (number-wire x)
       ∙ element_of-number x rest
 
-  -- what is read is spelled so
+  -- what is read is encoded so
   pub read-only : (bytes : List ℕ) (x : F) (rest : List ℕ) → AreBytes bytes → read r width bytes ≡ Ok (x, rest) →
       bytes ≡ wire r width x ++ rest
   read-only bytes x rest are_bytes h =
@@ -85,13 +85,13 @@ module _ {F : Type 0} (r : Residues F) (laws : IsResidues r) (width : ℕ) (fits
       let value : r.of n ≡ x = ap (λ p. p.0) found.1 in
       let following : drop width bytes ≡ rest = ap (λ p. p.1) found.1 in
       let same : r.number x ≡ n = sym (ap r.number value) ∙ number_of-below r laws n (is_below n r.order found.0) in
-      let spelled : wire r width x ≡ front =
+      let encoded : wire r width x ≡ front =
       ap (in_bytes width) same
       ∙ in_bytes-big_endian width front (length-take-le width bytes (at_least (length bytes) width long.0))
       (AreBytes-take width bytes are_bytes) in
-      sym (ap (λ a. a ++ rest) spelled ∙ ap (λ b. front ++ b) (sym following) ∙ take-append-drop width bytes)
+      sym (ap (λ a. a ++ rest) encoded ∙ ap (λ b. front ++ b) (sym following) ∙ take-append-drop width bytes)
 
-  -- the spellings are a prefix code
+  -- the encodings are a prefix code
   pub wire-prefix_code : IsPrefixCode (wire r width)
   wire-prefix_code = read-prefix_code (wire r width) (read r width) read-wire
 

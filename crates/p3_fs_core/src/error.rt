@@ -26,7 +26,7 @@ pub enum TranscriptError {
     /// A container is still open at the end.
     #[error(transparent)]
     MissingEnd(MissingEndInfo),
-    /// The proof is no spelling of what the step reads.
+    /// The proof is no encoding of what the step reads.
     #[error("bad proof shape: {reason}")]
     BadProofShape {
         /// What is wrong with it.

@@ -25,28 +25,28 @@ pub fn bound_byte_width(max: usize) -> usize
 pub fn encode_len_be(len: usize, width: usize) -> [u8; 8]
     requires width { width ≤ 8 }
     requires fits { len < 256 ^ width }
-    ensures spelled { result ≡ in_bytes width len ++ replicate (8 - width) 0 }
+    ensures encoded { result ≡ in_bytes width len ++ replicate (8 - width) 0 }
     ensures read_back { big_endian (take width result) ≡ len }
 {
     leading_bytes(len as u64, width)
 }
 
-/// The count whose spelling in `width` bytes `buf` begins with.
+/// The count whose encoding in `width` bytes `buf` begins with.
 ///
 /// Conditions: `width` is at most 8, and `buf` has so many bytes. In the Rust crate it is private, and panics in
 /// their place.
-#[tactic(auto, using(crate::proofs::Counting::counted_fits, crate::proofs::Counting::counted_spelled_back))]
+#[tactic(auto, using(crate::proofs::Counting::counted_fits, crate::proofs::Counting::counted_encoded_back))]
 pub fn decode_len_be(buf: &[u8], width: usize) -> usize
     requires width { width ≤ 8 }
     requires long { width ≤ length buf.now }
     ensures fits { result < 256 ^ width }
     ensures number { result ≡ big_endian (take width buf.now) }
-    ensures spelled_back { in_bytes width result ≡ take width buf.now }
+    ensures encoded_back { in_bytes width result ≡ take width buf.now }
 {
     number_of_bytes(&buf[..width]) as usize
 }
 
-/// Counts of one width are a prefix code: no spelling of a count begins another's.
+/// Counts of one width are a prefix code: no encoding of a count begins another's.
 ///
 /// A law: the body is empty, and a caller cites the clause.
 #[tactic(auto, using(crate::proofs::Counting::counts_prefix_code))]

@@ -1,5 +1,5 @@
 //! What typed transcripts are made of: steps and their types, why a step is refused, and how elements of
-//! fields, byte strings and counts are spelled.
+//! fields, byte strings and counts are encoded.
 //!
 //! What is called a law is a function without effect whose contract a caller cites. The Rust crate has none.
 #![tactic(auto)]

@@ -1,4 +1,4 @@
-//! What a prime field has in a transcript: its spelling, and how a challenger of it observes a seed.
+//! What a prime field has in a transcript: its encoding, and how a challenger of it observes a seed.
 ghost use Rattle.std.specs.Prelude.{◌≡◌, ℕ, ◌<◌, ◌≤◌, List, [], ◌∷◌, ◌++◌, length, take, drop, flat_map, Ok, OnOk};
 ghost use Rattle.std.specs.Prelude.{OnErr, IfOk, IfErr};
 ghost use Rattle.p3_challenger_core.specs.Observation.{observed_all, LeavesInCalls};
@@ -16,7 +16,7 @@ use crate::{TranscriptError, TypeTag};
 use p3_challenger_core::{CanObserve, ChallengerError};
 use p3_field_core::PrimeField64;
 
-/// A field whose elements stand in a transcript: each has one spelling in the proof, its canonical
+/// A field whose elements stand in a transcript: each has one encoding in the proof, its canonical
 /// number with the highest byte first, in as few bytes as the order needs.
 ///
 /// Every [`PrimeField64`] is one, and no other implementation can be. The Rust crate's `TranscriptField`, which other
@@ -73,7 +73,7 @@ pub trait TranscriptField: PrimeField64 {
         Self::bits().div_ceil(8)
     }
 
-    /// Adds the spelling of an element at the end of `out`.
+    /// Adds the encoding of an element at the end of `out`.
     ///
     /// The one error is [`TranscriptError::OutOfMemory`], which leaves a beginning of it added. It answers no error
     /// in the Rust crate.
@@ -89,7 +89,7 @@ pub trait TranscriptField: PrimeField64 {
         Ok(())
     }
 
-    /// The element whose spelling `bytes` begin with: their first
+    /// The element whose encoding `bytes` begin with: their first
     /// [`wire_len`](TranscriptField::wire_len) bytes.
     ///
     /// The one error is [`TranscriptError::BadProofShape`]: with `not enough bytes for a canonical field

@@ -6,7 +6,7 @@ ghost use Rattle.p3_challenger_core.specs.Sampling.{in_row, RefusesDraw};
 ghost use Rattle.p3_challenger_core.specs.declared.error.ChallengerError.TheVariants.{OutOfMemory};
 ghost use Rattle.p3_grinding.specs.Checks.{byte_check, Finds, MayRunOut};
 
-use crate::Replica;
+use crate::TryClone;
 use p3_challenger_core::{CanObserve, CanSample, ChallengerError, sample_array};
 
 /// Candidates of a search, each of which is a string of `W` bytes, and which of the strings of `S` bytes that may be
@@ -38,7 +38,7 @@ pub trait ByteCandidates<const W: usize, const S: usize> {
 /// bytes that are drawn.
 ///
 /// The Rust crate's `ByteGrindingChallenger`, where `W` and `S` are parameters of `find_witness`.
-pub trait ByteGrindingChallenger<const W: usize, const S: usize>: Replica
+pub trait ByteGrindingChallenger<const W: usize, const S: usize>: TryClone
     + CanObserve<u8>
     + CanSample<u8> {
     /// The least candidate below `num_candidates` that passes, or `None` where none does. Nothing changes.
@@ -55,17 +55,17 @@ pub trait ByteGrindingChallenger<const W: usize, const S: usize>: Replica
             (in_slice Self.CanObserve.observation Self.CanObserve.slice_may_leave)
             (in_row Self.CanSample.sampling S) (K.encoded candidates.now) (K.accepted candidates.now))
             (Self.state self.now) num_candidates) }
-        ensures err { IfErr result (λ e. (e ≡ OutOfMemory) × MayRunOut Self.Replica.copies_may_fail (byte_check
+        ensures err { IfErr result (λ e. (e ≡ OutOfMemory) × MayRunOut Self.TryClone.clones_may_fail (byte_check
             (in_slice Self.CanObserve.observation Self.CanObserve.slice_may_leave)
             (in_row Self.CanSample.sampling S) (K.encoded candidates.now) (K.accepted candidates.now))
             (Self.state self.now)) }
     {
-        let mut trial = self.copy()?;
+        let mut trial = self.try_clone()?;
         for candidate in 0..num_candidates {
             match check_bytes::<Self, K, W, S>(&mut trial, candidates, candidate) {
                 Ok(true) => return Ok(Some(candidate)),
-                Ok(false) => trial.copy_from(self)?,
-                Err(ChallengerError::DrawLimit) => trial.copy_from(self)?,
+                Ok(false) => trial.try_clone_from(self)?,
+                Err(ChallengerError::DrawLimit) => trial.try_clone_from(self)?,
                 Err(error) => return Err(error),
             }
         }
@@ -73,7 +73,7 @@ pub trait ByteGrindingChallenger<const W: usize, const S: usize>: Replica
     }
 
     // What bytes feed tells them apart.
-    ghost tells_bytes: { IsPrefixCodeOn IsByte Self.CanObserve.observation.symbols };
+    ghost bytes_prefix_free: { IsPrefixCodeOn IsByte Self.CanObserve.observation.symbols };
 }
 
 // Whether a candidate passes, on the challenger itself.

@@ -5,11 +5,11 @@
 //! verifier  check_witness(bits, w)  ->  whether w passes; the challenger is the same
 //! ```
 ghost use Rattle.std.specs.Prelude.{◌≡◌, ◌≤◌, ℕ, Some, OnOk, IfOk, IfErr, IsOk};
-ghost use Rattle.p3_challenger_core.specs.Reading.{TellsApart};
+ghost use Rattle.p3_challenger_core.specs.Reading.{IsPrefixFree};
 ghost use Rattle.p3_challenger_core.specs.Sampling.{RefusesDraw};
 ghost use Rattle.p3_grinding.specs.Checks.{all_zero, check_of, IsLeast, RefusesSearch};
 
-use crate::PrepareCheck;
+use crate::BeforeWitness;
 use crate::search::check_plainly;
 use p3_challenger_core::{CanObserve, CanSampleBits, ChallengerError};
 use p3_field_core::PrimeField64;
@@ -17,7 +17,7 @@ use p3_field_core::PrimeField64;
 /// A challenger that proofs of work are made on: a witness is searched for, such that bits drawn after it are 0.
 ///
 /// The Rust crate's `GrindingChallenger`.
-pub trait GrindingChallenger: PrepareCheck + CanObserve<Self::Witness> + CanSampleBits<usize> {
+pub trait GrindingChallenger: BeforeWitness + CanObserve<Self::Witness> + CanSampleBits<usize> {
     /// What is searched for.
     type Witness: PrimeField64;
 
@@ -43,11 +43,11 @@ pub trait GrindingChallenger: PrepareCheck + CanObserve<Self::Witness> + CanSamp
             (Self.state self.old) (Self.state self.new)) }
         ensures free { bits ≡ 0 → IsOk result };
 
-    /// Whether a witness passes: what [`prepare_check`](PrepareCheck::prepare_check) draws is drawn, the witness is
+    /// Whether a witness passes: what [`draw_before_witness`](BeforeWitness::draw_before_witness) draws is drawn, the witness is
     /// observed, and the next `bits` bits, at most [`max_bits`](CanSampleBits::max_bits), are all 0. With 0 bits each
     /// witness passes, and nothing is touched.
     ///
-    /// The errors are those of `prepare_check`, [`CanObserve::observe`] and [`CanSampleBits::sample_bits`]. What was
+    /// The errors are those of `draw_before_witness`, [`CanObserve::observe`] and [`CanSampleBits::sample_bits`]. What was
     /// drawn and observed before the refused call stays so.
     fn check_witness(
         &mut self,
@@ -68,7 +68,7 @@ pub trait GrindingChallenger: PrepareCheck + CanObserve<Self::Witness> + CanSamp
     }
 
     // What witnesses feed tells them apart.
-    ghost tells_witnesses: { TellsApart Self.observation.symbols };
+    ghost witnesses_prefix_free: { IsPrefixFree Self.observation.symbols };
 
     // The number of drawn bits is what is drawn, so that bits which are all 0 are the number 0.
     ghost number_is: { (n : ℕ) → Self.CanSampleBits.number n ≡ n };
@@ -79,7 +79,7 @@ impl<C: GrindingChallenger> GrindingChallenger for &mut C {
 
     ghost may_run_out = { C.may_run_out };
 
-    ghost tells_witnesses = { C.tells_witnesses };
+    ghost witnesses_prefix_free = { C.witnesses_prefix_free };
 
     ghost number_is = { C.number_is };
 

@@ -6,7 +6,7 @@ ghost use Rattle.p3_grinding.specs.Checks.{all_zero, draws_nothing, checked, che
 ghost use Rattle.p3_grinding.specs.Checks.{RefusesReady, RefusesSearch, MayRunOut};
 ghost use Rattle.p3_challenger_core.specs.Sampling.{RefusesDraw};
 
-use crate::{PrepareCheck, Replica};
+use crate::{BeforeWitness, TryClone};
 use p3_challenger_core::{CanObserve, CanSampleBits, ChallengerError};
 use p3_field_core::PrimeField64;
 use std::mem;
@@ -20,7 +20,7 @@ use std::mem;
 /// `bits` is at most `max_bits`. Not in the Rust crate.
 pub fn least_witness<
     W: PrimeField64,
-    C: PrepareCheck + CanObserve<W> + CanSampleBits<usize> + Replica,
+    C: BeforeWitness + CanObserve<W> + CanSampleBits<usize> + TryClone,
 >(challenger: &mut C, bits: usize) -> Result<W, ChallengerError>
     requires { bits ≤ C.most_bits }
     ensures least { IfOk result (λ witness. IsLeast W.residues
@@ -31,14 +31,14 @@ pub fn least_witness<
         (C.state challenger.old)) }
     ensures err { IfErr result (λ e.
         let check = check_of C.before_witness C.observation (all_zero (C.bits_sampling bits)) bits in
-        RefusesSearch W.residues (MayRunOut C.copies_may_fail check) check e
+        RefusesSearch W.residues (MayRunOut C.clones_may_fail check) check e
         (C.state challenger.old) (C.state challenger.new)) }
     ensures free { bits ≡ 0 → IsOk result }
 {
     if bits == 0 {
         return Ok(W::from_canonical(0));
     }
-    let mut prepared = prepared_copy(challenger)?;
+    let mut prepared = prepared_clone(challenger)?;
     let witness = least_prepared(&mut prepared, bits)?;
     mem::swap(challenger, &mut prepared);
     Ok(witness)
@@ -48,14 +48,16 @@ pub fn least_witness<
 ///
 /// The errors are [`ChallengerError::NoWitness`] where that meets a draw limit, so that no witness passes, and
 /// [`ChallengerError::OutOfMemory`].
-pub(crate) fn prepared_copy<C: PrepareCheck + Replica>(challenger: &C) -> Result<C, ChallengerError>
+pub(crate) fn prepared_clone<C: BeforeWitness + TryClone>(
+    challenger: &C,
+) -> Result<C, ChallengerError>
     ensures drawn { OnOk result (C.before_witness.sampled (C.state challenger.now) ≡ Some tt) }
     ensures after { IfOk result (λ c. C.state c ≡ C.before_witness.after (C.state challenger.now)) }
     ensures err { IfErr result (λ e.
-        RefusesReady C.copies_may_fail C.before_witness e (C.state challenger.now)) }
+        RefusesReady C.clones_may_fail C.before_witness e (C.state challenger.now)) }
 {
-    let mut prepared = challenger.copy()?;
-    match prepared.prepare_check() {
+    let mut prepared = challenger.try_clone()?;
+    match prepared.draw_before_witness() {
         Ok(()) => Ok(prepared),
         Err(ChallengerError::DrawLimit) => Err(ChallengerError::NoWitness),
         Err(error) => Err(error),
@@ -63,7 +65,7 @@ pub(crate) fn prepared_copy<C: PrepareCheck + Replica>(challenger: &C) -> Result
 }
 
 // The least witness that passes on a challenger which is ready for one.
-fn least_prepared<W: PrimeField64, C: CanObserve<W> + CanSampleBits<usize> + Replica>(
+fn least_prepared<W: PrimeField64, C: CanObserve<W> + CanSampleBits<usize> + TryClone>(
     challenger: &mut C,
     bits: usize,
 ) -> Result<W, ChallengerError>
@@ -76,10 +78,10 @@ fn least_prepared<W: PrimeField64, C: CanObserve<W> + CanSampleBits<usize> + Rep
         (C.state challenger.old)) }
     ensures err { IfErr result (λ e.
         let check = checked draws_nothing C.observation (all_zero (C.bits_sampling bits)) in
-        RefusesSearch W.residues (MayRunOut C.copies_may_fail check) check e
+        RefusesSearch W.residues (MayRunOut C.clones_may_fail check) check e
         (C.state challenger.old) (C.state challenger.new)) }
 {
-    let mut trial = challenger.copy()?;
+    let mut trial = challenger.try_clone()?;
     for candidate in 0..W::ORDER_U64 {
         let witness = W::from_canonical(candidate);
         match passes(&mut trial, bits, witness) {
@@ -87,8 +89,8 @@ fn least_prepared<W: PrimeField64, C: CanObserve<W> + CanSampleBits<usize> + Rep
                 mem::swap(challenger, &mut trial);
                 return Ok(witness);
             }
-            Ok(false) => trial.copy_from(challenger)?,
-            Err(ChallengerError::DrawLimit) => trial.copy_from(challenger)?,
+            Ok(false) => trial.try_clone_from(challenger)?,
+            Err(ChallengerError::DrawLimit) => trial.try_clone_from(challenger)?,
             Err(error) => return Err(error),
         }
     }
@@ -100,7 +102,7 @@ fn least_prepared<W: PrimeField64, C: CanObserve<W> + CanSampleBits<usize> + Rep
 /// The errors are those of [`CanObserve::observe`] and [`CanSampleBits::sample_bits`].
 pub(crate) fn check_plainly<
     W: PrimeField64,
-    C: PrepareCheck + CanObserve<W> + CanSampleBits<usize>,
+    C: BeforeWitness + CanObserve<W> + CanSampleBits<usize>,
 >(challenger: &mut C, bits: usize, witness: W) -> Result<bool, ChallengerError>
     requires { bits ≤ C.most_bits }
     ensures answered { IfOk result (λ passes. (check_of C.before_witness C.observation
@@ -113,7 +115,7 @@ pub(crate) fn check_plainly<
     if bits == 0 {
         return Ok(true);
     }
-    challenger.prepare_check()?;
+    challenger.draw_before_witness()?;
     passes(challenger, bits, witness)
 }
 

@@ -46,11 +46,11 @@ pub trait UniformGrindingChallenger: GrindingChallenger + CanSampleUniformBits<S
             (Self.state self.old) (Self.state self.new)) }
         ensures free { bits ≡ 0 → IsOk result };
 
-    /// Whether a witness passes: what [`prepare_check`](crate::PrepareCheck::prepare_check) draws is drawn, the
+    /// Whether a witness passes: what [`draw_before_witness`](crate::BeforeWitness::draw_before_witness) draws is drawn, the
     /// witness is observed, and the next `bits` uniform bits, at most `max_bits`, are all 0. Another value is drawn
     /// in the place of one that is rejected.
     ///
-    /// The errors are those of `prepare_check`, of [`CanObserve::observe`](p3_challenger_core::CanObserve::observe)
+    /// The errors are those of `draw_before_witness`, of [`CanObserve::observe`](p3_challenger_core::CanObserve::observe)
     /// and of a draw. What was drawn and observed before the refused call stays so.
     fn check_witness_uniform(
         &mut self,

@@ -4,8 +4,8 @@ ghost use Rattle.p3_grinding.specs.Checks.{zero_and_uniform, draws_nothing, chec
 ghost use Rattle.p3_grinding.specs.Checks.{RefusesSearch, MayRunOut};
 ghost use Rattle.p3_challenger_core.specs.Sampling.{RefusesDraw};
 
-use crate::search::prepared_copy;
-use crate::{CanSampleUniformBits, PrepareCheck, Replica, UniformBitsError};
+use crate::search::prepared_clone;
+use crate::{BeforeWitness, CanSampleUniformBits, TryClone, UniformBitsError};
 use p3_challenger_core::{CanObserve, ChallengerError};
 use p3_field_core::PrimeField64;
 use std::mem;
@@ -18,7 +18,7 @@ use std::mem;
 /// `bits` is at most `max_bits`. Not in the Rust crate.
 pub fn least_uniform_witness<
     W: PrimeField64,
-    C: PrepareCheck + CanObserve<W> + CanSampleUniformBits<W> + Replica,
+    C: BeforeWitness + CanObserve<W> + CanSampleUniformBits<W> + TryClone,
 >(challenger: &mut C, bits: usize, resample: bool) -> Result<W, ChallengerError>
     requires { bits ≤ C.most_bits }
     ensures least { IfOk result (λ witness. IsLeast W.residues
@@ -29,21 +29,21 @@ pub fn least_uniform_witness<
         (C.state challenger.old)) }
     ensures err { IfErr result (λ e.
         let check = check_of C.before_witness C.observation (zero_and_uniform (C.uniform resample bits)) bits in
-        RefusesSearch W.residues (MayRunOut C.copies_may_fail check) check e
+        RefusesSearch W.residues (MayRunOut C.clones_may_fail check) check e
         (C.state challenger.old) (C.state challenger.new)) }
     ensures free { bits ≡ 0 → IsOk result }
 {
     if bits == 0 {
         return Ok(W::from_canonical(0));
     }
-    let mut prepared = prepared_copy(challenger)?;
+    let mut prepared = prepared_clone(challenger)?;
     let witness = least_prepared(&mut prepared, bits, resample)?;
     mem::swap(challenger, &mut prepared);
     Ok(witness)
 }
 
 // The least witness that passes on a challenger which is ready for one.
-fn least_prepared<W: PrimeField64, C: CanObserve<W> + CanSampleUniformBits<W> + Replica>(
+fn least_prepared<W: PrimeField64, C: CanObserve<W> + CanSampleUniformBits<W> + TryClone>(
     challenger: &mut C,
     bits: usize,
     resample: bool,
@@ -57,10 +57,10 @@ fn least_prepared<W: PrimeField64, C: CanObserve<W> + CanSampleUniformBits<W> + 
         (C.state challenger.old)) }
     ensures err { IfErr result (λ e.
         let check = checked draws_nothing C.observation (zero_and_uniform (C.uniform resample bits)) in
-        RefusesSearch W.residues (MayRunOut C.copies_may_fail check) check e
+        RefusesSearch W.residues (MayRunOut C.clones_may_fail check) check e
         (C.state challenger.old) (C.state challenger.new)) }
 {
-    let mut trial = challenger.copy()?;
+    let mut trial = challenger.try_clone()?;
     for candidate in 0..W::ORDER_U64 {
         let witness = W::from_canonical(candidate);
         match passes(&mut trial, bits, resample, witness) {
@@ -68,8 +68,8 @@ fn least_prepared<W: PrimeField64, C: CanObserve<W> + CanSampleUniformBits<W> + 
                 mem::swap(challenger, &mut trial);
                 return Ok(witness);
             }
-            Ok(false) => trial.copy_from(challenger)?,
-            Err(ChallengerError::DrawLimit) => trial.copy_from(challenger)?,
+            Ok(false) => trial.try_clone_from(challenger)?,
+            Err(ChallengerError::DrawLimit) => trial.try_clone_from(challenger)?,
             Err(error) => return Err(error),
         }
     }
@@ -81,7 +81,7 @@ fn least_prepared<W: PrimeField64, C: CanObserve<W> + CanSampleUniformBits<W> + 
 /// The errors are those of [`CanObserve::observe`] and of a draw.
 pub(crate) fn check_uniformly<
     W: PrimeField64,
-    C: PrepareCheck + CanObserve<W> + CanSampleUniformBits<W>,
+    C: BeforeWitness + CanObserve<W> + CanSampleUniformBits<W>,
 >(challenger: &mut C, bits: usize, resample: bool, witness: W) -> Result<bool, ChallengerError>
     requires { bits ≤ C.most_bits }
     ensures answered { IfOk result (λ passes. (check_of C.before_witness C.observation
@@ -95,7 +95,7 @@ pub(crate) fn check_uniformly<
     if bits == 0 {
         return Ok(true);
     }
-    challenger.prepare_check()?;
+    challenger.draw_before_witness()?;
     passes(challenger, bits, resample, witness)
 }
 

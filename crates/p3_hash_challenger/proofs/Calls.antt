@@ -6,7 +6,7 @@ use Rattle.p3_challenger_core.specs.Sponge.{after_steps}
 use Rattle.p3_challenger_core.specs.Segments.{Call, observe, observe_empty_array, draw, Segment, nothing, segments}
 use Rattle.p3_challenger_core.specs.Segments.{run_calls, run_segments}
 use Rattle.p3_challenger_core.specs.SegmentLaws.{cut-only, run_calls-segments}
-use Rattle.p3_hash_challenger.specs.HashCalls.{HashFunction, HashSponge, absorbing, hash_by_calls}
+use Rattle.p3_hash_challenger.specs.HashCalls.{HashFunction, HashSponge, with_pending, hash_by_calls}
 use Rattle.p3_hash_challenger.specs.HashSegments.{output_at, outputs_from, run_draws, hash_by_segments}
 use Rattle.p3_hash_challenger.specs.HashState.{HashState, fed, observed, array_observed, after_calls, calls_of_array}
 use Rattle.p3_hash_challenger.specs.HashState.{after_sampled}
@@ -41,7 +41,7 @@ module _ {T : Type 0} (h : HashFunction T) where
 
   -- draws that begin anew take the places of the first hash of the chain
   anew-places : (chain : List T) (n : ℕ)
-      → (run_draws h (absorbing chain) n).answers ≡ map (λ k. output_at h chain (h.out_len + k)) (range_with_len 0 n)
+      → (run_draws h (with_pending chain) n).answers ≡ map (λ k. output_at h chain (h.out_len + k)) (range_with_len 0 n)
   anew-places chain zero = refl
   anew-places chain (suc n) =
       let first : h.out_len - 0 ≡ h.out_len + 0 = omega arith in
@@ -66,7 +66,7 @@ module _ {T : Type 0} (h : HashFunction T) where
         let first : Segment T = record { values = x ∷ xs; draws = n } in
         answers-cut calls
         ∙ sym (ap (λ cut. (run_segments (hash_by_segments h) s cut).answers) (cut-only calls first [] refl))
-        ∙ append-nil (run_draws h (absorbing chain) n).answers
+        ∙ append-nil (run_draws h (with_pending chain) n).answers
         ∙ anew-places chain n
 
     pub draws-places_after_array : (n : ℕ)
@@ -79,5 +79,5 @@ module _ {T : Type 0} (h : HashFunction T) where
         answers-cut calls
         ∙ sym (ap (λ cut. (run_segments (hash_by_segments h) s cut).answers)
         (cut-only calls nothing (second ∷ []) (draws, inl refl, refl)))
-        ∙ append-nil (run_draws h (absorbing s.pending) n).answers
+        ∙ append-nil (run_draws h (with_pending s.pending) n).answers
         ∙ anew-places s.pending n

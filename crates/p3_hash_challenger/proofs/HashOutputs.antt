@@ -4,7 +4,7 @@ use Rattle.std.proofs.Common.{slice_index_or, refl, sym, ap, subst, arith}
 use Rattle.std.proofs.lemmas.List.{get_or_default}
 use Rattle.p3_challenger_core.specs.Segments.{Call, observe, observe_empty_array, draw}
 use Rattle.p3_hash_challenger.specs.HashCalls.{HashFunction, HashSponge, flushed, one_taken}
-use Rattle.p3_hash_challenger.specs.HashCalls.{sampled, handed_by_draw, after_sampled, run_call}
+use Rattle.p3_hash_challenger.specs.HashCalls.{sampled, queries_by_draw, after_sampled, run_call}
 use Rattle.p3_hash_challenger.proofs.HashSteps.{not_zero}
 
 -- the outputs left are places of what is pending
@@ -48,7 +48,7 @@ module _ {T : Type 0} (h : HashFunction T) (other : T) (positive : 0 < h.out_len
   filled_call s fits (observe x) = refl
   filled_call s fits observe_empty_array = refl
   filled_call s fits draw =
-      ap (λ x. record { answers = x ∷ []; handed = handed_by_draw s; after = after_sampled h s })
+      ap (λ x. record { answers = x ∷ []; queries = queries_by_draw s; after = after_sampled h s })
       (same_draw s.pending s.outputs_left fits)
 
   pub call_outputs : (s : HashSponge T) → HasOutputs s → (call : Call T)

@@ -5,9 +5,9 @@ use Rattle.std.proofs.lemmas.Bool.Decides.{nat_tests}
 use Rattle.std.proofs.Math.Nat.{add-div_left, add-mod_left, div-eq_of_lt, mod-eq_of_lt}
 use Rattle.p3_challenger_core.specs.Segments.{Call, observe, observe_empty_array, draw, stays, run_before}
 use Rattle.p3_challenger_core.specs.SegmentLaws.{StepsAgree}
-use Rattle.p3_hash_challenger.specs.HashCalls.{HashFunction, HashSponge, HashRun, absorbing, observed, flushed}
+use Rattle.p3_hash_challenger.specs.HashCalls.{HashFunction, HashSponge, HashRun, with_pending, observed, flushed}
 use Rattle.p3_hash_challenger.specs.HashCalls.{last_output, one_taken, after_sampled, run_call, hash_by_calls}
-use Rattle.p3_hash_challenger.specs.HashSegments.{run_values, hashed, handed_in_turn, output_at, left_after}
+use Rattle.p3_hash_challenger.specs.HashSegments.{run_values, hashed, queries_in_order, output_at, left_after}
 use Rattle.p3_hash_challenger.specs.HashSegments.{outputs_from, draws_from, run_draws, hash_by_segments}
 
 -- a digest further on in the row is one hash more, at the same place
@@ -27,15 +27,15 @@ here-mod n left more h =
 pub not_zero : (m : ℕ) → (suc m == 0) ≡ false
 not_zero m = grind (arith, nat_tests)
 
--- a string that is handed over first
-abbrev handed_first : {T : Type 0} → List T → HashRun T → HashRun T
-handed_first message run = record run { handed = message ∷ run.handed }
+-- a string that is queried first
+abbrev queries_first : {T : Type 0} → List T → HashRun T → HashRun T
+queries_first message run = record run { queries = message ∷ run.queries }
 
 -- a value and then a list are fed as one list
 run_values-next : {T : Type 0} (s : HashSponge T) (x : T) (xs : List T)
     → run_values s (x ∷ xs) ≡ run_before (stays (observed s x)) (run_values (observed s x) xs)
 run_values-next s x [] = refl
-run_values-next s x (y ∷ ys) = ap (λ p. stays (absorbing p)) (sym (append_assoc s.pending (x ∷ []) (y ∷ ys)))
+run_values-next s x (y ∷ ys) = ap (λ p. stays (with_pending p)) (sym (append_assoc s.pending (x ∷ []) (y ∷ ys)))
 
 module _ {T : Type 0} (h : HashFunction T) (positive : 0 < h.out_len) where
   -- outputs further on in the row are those of the chain hashed once
@@ -65,8 +65,8 @@ module _ {T : Type 0} (h : HashFunction T) (positive : 0 < h.out_len) where
 
   -- the chain itself is hashed before that
   draws_from-further : (chain : List T) (q k : ℕ)
-      → draws_from h chain (h.out_len + q) k ≡ handed_first chain (draws_from h (h.digest chain) q k)
-  unfolding handed_in_turn
+      → draws_from h chain (h.out_len + q) k ≡ queries_first chain (draws_from h (h.digest chain) q k)
+  unfolding queries_in_order
   draws_from-further chain q k =
       let same : h.out_len + q + k ≡ h.out_len + (q + k) = omega arith in
       let turns : (h.out_len + q + k) / h.out_len ≡ suc ((q + k) / h.out_len) =
@@ -74,7 +74,7 @@ module _ {T : Type 0} (h : HashFunction T) (positive : 0 < h.out_len) where
       let following = ap (left_after h chain) same ∙ left_after-further chain (q + k) in
       λ i. record {
         answers = outputs_from-further chain q (suc k) i;
-        handed = handed_in_turn h.digest (turns i) chain;
+        queries = queries_in_order h.digest (turns i) chain;
         after = following i;
       }
 
@@ -103,7 +103,7 @@ module _ {T : Type 0} (h : HashFunction T) (positive : 0 < h.out_len) where
   -- a draw that finds an output, and then k draws
   taken-next : (chain : List T) (left k : ℕ) → 0 < left → left ≤ h.out_len
       → draws_from h chain (h.out_len - left) k ≡ then_draws chain left k
-  unfolding outputs_from handed_in_turn
+  unfolding outputs_from queries_in_order
   taken-next chain left zero more fits =
       let same : h.out_len - left + 0 ≡ h.out_len - left = omega arith in
       let turns : (h.out_len - left + 0) / h.out_len ≡ 0 =
@@ -111,7 +111,7 @@ module _ {T : Type 0} (h : HashFunction T) (positive : 0 < h.out_len) where
       let following = ap (left_after h chain) same ∙ left_after-here chain left more fits in
       λ i. record {
         answers = output_at-here chain left more fits i ∷ [];
-        handed = handed_in_turn h.digest (turns i) chain;
+        queries = queries_in_order h.digest (turns i) chain;
         after = following i;
       }
   taken-next chain left (suc k) more fits =
@@ -119,7 +119,7 @@ module _ {T : Type 0} (h : HashFunction T) (positive : 0 < h.out_len) where
       let further : h.out_len - left + suc k ≡ h.out_len - (left - 1) + k = omega arith in
       λ i. record {
         answers = output_at-here chain left more fits i ∷ outputs_from h chain (next i) (suc k);
-        handed = handed_in_turn h.digest (further i / h.out_len) chain;
+        queries = queries_in_order h.digest (further i / h.out_len) chain;
         after = left_after h chain (further i);
       }
 
@@ -127,14 +127,14 @@ module _ {T : Type 0} (h : HashFunction T) (positive : 0 < h.out_len) where
   drawn-left : (chain : List T) (m : ℕ)
       → run_call h (record { pending = chain; outputs_left = suc m }) draw ≡ record {
         answers = slice_index_or chain (suc m - 1) h.filler ∷ [];
-        handed = [];
+        queries = [];
         after = record { pending = chain; outputs_left = suc m - 1 };
       }
   drawn-left chain m =
       let s : HashSponge T = record { pending = chain; outputs_left = suc m } in
       ap (λ b. let t = if b then flushed h s else s in record {
         answers = last_output h t ∷ [];
-        handed = if b then chain ∷ [] else [];
+        queries = if b then chain ∷ [] else [];
         after = one_taken t;
       }) (not_zero m)
 
@@ -152,7 +152,7 @@ module _ {T : Type 0} (h : HashFunction T) (positive : 0 < h.out_len) where
       let first = ap (λ p. draws_from h (h.digest chain) p k) start in
       ap (λ p. draws_from h chain p k) there
       ∙ draws_from-further chain 0 k
-      ∙ ap (handed_first chain) (first ∙ taken-next (h.digest chain) h.out_len k positive (omega arith))
+      ∙ ap (queries_first chain) (first ∙ taken-next (h.digest chain) h.out_len k positive (omega arith))
   next-by chain (suc m) k fits =
       taken-next chain (suc m) k (omega arith) fits
       ∙ sym (ap (λ run. run_before run (run_draws h run.after k)) (drawn-left chain m))
@@ -177,7 +177,7 @@ module _ {T : Type 0} (h : HashFunction T) (positive : 0 < h.out_len) where
     next_value = λ s _ x xs. run_values-next s x xs;
     no_draws = λ s. refl;
     next_draw = λ s fits k. next-by s.pending s.outputs_left k fits;
-    empty_array = λ s. ap (λ p. stays (absorbing p)) (append-nil s.pending);
+    empty_array = λ s. ap (λ p. stays (with_pending p)) (append-nil s.pending);
     ended_values = λ s x xs. refl;
     digest = λ s. refl;
     keeps = call-fits;

@@ -1,5 +1,5 @@
 pub mod Calls
-pub mod HashHanded
+pub mod HashQueries
 pub mod HashOutputs
 pub mod HashSteps
 pub mod Observing

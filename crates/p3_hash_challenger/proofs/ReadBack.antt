@@ -4,9 +4,9 @@ use Rattle.std.proofs.Common.{ap, subst, ◌∙◌, append_assoc, append-nil, ar
 use Rattle.std.proofs.lemmas.List.{drop_at}
 use Rattle.p3_challenger_core.specs.Segments.{Call, observe, observe_empty_array, draw, run_calls}
 use Rattle.p3_challenger_core.specs.SymbolLaws.{as_many-prefix_code}
-use Rattle.p3_read_back.specs.Handed.{observed_values, CollideAtSomePlace, Decides}
-use Rattle.p3_read_back.specs.HandedLaws.{last-told, list-decides, collide-first, collide-later}
-use Rattle.p3_hash_challenger.specs.HashCalls.{HashFunction, HashSponge, HashRun, absorbing, hash_by_calls, one_taken}
+use Rattle.p3_read_back.specs.Queries.{observed_values, CollideAtSomePlace, Decides}
+use Rattle.p3_read_back.specs.QueriesLaws.{last-told, list-decides, collide-first, collide-later}
+use Rattle.p3_hash_challenger.specs.HashCalls.{HashFunction, HashSponge, HashRun, with_pending, hash_by_calls, one_taken}
 use Rattle.p3_hash_challenger.specs.HashCalls.{flushed}
 use Rattle.p3_hash_challenger.specs.HashReadBack.{Collide, ReadsBack, ReadsBackToDigest, ReadsBackOrCollides}
 
@@ -37,10 +37,10 @@ module _ {T : Type 0} (h : HashFunction T) where
   -- a draw hashes all that is pending, or goes on
   draw-tells : (b : Bool) (left : ℕ) (chain xs : List T) (calls : List (Call T))
       → ((s : HashSponge T) (link seen : List T) → s.pending ≡ link ++ seen
-      → Tells link (seen ++ observed_values calls) (run s calls).handed (run s calls).after.pending)
+      → Tells link (seen ++ observed_values calls) (run s calls).queries (run s calls).after.pending)
       → let s = sponge_of (chain ++ xs) left in
       let rest = run (one_taken (if b then flushed h s else s)) calls in
-      Tells chain (xs ++ observed_values calls) ((if b then s.pending ∷ [] else []) ++ rest.handed) rest.after.pending
+      Tells chain (xs ++ observed_values calls) ((if b then s.pending ∷ [] else []) ++ rest.queries) rest.after.pending
   unfolding read IsChained
   draw-tells true left chain xs calls later =
       let s = sponge_of (chain ++ xs) left in
@@ -49,13 +49,13 @@ module _ {T : Type 0} (h : HashFunction T) where
       let told = later (one_taken (flushed h s)) link [] (sym (append-nil link)) in
       record {
         read_are = ap (λ ys. xs ++ ys) told.read_are
-            ∙ ap (λ ys. ys ++ read link rest.handed rest.after.pending) (sym (drop_at chain xs (length chain) refl));
+            ∙ ap (λ ys. ys ++ read link rest.queries rest.after.pending) (sym (drop_at chain xs (length chain) refl));
         chained = ((xs, refl), told.chained);
       }
   draw-tells false left chain xs calls later = later (one_taken (sponge_of (chain ++ xs) left)) chain xs refl
 
   tells : (calls : List (Call T)) (s : HashSponge T) (chain xs : List T) → s.pending ≡ chain ++ xs
-      → Tells chain (xs ++ observed_values calls) (run s calls).handed (run s calls).after.pending
+      → Tells chain (xs ++ observed_values calls) (run s calls).queries (run s calls).after.pending
   unfolding read IsChained
   tells [] s chain xs e =
       record {
@@ -63,35 +63,35 @@ module _ {T : Type 0} (h : HashFunction T) where
         chained = (xs, e);
       }
   tells (observe x ∷ calls) s chain xs e =
-      let t = absorbing (s.pending ++ x ∷ []) in
+      let t = with_pending (s.pending ++ x ∷ []) in
       let longer = ap (λ p. p ++ x ∷ []) e ∙ append_assoc chain xs (x ∷ []) in
-      subst (λ (ys : List T). Tells chain ys (run t calls).handed (run t calls).after.pending)
+      subst (λ (ys : List T). Tells chain ys (run t calls).queries (run t calls).after.pending)
       (append_assoc xs (x ∷ []) (observed_values calls)) (tells calls t chain (xs ++ x ∷ []) longer)
   tells (observe_empty_array ∷ calls) s chain xs e =
-      tells calls (absorbing (s.pending ++ [])) chain xs (append-nil s.pending ∙ e)
+      tells calls (with_pending (s.pending ++ [])) chain xs (append-nil s.pending ∙ e)
   tells (draw ∷ calls) s chain xs e =
       subst (λ (p : List T). Tells chain (xs ++ observed_values calls)
-      (run (sponge_of p s.outputs_left) (draw ∷ calls)).handed
+      (run (sponge_of p s.outputs_left) (draw ∷ calls)).queries
       (run (sponge_of p s.outputs_left) (draw ∷ calls)).after.pending) (sym e)
       (draw-tells (s.outputs_left == 0) s.outputs_left chain xs calls (λ t link seen is. tells calls t link seen is))
 
   -- from a challenger on, whose pending is the chain
   run-tells : (s : HashSponge T) (calls : List (Call T))
-      → Tells s.pending (observed_values calls) (run s calls).handed (run s calls).after.pending
+      → Tells s.pending (observed_values calls) (run s calls).queries (run s calls).after.pending
   run-tells s calls = tells calls s s.pending [] (sym (append-nil s.pending))
 
   pub reads_back : (s : HashSponge T) → ReadsBack h s
-  reads_back s calls others handed pending =
+  reads_back s calls others queries pending =
       (run-tells s calls).read_are
-      ∙ ap (λ messages. read s.pending messages (run s calls).after.pending) handed
-      ∙ ap (λ p. read s.pending (run s others).handed p) pending
+      ∙ ap (λ messages. read s.pending messages (run s calls).after.pending) queries
+      ∙ ap (λ p. read s.pending (run s others).queries p) pending
       ∙ sym (run-tells s others).read_are
 
   pub reads_back_to_digest : (s : HashSponge T) → ReadsBackToDigest h s
-  reads_back_to_digest s calls others handed =
+  reads_back_to_digest s calls others queries =
       let one = run s calls in
       let other = run s others in
-      let told = last-told one.handed other.handed one.after.pending other.after.pending handed in
+      let told = last-told one.queries other.queries one.after.pending other.after.pending queries in
       reads_back s calls others told.0 told.1
 
   -- the string that is hashed first, or what is pending where none is
@@ -143,12 +143,12 @@ module _ {T : Type 0} (h : HashFunction T) where
     reads_back_or_collides s calls others counts pending =
         let one = run s calls in
         let other = run s others in
-        let one_chained : IsChained s.pending one.handed other.after.pending =
-        subst (λ (p : List T). IsChained s.pending one.handed p) pending (run-tells s calls).chained in
-        elim (same-or_collide one.handed other.handed s.pending s.pending other.after.pending one_chained
+        let one_chained : IsChained s.pending one.queries other.after.pending =
+        subst (λ (p : List T). IsChained s.pending one.queries p) pending (run-tells s calls).chained in
+        elim (same-or_collide one.queries other.queries s.pending s.pending other.after.pending one_chained
         (run-tells s others).chained counts)
         as (λ _. (observed_values calls ≡ observed_values others)
-        ⊎ CollideAtSomePlace (Collide h) one.handed other.handed) [
+        ⊎ CollideAtSomePlace (Collide h) one.queries other.queries) [
           | inl same ↦ inl (reads_back s calls others same pending)
           | inr found ↦ inr found
         ]

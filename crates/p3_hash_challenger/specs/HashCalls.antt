@@ -16,14 +16,14 @@ pub record HashSponge (T : Type 0) : Type 0 where
   pub outputs_left : ℕ
 
 -- a challenger that has pending values and no output
-abbrev pub absorbing : {T : Type 0} → List T → HashSponge T
-absorbing values = record { pending = values; outputs_left = 0 }
+abbrev pub with_pending : {T : Type 0} → List T → HashSponge T
+with_pending values = record { pending = values; outputs_left = 0 }
 
 -- what a list feeds: it is added to what is pending, and the outputs are dropped; nothing changes
 -- where there is nothing to feed
 abbrev pub fed : {T : Type 0} → HashSponge T → List T → HashSponge T
 fed s [] = s
-fed s (x ∷ xs) = absorbing (s.pending ++ x ∷ xs)
+fed s (x ∷ xs) = with_pending (s.pending ++ x ∷ xs)
 
 -- after one value
 abbrev pub observed : {T : Type 0} → HashSponge T → T → HashSponge T
@@ -32,7 +32,7 @@ observed s x = fed s (x ∷ [])
 -- after an array: its values are added to what is pending, and the outputs are dropped, by an array
 -- of no values too
 abbrev pub array_observed : {T : Type 0} → HashSponge T → List T → HashSponge T
-array_observed s xs = absorbing (s.pending ++ xs)
+array_observed s xs = with_pending (s.pending ++ xs)
 
 -- after a flush: the digest of all that was pending is pending, and each of its places is left
 abbrev pub flushed : {T : Type 0} → HashFunction T → HashSponge T → HashSponge T
@@ -64,15 +64,15 @@ after_sampled h s = one_taken (ready h s)
 abbrev pub digest : {T : Type 0} → HashFunction T → HashSponge T → List T
 digest h s = h.digest s.pending
 
--- ---- what is handed to the hash function
+-- ---- the queries to the hash function
 
--- a draw that finds no output hands over all that is pending
-abbrev pub handed_by_draw : {T : Type 0} → HashSponge T → List (List T)
-handed_by_draw s = if s.outputs_left == 0 then s.pending ∷ [] else []
+-- a draw that finds no output queries all that is pending
+abbrev pub queries_by_draw : {T : Type 0} → HashSponge T → List (List T)
+queries_by_draw s = if s.outputs_left == 0 then s.pending ∷ [] else []
 
 -- so does a digest, whatever outputs are left
-abbrev pub handed_by_digest : {T : Type 0} → HashSponge T → List (List T)
-handed_by_digest s = s.pending ∷ []
+abbrev pub queries_by_digest : {T : Type 0} → HashSponge T → List (List T)
+queries_by_digest s = s.pending ∷ []
 
 -- ---- what a call does
 
@@ -85,12 +85,12 @@ run_call h s observe_empty_array = stays (array_observed s [])
 run_call h s draw =
     record {
       answers = sampled h s ∷ [];
-      handed = handed_by_draw s;
+      queries = queries_by_draw s;
       after = after_sampled h s;
     }
 
 abbrev pub run_digest : {T : Type 0} → HashFunction T → HashSponge T → Run T (List T) (List T)
-run_digest h s = record { answers = []; handed = handed_by_digest s; after = digest h s }
+run_digest h s = record { answers = []; queries = queries_by_digest s; after = digest h s }
 
 -- a hash challenger call by call
 abbrev pub HashCalls : Type 0 → Type 0

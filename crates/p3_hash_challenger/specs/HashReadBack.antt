@@ -1,8 +1,8 @@
 -- What a hash challenger hashes tells what it observed, or shows a collision of its hash function.
 use Rattle.std.specs.Prelude.{◌≡◌, List}
 use Rattle.p3_challenger_core.specs.Segments.{run_calls, run_calls_to_digest}
-use Rattle.p3_read_back.specs.Handed as handed
-use Rattle.p3_read_back.specs.Handed.{LeaveSamePending}
+use Rattle.p3_read_back.specs.Queries as queries
+use Rattle.p3_read_back.specs.Queries.{LeaveSamePending}
 use Rattle.p3_hash_challenger.specs.HashCalls.{HashFunction, HashSponge, hash_by_calls}
 
 -- two different strings with one digest
@@ -14,15 +14,15 @@ pub record Collide {T : Type 0} (h : HashFunction T) (one other : List T) : Type
 module _ {T : Type 0} (h : HashFunction T) (s : HashSponge T) where
   -- lists of calls that hash the same strings, and leave the same pending, observed the same values
   abbrev pub ReadsBack : Type 0
-  ReadsBack = handed.ReadsBack (run_calls (hash_by_calls h) s) (λ t. t.pending)
+  ReadsBack = queries.ReadsBack (run_calls (hash_by_calls h) s) (λ t. t.pending)
 
   -- lists of calls that end in a digest, and hash the same strings up to it, observed the same values
   abbrev pub ReadsBackToDigest : Type 0
-  ReadsBackToDigest = handed.ReadsBackToDigest (run_calls_to_digest (hash_by_calls h) s)
+  ReadsBackToDigest = queries.ReadsBackToDigest (run_calls_to_digest (hash_by_calls h) s)
 
   -- lists of calls that hash equally many strings, and leave the same pending, observed the same values, or at one
   -- place of what they hash two strings collide
   abbrev pub ReadsBackOrCollides : Type 0
   ReadsBackOrCollides =
       let run = run_calls (hash_by_calls h) s in
-      handed.ReadsBackOrCollides run (λ t. t.pending) (LeaveSamePending run (λ t. t.pending)) (Collide h)
+      queries.ReadsBackOrCollides run (λ t. t.pending) (LeaveSamePending run (λ t. t.pending)) (Collide h)

@@ -1,15 +1,15 @@
--- A hash challenger over segments of calls: what it draws, and what it hands to its hash function, as a function
+-- A hash challenger over segments of calls: what it draws, and what it queries its hash function with, as a function
 -- of whole segments.
 use Rattle.std.specs.Prelude.{ℕ, zero, suc, ◌+◌, ◌-◌, ◌/◌, ◌%◌, List, [], ◌∷◌, ◌++◌, slice_index_or}
 use Rattle.p3_challenger_core.specs.Segments.{stays, BySegments}
-use Rattle.p3_hash_challenger.specs.HashCalls.{HashFunction, HashSponge, HashRun, absorbing}
+use Rattle.p3_hash_challenger.specs.HashCalls.{HashFunction, HashSponge, HashRun, with_pending}
 
 -- ---- what is observed
 
 -- a segment's values follow the chain; with none nothing changes, and nothing is hashed
 abbrev pub run_values : {T : Type 0} → HashSponge T → List T → HashRun T
 run_values start [] = stays start
-run_values start (x ∷ xs) = stays (absorbing (start.pending ++ x ∷ xs))
+run_values start (x ∷ xs) = stays (with_pending (start.pending ++ x ∷ xs))
 
 -- ---- what is drawn
 
@@ -18,10 +18,10 @@ unfoldable pub hashed : {T : Type 0} → (List T → List T) → ℕ → List T 
 hashed hash zero chain = chain
 hashed hash (suc n) chain = hashed hash n (hash chain)
 
--- what that hands to the hash function: the chain, h(1), and so on, n of them
-unfoldable pub handed_in_turn : {T : Type 0} → (List T → List T) → ℕ → List T → List (List T)
-handed_in_turn hash zero chain = []
-handed_in_turn hash (suc n) chain = chain ∷ handed_in_turn hash n (hash chain)
+-- the queries of that: the chain, h(1), and so on, n of them
+unfoldable pub queries_in_order : {T : Type 0} → (List T → List T) → ℕ → List T → List (List T)
+queries_in_order hash zero chain = []
+queries_in_order hash (suc n) chain = chain ∷ queries_in_order hash n (hash chain)
 
 -- The outputs of a chain stand in a row: those of each h(n), from its last place to its first. The
 -- output at a place of that row is in h(place / out_len), and draw k of a segment that begins anew is
@@ -48,7 +48,7 @@ abbrev pub draws_from : {T : Type 0} → HashFunction T → List T → ℕ → �
 draws_from h chain place n =
     record {
       answers = outputs_from h chain place (suc n);
-      handed = handed_in_turn h.digest ((place + n) / h.out_len) chain;
+      queries = queries_in_order h.digest ((place + n) / h.out_len) chain;
       after = left_after h chain (place + n);
     }
 
@@ -69,6 +69,6 @@ hash_by_segments h =
     record {
       values = run_values;
       draws = run_draws h;
-      ended = λ s. absorbing s.pending;
-      digest = λ s. record { answers = []; handed = s.pending ∷ []; after = h.digest s.pending };
+      ended = λ s. with_pending s.pending;
+      digest = λ s. record { answers = []; queries = s.pending ∷ []; after = h.digest s.pending };
     }

@@ -8,16 +8,16 @@ use Rattle.p3_challenger_core.specs.Observation.{LeavesInCalls, observed_all}
 use Rattle.p3_challenger_core.specs.ObservationLaws.{nothing-fed, exact-observation, unchanged-front, after_append}
 use Rattle.p3_challenger_core.specs.Sampling.{IsSampling, unrefused_draw}
 use Rattle.p3_challenger_core.specs.SamplingLaws.{unrefused_draw-is_sampling, one_step}
-use Rattle.p3_hash_challenger.specs.HashCalls.{HashFunction, absorbing}
+use Rattle.p3_hash_challenger.specs.HashCalls.{HashFunction, with_pending}
 use Rattle.p3_hash_challenger.specs.HashState.{HashState, observed, fed, array_observed, sampled, after_sampled}
 
 -- feeding a list and then another is feeding both
 pub fed-append : {T H : Type 0} (s : HashState T H) (xs ys : List T) → fed (fed s xs) ys ≡ fed s (xs ++ ys)
 fed-append s [] ys = refl
 fed-append s (x ∷ xs) [] =
-    ap (λ v. record { sponge = absorbing (s.sponge.pending ++ (x ∷ v)); hasher = s.hasher }) (sym (append-nil xs))
+    ap (λ v. record { sponge = with_pending (s.sponge.pending ++ (x ∷ v)); hasher = s.hasher }) (sym (append-nil xs))
 fed-append s (x ∷ xs) (y ∷ ys) =
-    ap (λ p. record { sponge = absorbing p; hasher = s.hasher }) (append_assoc s.sponge.pending (x ∷ xs) (y ∷ ys))
+    ap (λ p. record { sponge = with_pending p; hasher = s.hasher }) (append_assoc s.sponge.pending (x ∷ xs) (y ∷ ys))
 
 -- values observed in order are fed
 pub observed_all-fed : {T H : Type 0} (s : HashState T H) (xs : List T) → observed_all observed s xs ≡ fed s xs
@@ -74,13 +74,13 @@ of_array = record { symbols = λ xs. xs; observed = λ s xs. array_observed s xs
 array-traceless : {T H : Type 0} (s : HashState T H) (xs : List T) (y : T) (ys : List T)
     → fed (array_observed s xs) (y ∷ ys) ≡ fed s (xs ++ y ∷ ys)
 array-traceless s [] y ys =
-    ap (λ p. record { sponge = absorbing (p ++ y ∷ ys); hasher = s.hasher }) (append-nil s.sponge.pending)
+    ap (λ p. record { sponge = with_pending (p ++ y ∷ ys); hasher = s.hasher }) (append-nil s.sponge.pending)
 array-traceless s (x ∷ xs) y ys = fed-append s (x ∷ xs) (y ∷ ys)
 
 array-following : {T H : Type 0} (s : HashState T H) (y : T) (ys xs : List T)
     → array_observed (fed s (y ∷ ys)) xs ≡ fed s ((y ∷ ys) ++ xs)
 array-following s y ys xs =
-    ap (λ p. record { sponge = absorbing p; hasher = s.hasher }) (append_assoc s.sponge.pending (y ∷ ys) xs)
+    ap (λ p. record { sponge = with_pending p; hasher = s.hasher }) (append_assoc s.sponge.pending (y ∷ ys) xs)
 
 pub arrays-observed : {T H : Type 0} → IsObservation fed (of_array {T = T} {H = H})
 arrays-observed =

@@ -17,9 +17,9 @@ ghost use Rattle.p3_challenger_core.specs.Segments.{Call, segments, run_calls, r
 ghost use Rattle.p3_challenger_core.specs.Segments.{run_segments, run_segments_to_digest};
 ghost use Rattle.p3_hash_challenger.specs.HashSegments.{hash_by_segments};
 ghost use Rattle.p3_hash_challenger.specs.HashReadBack.{ReadsBack, ReadsBackToDigest, ReadsBackOrCollides};
-ghost use Rattle.p3_read_back.specs.Handed.{Decides};
+ghost use Rattle.p3_read_back.specs.Queries.{Decides};
 ghost use Rattle.p3_hash_challenger.specs.HashState.{function_of, pending_of};
-ghost use Rattle.p3_hash_challenger.specs.HashCalls.{absorbing, outputs, hash_by_calls};
+ghost use Rattle.p3_hash_challenger.specs.HashCalls.{with_pending, outputs, hash_by_calls};
 ghost use Rattle.p3_challenger_core.specs.Observation.{RefusesObserve};
 ghost use Rattle.p3_challenger_core.specs.Sponge.{IsNonEmpty};
 ghost use Rattle.p3_challenger_core.specs.Sampling.{RefusesDraws};
@@ -44,7 +44,7 @@ use std::marker::Model;
 /// `OUT_LEN` is how many values a digest has, and a symbol is one value. The digest at the end is one more hash of all
 /// that is pending.
 ///
-/// No draw of a value is refused, and an observe for want of memory alone. A refused observe of a value, an array or a
+/// No draw of a value is refused, and an observe only when out of memory. A refused observe of a value, an array or a
 /// digest leaves the challenger as it was; one of a cap or of a list of lists leaves the roots or the lists before the
 /// refused one fed.
 ///
@@ -89,7 +89,7 @@ impl<T: Copy, H: CryptographicHasher<T, [T; OUT_LEN]>, const OUT_LEN: usize> Has
     /// not, as bytes and the elements of a field are.
     pub fn new(initial_state: Vec<T>, hasher: H) -> Self
         requires { 0 < OUT_LEN }
-        ensures value { result ≡ record { sponge = absorbing initial_state.items; hasher = hasher } }
+        ensures value { result ≡ record { sponge = with_pending initial_state.items; hasher = hasher } }
         ensures reads_back { ReadsBack (function_of H.hash OUT_LEN H.filler hasher) result.sponge }
         ensures to_digest { ReadsBackToDigest (function_of H.hash OUT_LEN H.filler hasher) result.sponge }
         ensures or_collides { Decides T →
@@ -123,10 +123,10 @@ impl<T: Copy, H: CryptographicHasher<T, [T; OUT_LEN]>, const OUT_LEN: usize> Has
         })
     }
 
-    /// The segments of calls, whole: from this challenger on, every list of calls gives the answers, hands
-    /// over the strings to the hash function, and leaves the challenger, that its segments name; and
+    /// The segments of calls, whole: from this challenger on, every list of calls gives the answers, makes
+    /// the queries to the hash function, and leaves the challenger, that its segments name; and
     /// so do calls that end in a digest. No string is left out: a hash function that gives the same on
-    /// those that are handed over makes the calls do the same.
+    /// those that are queried makes the calls do the same.
     ///
     /// A law: the body does nothing, and a caller cites the clauses.
     pub fn follows_segments(&self)
@@ -138,15 +138,15 @@ impl<T: Copy, H: CryptographicHasher<T, [T; OUT_LEN]>, const OUT_LEN: usize> Has
             let h = function_of H.hash OUT_LEN H.filler self.now.hasher in
             run_calls_to_digest (hash_by_calls h) self.now.sponge calls
             ≡ run_segments_to_digest (hash_by_segments h) self.now.sponge (segments calls) }
-        ensures handed { (calls : List (Call T)) (other : List T → List T) →
+        ensures queries { (calls : List (Call T)) (other : List T → List T) →
             let h = function_of H.hash OUT_LEN H.filler self.now.hasher in
             let run = run_calls (hash_by_calls h) self.now.sponge calls in
-            All (λ message. other message ≡ h.digest message) run.handed
+            All (λ message. other message ≡ h.digest message) run.queries
             → run_calls (hash_by_calls (record h { digest = other })) self.now.sponge calls ≡ run }
-        ensures handed_to_digest { (calls : List (Call T)) (other : List T → List T) →
+        ensures queries_to_digest { (calls : List (Call T)) (other : List T → List T) →
             let h = function_of H.hash OUT_LEN H.filler self.now.hasher in
             let run = run_calls_to_digest (hash_by_calls h) self.now.sponge calls in
-            All (λ message. other message ≡ h.digest message) run.handed
+            All (λ message. other message ≡ h.digest message) run.queries
             → run_calls_to_digest (hash_by_calls (record h { digest = other })) self.now.sponge calls ≡ run }
     {
         let _ = &self.outputs_left;

@@ -4,15 +4,15 @@ use Rattle.std.proofs.Common.{refl, ap, ◌∙◌, append_assoc, arith}
 use Rattle.std.proofs.lemmas.Bool.Decides.{nat_tests}
 use Rattle.std.proofs.lemmas.List.{length-append}
 use Rattle.p3_multi_field.specs.MultiFieldCalls as calls
-use Rattle.p3_multi_field.specs.MultiFieldCalls.{FieldPair, MultiFieldSponge, batch_of, scalars_over, absorbing}
+use Rattle.p3_multi_field.specs.MultiFieldCalls.{FieldPair, MultiFieldSponge, batch_of, scalars_over, permutation_input}
 use Rattle.p3_multi_field.specs.MultiFieldCalls.{duplexed, appended}
 use Rattle.p3_multi_field.specs.MultiFieldState.{MultiFieldState, scalar_observed, scalars_observed}
 
 -- what is permuted where there are scalars
-pub absorbing-some : {F PF : Type 0} (pair : FieldPair F PF) (rate : ℕ) (cells : List PF) (scalars : List F)
-    → 0 < length scalars → scalars_over pair rate cells scalars ≡ absorbing pair rate cells scalars
-absorbing-some pair rate cells [] some = absurd (omega (arith, some))
-absorbing-some pair rate cells (x ∷ xs) some = refl
+pub permutation_input-some : {F PF : Type 0} (pair : FieldPair F PF) (rate : ℕ) (cells : List PF) (scalars : List F)
+    → 0 < length scalars → scalars_over pair rate cells scalars ≡ permutation_input pair rate cells scalars
+permutation_input-some pair rate cells [] some = absurd (omega (arith, some))
+permutation_input-some pair rate cells (x ∷ xs) some = refl
 
 one_longer : {F : Type 0} (pending : List F) (x : F) → length (pending ++ x ∷ []) ≡ length pending + 1
 one_longer pending x = length-append pending (x ∷ [])

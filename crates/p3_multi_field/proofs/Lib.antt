@@ -2,7 +2,7 @@ pub mod Batches
 pub mod Calls
 pub mod Drawing
 pub mod ErrorEquality
-pub mod MultiFieldHanded
+pub mod MultiFieldQueries
 pub mod MultiFieldSteps
 pub mod Numbers
 pub mod Overwriting

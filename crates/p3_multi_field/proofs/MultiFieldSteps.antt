@@ -9,15 +9,15 @@ use Rattle.std.proofs.Math.Nat.{add-div_left, add-mod_left, div-eq_of_lt, mod-eq
 use Rattle.p3_challenger_core.specs.Segments.{Call, observe, observe_empty_array, draw, Run, stays, run_before}
 use Rattle.p3_challenger_core.specs.SegmentLaws.{StepsAgree}
 use Rattle.p3_multi_field.specs.MultiFieldCalls.{FieldPair, Symbol, scalar, digest, MultiFieldSponge, batch_of, row_of}
-use Rattle.p3_multi_field.specs.MultiFieldCalls.{scalars_over, words_over, blocks_within, blocks, absorbing}
+use Rattle.p3_multi_field.specs.MultiFieldCalls.{scalars_over, words_over, blocks_within, blocks, permutation_input}
 use Rattle.p3_multi_field.specs.MultiFieldCalls.{appended, digit_in_row, last_output, one_taken, permuting, duplexed}
 use Rattle.p3_multi_field.specs.MultiFieldCalls.{scalar_observed, emptied, words_absorbed}
-use Rattle.p3_multi_field.specs.MultiFieldCalls.{after_sampled, handed_by_emptying, handed_by_words, run_call, run_end}
+use Rattle.p3_multi_field.specs.MultiFieldCalls.{after_sampled, queries_by_emptying, queries_by_words, run_call, run_end}
 use Rattle.p3_multi_field.specs.MultiFieldCalls.{multi_field_by_calls}
-use Rattle.p3_multi_field.specs.MultiFieldSegments.{block_count, absorbed_batches, handed_batches}
-use Rattle.p3_multi_field.specs.MultiFieldSegments.{outputs_after, absorbed, run_scalars, absorbed_words, handed_words}
+use Rattle.p3_multi_field.specs.MultiFieldSegments.{block_count, absorbed_batches, queries_batches}
+use Rattle.p3_multi_field.specs.MultiFieldSegments.{outputs_after, absorbed, run_scalars, absorbed_words, queries_words}
 use Rattle.p3_multi_field.specs.MultiFieldSegments.{run_words, opened, run_digest, stretches, run_stretches}
-use Rattle.p3_multi_field.specs.MultiFieldSegments.{run_symbols, permuted, handed_in_turn, output_at, left_after}
+use Rattle.p3_multi_field.specs.MultiFieldSegments.{run_symbols, permuted, queries_in_order, output_at, left_after}
 use Rattle.p3_multi_field.specs.MultiFieldSegments.{outputs_from, draws_from, run_draws, digest_after}
 use Rattle.p3_multi_field.specs.MultiFieldSegments.{multi_field_by_segments}
 use Rattle.p3_multi_field.specs.MultiFieldState.{KeepsNumbers}
@@ -75,15 +75,15 @@ run_before-assoc : {A M S T R : Type 0} (a : Run A M S) (b : Run A M T) (c : Run
 run_before-assoc a b c =
     λ i. record {
       answers = append_assoc a.answers b.answers c.answers i;
-      handed = append_assoc a.handed b.handed c.handed i;
+      queries = append_assoc a.queries b.queries c.queries i;
       after = c.after;
     }
 
 -- what is permuted where a scalar is pending
-pub absorbing-snoc : {F PF : Type 0} (pair : FieldPair F PF) (rate : ℕ) (cells : List PF) (pending : List F) (x : F)
-    → absorbing pair rate cells (pending ++ x ∷ []) ≡ scalars_over pair rate cells (pending ++ x ∷ [])
-absorbing-snoc pair rate cells [] x = refl
-absorbing-snoc pair rate cells (y ∷ ys) x = refl
+pub permutation_input-snoc : {F PF : Type 0} (pair : FieldPair F PF) (rate : ℕ) (cells : List PF) (pending : List F) (x : F)
+    → permutation_input pair rate cells (pending ++ x ∷ []) ≡ scalars_over pair rate cells (pending ++ x ∷ [])
+permutation_input-snoc pair rate cells [] x = refl
+permutation_input-snoc pair rate cells (y ∷ ys) x = refl
 
 module _ {F PF : Type 0} (pair : FieldPair F PF) (permute : List PF → List PF) (rate : ℕ) (positive : 0 < rate)
     (some_batch : 0 < batch_of pair rate) (some_row : 0 < row_of pair rate) where
@@ -93,9 +93,9 @@ module _ {F PF : Type 0} (pair : FieldPair F PF) (permute : List PF → List PF)
   abbrev Steps : Type 0
   Steps = Run F (List PF) Sponge
 
-  -- a state that is handed over first
-  abbrev handed_first : List PF → Steps → Steps
-  handed_first state run = record run { handed = state ∷ run.handed }
+  -- a state that is queried first
+  abbrev queries_first : List PF → Steps → Steps
+  queries_first state run = record run { queries = state ∷ run.queries }
 
   abbrev over : List PF → List F → List PF
   over cells scalars = scalars_over pair rate cells scalars
@@ -106,13 +106,13 @@ module _ {F PF : Type 0} (pair : FieldPair F PF) (permute : List PF → List PF)
   absorbed-short : (cells : List PF) (scalars : List F) → length scalars < batch_of pair rate
       → absorbed pair permute rate cells scalars ≡ stays
       (record { cells = cells; pending = scalars; outputs_left = outputs_after pair permute rate scalars })
-  unfolding absorbed_batches handed_batches
+  unfolding absorbed_batches queries_batches
   absorbed-short cells scalars short =
       let batch = batch_of pair rate in
       let none : batch * 0 ≡ 0 = omega arith in
       ap (λ k. record {
         answers = [];
-        handed = handed_batches pair permute rate k cells scalars;
+        queries = queries_batches pair permute rate k cells scalars;
         after =
             record {
               cells = absorbed_batches pair permute rate k cells scalars;
@@ -128,9 +128,9 @@ module _ {F PF : Type 0} (pair : FieldPair F PF) (permute : List PF → List PF)
 
   -- a whole batch is absorbed, and then what is after it
   absorbed-batch : (cells : List PF) (batch more : List F) → length batch ≡ batch_of pair rate
-      → absorbed pair permute rate cells (batch ++ more) ≡ handed_first (over cells batch)
+      → absorbed pair permute rate cells (batch ++ more) ≡ queries_first (over cells batch)
       (absorbed pair permute rate (permute (over cells batch)) more)
-  unfolding absorbed_batches handed_batches
+  unfolding absorbed_batches queries_batches
   absorbed-batch cells batch more whole =
       let n = batch_of pair rate in
       let all = batch ++ more in
@@ -144,7 +144,7 @@ module _ {F PF : Type 0} (pair : FieldPair F PF) (permute : List PF → List PF)
       ∙ ap (drop (n * q)) rest in
       ap (λ k. record {
         answers = [];
-        handed = handed_batches pair permute rate k cells all;
+        queries = queries_batches pair permute rate k cells all;
         after =
             record {
               cells = absorbed_batches pair permute rate k cells all;
@@ -154,7 +154,7 @@ module _ {F PF : Type 0} (pair : FieldPair F PF) (permute : List PF → List PF)
       }) batches
       ∙ (λ i. record {
         answers = [];
-        handed = over cells (front i) ∷ handed_batches pair permute rate q (permute (over cells (front i))) (rest i);
+        queries = over cells (front i) ∷ queries_batches pair permute rate q (permute (over cells (front i))) (rest i);
         after =
             record {
               cells = absorbed_batches pair permute rate q (permute (over cells (front i))) (rest i);
@@ -173,19 +173,19 @@ module _ {F PF : Type 0} (pair : FieldPair F PF) (permute : List PF → List PF)
   -- a scalar that fills the rate: all that is pending is absorbed
   observed-full : (s : Sponge) (x : F) → (length (s.pending ++ x ∷ []) == batch_of pair rate) ≡ true
       → scalar_run s x ≡ (let state = over s.cells (s.pending ++ x ∷ []) in
-      record { answers = []; handed = state ∷ []; after = permuting pair permute rate state })
+      record { answers = []; queries = state ∷ []; after = permuting pair permute rate state })
   observed-full s x full =
       ap (λ b. record {
         answers = [];
-        handed = if b then over s.cells (s.pending ++ x ∷ []) ∷ [] else [];
+        queries = if b then over s.cells (s.pending ++ x ∷ []) ∷ [] else [];
         after = if b then duplexed pair permute rate (appended s x) else appended s x;
       }) full
       ∙ ap (λ c. record {
         answers = [];
-        handed = over s.cells (s.pending ++ x ∷ []) ∷ [];
+        queries = over s.cells (s.pending ++ x ∷ []) ∷ [];
         after = permuting pair permute rate c;
       })
-      (absorbing-snoc pair rate s.cells s.pending x)
+      (permutation_input-snoc pair rate s.cells s.pending x)
 
   -- one that does not is pending
   observed-short : (s : Sponge) (x : F) → (length (s.pending ++ x ∷ []) == batch_of pair rate) ≡ false
@@ -193,7 +193,7 @@ module _ {F PF : Type 0} (pair : FieldPair F PF) (permute : List PF → List PF)
   observed-short s x short =
       ap (λ b. record {
         answers = [];
-        handed = if b then over s.cells (s.pending ++ x ∷ []) ∷ [] else [];
+        queries = if b then over s.cells (s.pending ++ x ∷ []) ∷ [] else [];
         after = if b then duplexed pair permute rate (appended s x) else appended s x;
       }) short
 
@@ -216,7 +216,7 @@ module _ {F PF : Type 0} (pair : FieldPair F PF) (permute : List PF → List PF)
   scalars-by true s x [] fits full =
       let state = over s.cells (s.pending ++ x ∷ []) in
       ap (λ run. run_before run (run_scalars pair permute rate run.after [])) (observed-full s x full)
-      ∙ ap (handed_first state) (sym (absorbed-short (permute state) [] some_batch))
+      ∙ ap (queries_first state) (sym (absorbed-short (permute state) [] some_batch))
       ∙ sym (absorbed-batch s.cells (s.pending ++ x ∷ []) [] (is_whole s x full))
       ∙ ap (absorbed pair permute rate s.cells) (append-nil (s.pending ++ x ∷ []))
   scalars-by true s x (y ∷ ys) fits full =
@@ -273,30 +273,30 @@ module _ {F PF : Type 0} (pair : FieldPair F PF) (permute : List PF → List PF)
       (sym left)
       ∙ words-cells n (permute (block_over cells words)) rest fewer
 
-  words-handed : (n : ℕ) (cells words : List PF) → length words ≤ n
-      → handed_words pair permute rate (block_count rate (length words)) cells words
-      ≡ handed_by_words pair permute rate cells (blocks_within rate n words)
-  unfolding handed_words
-  words-handed zero cells [] enough = ap (λ k. handed_words pair permute rate k cells []) (no-blocks rate positive)
-  words-handed zero cells (w ∷ ws) enough = absurd (omega (arith, enough))
-  words-handed (suc n) cells [] enough =
-      ap (λ k. handed_words pair permute rate k cells []) (no-blocks rate positive)
-  words-handed (suc n) cells (w ∷ ws) enough =
+  words-queries : (n : ℕ) (cells words : List PF) → length words ≤ n
+      → queries_words pair permute rate (block_count rate (length words)) cells words
+      ≡ queries_by_words pair permute rate cells (blocks_within rate n words)
+  unfolding queries_words
+  words-queries zero cells [] enough = ap (λ k. queries_words pair permute rate k cells []) (no-blocks rate positive)
+  words-queries zero cells (w ∷ ws) enough = absurd (omega (arith, enough))
+  words-queries (suc n) cells [] enough =
+      ap (λ k. queries_words pair permute rate k cells []) (no-blocks rate positive)
+  words-queries (suc n) cells (w ∷ ws) enough =
       let words = w ∷ ws in
       let some : 0 < length words = omega arith in
       let rest = drop rate words in
       let left : length rest ≡ length words - rate = length-drop rate words in
       let fewer : length rest ≤ n = omega (arith, left, enough, positive) in
-      ap (λ k. handed_words pair permute rate k cells words) (count-next rate (length words) positive some)
-      ∙ ap (λ k. block_over cells words ∷ handed_words pair permute rate (block_count rate k)
+      ap (λ k. queries_words pair permute rate k cells words) (count-next rate (length words) positive some)
+      ∙ ap (λ k. block_over cells words ∷ queries_words pair permute rate (block_count rate k)
       (permute (block_over cells words)) rest) (sym left)
-      ∙ ap (λ states. block_over cells words ∷ states) (words-handed n (permute (block_over cells words)) rest fewer)
+      ∙ ap (λ states. block_over cells words ∷ states) (words-queries n (permute (block_over cells words)) rest fewer)
 
   -- words where nothing is pending
   words-agree : (s : Sponge) (words : List PF)
       → run_words pair permute rate s words ≡ record {
         answers = [];
-        handed = handed_by_words pair permute rate s.cells (blocks rate words);
+        queries = queries_by_words pair permute rate s.cells (blocks rate words);
         after = words_absorbed pair permute rate s (blocks rate words);
       }
   words-agree s [] = refl
@@ -307,7 +307,7 @@ module _ {F PF : Type 0} (pair : FieldPair F PF) (permute : List PF → List PF)
       let others = blocks_within rate (length ws) (drop rate words) in
       (λ i. record {
         answers = [];
-        handed = words-handed (length words) s.cells words all i;
+        queries = words-queries (length words) s.cells words all i;
         after = record {
           cells = words-cells (length words) s.cells words all i;
           pending = [];
@@ -316,7 +316,7 @@ module _ {F PF : Type 0} (pair : FieldPair F PF) (permute : List PF → List PF)
       })
       ∙ ap (λ t. record {
         answers = [];
-        handed = handed_by_words pair permute rate s.cells (blocks rate words);
+        queries = queries_by_words pair permute rate s.cells (blocks rate words);
         after = t;
       }) (sym (permuting-blocks first others))
 
@@ -324,7 +324,7 @@ module _ {F PF : Type 0} (pair : FieldPair F PF) (permute : List PF → List PF)
   opened-agrees : (cells : List PF) (pending : List F)
       → opened pair permute rate cells pending 0 ≡ record {
         answers = [];
-        handed = handed_by_emptying pair permute rate cells pending;
+        queries = queries_by_emptying pair permute rate cells pending;
         after = emptied pair permute rate cells pending;
       }
   opened-agrees cells [] = refl
@@ -338,7 +338,7 @@ module _ {F PF : Type 0} (pair : FieldPair F PF) (permute : List PF → List PF)
       (opened-agrees s.cells s.pending)
       ∙ ap (λ (run : Steps). record {
         answers = run.answers;
-        handed = handed_by_emptying pair permute rate s.cells s.pending ++ run.handed;
+        queries = queries_by_emptying pair permute rate s.cells s.pending ++ run.queries;
         after = run.after;
       }) (words-agree (emptied pair permute rate s.cells s.pending) words)
 
@@ -427,8 +427,8 @@ module _ {F PF : Type 0} (pair : FieldPair F PF) (permute : List PF → List PF)
   -- the cells themselves are permuted before that
   draws_from-further : (cells : List PF) (q k : ℕ)
       → draws_from pair permute rate cells (row_of pair rate + q) k
-      ≡ handed_first cells (draws_from pair permute rate (permute cells) q k)
-  unfolding handed_in_turn
+      ≡ queries_first cells (draws_from pair permute rate (permute cells) q k)
+  unfolding queries_in_order
   draws_from-further cells q k =
       let n = row_of pair rate in
       let same : n + q + k ≡ n + (q + k) = omega arith in
@@ -436,7 +436,7 @@ module _ {F PF : Type 0} (pair : FieldPair F PF) (permute : List PF → List PF)
       let following = ap (left_after pair permute rate cells) same ∙ left_after-further cells (q + k) in
       λ i. record {
         answers = outputs_from-further cells q (suc k) i;
-        handed = handed_in_turn pair permute rate (turns i) cells;
+        queries = queries_in_order pair permute rate (turns i) cells;
         after = following i;
       }
 
@@ -475,7 +475,7 @@ module _ {F PF : Type 0} (pair : FieldPair F PF) (permute : List PF → List PF)
       → draws_from pair permute rate cells (row_of pair rate - left) k
       ≡ (let next = run_draws pair permute rate (sponge_of cells [] (left - 1)) k in
       record next { answers = digit_in_row pair cells (left - 1) ∷ next.answers })
-  unfolding outputs_from handed_in_turn
+  unfolding outputs_from queries_in_order
   taken-next cells left zero more h =
       let n = row_of pair rate in
       let same : n - left + 0 ≡ n - left = omega arith in
@@ -483,7 +483,7 @@ module _ {F PF : Type 0} (pair : FieldPair F PF) (permute : List PF → List PF)
       let following = ap (left_after pair permute rate cells) same ∙ left_after-here cells left more h in
       λ i. record {
         answers = output_at-here cells left more h i ∷ [];
-        handed = handed_in_turn pair permute rate (turns i) cells;
+        queries = queries_in_order pair permute rate (turns i) cells;
         after = following i;
       }
   taken-next cells left (suc k) more h =
@@ -492,7 +492,7 @@ module _ {F PF : Type 0} (pair : FieldPair F PF) (permute : List PF → List PF)
       let further : n - left + suc k ≡ n - (left - 1) + k = omega (arith, more, h) in
       λ i. record {
         answers = output_at-here cells left more h i ∷ outputs_from pair permute rate cells (next i) (suc k);
-        handed = handed_in_turn pair permute rate (further i / n) cells;
+        queries = queries_in_order pair permute rate (further i / n) cells;
         after = left_after pair permute rate cells (further i);
       }
 
@@ -501,7 +501,7 @@ module _ {F PF : Type 0} (pair : FieldPair F PF) (permute : List PF → List PF)
       → run_call pair permute rate (sponge_of cells [] (suc m)) draw
       ≡ record {
         answers = digit_in_row pair cells (suc m - 1) ∷ [];
-        handed = [];
+        queries = [];
         after = sponge_of cells [] (suc m - 1);
       }
   drawn-left cells m =
@@ -509,7 +509,7 @@ module _ {F PF : Type 0} (pair : FieldPair F PF) (permute : List PF → List PF)
       ap (λ b. let t = if b then duplexed pair permute rate s
       else s in record {
         answers = last_output pair t ∷ [];
-        handed = if b then cells ∷ [] else [];
+        queries = if b then cells ∷ [] else [];
         after = one_taken t;
       }) (not_zero m)
 
@@ -525,7 +525,7 @@ module _ {F PF : Type 0} (pair : FieldPair F PF) (permute : List PF → List PF)
       let start : 0 ≡ n - n = omega arith in
       ap (λ p. draws_from pair permute rate cells p k) there
       ∙ draws_from-further cells 0 k
-      ∙ ap (handed_first cells)
+      ∙ ap (queries_first cells)
       (ap (λ p. draws_from pair permute rate (permute cells) p k) start
       ∙ taken-next (permute cells) n k some_row (omega arith))
   next-by cells [] (suc m) k h none =
@@ -533,7 +533,7 @@ module _ {F PF : Type 0} (pair : FieldPair F PF) (permute : List PF → List PF)
       ∙ sym (ap (λ (run : Steps). run_before run (run_draws pair permute rate run.after k)) (drawn-left cells m))
   next-by cells (x ∷ xs) zero k h none =
       let state = over cells (x ∷ xs) in
-      ap (handed_first state) (taken-next (permute state) (row_of pair rate) k some_row (omega arith))
+      ap (queries_first state) (taken-next (permute state) (row_of pair rate) k some_row (omega arith))
   next-by cells (x ∷ xs) (suc m) k h none =
       let some : 0 < length (x ∷ xs) = omega arith in
       let no : suc m ≡ 0 = none some in

@@ -8,14 +8,14 @@ use Rattle.p3_field_bridge.specs.Bridges.{packed, AreRadixBits, AreCounts}
 use Rattle.p3_field_bridge.specs.BridgeLaws.{packed-injective}
 use Rattle.p3_challenger_core.specs.Segments.{Call, observe, observe_empty_array, draw}
 use Rattle.p3_challenger_core.specs.SymbolLaws.{as_many-prefix_code}
-use Rattle.p3_read_back.specs.Handed.{observed_values}
+use Rattle.p3_read_back.specs.Queries.{observed_values}
 use Rattle.p3_read_back.specs.BlockLaws.{AreRead, reads_back-of_blocks}
 use Rattle.p3_read_back.specs.SumLaws.{plus-zero, counts-told}
 use Rattle.p3_multi_field.specs.MultiFieldCalls.{FieldPair, scalar, MultiFieldSponge, batch_of, row_of, cell}
-use Rattle.p3_multi_field.specs.MultiFieldCalls.{packed_cells, scalars_over, absorbing, appended, duplexed, one_taken}
+use Rattle.p3_multi_field.specs.MultiFieldCalls.{packed_cells, scalars_over, permutation_input, appended, duplexed, one_taken}
 use Rattle.p3_multi_field.specs.MultiFieldCalls.{multi_field_by_calls}
 use Rattle.p3_multi_field.specs.MultiFieldReadBack.{run_scalar_calls, ReadsBack}
-use Rattle.p3_multi_field.proofs.MultiFieldSteps.{Fits, multi_field_steps, absorbing-snoc}
+use Rattle.p3_multi_field.proofs.MultiFieldSteps.{Fits, multi_field_steps, permutation_input-snoc}
 
 module _ {F PF : Type 0} (pair : FieldPair F PF) (inner_laws : IsResidues pair.inner)
     (outer_laws : IsResidues pair.outer) (radix : AreRadixBits pair.inner.order pair.bits)
@@ -51,7 +51,7 @@ module _ {F PF : Type 0} (pair : FieldPair F PF) (inner_laws : IsResidues pair.i
 
   -- the cell after the rate has the number of scalars added
   counted-cell : (cells : List PF) (block : List F) → length block ≤ batch_of pair rate
-      → cell pair.outer (absorbing pair rate cells block) rate
+      → cell pair.outer (permutation_input pair rate cells block) rate
       ≡ plus pair.outer (cell pair.outer cells rate) (length block)
   counted-cell cells [] within =
       sym (plus-zero pair.outer outer_laws (cell pair.outer cells rate) (omega (arith, below)))
@@ -62,7 +62,7 @@ module _ {F PF : Type 0} (pair : FieldPair F PF) (inner_laws : IsResidues pair.i
 
   -- scalars over the same cells are as many where they come to the same
   counts-tell : (cells : List PF) (one other : List F) → length one ≤ batch_of pair rate
-      → length other ≤ batch_of pair rate → absorbing pair rate cells one ≡ absorbing pair rate cells other
+      → length other ≤ batch_of pair rate → permutation_input pair rate cells one ≡ permutation_input pair rate cells other
       → length one ≡ length other
   counts-tell cells one other one_within other_within e =
       let sums : plus pair.outer (cell pair.outer cells rate) (length one)
@@ -74,7 +74,7 @@ module _ {F PF : Type 0} (pair : FieldPair F PF) (inner_laws : IsResidues pair.i
 
   -- and they are the same
   block-told : (cells : List PF) (one other : List F) → length one ≤ batch_of pair rate
-      → length other ≤ batch_of pair rate → absorbing pair rate cells one ≡ absorbing pair rate cells other
+      → length other ≤ batch_of pair rate → permutation_input pair rate cells one ≡ permutation_input pair rate cells other
       → one ≡ other
   block-told cells [] [] one_within other_within e = refl
   block-told cells [] (y ∷ ys) one_within other_within e =
@@ -93,7 +93,7 @@ module _ {F PF : Type 0} (pair : FieldPair F PF) (inner_laws : IsResidues pair.i
   module _ (permute : List PF → List PF) where
     -- scalars are read from states and a rest
     abbrev AreReadFrom : List PF → List (List PF) → List F → List F → Type 0
-    AreReadFrom = AreRead (absorbing pair rate) permute (batch_of pair rate)
+    AreReadFrom = AreRead (permutation_input pair rate) permute (batch_of pair rate)
 
     scalar-read : (b : Bool) (s : MultiFieldSponge F PF) (x : F) (values : List F) (states : List (List PF))
         (rest : List F) → length s.pending < batch_of pair rate
@@ -102,7 +102,7 @@ module _ {F PF : Type 0} (pair : FieldPair F PF) (inner_laws : IsResidues pair.i
         → AreReadFrom s.cells ((if b then scalars_over pair rate s.cells (s.pending ++ x ∷ []) ∷ [] else []) ++ states)
         (s.pending ++ x ∷ values) rest
     scalar-read true s x values states rest short k =
-        let over = absorbing-snoc pair rate s.cells s.pending x in (
+        let over = permutation_input-snoc pair rate s.cells s.pending x in (
           s.pending ++ x ∷ [],
           values,
           omega (arith, length-append s.pending (x ∷ []), short),
@@ -117,7 +117,7 @@ module _ {F PF : Type 0} (pair : FieldPair F PF) (inner_laws : IsResidues pair.i
         → length s.pending < batch_of pair rate
         → let t : MultiFieldSponge F PF = one_taken (if b then duplexed pair permute rate s else s) in
         AreReadFrom t.cells states (t.pending ++ values) rest
-        → AreReadFrom s.cells ((if b then absorbing pair rate s.cells s.pending ∷ [] else []) ++ states)
+        → AreReadFrom s.cells ((if b then permutation_input pair rate s.cells s.pending ∷ [] else []) ++ states)
         (s.pending ++ values) rest
     draw-read true s values states rest short k = (s.pending, values, omega (arith, short), refl, refl, k)
     draw-read false s values states rest short k = k
@@ -125,26 +125,26 @@ module _ {F PF : Type 0} (pair : FieldPair F PF) (inner_laws : IsResidues pair.i
     module _ (positive : 0 < rate) (some_batch : 0 < batch_of pair rate) (some_row : 0 < row_of pair rate) where
       -- what is pending, and then the scalars that calls observe, are read from what they permute and leave pending
       reads : (calls : List (Call F)) (s : MultiFieldSponge F PF) → Fits pair rate s
-          → AreReadFrom s.cells (run_scalar_calls pair permute rate s calls).handed (s.pending ++ observed_values calls)
+          → AreReadFrom s.cells (run_scalar_calls pair permute rate s calls).queries (s.pending ++ observed_values calls)
           (run_scalar_calls pair permute rate s calls).after.pending
       reads [] s fits = append-nil s.pending
       reads (observe x ∷ calls) s fits =
           let steps = multi_field_steps pair permute rate positive some_batch some_row in
           let t = ((multi_field_by_calls pair permute rate).call s (observe (scalar x))).after in
           let later = run_scalar_calls pair permute rate t calls in
-          scalar-read (length (s.pending ++ x ∷ []) == batch_of pair rate) s x (observed_values calls) later.handed
+          scalar-read (length (s.pending ++ x ∷ []) == batch_of pair rate) s x (observed_values calls) later.queries
           later.after.pending fits.short (reads calls t (steps.keeps s fits (observe (scalar x))))
       reads (observe_empty_array ∷ calls) s fits = reads calls s fits
       reads (draw ∷ calls) s fits =
           let steps = multi_field_steps pair permute rate positive some_batch some_row in
           let t = ((multi_field_by_calls pair permute rate).call s draw).after in
           let later = run_scalar_calls pair permute rate t calls in
-          draw-read (s.outputs_left == 0) s (observed_values calls) later.handed later.after.pending fits.short
+          draw-read (s.outputs_left == 0) s (observed_values calls) later.queries later.after.pending fits.short
           (reads calls t (steps.keeps s fits draw))
 
       pub reads_back : (s : MultiFieldSponge F PF) → Fits pair rate s → ReadsBack pair permute rate s
       reads_back s fits =
-          reads_back-of_blocks (absorbing pair rate) permute (batch_of pair rate) block-told
+          reads_back-of_blocks (permutation_input pair rate) permute (batch_of pair rate) block-told
           (run_scalar_calls pair permute rate s) (λ t. t.pending) s.cells s.pending (λ calls. reads calls s fits)
 
 -- a sponge with nothing pending and no output, as a new one is

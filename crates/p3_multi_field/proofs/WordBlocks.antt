@@ -2,13 +2,13 @@
 use Rattle.std.proofs.Common.{◌≡◌, ℕ, zero, suc, ◌<◌, ◌≤◌, List, [], ◌∷◌, length, take, drop, refl, ap}
 use Rattle.std.proofs.Common.{arith}
 use Rattle.std.proofs.lemmas.List.{length-drop}
-use Rattle.p3_multi_field.specs.MultiFieldCalls.{FieldPair, absorbing, blocks_within}
+use Rattle.p3_multi_field.specs.MultiFieldCalls.{FieldPair, permutation_input, blocks_within}
 use Rattle.p3_multi_field.specs.MultiFieldCalls.{blocks, permuting, emptied}
 
 -- where something is pending it is absorbed
 pub emptied-some : {F PF : Type 0} (pair : FieldPair F PF) (permute : List PF → List PF) (rate : ℕ) (cells : List PF)
     (pending : List F) → 0 < length pending
-    → permuting pair permute rate (absorbing pair rate cells pending) ≡ emptied pair permute rate cells pending
+    → permuting pair permute rate (permutation_input pair rate cells pending) ≡ emptied pair permute rate cells pending
 emptied-some pair permute rate cells [] some = absurd (omega (arith, some))
 emptied-some pair permute rate cells (x ∷ xs) some = refl
 

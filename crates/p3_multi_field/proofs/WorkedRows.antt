@@ -10,8 +10,8 @@ use Rattle.p3_challenger_core.specs.Segments.{Call, observe, draw, ByCalls, BySe
 use Rattle.p3_challenger_core.specs.Segments.{run_calls, run_calls_to_digest, run_segments, run_segments_to_digest}
 use Rattle.p3_multi_field.specs.MultiFieldCalls.{FieldPair, pair_of, Symbol, scalar, digest, MultiFieldSponge, fresh}
 use Rattle.p3_multi_field.specs.MultiFieldCalls.{packed_cells, multi_field_by_calls}
-use Rattle.p3_multi_field.specs.MultiFieldSegments.{multi_field_by_segments, absorbed_batches, handed_batches}
-use Rattle.p3_multi_field.specs.MultiFieldSegments.{absorbed_words, handed_words, permuted, handed_in_turn}
+use Rattle.p3_multi_field.specs.MultiFieldSegments.{multi_field_by_segments, absorbed_batches, queries_batches}
+use Rattle.p3_multi_field.specs.MultiFieldSegments.{absorbed_words, queries_words, permuted, queries_in_order}
 use Rattle.p3_multi_field.specs.MultiFieldSegments.{outputs_from}
 
 abbrev pair : FieldPair F257 BabyBear
@@ -33,7 +33,7 @@ observed n = observe (scalar (f257.of n))
 abbrev digest_observed : List ℕ → Call (Symbol F257 BabyBear)
 digest_observed words = observe (digest (map baby_bear.of words))
 
--- the numbers drawn from the start on, and the states handed to the permutation, call by call and by the
+-- the numbers drawn from the start on, and the queries to the permutation, call by call and by the
 -- definition over segments
 abbrev drawn : List (Call (Symbol F257 BabyBear)) → List ℕ
 drawn calls = map f257.number (run_calls by_calls start calls).answers
@@ -44,11 +44,11 @@ drawn_by_segments calls = map f257.number (run_segments by_segments start (segme
 abbrev numbers : List BabyBear → List ℕ
 numbers cells = map baby_bear.number cells
 
-abbrev handed : List (Call (Symbol F257 BabyBear)) → List (List ℕ)
-handed calls = map numbers (run_calls by_calls start calls).handed
+abbrev queries : List (Call (Symbol F257 BabyBear)) → List (List ℕ)
+queries calls = map numbers (run_calls by_calls start calls).queries
 
-abbrev handed_by_segments : List (Call (Symbol F257 BabyBear)) → List (List ℕ)
-handed_by_segments calls = map numbers (run_segments by_segments start (segments calls)).handed
+abbrev queries_by_segments : List (Call (Symbol F257 BabyBear)) → List (List ℕ)
+queries_by_segments calls = map numbers (run_segments by_segments start (segments calls)).queries
 
 -- the numbers of the digest after calls
 abbrev digest_after : List (Call (Symbol F257 BabyBear)) → List ℕ
@@ -74,22 +74,22 @@ three_scalars : drawn (one_two_three six_draws) ≡ 237 ∷ 11 ∷ 0 ∷ 4 ∷ 0
 three_scalars = refl
 
 three_scalars_by_segments : drawn_by_segments (one_two_three six_draws) ≡ 237 ∷ 11 ∷ 0 ∷ 4 ∷ 0 ∷ 6 ∷ []
-unfolding absorbed_batches handed_batches permuted handed_in_turn outputs_from
+unfolding absorbed_batches queries_batches permuted queries_in_order outputs_from
 three_scalars_by_segments = refl
 
-three_scalars_handed : handed (one_two_three six_draws) ≡ state 787457 0 3 ∷ state 4 787459 3 ∷ []
-three_scalars_handed = refl
+three_scalars_queries : queries (one_two_three six_draws) ≡ state 787457 0 3 ∷ state 4 787459 3 ∷ []
+three_scalars_queries = refl
 
-three_scalars_handed_by_segments :
-    handed_by_segments (one_two_three six_draws) ≡ state 787457 0 3 ∷ state 4 787459 3 ∷ []
-unfolding absorbed_batches handed_batches permuted handed_in_turn outputs_from
-three_scalars_handed_by_segments = refl
+three_scalars_queries_by_segments :
+    queries_by_segments (one_two_three six_draws) ≡ state 787457 0 3 ∷ state 4 787459 3 ∷ []
+unfolding absorbed_batches queries_batches permuted queries_in_order outputs_from
+three_scalars_queries_by_segments = refl
 
 three_scalars_to_digest : digest_after (one_two_three []) ≡ 4 ∷ 787459 ∷ []
 three_scalars_to_digest = refl
 
 three_scalars_to_digest_by_segments : digest_after_segments (one_two_three []) ≡ 4 ∷ 787459 ∷ []
-unfolding absorbed_batches handed_batches permuted handed_in_turn outputs_from
+unfolding absorbed_batches queries_batches permuted queries_in_order outputs_from
 three_scalars_to_digest_by_segments = refl
 
 -- a scalar, and a digest of one word of the same number, are not told apart
@@ -103,12 +103,12 @@ one_word : drawn (digest_observed (5 ∷ []) ∷ four_draws) ≡ 0 ∷ 7 ∷ 0 �
 one_word = refl
 
 one_word_by_segments : drawn_by_segments (digest_observed (5 ∷ []) ∷ four_draws) ≡ 0 ∷ 7 ∷ 0 ∷ 2 ∷ []
-unfolding absorbed_words handed_words absorbed_batches handed_batches permuted handed_in_turn outputs_from
+unfolding absorbed_words queries_words absorbed_batches queries_batches permuted queries_in_order outputs_from
 one_word_by_segments = refl
 
 -- nor are they by what is permuted
-one_scalar_and_one_word_handed : handed (observed 5 ∷ four_draws) ≡ handed (digest_observed (5 ∷ []) ∷ four_draws)
-one_scalar_and_one_word_handed = refl
+one_scalar_and_one_word_queries : queries (observed 5 ∷ four_draws) ≡ queries (digest_observed (5 ∷ []) ∷ four_draws)
+one_scalar_and_one_word_queries = refl
 
 -- ---- proof of work, after the scalars 1 and 2
 

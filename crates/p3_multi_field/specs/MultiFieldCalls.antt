@@ -88,9 +88,9 @@ abbrev pub blocks : {T : Type 0} → ℕ → List T → List (List T)
 blocks size xs = blocks_within size (length xs) xs
 
 -- what is permuted: where nothing is pending, the cells as they are
-abbrev pub absorbing : {F PF : Type 0} → FieldPair F PF → ℕ → List PF → List F → List PF
-absorbing pair rate cells [] = cells
-absorbing pair rate cells (x ∷ xs) = scalars_over pair rate cells (x ∷ xs)
+abbrev pub permutation_input : {F PF : Type 0} → FieldPair F PF → ℕ → List PF → List F → List PF
+permutation_input pair rate cells [] = cells
+permutation_input pair rate cells (x ∷ xs) = scalars_over pair rate cells (x ∷ xs)
 
 -- one more scalar is pending, and the outputs are dropped
 abbrev pub appended : {F PF : Type 0} → MultiFieldSponge F PF → F → MultiFieldSponge F PF
@@ -123,7 +123,7 @@ module _ {F PF : Type 0} (pair : FieldPair F PF) (permute : List PF → List PF)
 
   -- after a permutation of what is pending
   abbrev pub duplexed : MultiFieldSponge F PF → MultiFieldSponge F PF
-  duplexed s = permuting (absorbing pair rate s.cells s.pending)
+  duplexed s = permuting (permutation_input pair rate s.cells s.pending)
 
   -- ---- a scalar
 
@@ -169,51 +169,51 @@ module _ {F PF : Type 0} (pair : FieldPair F PF) (permute : List PF → List PF)
   abbrev pub finalized : MultiFieldSponge F PF → List PF
   finalized s = take rate (duplexed s).cells
 
-  -- ---- what is handed to the permutation
+  -- ---- the queries to the permutation
 
-  -- a scalar hands over the cells with the scalars that fill the rate
-  abbrev pub handed_by_scalar : MultiFieldSponge F PF → F → List (List PF)
-  handed_by_scalar s x =
+  -- a scalar queries the cells with the scalars that fill the rate
+  abbrev pub queries_by_scalar : MultiFieldSponge F PF → F → List (List PF)
+  queries_by_scalar s x =
       let scalars = s.pending ++ x ∷ [] in
       if length scalars == batch_of pair rate then scalars_over pair rate s.cells scalars ∷ [] else []
 
-  -- what is pending is handed over where something is
-  abbrev pub handed_by_emptying : List PF → List F → List (List PF)
-  handed_by_emptying cells [] = []
-  handed_by_emptying cells (x ∷ xs) = scalars_over pair rate cells (x ∷ xs) ∷ []
+  -- what is pending is queried where something is
+  abbrev pub queries_by_emptying : List PF → List F → List (List PF)
+  queries_by_emptying cells [] = []
+  queries_by_emptying cells (x ∷ xs) = scalars_over pair rate cells (x ∷ xs) ∷ []
 
   -- and then each block of words, written over the cells that the ones before it left
-  abbrev pub handed_by_words : List PF → List (List PF) → List (List PF)
-  handed_by_words cells [] = []
-  handed_by_words cells (block ∷ others) =
-      let over = words_over pair.outer rate cells block in over ∷ handed_by_words (permute over) others
+  abbrev pub queries_by_words : List PF → List (List PF) → List (List PF)
+  queries_by_words cells [] = []
+  queries_by_words cells (block ∷ others) =
+      let over = words_over pair.outer rate cells block in over ∷ queries_by_words (permute over) others
 
-  abbrev pub handed_by_digest : MultiFieldSponge F PF → List PF → List (List PF)
-  handed_by_digest s words =
-      handed_by_emptying s.cells s.pending
-      ++ handed_by_words (emptied s.cells s.pending).cells (blocks rate words)
+  abbrev pub queries_by_digest : MultiFieldSponge F PF → List PF → List (List PF)
+  queries_by_digest s words =
+      queries_by_emptying s.cells s.pending
+      ++ queries_by_words (emptied s.cells s.pending).cells (blocks rate words)
 
-  -- a draw that finds no output hands over the cells with what is pending, or as they are
-  abbrev pub handed_by_draw : MultiFieldSponge F PF → List (List PF)
-  handed_by_draw s = if s.outputs_left == 0 then absorbing pair rate s.cells s.pending ∷ [] else []
+  -- a draw that finds no output queries the cells with what is pending, or as they are
+  abbrev pub queries_by_draw : MultiFieldSponge F PF → List (List PF)
+  queries_by_draw s = if s.outputs_left == 0 then permutation_input pair rate s.cells s.pending ∷ [] else []
 
   -- so does an end, whatever outputs are left
-  abbrev pub handed_by_end : MultiFieldSponge F PF → List (List PF)
-  handed_by_end s = absorbing pair rate s.cells s.pending ∷ []
+  abbrev pub queries_by_end : MultiFieldSponge F PF → List (List PF)
+  queries_by_end s = permutation_input pair rate s.cells s.pending ∷ []
 
   -- ---- what a call does
 
   -- an array of no places does nothing
   abbrev pub run_call : MultiFieldSponge F PF → Call (Symbol F PF) → Run F (List PF) (MultiFieldSponge F PF)
   run_call s (observe (scalar x)) =
-      record { answers = []; handed = handed_by_scalar s x; after = scalar_observed s x }
+      record { answers = []; queries = queries_by_scalar s x; after = scalar_observed s x }
   run_call s (observe (digest words)) =
-      record { answers = []; handed = handed_by_digest s words; after = digest_observed s words }
+      record { answers = []; queries = queries_by_digest s words; after = digest_observed s words }
   run_call s observe_empty_array = stays s
-  run_call s draw = record { answers = sampled s ∷ []; handed = handed_by_draw s; after = after_sampled s }
+  run_call s draw = record { answers = sampled s ∷ []; queries = queries_by_draw s; after = after_sampled s }
 
   abbrev pub run_end : MultiFieldSponge F PF → Run F (List PF) (List PF)
-  run_end s = record { answers = []; handed = handed_by_end s; after = finalized s }
+  run_end s = record { answers = []; queries = queries_by_end s; after = finalized s }
 
   -- a multi-field challenger call by call
   abbrev pub multi_field_by_calls : ByCalls (Symbol F PF) F (List PF) (List PF) (MultiFieldSponge F PF)

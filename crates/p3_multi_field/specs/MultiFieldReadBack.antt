@@ -1,7 +1,7 @@
 -- What a multi-field challenger permutes tells which scalars it observed, where it observes scalars alone.
 use Rattle.std.specs.Prelude.{ℕ, List, map}
 use Rattle.p3_challenger_core.specs.Segments.{Call, observe, observe_empty_array, draw, Run, run_calls}
-use Rattle.p3_read_back.specs.Handed as handed
+use Rattle.p3_read_back.specs.Queries as queries
 use Rattle.p3_multi_field.specs.MultiFieldCalls.{FieldPair, Symbol, scalar, MultiFieldSponge, multi_field_by_calls}
 
 -- a call with a scalar as one with a symbol
@@ -19,4 +19,4 @@ module _ {F PF : Type 0} (pair : FieldPair F PF) (permute : List PF → List PF)
 
   -- lists of such calls that permute the same states, and leave the same pending, observed the same scalars
   abbrev pub ReadsBack : Type 0
-  ReadsBack = handed.ReadsBack run_scalar_calls (λ t. t.pending)
+  ReadsBack = queries.ReadsBack run_scalar_calls (λ t. t.pending)

@@ -1,4 +1,4 @@
--- A multi-field challenger over segments of calls: what it draws, and what it hands to its permutation, as a
+-- A multi-field challenger over segments of calls: what it draws, and what it queries its permutation with, as a
 -- function of whole segments.
 use Rattle.std.specs.Prelude.{ℕ, zero, suc, ◌+◌, ◌-◌, ◌*◌, ◌/◌, ◌%◌, List, [], ◌∷◌, ◌++◌, length, take, drop}
 use Rattle.p3_challenger_core.specs.Segments.{Run, stays, run_before, BySegments}
@@ -46,13 +46,13 @@ module _ {F PF : Type 0} (pair : FieldPair F PF) (permute : List PF → List PF)
       let batch = batch_of pair rate in
       absorbed_batches n (permute (scalars_over pair rate cells (take batch scalars))) (drop batch scalars)
 
-  -- what those n batches hand to the permutation: each one, packed over the cells
-  unfoldable pub handed_batches : ℕ → List PF → List F → List (List PF)
-  handed_batches zero cells scalars = []
-  handed_batches (suc n) cells scalars =
+  -- the queries of those n batches: each one, packed over the cells
+  unfoldable pub queries_batches : ℕ → List PF → List F → List (List PF)
+  queries_batches zero cells scalars = []
+  queries_batches (suc n) cells scalars =
       let batch = batch_of pair rate in
       let over = scalars_over pair rate cells (take batch scalars) in
-      over ∷ handed_batches n (permute over) (drop batch scalars)
+      over ∷ queries_batches n (permute over) (drop batch scalars)
 
   -- how many outputs are left after the batches: none where scalars are pending
   abbrev pub outputs_after : List F → ℕ
@@ -66,7 +66,7 @@ module _ {F PF : Type 0} (pair : FieldPair F PF) (permute : List PF → List PF)
       let pending = drop (batch_of pair rate * batches) scalars in
       record {
         answers = [];
-        handed = handed_batches batches cells scalars;
+        queries = queries_batches batches cells scalars;
         after = record {
           cells = absorbed_batches batches cells scalars;
           pending = pending;
@@ -87,12 +87,12 @@ module _ {F PF : Type 0} (pair : FieldPair F PF) (permute : List PF → List PF)
   absorbed_words (suc n) cells words =
       absorbed_words n (permute (words_over pair.outer rate cells (take rate words))) (drop rate words)
 
-  -- what those n blocks hand to the permutation
-  unfoldable pub handed_words : ℕ → List PF → List PF → List (List PF)
-  handed_words zero cells words = []
-  handed_words (suc n) cells words =
+  -- the queries of those n blocks
+  unfoldable pub queries_words : ℕ → List PF → List PF → List (List PF)
+  queries_words zero cells words = []
+  queries_words (suc n) cells words =
       let over = words_over pair.outer rate cells (take rate words) in
-      over ∷ handed_words n (permute over) (drop rate words)
+      over ∷ queries_words n (permute over) (drop rate words)
 
   -- words where nothing is pending: with none nothing changes
   abbrev pub run_words : MultiFieldSponge F PF → List PF → SpongeRun
@@ -101,7 +101,7 @@ module _ {F PF : Type 0} (pair : FieldPair F PF) (permute : List PF → List PF)
       let n = block_count rate (length (w ∷ ws)) in
       record {
         answers = [];
-        handed = handed_words n start.cells (w ∷ ws);
+        queries = queries_words n start.cells (w ∷ ws);
         after = record {
           cells = absorbed_words n start.cells (w ∷ ws);
           pending = [];
@@ -117,7 +117,7 @@ module _ {F PF : Type 0} (pair : FieldPair F PF) (permute : List PF → List PF)
       let over = scalars_over pair rate cells (x ∷ xs) in
       record {
         answers = [];
-        handed = over ∷ [];
+        queries = over ∷ [];
         after = record { cells = permute over; pending = []; outputs_left = row_of pair rate };
       }
 
@@ -149,10 +149,10 @@ module _ {F PF : Type 0} (pair : FieldPair F PF) (permute : List PF → List PF)
   permuted zero cells = cells
   permuted (suc n) cells = permuted n (permute cells)
 
-  -- what that hands to the permutation: the cells, the cells permuted once, and so on, n of them
-  unfoldable pub handed_in_turn : ℕ → List PF → List (List PF)
-  handed_in_turn zero cells = []
-  handed_in_turn (suc n) cells = cells ∷ handed_in_turn n (permute cells)
+  -- the queries of that: the cells, the cells permuted once, and so on, n of them
+  unfoldable pub queries_in_order : ℕ → List PF → List (List PF)
+  queries_in_order zero cells = []
+  queries_in_order (suc n) cells = cells ∷ queries_in_order n (permute cells)
 
   -- The outputs of cells stand one after another: the digits of the cells themselves, from the last digit of the
   -- last cell of the rate to the lowest of the first, then those of the cells permuted once, and so on. Draw k
@@ -178,7 +178,7 @@ module _ {F PF : Type 0} (pair : FieldPair F PF) (permute : List PF → List PF)
   draws_from cells place n =
       record {
         answers = outputs_from cells place (suc n);
-        handed = handed_in_turn ((place + n) / row_of pair rate) cells;
+        queries = queries_in_order ((place + n) / row_of pair rate) cells;
         after = left_after cells (place + n);
       }
 
@@ -201,10 +201,10 @@ module _ {F PF : Type 0} (pair : FieldPair F PF) (permute : List PF → List PF)
   -- The digest after segments is the rate after one step more: the scalars that are pending are absorbed, or,
   -- where none are, the cells are permuted.
   abbrev pub digest_after : List PF → List F → Run F (List PF) (List PF)
-  digest_after cells [] = record { answers = []; handed = cells ∷ []; after = take rate (permute cells) }
+  digest_after cells [] = record { answers = []; queries = cells ∷ []; after = take rate (permute cells) }
   digest_after cells (x ∷ xs) =
       let over = scalars_over pair rate cells (x ∷ xs) in
-      record { answers = []; handed = over ∷ []; after = take rate (permute over) }
+      record { answers = []; queries = over ∷ []; after = take rate (permute over) }
 
   -- ---- segments
 

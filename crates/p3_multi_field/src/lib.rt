@@ -4,13 +4,13 @@
 #![tactic(auto)]
 
 mod error;
+mod field_pair;
 mod multi_field_challenger;
-mod paired;
 mod prefix_code;
 mod symbol;
 
 pub use error::MultiField32ChallengerError;
+pub use field_pair::HasFieldPair;
 pub use multi_field_challenger::MultiField32Challenger;
-pub use paired::Paired;
 pub use prefix_code::{multi_field_arrays_are_prefix_code, multi_field_scalars_are_prefix_code};
 pub use symbol::MultiFieldSymbol;

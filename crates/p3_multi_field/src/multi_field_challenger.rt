@@ -14,7 +14,7 @@
 ghost use Rattle.std.specs.Prelude.{◌≡◌, ◌*◌, ◌/◌, ◌<◌, ◌≤◌, ◌+◌, ℕ, List, [], Some, IfOk, IfErr, length, take};
 ghost use Rattle.std.specs.List.{All};
 ghost use Rattle.p3_field_core.specs.Residues.{plus};
-ghost use Rattle.p3_multi_field.specs.MultiFieldCalls.{fresh, packed_cells, scalars_over, absorbing, queued};
+ghost use Rattle.p3_multi_field.specs.MultiFieldCalls.{fresh, packed_cells, scalars_over, permutation_input, queued};
 ghost use Rattle.p3_multi_field.specs.MultiFieldCalls.{digit_in_row};
 ghost use Rattle.p3_challenger_core.specs.Segments.{Call, segments, run_calls, run_calls_to_digest};
 ghost use Rattle.p3_challenger_core.specs.Segments.{run_segments, run_segments_to_digest};
@@ -32,7 +32,7 @@ mod digests;
 mod grinding;
 mod refusals;
 
-use crate::{MultiField32ChallengerError, MultiFieldSymbol, Paired};
+use crate::{HasFieldPair, MultiField32ChallengerError, MultiFieldSymbol};
 use p3_challenger_core::{
     CanFinalizeDigest, CanObserve, CanSample, CanSampleBits, ChallengerError, Sponge,
 };
@@ -151,11 +151,11 @@ impl<
         ensures made { IfOk result (λ _.
             MakeChallenger F.residues.order PF.residues.order (PF.ABSORB_COUNT * RATE)) }
         ensures fresh { IfOk result (λ c. c ≡ record {
-          sponge = fresh ⟦<PF as Paired<F>>⟧.pair WIDTH;
+          sponge = fresh ⟦<PF as HasFieldPair<F>>⟧.field_pair WIDTH;
           permutation = permutation;
         }) }
         ensures reads_back { PF.ABSORB_COUNT * RATE < PF.residues.order → IfOk result (λ c.
-            ReadsBack ⟦<PF as Paired<F>>⟧.pair (P.permutation permutation) RATE c.sponge) }
+            ReadsBack ⟦<PF as HasFieldPair<F>>⟧.field_pair (P.permutation permutation) RATE c.sponge) }
         ensures refused { IfErr result (λ e. Refuses F.residues.order PF.residues.order (PF.ABSORB_COUNT * RATE)
             F.name_bytes PF.name_bytes e) }
     {
@@ -192,33 +192,33 @@ impl<
     ghost use Rattle.p3_multi_field.specs.MultiFieldState as multi_state;
 
     /// The segments of calls, whole: from this challenger on, every list of calls gives the answers,
-    /// hands over the states to the permutation, and leaves the sponge, that its segments name; and so
+    /// makes the queries to the permutation, and leaves the sponge, that its segments name; and so
     /// do calls that end in a digest. No state is left out: a permutation that gives the same on those
-    /// that are handed over makes the calls do the same.
+    /// that are queried makes the calls do the same.
     ///
     /// A law: the body does nothing, and a caller cites the clauses.
     pub fn follows_segments(&self)
         ensures calls { (calls : List (Call (Symbol F PF))) →
-            let pair = ⟦<PF as Paired<F>>⟧.pair in
+            let pair = ⟦<PF as HasFieldPair<F>>⟧.field_pair in
             let permute = P.permutation self.now.permutation in
             run_calls (multi_field_by_calls pair permute RATE) self.now.sponge calls
             ≡ run_segments (multi_field_by_segments pair permute RATE) self.now.sponge (segments calls) }
         ensures digest { (calls : List (Call (Symbol F PF))) →
-            let pair = ⟦<PF as Paired<F>>⟧.pair in
+            let pair = ⟦<PF as HasFieldPair<F>>⟧.field_pair in
             let permute = P.permutation self.now.permutation in
             run_calls_to_digest (multi_field_by_calls pair permute RATE) self.now.sponge calls
             ≡ run_segments_to_digest (multi_field_by_segments pair permute RATE) self.now.sponge (segments calls) }
-        ensures handed { (calls : List (Call (Symbol F PF))) (other : List PF → List PF) →
-            let pair = ⟦<PF as Paired<F>>⟧.pair in
+        ensures queries { (calls : List (Call (Symbol F PF))) (other : List PF → List PF) →
+            let pair = ⟦<PF as HasFieldPair<F>>⟧.field_pair in
             let permute = P.permutation self.now.permutation in
             let run = run_calls (multi_field_by_calls pair permute RATE) self.now.sponge calls in
-            All (λ state. other state ≡ permute state) run.handed
+            All (λ state. other state ≡ permute state) run.queries
             → run_calls (multi_field_by_calls pair other RATE) self.now.sponge calls ≡ run }
-        ensures handed_to_digest { (calls : List (Call (Symbol F PF))) (other : List PF → List PF) →
-            let pair = ⟦<PF as Paired<F>>⟧.pair in
+        ensures queries_to_digest { (calls : List (Call (Symbol F PF))) (other : List PF → List PF) →
+            let pair = ⟦<PF as HasFieldPair<F>>⟧.field_pair in
             let permute = P.permutation self.now.permutation in
             let run = run_calls_to_digest (multi_field_by_calls pair permute RATE) self.now.sponge calls in
-            All (λ state. other state ≡ permute state) run.handed
+            All (λ state. other state ≡ permute state) run.queries
             → run_calls_to_digest (multi_field_by_calls pair other RATE) self.now.sponge calls ≡ run }
     {
         let _ = &self.outputs_left;
@@ -282,7 +282,7 @@ impl<
     /// How many digits a draw has queued that were neither drawn since nor dropped: 0 after an absorb, until the next
     /// draw queues the digits of the rate and takes one.
     pub fn pending_f_squeeze_len(&self) -> usize
-        ensures { result ≡ queued ⟦<PF as Paired<F>>⟧.pair RATE self.now.sponge }
+        ensures { result ≡ queued ⟦<PF as HasFieldPair<F>>⟧.field_pair RATE self.now.sponge }
     {
         if self.outputs_left == self.row_len() {
             0
@@ -341,7 +341,7 @@ impl<
 
     // Absorbs what is pending, or only permutes where nothing is. All outputs are left.
     fn duplex(&mut self)
-        ensures { self.new ≡ multi_state.duplexed ⟦<PF as Paired<F>>⟧.pair P.permutation RATE self.old }
+        ensures { self.new ≡ multi_state.duplexed ⟦<PF as HasFieldPair<F>>⟧.field_pair P.permutation RATE self.old }
     {
         let row_len = self.row_len();
         absorb::<F, PF, P, WIDTH, RATE>(
@@ -355,8 +355,8 @@ impl<
 
     // Draws a scalar: the last output left, after a permutation where none is.
     fn draw(&mut self) -> F
-        ensures value { result ≡ multi_state.sampled ⟦<PF as Paired<F>>⟧.pair P.permutation RATE self.old }
-        ensures after { self.new ≡ multi_state.after_sampled ⟦<PF as Paired<F>>⟧.pair P.permutation RATE self.old }
+        ensures value { result ≡ multi_state.sampled ⟦<PF as HasFieldPair<F>>⟧.field_pair P.permutation RATE self.old }
+        ensures after { self.new ≡ multi_state.after_sampled ⟦<PF as HasFieldPair<F>>⟧.field_pair P.permutation RATE self.old }
     {
         if self.outputs_left == 0 {
             self.duplex();
@@ -377,7 +377,7 @@ impl<
     fn push_within(&mut self, values: &[F])
         requires { length self.old.sponge.pending + length values.now ≤ PF.ABSORB_COUNT * RATE }
         ensures fed { self.new
-            ≡ multi_state.scalars_observed ⟦<PF as Paired<F>>⟧.pair P.permutation RATE self.old values.now }
+            ≡ multi_state.scalars_observed ⟦<PF as HasFieldPair<F>>⟧.field_pair P.permutation RATE self.old values.now }
         ensures full { length self.old.sponge.pending + length values.now ≡ PF.ABSORB_COUNT * RATE
             → self.new.sponge.pending ≡ [] }
     {
@@ -405,7 +405,7 @@ impl<
 
     // Makes a scalar pending, and absorbs what is pending if the rate packs no more.
     fn push(&mut self, value: F)
-        ensures { self.new ≡ multi_state.scalar_observed ⟦<PF as Paired<F>>⟧.pair P.permutation RATE self.old value }
+        ensures { self.new ≡ multi_state.scalar_observed ⟦<PF as HasFieldPair<F>>⟧.field_pair P.permutation RATE self.old value }
     {
         prove!(self.room() > 0);
         self.push_within(&[value]);
@@ -416,7 +416,7 @@ impl<
         requires none { self.old.sponge.pending ≡ [] }
         requires whole { length batch.now ≡ PF.ABSORB_COUNT * RATE }
         ensures fed { self.new
-            ≡ multi_state.scalars_observed ⟦<PF as Paired<F>>⟧.pair P.permutation RATE self.old batch.now }
+            ≡ multi_state.scalars_observed ⟦<PF as HasFieldPair<F>>⟧.field_pair P.permutation RATE self.old batch.now }
         ensures none_left { self.new.sponge.pending ≡ [] }
     {
         let row_len = self.row_len();
@@ -429,7 +429,7 @@ impl<
     // pending, and the batches after them are not copied into it.
     pub(crate) fn push_all(&mut self, values: &[F])
         ensures { self.new
-            ≡ multi_state.scalars_observed ⟦<PF as Paired<F>>⟧.pair P.permutation RATE self.old values.now }
+            ≡ multi_state.scalars_observed ⟦<PF as HasFieldPair<F>>⟧.field_pair P.permutation RATE self.old values.now }
     {
         let batch_len = self.batch_len();
         let (front, mut rest) = values.split_at(self.room().min(values.len()));
@@ -462,13 +462,13 @@ impl<
 
     ghost state = { λ c. c };
 
-    ghost fed = { λ s symbols. multi_state.fed ⟦<PF as Paired<F>>⟧.pair P.permutation RATE s symbols };
+    ghost fed = { λ s symbols. multi_state.fed ⟦<PF as HasFieldPair<F>>⟧.field_pair P.permutation RATE s symbols };
 
-    ghost next = { λ s. multi_state.after_sampled ⟦<PF as Paired<F>>⟧.pair P.permutation RATE s };
+    ghost next = { λ s. multi_state.after_sampled ⟦<PF as HasFieldPair<F>>⟧.field_pair P.permutation RATE s };
 
     ghost fed_nothing = { λ _. refl };
 
-    ghost fed_more = { fed-append ⟦<PF as Paired<F>>⟧.pair P.permutation RATE };
+    ghost fed_more = { fed-append ⟦<PF as HasFieldPair<F>>⟧.field_pair P.permutation RATE };
 }
 
 impl<
@@ -486,12 +486,12 @@ impl<
 
     // An observation takes no memory: it is never refused.
     ghost observation = { unrefused_observe (λ x. scalar x ∷ [])
-        (λ s x. multi_state.scalar_observed ⟦<PF as Paired<F>>⟧.pair P.permutation RATE s x) };
+        (λ s x. multi_state.scalar_observed ⟦<PF as HasFieldPair<F>>⟧.field_pair P.permutation RATE s x) };
 
     ghost slice_may_leave = { λ _ _ _. ⊥ };
 
-    ghost observes = { is_observation ⟦<PF as Paired<F>>⟧.pair P.permutation RATE (λ x. scalar x ∷ [])
-        (λ s x. multi_state.scalar_observed ⟦<PF as Paired<F>>⟧.pair P.permutation RATE s x) (λ _ _. refl) };
+    ghost observes = { is_observation ⟦<PF as HasFieldPair<F>>⟧.field_pair P.permutation RATE (λ x. scalar x ∷ [])
+        (λ s x. multi_state.scalar_observed ⟦<PF as HasFieldPair<F>>⟧.field_pair P.permutation RATE s x) (λ _ _. refl) };
 
     ghost slice_leaves = { λ _ _ _ h. absurd h };
 
@@ -522,10 +522,10 @@ impl<
     // The element whose coefficients are the next digits, coefficient 0 first. A draw takes no memory and has no
     // limit: it is never refused.
     ghost sampling = { unrefused_draw
-        (λ s. Some (A.element (multi_state.drawn ⟦<PF as Paired<F>>⟧.pair P.permutation RATE A.DIMENSION s)))
-        (λ s. multi_state.after_drawn ⟦<PF as Paired<F>>⟧.pair P.permutation RATE A.DIMENSION s) };
+        (λ s. Some (A.element (multi_state.drawn ⟦<PF as HasFieldPair<F>>⟧.field_pair P.permutation RATE A.DIMENSION s)))
+        (λ s. multi_state.after_drawn ⟦<PF as HasFieldPair<F>>⟧.field_pair P.permutation RATE A.DIMENSION s) };
 
-    ghost samples = { elements-sampled ⟦<PF as Paired<F>>⟧.pair P.permutation RATE A.DIMENSION A.element };
+    ghost samples = { elements-sampled ⟦<PF as HasFieldPair<F>>⟧.field_pair P.permutation RATE A.DIMENSION A.element };
 
     fn sample(&mut self) -> Result<A, ChallengerError> {
         let mut element = A::zero();
@@ -548,7 +548,7 @@ impl<
     type Digest = [PF; RATE];
 
     // The rate after one more permutation, of what is pending where something is.
-    ghost digest_of = { λ s. multi_state.finalized ⟦<PF as Paired<F>>⟧.pair P.permutation RATE s };
+    ghost digest_of = { λ s. multi_state.finalized ⟦<PF as HasFieldPair<F>>⟧.field_pair P.permutation RATE s };
 
     fn finalize(self) -> [PF; RATE] {
         let mut challenger = self;
@@ -575,7 +575,7 @@ fn plus_number<F: PrimeField64>(x: F, n: u64) -> F
 fn digit_at<F: PrimeField32, PF: PrimeField64 + FieldBridge<F, PF>>(cells: &[PF], place: usize) -> F
     requires some { 0 < PF.SQUEEZE_COUNT }
     requires inside { place / PF.SQUEEZE_COUNT < length cells.now }
-    ensures { result ≡ digit_in_row ⟦<PF as Paired<F>>⟧.pair cells.now place }
+    ensures { result ≡ digit_in_row ⟦<PF as HasFieldPair<F>>⟧.field_pair cells.now place }
 {
     PF::digit(cells[place / PF::SQUEEZE_COUNT], place % PF::SQUEEZE_COUNT)
 }
@@ -583,7 +583,7 @@ fn digit_at<F: PrimeField32, PF: PrimeField64 + FieldBridge<F, PF>>(cells: &[PF]
 // Packs scalars into cells, as many into each as it can: the first ones into the first cell. Where none are left a
 // cell is zero.
 fn pack_all<F: PrimeField32, PF: PrimeField64 + FieldBridge<F, PF>>(cells: &mut [PF], scalars: &[F])
-    ensures { cells.new ≡ packed_cells ⟦<PF as Paired<F>>⟧.pair (length cells.old) scalars.now }
+    ensures { cells.new ≡ packed_cells ⟦<PF as HasFieldPair<F>>⟧.field_pair (length cells.old) scalars.now }
 {
     let mut rest = scalars;
     for i in 0..cells.len() {
@@ -600,7 +600,7 @@ fn pack_over<F: PrimeField32, PF: PrimeField64 + FieldBridge<F, PF>>(
     rate: usize,
 )
     requires capacity { rate < length cells.old }
-    ensures { cells.new ≡ scalars_over ⟦<PF as Paired<F>>⟧.pair rate cells.old scalars.now }
+    ensures { cells.new ≡ scalars_over ⟦<PF as HasFieldPair<F>>⟧.field_pair rate cells.old scalars.now }
 {
     let counted = plus_number(cells[rate], scalars.len() as u64);
     pack_all::<F, PF>(&mut cells[..rate], scalars);
@@ -617,7 +617,7 @@ fn absorb<
 >(cells: &mut [PF; WIDTH], scalars: &[F], permutation: &P)
     requires capacity { RATE < WIDTH }
     ensures { cells.new
-        ≡ P.permutation permutation.now (absorbing ⟦<PF as Paired<F>>⟧.pair RATE cells.old scalars.now) }
+        ≡ P.permutation permutation.now (permutation_input ⟦<PF as HasFieldPair<F>>⟧.field_pair RATE cells.old scalars.now) }
 {
     if !scalars.is_empty() {
         pack_over::<F, PF>(&mut cells[..], scalars, RATE);

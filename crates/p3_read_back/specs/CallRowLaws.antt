@@ -2,7 +2,7 @@
 use Rattle.std.proofs.Common.{◌≡◌, ℕ, zero, suc, List, [], ◌∷◌, ◌++◌, map, replicate, refl, ap, ◌∙◌, sym, append_assoc}
 use Rattle.p3_challenger_core.specs.Segments.{Call, observe, observe_empty_array, draw, Run, run_before, ByCalls}
 use Rattle.p3_challenger_core.specs.Segments.{run_calls}
-use Rattle.p3_read_back.specs.Handed.{observed_values}
+use Rattle.p3_read_back.specs.Queries.{observed_values}
 
 module _ {T A M D S : Type 0} (by : ByCalls T A M D S) where
   -- a call before a run of two lists
@@ -11,7 +11,7 @@ module _ {T A M D S : Type 0} (by : ByCalls T A M D S) where
   call_before call rest others =
       λ i. record {
         answers = sym (append_assoc call.answers rest.answers others.answers) i;
-        handed = sym (append_assoc call.handed rest.handed others.handed) i;
+        queries = sym (append_assoc call.queries rest.queries others.queries) i;
         after = others.after;
       }
 

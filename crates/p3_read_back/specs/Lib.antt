@@ -1,5 +1,5 @@
 pub mod BlockLaws
 pub mod CallRowLaws
-pub mod Handed
-pub mod HandedLaws
+pub mod Queries
+pub mod QueriesLaws
 pub mod SumLaws

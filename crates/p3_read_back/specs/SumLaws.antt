@@ -5,7 +5,7 @@ use Rattle.std.proofs.lemmas.Bool.{cases_lt}
 use Rattle.std.proofs.lemmas.Bool.Decides.{eqb_tells}
 use Rattle.p3_field_core.specs.Residues.{Residues, IsResidues, plus}
 use Rattle.p3_field_core.specs.ResidueLaws.{number_of-below, number-injective}
-use Rattle.p3_read_back.specs.Handed.{Decides}
+use Rattle.p3_read_back.specs.Queries.{Decides}
 
 -- the remainder of a number below two moduli
 below_two : (x m : ℕ) → x < m + m → ((x % m ≡ x) × (x < m)) ⊎ ((x % m ≡ x - m) × (m ≤ x))

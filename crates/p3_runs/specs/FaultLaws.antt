@@ -1,4 +1,4 @@
--- Where a script is refused for anything but want of memory, that is one fault: at one position, for one reason.
+-- Where a script is refused for anything but being out of memory, that is one fault: at one position, for one reason.
 use Rattle.std.proofs.Common.{◌≡◌, ℕ, List, [], ◌∷◌, ◌++◌, ◌⊎◌, Option, Some, None, inl, inr, refl, sym, ap, ◌∙◌, subst}
 use Rattle.std.proofs.Common.{length, false, true, slice_get}
 use Rattle.p3_challenger_core.specs.declared.error.ChallengerError.TheVariants.{TooLong, DrawLimit, NoWitness}

@@ -11,7 +11,7 @@ use Rattle.p3_runs.specs.Runs.{AreAdmitted}
 use Rattle.p3_runs.specs.Values.{Value}
 use Rattle.p3_runs.specs.Verdicts.{RefusesProof}
 
--- Of what a position and an error have to be where a script is refused: any two errors, neither of them for want of
+-- Of what a position and an error have to be where a script is refused: any two errors, neither of them out of
 -- memory, say the same, and come at the same position.
 abbrev pub TellOneFault : (ℕ → TranscriptError → Type 0) → Type 0
 TellOneFault Refuses =

@@ -1,4 +1,4 @@
--- Bytes and carried witnesses have one run; and where a verifier refuses, for anything but want of memory, they have none.
+-- Bytes and carried witnesses have one run; and where a verifier refuses, for anything but being out of memory, they have none.
 use Rattle.std.proofs.Common.{◌≡◌, ℕ, List, [], refl, sym, ap, ◌∙◌, subst, append-nil, length, inl, inr}
 use Rattle.std.proofs.lemmas.List.{length-map}
 use Rattle.p3_fs_core.specs.StepFits.{FitsLength}

@@ -93,7 +93,7 @@ module _ {X S Symbol I F EF O Ac U D : Type 0} (rules : Rules S Symbol I F EF O 
               | inr halts ↦ halts.0
             ]
 
-        -- a step that a longer front has passed is refused for want of memory alone
+        -- a step that a longer front has passed is refused only when out of memory
         pub passed-step : (front : List X) (x : X) (later : List X) (done values : List (Value F EF)) (left after : List ℕ)
             (witness : Option F) (unused unspent : List (Value F EF)) (there : Driving S) (e : TranscriptError) →
             (play x).admitted → IsCarriedTo (play x).place witness →

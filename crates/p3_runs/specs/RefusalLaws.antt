@@ -1,4 +1,4 @@
--- Where a prover refuses a script for another reason than want of memory, there is no run of it.
+-- Where a prover refuses a script for another reason than being out of memory, there is no run of it.
 use Rattle.std.proofs.Common.{◌≡◌, ℕ, suc, List, [], ◌∷◌, ◌++◌, inl, inr, refl}
 use Rattle.std.proofs.Common.{sym, ap, ◌∙◌, subst, append_assoc, append-nil, length, map, slice_get, true, false}
 use Rattle.p3_challenger_core.specs.declared.error.ChallengerError.TheVariants.{TooLong, DrawLimit, NoWitness}
@@ -81,7 +81,7 @@ module _ {X S Symbol F EF O : Type 0} (play : X → Play S Symbol F EF O) where
   abbrev pub AreDetermined : List X → Type 0
   AreDetermined steps = (x : X) → IsDetermined (play x)
 
-  -- each admitted step whose length a pattern can have is refused for want of memory alone, where it may be played; of
+  -- each admitted step whose length a pattern can have is refused only when out of memory, where it may be played; of
   -- the steps of a list only the type is read
   abbrev pub AreRefusedForMemory : List X → Type 0
   AreRefusedForMemory steps =
@@ -128,7 +128,7 @@ module _ {X S Symbol F EF O : Type 0} (play : X → Play S Symbol F EF O) where
         rest = rest.rest;
       }
 
-  -- a step that a run goes on with is refused for want of memory alone
+  -- a step that a run goes on with is refused only when out of memory
   step-memory : (x : X) (later : List X) (more : List (Value F EF)) (here there : Driving S) (given : Value F EF)
       (unused unspent : List (Value F EF)) (e : TranscriptError) → IsSentWherePossible (play x) →
       (play x).sides.IsHanded given → OrHalts ((play x).sides.prover given) here e there →
@@ -173,7 +173,7 @@ module _ {X S Symbol I F EF O Ac U D : Type 0} (rules : Rules S Symbol I F EF O 
         on.rest ∙ ap (λ l. runs.handed play [] l ++ unspent) none,
       )
 
-  -- a step that a longer front has passed is refused for want of memory alone
+  -- a step that a longer front has passed is refused only when out of memory
   pub passed-sent : (script : Run X F EF S U D) (sent : List (Value F EF)) (front : List X) (x : X) (later : List X)
       (done values unused unspent : List (Value F EF)) (given : Value F EF) (there : Driving S) (e : TranscriptError) →
       AreDetermined play front → AreRefusedForMemory play front → (play x).admitted → (play x).sides.IsHanded given →
@@ -205,7 +205,7 @@ module _ {X S Symbol I F EF O Ac U D : Type 0} (rules : Rules S Symbol I F EF O 
       (record { finished = r.finished; least = r.least; handed = r.handed })
       (subst (λ l. ReachesSent script sent l values []) r.steps whole) r.refuses
 
-  -- Where a prover refuses for another reason than want of memory, no values are the script's.
+  -- Where a prover refuses for another reason than being out of memory, no values are the script's.
   pub refused-never : (script : Run X F EF S U D) (sent : List (Value F EF)) (position : ℕ) (e : TranscriptError) →
       AreDetermined play script.steps → AreRefusedForMemory play script.steps → runs.AreAdmitted play script.steps →
       RefusesToProve rules play script sent position e →

@@ -8,7 +8,7 @@ use Rattle.p3_fs_core.specs.Algebras.{NamedAlgebra}
 use Rattle.p3_fs_core.specs.Alphabet.{Alphabet}
 use Rattle.p3_driver_core.specs.Rejecting.{Rule}
 
--- how the values of a type are named in steps, spelled, observed and drawn, and the coefficients of each
+-- how the values of a type are named in steps, encoded, observed and drawn, and the coefficients of each
 pub record Coding (S Symbol F A : Type 0) : Type 1 where
   pub algebra : NamedAlgebra
   pub coefficients : A → List F

@@ -100,20 +100,20 @@ pub record IsDetermined {S Symbol F EF O : Type 0} (play : Play S Symbol F EF O)
   pub one_handed : (v w : Value F EF) → play.sides.IsHanded v → play.sides.IsHanded w →
       if_sent play.place v ≡ if_sent play.place w → v ≡ w
 
--- A verifier refuses the step for want of memory alone where it may be played with a value.
+-- A verifier refuses the step only when out of memory where it may be played with a value.
 pub record IsTakenWherePossible {S Symbol F EF O : Type 0} (play : Play S Symbol F EF O) : Type 0 where
   pub only_memory : (witness : Option F) (before after : Driving S) (e : TranscriptError) (v : Value F EF) →
       play.sides.verifier witness before e after → if_carried play.place v ≡ one_witness witness →
       CanTake play before v → e ≡ OutOfMemory
 
--- A prover refuses the step for want of memory alone where it may be played with a value, which is what it was handed.
+-- A prover refuses the step only when out of memory where it may be played with a value, which is what it was handed.
 pub record IsSentWherePossible {S Symbol F EF O : Type 0} (play : Play S Symbol F EF O) : Type 0 where
   pub only_memory : (given v : Value F EF) (before after : Driving S) (e : TranscriptError) →
       play.sides.IsHanded given → play.sides.prover given before e after →
       if_sent play.place v ≡ if_sent play.place given → CanSend play before v → e ≡ OutOfMemory
 
 -- Each side refuses a step for one reason, whatever its caller carries or it is handed: any two errors from one state,
--- neither of them for want of memory, say the same.
+-- neither of them when out of memory, say the same.
 pub record RefuseForOneReason {S F EF : Type 0} (sides : Sides S F EF) : Type 0 where
   pub verifier : (witness : Option F) → TellOneReason (OrHalts (sides.verifier witness))
   pub prover : (given : Value F EF) → TellOneReason (OrHalts (sides.prover given))

@@ -25,7 +25,7 @@ use Rattle.p3_script.proofs.Reasoned.{Reasoned, LengthOrStep, LongListOrStep, Ot
 
 -- ---- what a side adds to a step
 
--- want of memory is no such error
+-- being out of memory is no such error
 halts-one_reason : {S : Type 0} (R : Refusing S) → TellOneReason R → TellOneReason (OrHalts R)
 halts-one_reason R one start a b e f (inl x) (inl y) p q = one start a b e f x y p q
 halts-one_reason R one start a b e f (inl x) (inr h) p q = absurd (q h.0)

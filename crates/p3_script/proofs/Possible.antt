@@ -1,4 +1,4 @@
--- Where a step of a script may be played, each side refuses it for want of memory alone.
+-- Where a step of a script may be played, each side refuses it only when out of memory.
 use Rattle.std.proofs.Common.{◌≡◌, ℕ, ◌<◌, ◌≤◌, ◌^◌, List, [], ◌∷◌, ◌++◌, Option, Some, None, Bool, true, false, inl, inr, refl, sym, ap, ◌∙◌, subst, IsSome, arith}
 use Rattle.std.specs.Option.{option_map}
 use Rattle.std.specs.Prelude as list
@@ -61,7 +61,7 @@ not_long len max before after e going short refuses = elim refuses.playing.fault
 
 -- ---- what both sides know
 
--- each side refuses a step for want of memory alone where it may be played
+-- each side refuses a step only when out of memory where it may be played
 pub record IsRefusedForMemory {S Symbol F EF O : Type 0} (play : Play S Symbol F EF O) : Type 0 where
   pub taken : IsTakenWherePossible play
   pub sent : IsSentWherePossible play
@@ -102,7 +102,7 @@ known-refused condition i f E absorbed tells =
 
 -- ---- what is sent
 
--- what is sent is next alike, is given back, meets no limit, and is refused and read for want of memory alone
+-- what is sent is next alike, is given back, meets no limit, and is refused and read only when out of memory
 record Sending {S Symbol A : Type 0} (i : Step) (IsFit : A → Type 0) (sent : A → Meaning S Symbol A)
     (proving : A → Refusing S) (reading : Reading S Symbol A) : Type 0 where
   interaction : (x : A) → IsFit x → i ≡ (sent x).interaction

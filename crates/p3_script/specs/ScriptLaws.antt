@@ -17,7 +17,7 @@ module _ {S Symbol I F EF O Ac : Type 0} (Su U C K D G It St Sy : Type 0) (rules
   abbrev pub AreAllDetermined : Type 0
   AreAllDetermined = (x : script.Step Su F EF U O C K Ac D G It St Sy) → IsDetermined (play_of rules x)
 
-  -- and each side refuses it for want of memory alone, where it is admitted and may be played
+  -- and each side refuses it only when out of memory, where it is admitted and may be played
   abbrev pub AreTakenWherePossible : Type 0
   AreTakenWherePossible =
       (x : script.Step Su F EF U O C K Ac D G It St Sy) → FitsLength (play_of rules x).interaction.length →

@@ -8,6 +8,6 @@ use thiserror::Error;
 pub struct Fault {
     /// The position of the step, 0 while seeding, and the script's length at the end.
     pub position: usize,
-    /// The one error that is possible there, but for want of memory: the law [`faults_are_one`](crate::faults_are_one).
+    /// The one error that is possible there, but when out of memory: the law [`faults_are_one`](crate::faults_are_one).
     pub error: TranscriptError,
 }

@@ -7,7 +7,7 @@ use crate::suite::{Meaning, Suite};
 
 /// A script of admitted steps is refused for one fault, on either side: any two [`Fault`](crate::Fault)s with which it is
 /// refused, to verifiers over the same bytes and carried witnesses, or to provers that are handed the same values, from one
-/// state of a challenger, have the same position, and their errors say the same, where neither is for want of memory.
+/// state of a challenger, have the same position, and their errors say the same, where neither is when out of memory.
 ///
 /// A law: the body calls laws alone, and a caller cites the clauses. Not in the Rust crate.
 pub fn faults_are_one<S: Suite>()

@@ -1,7 +1,7 @@
 //! The groups of steps that a challenger may have beside the plain ones: bits and proofs of work, and uniform bits.
 ghost use Rattle.std.specs.Prelude.{◌≡◌, ◌≤◌, ℕ, Bool, true, false, IsTrue, IsErr, IfOk, IfErr};
 ghost use Rattle.p3_challenger_core.specs.Observation.{Observation};
-ghost use Rattle.p3_challenger_core.specs.Reading.{TellsApart};
+ghost use Rattle.p3_challenger_core.specs.Reading.{IsPrefixFree};
 ghost use Rattle.p3_challenger_core.specs.Sampling.{Sampling};
 ghost use Rattle.p3_driver_core.specs.Bound.{bound_values};
 ghost use Rattle.p3_driver_core.specs.Driving.{KeepsOrRefuses};
@@ -20,7 +20,7 @@ ghost use Rattle.p3_step_laws.specs.Completeness.{CompletesWork, CompletesCarrie
 ghost use Rattle.p3_runs.specs.Sides.{RefusesToReadWork};
 ghost use Rattle.p3_step_laws.specs.Limits.{TellsLimits};
 ghost use Rattle.p3_step_laws.specs.OneReason.{TellOneReason};
-ghost use Rattle.p3_step_laws.specs.Spelled.{OnlyReads, AnyValue};
+ghost use Rattle.p3_step_laws.specs.Encoded.{OnlyReads, AnyValue};
 
 use p3_challenger_core::{CanSampleBits, Sponge};
 use p3_driver_core::TranscriptBound;
@@ -30,7 +30,7 @@ use p3_fs_core::{Declared, Kind, Label, Length, PatternError, TranscriptError};
 use p3_grinding::{CanSampleUniformBits, GrindingChallenger};
 use p3_step_laws::{
     bit_draws_are_refused_for_one_reason, bit_draws_tell_limits, carried_work_agrees,
-    read_work_is_spelled, sent_work_is_received, uniform_draws_are_refused_for_one_reason,
+    read_work_is_encoded, sent_work_is_received, uniform_draws_are_refused_for_one_reason,
     uniform_draws_tell_limits, work_is_refused_for_one_reason,
 };
 use p3_symmetric::DigestHasher;
@@ -200,7 +200,7 @@ pub trait StepGroup<C: Sponge, F: ScalarField> {
         ensures read { IsTrue HAS_POW → (step : Step) (bits : ℕ) (x : F) →
             CompletesWork (work_of step F.residues before_witness witness bit_draws bits)
             (encoding F.residues F.bit_length) x }
-        ensures spelled { IsTrue HAS_POW → (step : Step) (bits : ℕ) →
+        ensures encoded { IsTrue HAS_POW → (step : Step) (bits : ℕ) →
             let work = work_of step F.residues before_witness witness bit_draws bits in
             OnlyReads (received_work work (encoding F.residues F.bit_length)) AnyValue
             (sent_work work (encoding F.residues F.bit_length)) }
@@ -208,7 +208,7 @@ pub trait StepGroup<C: Sponge, F: ScalarField> {
             CompletesCarriedWork (work_of step F.residues before_witness witness bit_draws bits) x };
 
     /// Draws of bits and proofs of work are refused for one reason: any two errors from one state, neither of them for
-    /// want of memory, say the same. A law: the body calls laws alone.
+    /// being out of memory, say the same. A law: the body calls laws alone.
     fn steps_are_refused_for_one_reason()
         ensures bits { IsTrue HAS_POW → (step : Step) (width n : ℕ) →
             TellOneReason (RefusesStep {Symbol = C.Symbol}
@@ -228,7 +228,7 @@ pub trait StepGroup<C: Sponge, F: ScalarField> {
             (RefusesToCheck (work_of step F.residues before_witness witness bit_draws bits) x) };
 
     // What witnesses feed tells them apart.
-    ghost tells_witnesses: { IsTrue HAS_POW → TellsApart witness.symbols };
+    ghost witnesses_prefix_free: { IsTrue HAS_POW → IsPrefixFree witness.symbols };
 }
 
 /// The plain steps alone: no bits, no proof of work. Not in the Rust crate.
@@ -261,7 +261,7 @@ impl<C: Sponge, F: ScalarField> StepGroup<C, F> for Plain {
 
     ghost may_run_out = { λ _. ⊥ };
 
-    ghost tells_witnesses = { not_there };
+    ghost witnesses_prefix_free = { not_there };
 
     fn max_bits() -> usize {
         0
@@ -391,7 +391,7 @@ where
 
     ghost may_run_out = { C.may_run_out };
 
-    ghost tells_witnesses = { λ _. C.tells_witnesses };
+    ghost witnesses_prefix_free = { λ _. C.witnesses_prefix_free };
 
     fn max_bits() -> usize {
         C::max_bits()
@@ -473,7 +473,7 @@ where
     fn steps_are_lawful() {
         bit_draws_tell_limits::<C>();
         sent_work_is_received::<C>();
-        read_work_is_spelled::<C>();
+        read_work_is_encoded::<C>();
         carried_work_agrees::<C>();
     }
 
@@ -512,7 +512,7 @@ where
 
     ghost may_run_out = { C.may_run_out };
 
-    ghost tells_witnesses = { λ _. C.tells_witnesses };
+    ghost witnesses_prefix_free = { λ _. C.witnesses_prefix_free };
 
     fn max_bits() -> usize {
         C::max_bits()
@@ -589,7 +589,7 @@ where
         bit_draws_tell_limits::<C>();
         uniform_draws_tell_limits::<C::Witness, C>();
         sent_work_is_received::<C>();
-        read_work_is_spelled::<C>();
+        read_work_is_encoded::<C>();
         carried_work_agrees::<C>();
     }
 

@@ -13,7 +13,7 @@ use p3_step_laws::{
 };
 
 /// What holds of every step of every script of a suite: its bytes and its carried witness tell its value, and so do what
-/// is sent and that a witness is the least one; and where it may be played each side refuses it for want of memory alone.
+/// is sent and that a witness is the least one; and where it may be played each side refuses it only when out of memory.
 ///
 /// A law: the body calls laws alone, and a caller cites the clauses. Not in the Rust crate.
 pub fn script_steps_are_lawful<S: Suite>()
@@ -63,7 +63,7 @@ pub fn script_steps_are_lawful<S: Suite>()
     S::Group::steps_are_lawful();
 }
 
-// The spellings of values are a prefix code.
+// The encodings of values are a prefix code.
 fn values_are_a_code<A, C: Sponge, Cdc: Codec<C, A>>()
     ensures { IsPrefixCode Cdc.encoding.wire }
 {}

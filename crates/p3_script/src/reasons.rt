@@ -14,7 +14,7 @@ use p3_step_laws::{
 
 /// An admitted step of a script of a suite is refused for one reason, on either side: any two errors with which it is
 /// refused from one state, to a verifier whose caller carries the same, or to a prover that is handed the same, say the
-/// same, where neither is for want of memory. So a [`Fault`](crate::Fault) names the one error that is possible at its
+/// same, where neither is when out of memory. So a [`Fault`](crate::Fault) names the one error that is possible at its
 /// state.
 ///
 /// A law: the body calls laws alone, and a caller cites the clause. Not in the Rust crate.

@@ -30,7 +30,7 @@ pub trait Suite {
     /// The challenger.
     type Challenger: CanObserve<<Self::Unit as Unit>::Item> + CanObserve<Self::Opaque> + Drop;
 
-    /// How scalars are spelled, observed and drawn.
+    /// How scalars are encoded, observed and drawn.
     type Codec: ScalarCodec<Self::Challenger, Self::Field>;
 
     /// The rules of draws that may be rejected.

@@ -65,7 +65,7 @@ module _ {X S Symbol I F EF O Ac U D : Type 0} (rules : Rules S Symbol I F EF O 
 
   module _ (script : Run X F EF S U D) (sent : List (Value F EF)) (i j : ℕ) (now : Driving S)
       (witnesses carried : List F) (drawn : List (Challenge F EF)) where
-    -- where the next step is refused for another reason than want of memory, no values are the script's
+    -- where the next step is refused for another reason than being out of memory, no values are the script's
     pub next-never : (there : Driving S) (x : X) (e : TranscriptError) →
         Proves rules play script sent i j now witnesses carried drawn → AreDetermined play script.steps →
         drop i script.steps ≡ x ∷ drop (i + 1) script.steps → RefusesNext (play x) sent j now e there →

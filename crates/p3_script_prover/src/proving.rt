@@ -158,7 +158,7 @@ fn play_next<S: Suite>(
 /// `sent` has the values that the steps send, in their order: one for each step that sends one, and none for the others.
 ///
 /// It answers `Ok` exactly where the script's steps are those of the separator's pattern, the values fit them, each proof
-/// of work has a witness that passes, and no draw meets its limit; want of memory alone may come in place of that. The
+/// of work has a witness that passes, and no draw meets its limit; only being out of memory may come in place of that. The
 /// witnesses are the least ones.
 ///
 /// The position of a [`Fault`] is that of the step that was refused, 0 also where the seed was, and the number of the

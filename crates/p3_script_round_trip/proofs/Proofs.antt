@@ -49,7 +49,7 @@ module _ {X S Symbol I F EF O Ac U D : Type 0} (rules : Rules S Symbol I F EF O 
             (sym (a.only p.values is-proof)) a.outcome;
       }
 
-  -- and want of memory alone refuses it
+  -- and only being out of memory refuses it
   pub proved-memory : (e : TranscriptError) →
       ((e ≡ OutOfMemory → ⊥) → HasNoProof rules play script narg carried) → e ≡ OutOfMemory
   proved-memory e only =

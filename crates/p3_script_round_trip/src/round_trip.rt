@@ -18,7 +18,7 @@ use std::alloc::Global;
 /// Verifies what [`prove`] answered for the script, from a challenger that equals the prover's.
 ///
 /// The proof is accepted: what is received are the values that were sent, with the witnesses in their places, the
-/// challenges are the prover's, and so is the challenger in the end. Only want of memory can come instead.
+/// challenges are the prover's, and so is the challenger in the end. Only being out of memory can come instead.
 ///
 /// Conditions: the steps are admitted, and `proved` is an answer of [`prove`] for them, from this state of a challenger.
 /// Not in the Rust crate.
@@ -54,7 +54,7 @@ pub fn verify_proved<'a, S: Suite>(
 /// Proves a script, and verifies the proof, from two challengers of one state: what the prover answers, and the
 /// verifier's challenges and challenger, which are the prover's.
 ///
-/// The errors are those of [`prove`], and want of memory. Conditions: those of [`prove`], and that the challengers are
+/// The errors are those of [`prove`], and out of memory. Conditions: those of [`prove`], and that the challengers are
 /// equal. Not in the Rust crate.
 pub fn prove_and_verify<S: Suite>(
     alloc: Global,

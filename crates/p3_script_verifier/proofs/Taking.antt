@@ -11,7 +11,7 @@ use Rattle.p3_fs_core.specs.declared.error.TranscriptError.{TranscriptError}
 use Rattle.p3_fs_core.specs.declared.error.TranscriptError.TheVariants.{OutOfMemory}
 use Rattle.p3_script_verifier.specs.Taking.{IsRefused}
 use Rattle.p3_driver_core.specs.Verifying.{Receives}
-use Rattle.p3_step_laws.specs.Spelled.{OnlyReads}
+use Rattle.p3_step_laws.specs.Encoded.{OnlyReads}
 use Rattle.p3_runs.specs.Absorbed.{Absorbed}
 use Rattle.p3_runs.specs.Plays.{Play, sends}
 use Rattle.p3_runs.specs.Sides.{Refusing}
@@ -39,7 +39,7 @@ sent-taken {S} {Symbol} {F} {EF} {O} {A} i found IsHanded IsFit sent absorbed pr
             ∙ ap (λ (e : Effect S Symbol A). e.after before.transcript.challenger) same);
         playing = p.playing;
       };
-      read = rw is (only.spelled before.bytes x after.bytes bytes p.read);
+      read = rw is (only.encoded before.bytes x after.bytes bytes p.read);
     }
 
 -- the same where the driver was as it is then for a while

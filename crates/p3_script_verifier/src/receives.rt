@@ -14,7 +14,7 @@ use p3_drivers::VerifierState;
 use p3_fs_core::{Label, TranscriptError};
 use p3_script::draws::unbound;
 use p3_script::{Meaning, Received, Suite};
-use p3_step_laws::{read_bytes_are_spelled, read_hints_are_spelled, read_values_are_spelled};
+use p3_step_laws::{read_bytes_are_encoded, read_hints_are_encoded, read_values_are_encoded};
 use std::alloc::Global;
 
 // Reads so many bytes of salt.
@@ -29,7 +29,7 @@ pub(crate) fn receive_salt<'a, S: Suite>(
         result
         (verifying_of S.Challenger.state verifier.new) }
 {
-    read_bytes_are_spelled::<S::Unit, S::Challenger>();
+    read_bytes_are_encoded::<S::Unit, S::Challenger>();
     let _unread = verifier.unread();
     let bytes = verifier.next_salt(label, len)?;
     Ok((Some(Received::Bytes(bytes)), None))
@@ -47,7 +47,7 @@ pub(crate) fn receive_bytes<'a, S: Suite>(
         result
         (verifying_of S.Challenger.state verifier.new) }
 {
-    read_bytes_are_spelled::<S::Unit, S::Challenger>();
+    read_bytes_are_encoded::<S::Unit, S::Challenger>();
     let _unread = verifier.unread();
     let bytes = verifier.next_bytes(label, len)?;
     Ok((Some(Received::Bytes(bytes)), None))
@@ -65,7 +65,7 @@ pub(crate) fn receive_counted_bytes<'a, S: Suite>(
         result
         (verifying_of S.Challenger.state verifier.new) }
 {
-    read_bytes_are_spelled::<S::Unit, S::Challenger>();
+    read_bytes_are_encoded::<S::Unit, S::Challenger>();
     let _unread = verifier.unread();
     let bytes = verifier.next_bytes_bounded(label, max)?;
     Ok((Some(Received::Bytes(bytes)), None))
@@ -83,7 +83,7 @@ pub(crate) fn receive_hint<'a, S: Suite>(
         result
         (verifying_of S.Challenger.state verifier.new) }
 {
-    read_hints_are_spelled::<S::Challenger>();
+    read_hints_are_encoded::<S::Challenger>();
     let _unread = verifier.unread();
     let bytes = verifier.next_hint(label, len)?;
     Ok((Some(Received::Bytes(bytes)), None))
@@ -101,7 +101,7 @@ pub(crate) fn receive_counted_hint<'a, S: Suite>(
         result
         (verifying_of S.Challenger.state verifier.new) }
 {
-    read_hints_are_spelled::<S::Challenger>();
+    read_hints_are_encoded::<S::Challenger>();
     let _unread = verifier.unread();
     let bytes = verifier.next_hint_bounded(label, max)?;
     Ok((Some(Received::Bytes(bytes)), None))
@@ -118,7 +118,7 @@ pub(crate) fn receive_scalar<'a, S: Suite>(
         result
         (verifying_of S.Challenger.state verifier.new) }
 {
-    read_values_are_spelled::<S::Field, S::Unit, S::Challenger, S::Codec>();
+    read_values_are_encoded::<S::Field, S::Unit, S::Challenger, S::Codec>();
     let _unread = verifier.unread();
     let bound = verifier.next_scalar::<S::Field, S::Codec>(label)?;
     Ok((Some(Received::Scalar(bound.into_inner())), None))
@@ -135,7 +135,7 @@ pub(crate) fn receive_extension<'a, S: Suite>(
         result
         (verifying_of S.Challenger.state verifier.new) }
 {
-    read_values_are_spelled::<
+    read_values_are_encoded::<
         S::Extension,
         S::Unit,
         S::Challenger,
@@ -159,7 +159,7 @@ pub(crate) fn receive_scalars<'a, S: Suite>(
         result
         (verifying_of S.Challenger.state verifier.new) }
 {
-    read_values_are_spelled::<S::Field, S::Unit, S::Challenger, S::Codec>();
+    read_values_are_encoded::<S::Field, S::Unit, S::Challenger, S::Codec>();
     let _unread = verifier.unread();
     let bounds = verifier.next_scalars::<S::Field, S::Codec>(label, n)?;
     let values = unbound(alloc, verifier, bounds)?;
@@ -179,7 +179,7 @@ pub(crate) fn receive_counted_scalars<'a, S: Suite>(
         result
         (verifying_of S.Challenger.state verifier.new) }
 {
-    read_values_are_spelled::<S::Field, S::Unit, S::Challenger, S::Codec>();
+    read_values_are_encoded::<S::Field, S::Unit, S::Challenger, S::Codec>();
     let _unread = verifier.unread();
     let bounds = verifier.next_scalars_bounded::<S::Field, S::Codec>(label, max)?;
     let values = unbound(alloc, verifier, bounds)?;

@@ -6,7 +6,7 @@ use Rattle.p3_field_core.specs.Residues.{Residues}
 use Rattle.p3_challenger_core.specs.Bits.{greatest_below}
 use Rattle.p3_challenger_core.specs.Observation.{Observation}
 use Rattle.p3_challenger_core.specs.Sampling.{Sampling, unrefused_draw, draws, after_draws}
-use Rattle.p3_hash_challenger.specs.HashCalls.{HashFunction, absorbing}
+use Rattle.p3_hash_challenger.specs.HashCalls.{HashFunction, with_pending}
 use Rattle.p3_hash_challenger.specs.HashState as hash_state
 use Rattle.p3_hash_challenger.specs.HashState.{HashState}
 use Rattle.p3_grinding.specs.Candidates.{first_accepted, after_first_accepted}
@@ -33,7 +33,7 @@ State = SerializingState (HashState ℕ (Unit {0}))
 
 -- bytes are pending, and so many groups may be tried
 abbrev pub over : List ℕ → ℕ → State
-over pending limit = record { inner = record { sponge = absorbing pending; hasher = tt }; draw_limit = limit }
+over pending limit = record { inner = record { sponge = with_pending pending; hasher = tt }; draw_limit = limit }
 
 abbrev start : State
 start = over (0 ∷ 1 ∷ 2 ∷ 3 ∷ []) 1

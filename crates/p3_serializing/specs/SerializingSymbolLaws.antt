@@ -5,7 +5,7 @@ use Rattle.std.proofs.lemmas.Nat.{mod_below}
 use Rattle.std.specs.List.{flat_map}
 use Rattle.p3_field_core.specs.Residues.{Residues, IsResidues}
 use Rattle.p3_challenger_core.specs.Sponge.{IsNonEmpty}
-use Rattle.p3_challenger_core.specs.Reading.{IsPrefixCodeOn, IsByte, AreBytes, TellsApart}
+use Rattle.p3_challenger_core.specs.Reading.{IsPrefixCodeOn, IsByte, AreBytes, IsPrefixFree}
 use Rattle.p3_challenger_core.specs.SymbolLaws.{byte-feeds, bytes-feed, bytes-prefix_code, row-prefix_code}
 use Rattle.p3_serializing.specs.Bytes.{bytes_of, IsWord, AreWords}
 use Rattle.p3_serializing.specs.BytesLaws.{length-bytes_of, bytes_of-injective}
@@ -50,7 +50,7 @@ module _ {Symbol : Type 0} (symbols : ℕ → List Symbol) (prefix_code : IsPref
     some_byte (suc n) short = omega arith
 
     -- elements of a field
-    pub elements-tell_apart : TellsApart (λ (x : F). flat_map symbols (bytes_of n (r.number x)))
+    pub elements-tell_apart : IsPrefixFree (λ (x : F). flat_map symbols (bytes_of n (r.number x)))
     elements-tell_apart =
         record {
           prefix_code = element-read;

@@ -8,7 +8,7 @@
 //! It keeps nothing of its own: its state is the inner challenger's.
 ghost use Rattle.std.specs.Prelude.{◌≡◌, ◌≤◌, OnOk, IfErr};
 ghost use Rattle.p3_challenger_core.specs.Observation.{RefusesObserve, in_row};
-ghost use Rattle.p3_hash_challenger.specs.HashCalls.{absorbing};
+ghost use Rattle.p3_hash_challenger.specs.HashCalls.{with_pending};
 
 mod calls;
 mod digests;
@@ -35,7 +35,7 @@ use std::marker::{Model, PhantomData};
 /// A number of some bits, uniform or not, is the low bits of one group, also for no bits. Symbols, and the digest at
 /// the end, are those of the inner challenger.
 ///
-/// Want of memory is the inner challenger's. It leaves what it leaves of the bytes of the one slice that was refused,
+/// Being out of memory is the inner challenger's. It leaves what it leaves of the bytes of the one slice that was refused,
 /// with all that came before it: of a list of elements, the elements before the refused one; of a digest of words, the
 /// words before it. In a draw it leaves the bytes drawn before the refused one.
 ///
@@ -116,7 +116,7 @@ impl<F, H: CryptographicHasher<u8, [u8; 32]>, const BYTES: usize> SerializingCha
     pub fn from_hasher(initial_state: Vec<u8>, hasher: H, draw_limit: u64) -> Self
         requires { 1 ≤ draw_limit }
         ensures { result ≡ record {
-          inner = record { sponge = absorbing initial_state.items; hasher = hasher };
+          inner = record { sponge = with_pending initial_state.items; hasher = hasher };
           draw_limit = draw_limit;
         } }
     {

@@ -6,7 +6,7 @@ ghost use Rattle.p3_serializing.specs.SerializingGroups.{SerializingCall, by_cal
 
 use crate::{SerializedIn, SerializingChallenger, SerializingState};
 use p3_challenger_core::{CanObserve, CanSample, CanSampleBits};
-use p3_grinding::{CanSampleUniformBits, PrepareCheck};
+use p3_grinding::{BeforeWitness, CanSampleUniformBits};
 
 impl<
     F: SerializedIn<BYTES>,
@@ -34,6 +34,6 @@ impl<
             ⟦<SerializingChallenger<F, Inner, BYTES> as CanSampleBits<usize>>⟧.bits_sampling
             (λ resample bits.
             (⟦<SerializingChallenger<F, Inner, BYTES> as CanSampleUniformBits<F>>⟧.uniform resample bits).draw)
-            ⟦<SerializingChallenger<F, Inner, BYTES> as PrepareCheck>⟧.before_witness.after) calls s words }
+            ⟦<SerializingChallenger<F, Inner, BYTES> as BeforeWitness>⟧.before_witness.after) calls s words }
     {}
 }

@@ -1,7 +1,7 @@
 //! What a serializing challenger feeds is a prefix code, where the bytes of its inner challenger are: the premises of
 //! the laws on symbols.
 ghost use Rattle.std.specs.Prelude.{◌≡◌, length};
-ghost use Rattle.p3_challenger_core.specs.Reading.{IsPrefixCode, IsPrefixCodeOn, IsByte, AreBytes, TellsApart};
+ghost use Rattle.p3_challenger_core.specs.Reading.{IsPrefixCode, IsPrefixCodeOn, IsByte, AreBytes, IsPrefixFree};
 ghost use Rattle.p3_symmetric.specs.HashValues.{values_of};
 ghost use Rattle.p3_serializing.specs.Bytes.{AreWords};
 
@@ -20,7 +20,7 @@ pub fn serialized_elements_are_prefix_code<
     const N: usize,
 >()
     ensures elements { IsPrefixCodeOn IsByte Inner.observation.symbols
-        → TellsApart ⟦<SerializingChallenger<F, Inner, BYTES> as CanObserve<F>>⟧.observation.symbols }
+        → IsPrefixFree ⟦<SerializingChallenger<F, Inner, BYTES> as CanObserve<F>>⟧.observation.symbols }
     ensures arrays { IsPrefixCodeOn IsByte Inner.observation.symbols → IsPrefixCodeOn (λ values. length values ≡ N)
         ⟦<SerializingChallenger<F, Inner, BYTES> as CanObserve<[F; N]>>⟧.observation.symbols }
 {}

@@ -1,4 +1,4 @@
--- Why bytes that are enough spell no element of an extension.
+-- Why bytes that are enough encode no element of an extension.
 use Rattle.std.proofs.Common.{◌≡◌, ℕ, zero, suc, ◌+◌, ◌*◌, ◌≤◌, ◌⊎◌, List, ◌∷◌, drop, length, Result, Ok, Err}
 use Rattle.std.proofs.Common.{refl, sym, ap, ◌∙◌, subst, inl, inr, arith, if◌then◌else◌}
 use Rattle.std.proofs.lemmas.List.{length-append}
@@ -33,12 +33,12 @@ module _ {F : Type 0} (base : Encoding F) (laws : IsEncoding base)
         | inr later ↦
             let x = later.0.0 in
             let rest = later.0.1 in
-            let spelled = laws.only_reads bytes x rest are later.1 in
+            let encoded = laws.only_reads bytes x rest are later.1 in
             let after : rest ≡ drop w bytes =
-            sym (ap (drop w) spelled ∙ drop-front w (base.wire x) rest (laws.fixed_width x)) in
+            sym (ap (drop w) encoded ∙ drop-front w (base.wire x) rest (laws.fixed_width x)) in
             let rest_are : AreBytes rest = subst (λ (l : List ℕ). AreBytes l) (sym after) (AreBytes-drop w bytes are) in
             let lengths : length bytes ≡ length (base.wire x) + length rest =
-            ap length spelled ∙ length-append (base.wire x) rest in
+            ap length encoded ∙ length-append (base.wire x) rest in
             let enough : n * w ≤ length rest = omega (arith, long, product, lengths, laws.fixed_width x) in
             elim (split (λ xs. Ok (x ∷ xs.0, xs.1)) (read_all base.read n rest) reason later.2) [
               | inl there ↦ row-reason n rest reason rest_are enough there

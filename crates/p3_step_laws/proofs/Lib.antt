@@ -6,7 +6,7 @@ pub mod OneReason
 pub mod OnlyMemory
 pub mod ReadBack
 pub mod ReadOnly
-pub mod SpelledLaws
+pub mod EncodedLaws
 pub mod WorkMirrors
 pub mod WorkReasons
 pub mod WorkedRows

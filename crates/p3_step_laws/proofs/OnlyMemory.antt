@@ -1,4 +1,4 @@
--- A step that a prover has played is refused for want of memory alone.
+-- A step that a prover has played is refused only when out of memory.
 use Rattle.std.proofs.Common.{◌≡◌, ℕ, List, ◌++◌, Some, Ok, is_some, refl, sym, ap, ◌∙◌, subst}
 use Rattle.p3_challenger_core.specs.declared.error.ChallengerError.{ChallengerError}
 use Rattle.p3_challenger_core.specs.declared.error.ChallengerError.TheVariants.{DrawLimit, NoWitness, TooLong}

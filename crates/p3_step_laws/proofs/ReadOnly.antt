@@ -1,4 +1,4 @@
--- What is read is spelled so: the bytes are the spelling, and then those that are left.
+-- What is read is encoded so: the bytes are the encoding, and then those that are left.
 use Rattle.std.proofs.Common.{◌≡◌, ℕ, zero, suc, ◌+◌, ◌*◌, ◌≤◌, List, [], ◌∷◌, ◌++◌, length, take, drop, nat_lt, Result}
 use Rattle.std.proofs.Common.{Ok, Err, refl, sym, ap, ◌∙◌, subst, arith, append_assoc, append-nil, if◌then◌else◌}
 use Rattle.std.proofs.lemmas.List.{take-append-drop, length-take-le, length-append}
@@ -75,12 +75,12 @@ module _ {S A : Type 0} (e : Encoding A) (encodes : IsEncoding e) where
       let failure : Unreadable S = record { reason = ended_early; left = bytes; absorbed = λ s. s } in
       let c = chosen (nat_lt (length bytes) w) failure (value_in {S = S} (e.read front) (drop w bytes)) (x, rest) h in
       let v = value_in-ok {S = S} (e.read front) (drop w bytes) x rest c.1 in
-      let spelled : front ≡ e.wire x ++ v.0 = encodes.only_reads front x v.0 (AreBytes-take w bytes are) v.1 in
+      let encoded : front ≡ e.wire x ++ v.0 = encodes.only_reads front x v.0 (AreBytes-take w bytes are) v.1 in
       let long : length front ≡ w = length-take-le w bytes (at_least (length bytes) w c.0) in
       let whole : w ≡ length (e.wire x) + length v.0 =
-      sym long ∙ ap length spelled ∙ length-append (e.wire x) v.0 in
+      sym long ∙ ap length encoded ∙ length-append (e.wire x) v.0 in
       let none : v.0 ≡ [] = none_left v.0 w (length (e.wire x)) (encodes.fixed_width x) whole in
-      let itself : front ≡ e.wire x = spelled ∙ ap (λ l. e.wire x ++ l) none ∙ append-nil (e.wire x) in
+      let itself : front ≡ e.wire x = encoded ∙ ap (λ l. e.wire x ++ l) none ∙ append-nil (e.wire x) in
       sym (take-append-drop w bytes) ∙ ap (λ f. f ++ drop w bytes) itself ∙ ap (λ l. e.wire x ++ l) v.2
 
   after_value : (bytes : List ℕ) (x : A) (rest : List ℕ) → AreBytes bytes → read_value {S = S} e bytes ≡ Ok (x, rest) →
@@ -136,12 +136,12 @@ module _ {S : Type 0} (over : List ℕ) (max : ℕ) where
       let number : big_endian front ≡ n = ap (λ p. p.0) same in
       let left : drop w bytes ≡ rest = ap (λ p. p.1) same in
       let within : big_endian front ≤ max = at_least max (big_endian front) d.0 in
-      let spelled : count_bytes max (big_endian front) ≡ front =
+      let encoded : count_bytes max (big_endian front) ≡ front =
       in_bytes-big_endian w front (length-take-le w bytes (at_least (length bytes) w c.0)) (AreBytes-take w bytes are)
       in (
         subst (λ (k : ℕ). k ≤ max) number within,
         sym (take-append-drop w bytes)
-            ∙ ap (λ f. f ++ drop w bytes) (sym spelled)
+            ∙ ap (λ f. f ++ drop w bytes) (sym encoded)
             ∙ ap (λ k. count_bytes max k ++ drop w bytes) number
             ∙ ap (λ l. count_bytes max n ++ l) left,
         subst (λ (l : List ℕ). AreBytes l) left (AreBytes-drop w bytes are),

@@ -38,8 +38,8 @@ pub record CompletesAlike {S Symbol A : Type 0} (m : Meaning S Symbol A) : Type 
 
 -- ---- proof of work
 
--- A prover has played a step with this witness, and a verifier stands at the same state, with the witness's spelling
--- next. Then the verifier follows: what it reads passes, and it is refused for want of memory alone.
+-- A prover has played a step with this witness, and a verifier stands at the same state, with the witness's encoding
+-- next. Then the verifier follows: what it reads passes, and it is refused only when out of memory.
 pub record CompletesWork {S Symbol W : Type 0} (work : Work S Symbol W) (enc : Encoding W) (x : W) : Type 0 where
   pub completes : Completes (sent_work work enc x) (received_work work enc) x
   pub refuses : (before after : Transcript S) (rest : List ℕ) (start end : Driving S) (e : TranscriptError) →

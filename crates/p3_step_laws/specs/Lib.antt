@@ -7,4 +7,4 @@ pub mod OneReason
 pub mod ReadBack
 pub mod RoundLaws
 pub mod Rounds
-pub mod Spelled
+pub mod Encoded

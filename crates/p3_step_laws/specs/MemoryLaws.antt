@@ -1,4 +1,4 @@
--- A step that is next and meets no limit is refused for want of memory alone.
+-- A step that is next and meets no limit is refused only when out of memory.
 use Rattle.std.proofs.Common.{◌≡◌, Option, None, IsSome, refl}
 use Rattle.p3_challenger_core.specs.declared.error.ChallengerError.TheVariants.{DrawLimit, NoWitness, TooLong}
 use Rattle.p3_challenger_core.specs.declared.error.ChallengerError.TheVariants as challenger

@@ -86,7 +86,7 @@ pub fn drawn_uniform_bits_agree<F, C: CanSampleUniformBits<F>>()
 {}
 
 /// A witness that a prover has answered passes the check of a verifier whose caller carries it, which is refused for
-/// want of memory alone.
+/// only being out of memory.
 ///
 /// A law: the body is empty, and a caller cites the clause.
 pub fn carried_work_agrees<C: GrindingChallenger>()

@@ -1,21 +1,24 @@
-//! Laws of what the steps of a transcript mean: that what a verifier reads is spelled so, and why a step is refused.
+//! Laws of what the steps of a transcript mean: that what a verifier reads is encoded so, and why a step is refused.
 //!
 //! What is called a law is a function without effect whose contract a caller cites. The Rust crate has none.
 #![tactic(auto)]
 
 mod agreements;
+mod encoded;
 mod extensions;
 mod limits;
 mod memory;
 mod mirrors;
 mod reasons;
-mod spelled;
 mod verifier_reasons;
 
 pub use agreements::{
     carried_lists_are_let_through, carried_work_agrees, drawn_bits_agree, drawn_uniform_bits_agree,
     drawn_values_agree, ended_verifiers_are_not_refused, markers_agree,
     observed_counted_values_agree, observed_values_agree, opaque_values_agree,
+};
+pub use encoded::{
+    read_bytes_are_encoded, read_hints_are_encoded, read_values_are_encoded, read_work_is_encoded,
 };
 pub use extensions::extensions_are_refused_for_one_reason;
 pub use limits::{
@@ -38,9 +41,6 @@ pub use reasons::{
     draws_are_refused_for_one_reason, hints_are_refused_for_one_reason,
     markers_are_refused_for_one_reason, opaque_values_are_refused_for_one_reason,
     uniform_draws_are_refused_for_one_reason, values_are_refused_for_one_reason,
-};
-pub use spelled::{
-    read_bytes_are_spelled, read_hints_are_spelled, read_values_are_spelled, read_work_is_spelled,
 };
 pub use verifier_reasons::{
     bytes_are_unread_for_one_reason, carried_lists_are_refused_for_one_reason,

@@ -1,4 +1,4 @@
-//! Where a prover has played a step, a verifier that stands at the same state is refused its step for want of memory
+//! Where a prover has played a step, a verifier that stands at the same state is refused its step when out of memory
 //! alone.
 //!
 //! The laws of mirrors and agreements say what comes of the verifier's step where it is played, and that no fault of
@@ -21,7 +21,7 @@ use p3_codecs::{AlphabetOf, Codec, Unit};
 use p3_fs_core::Kind;
 use p3_grinding::CanSampleUniformBits;
 
-/// Where a prover has sent one value, a list, or a list after its count, want of memory alone refuses the verifier that
+/// Where a prover has sent one value, a list, or a list after its count, only being out of memory refuses the verifier that
 /// reads it.
 ///
 /// A law: the body does nothing, and a caller cites the clauses. The most is below 2^64, as a `usize` is.
@@ -43,7 +43,7 @@ pub fn only_memory_refuses_sent_values<A, U: Unit, C: CanObserve<U::Item>, Cdc: 
     sent_counted_values_are_received::<A, U, C, Cdc>();
 }
 
-/// Where a prover has sent bytes, or bytes after their count, want of memory alone refuses the verifier that reads
+/// Where a prover has sent bytes, or bytes after their count, only being out of memory refuses the verifier that reads
 /// them.
 ///
 /// A law: the body does nothing, and a caller cites the clauses. The most is below 2^64, as a `usize` is.
@@ -62,7 +62,7 @@ pub fn only_memory_refuses_sent_bytes<U: Unit, C: CanObserve<U::Item>>()
     sent_counted_bytes_are_received::<U, C>();
 }
 
-/// Where a prover has sent a hint, or a hint after its count, want of memory alone refuses the verifier that reads it.
+/// Where a prover has sent a hint, or a hint after its count, only being out of memory refuses the verifier that reads it.
 ///
 /// A law: the body does nothing, and a caller cites the clauses. The most is below 2^64, as a `usize` is.
 pub fn only_memory_refuses_hints<C: Sponge>()
@@ -79,7 +79,7 @@ pub fn only_memory_refuses_hints<C: Sponge>()
     counted_hint_is_received::<C>();
 }
 
-/// Where one side has opened or closed a container, want of memory alone refuses the other.
+/// Where one side has opened or closed a container, only being out of memory refuses the other.
 ///
 /// A law: the body is empty, and a caller cites the clause.
 pub fn only_memory_refuses_markers<C: Sponge>()
@@ -87,7 +87,7 @@ pub fn only_memory_refuses_markers<C: Sponge>()
         (meaning.marked step) }
 {}
 
-/// Where one side has observed one value, a list, or a list after its count, want of memory alone refuses the other.
+/// Where one side has observed one value, a list, or a list after its count, only being out of memory refuses the other.
 ///
 /// A law: the body is empty, and a caller cites the clauses.
 pub fn only_memory_refuses_observed_values<A, U: Unit, C: CanObserve<U::Item>, Cdc: Codec<C, A>>()
@@ -100,14 +100,14 @@ pub fn only_memory_refuses_observed_values<A, U: Unit, C: CanObserve<U::Item>, C
         OnlyMemoryRefuses (meaning.observed_bounded step alphabet max Cdc.observation xs) }
 {}
 
-/// Where one side has observed a value as the challenger itself knows how, want of memory alone refuses the other.
+/// Where one side has observed a value as the challenger itself knows how, only being out of memory refuses the other.
 ///
 /// A law: the body is empty, and a caller cites the clause.
 pub fn only_memory_refuses_opaque_values<T, C: CanObserve<T>>()
     ensures { (step : Step) (x : T) → OnlyMemoryRefuses (meaning.observed step C.observation x) }
 {}
 
-/// Where one side has drawn one value, so many values, or so many that a rule takes, want of memory alone refuses the
+/// Where one side has drawn one value, so many values, or so many that a rule takes, only being out of memory refuses the
 /// other: the draws of both meet their limit, or neither's do.
 ///
 /// A law: the body is empty, and a caller cites the clauses.

@@ -112,15 +112,15 @@ pub fn counted_hint_is_received<C: Sponge>()
 {}
 
 /// What a prover writes of a witness, a verifier reads, and follows it: the witness passes the verifier's check,
-/// which is refused for want of memory alone.
+/// which is refused only when out of memory.
 ///
 /// A law: the body is empty, and a caller cites the clauses.
 pub fn sent_work_is_received<C: GrindingChallenger>()
     ensures read_back { (step : Step) (bits : ℕ) (x : C.Witness) →
         let work = work_of step C.Witness.residues C.before_witness C.observation C.bits_sampling
         bits in
-        let spelling = encoding C.Witness.residues C.Witness.bit_length in
-        ReadsBack (sent_work work spelling x) (reads.received_work work spelling) x }
+        let wire = encoding C.Witness.residues C.Witness.bit_length in
+        ReadsBack (sent_work work wire x) (reads.received_work work wire) x }
     ensures complete { (step : Step) (bits : ℕ) (x : C.Witness) →
         let work = work_of step C.Witness.residues C.before_witness C.observation C.bits_sampling
         bits in

@@ -1,4 +1,4 @@
-//! A step is refused for one reason: what an error says follows from the state before the step. Want of memory alone
+//! A step is refused for one reason: what an error says follows from the state before the step. Only being out of memory
 //! may come in its place. Here the steps that leave the proof as it is, and those that a prover writes.
 ghost use Rattle.std.specs.Prelude.{◌≤◌, ◌⊎◌, ℕ, List, length, true};
 ghost use Rattle.p3_fs_core.specs.Steps.{Step};

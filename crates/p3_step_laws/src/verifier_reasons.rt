@@ -1,6 +1,6 @@
 //! A step of a verifier that reads, or to which its caller carries a list, is refused for one reason: what an error
 //! says follows from the state before the step, and from the bytes that are left. So is proof of work, on either side.
-//! Want of memory alone may come in its place.
+//! Only being out of memory may come in its place.
 ghost use Rattle.std.specs.Prelude.{◌<◌, ◌≤◌, ◌⊎◌, ℕ, List, length};
 ghost use Rattle.p3_fs_core.specs.Scalar.{encoding};
 ghost use Rattle.p3_fs_core.specs.Steps.{Step};
@@ -18,7 +18,7 @@ use p3_fs_core::Kind;
 use p3_grinding::GrindingChallenger;
 
 /// A step that reads one value, a list of so many, or a list after its count is refused for one reason: it is not the
-/// next one; or the bytes that are left spell no such value; or its count is too long for the alphabet.
+/// next one; or the bytes that are left encode no such value; or its count is too long for the alphabet.
 ///
 /// A law: the body is empty, and a caller cites the clauses.
 pub fn values_are_unread_for_one_reason<A, U: Unit, C: CanObserve<U::Item>, Cdc: Codec<C, A>>()
@@ -93,9 +93,9 @@ pub fn work_is_refused_for_one_reason<C: GrindingChallenger>()
     ensures read { (step : Step) (bits : ℕ) →
         let work = work_of step C.Witness.residues C.before_witness C.observation C.bits_sampling
         bits in
-        let spelling = encoding C.Witness.residues C.Witness.bit_length in
+        let wire = encoding C.Witness.residues C.Witness.bit_length in
         TellOneReason (λ before e after.
-        RefusesToRead (reads.received_work work spelling) before e after ⊎ FailsWork work spelling
+        RefusesToRead (reads.received_work work wire) before e after ⊎ FailsWork work wire
         before e after) }
     ensures carried { (step : Step) (bits : ℕ) (x : C.Witness) → TellOneReason (RefusesToCheck
         (work_of step C.Witness.residues C.before_witness C.observation C.bits_sampling bits) x) }

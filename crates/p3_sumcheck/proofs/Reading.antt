@@ -7,7 +7,7 @@ use Rattle.p3_challenger.specs.Encoding.{IsEncoding}
 use Rattle.p3_challenger.specs.Reading.{AreBytes}
 use Rattle.p3_challenger.specs.Rounds.{AreRounds, CompletesSoFar, StandsBefore}
 use Rattle.p3_challenger.specs.RoundLaws.{StandsBefore-first, rounds-completed, rounds-read, rounds-same, rounds-seen}
-use Rattle.p3_challenger.specs.Spelled.{OnlyReads}
+use Rattle.p3_challenger.specs.Encoded.{OnlyReads}
 use Rattle.p3_challenger.specs.Transcripts.{PlaysStep, Transcript}
 use Rattle.p3_challenger.specs.Verifying.{Receives}
 use Rattle.p3_sumcheck.specs.declared.round.Round.{Round}
@@ -28,7 +28,7 @@ module _ {S Symbol F : Type 0} (m : Sumcheck S Symbol F) where
   pub pair-read : OnlyReads (read_pair m) (λ xs. length xs ≡ 2) (λ xs. sent_pair m xs) → (before : Driving S)
       (pair : List F) (after : Driving S) → AreBytes before.bytes → Receives (read_pair m) before pair after →
       ReadsPair m before pair after
-  pair-read spelled before pair after are receives =
+  pair-read encoded before pair after are receives =
       record {
         plays = record {
           is_next = receives.is_next;
@@ -37,7 +37,7 @@ module _ {S Symbol F : Type 0} (m : Sumcheck S Symbol F) where
           challenger = receives.challenger;
           playing = receives.playing;
         };
-        bytes = spelled.spelled before.bytes pair after.bytes are receives.read;
+        bytes = encoded.encoded before.bytes pair after.bytes are receives.read;
       }
 
   pub round-read : (before here after : Driving S) (first second drawn x : F) →

@@ -35,7 +35,7 @@ abbrev pub round_steps : NamedAlgebra → List Step
 round_steps field = pair_step field ∷ algebra_step Challenge (codes "fold") field Scalar ∷ []
 
 -- what a sumcheck is played over: a field, what steps say of it, and how an element is observed,
--- drawn and spelled
+-- drawn and encoded
 pub record Sumcheck (S Symbol F : Type 0) : Type 1 where
   pub residues : Residues F
   pub field : NamedAlgebra

@@ -18,7 +18,7 @@ use crate::{Round, SumcheckError};
 use p3_challenger::CanObserve;
 use p3_challenger::fs::{
     Codec, Declared, TranscriptError, Unit, VerifierState, only_memory_refuses_drawn_values,
-    only_memory_refuses_sent_values, read_values_are_spelled,
+    only_memory_refuses_sent_values, read_values_are_encoded,
 };
 use p3_field::ScalarField;
 use p3_symmetric::DigestHasher;
@@ -177,9 +177,9 @@ fn receive_round<
         IfErr result (λ e. RefusesRound m claim place (verifying_of C.state verifier.old) e
         (verifying_of C.state verifier.new)) }
 {
-    // A law, which does nothing: what is read of bytes is spelled so. And what is left to read are
+    // A law, which does nothing: what is read of bytes is encoded so. And what is left to read are
     // bytes.
-    read_values_are_spelled::<F, U, C, Cdc>();
+    read_values_are_encoded::<F, U, C, Cdc>();
     let _unread = verifier.unread();
     let (first, second) = receive_pair::<F, U, C, D, Cdc>(verifier)?;
     if !adds(first, second, claim) {

@@ -44,8 +44,8 @@ draw =
 abbrev in_field : Alphabet Sponge F257 F257
 in_field = alphabet_of (packed residues 1) (λ len. 257 ≤ len) value (λ _ _ _. ⊥)
 
-abbrev spelled : Encoding F257
-spelled = scalar.encoding residues 9
+abbrev encoded : Encoding F257
+encoded = scalar.encoding residues 9
 
 -- a step of elements, whose label and digest show nowhere
 abbrev step_of : Kind → Length → Step
@@ -67,14 +67,14 @@ goes m =
 
 -- ---- steps that feed
 
-five : goes (sent (step_of Message Scalar) value spelled (residues.of 5)) ≡ (0 ∷ 5 ∷ [], 7, 133)
+five : goes (sent (step_of Message Scalar) value encoded (residues.of 5)) ≡ (0 ∷ 5 ∷ [], 7, 133)
 five = refl
 
-greatest : goes (sent (step_of Message Scalar) value spelled (residues.of 256)) ≡ (1 ∷ 0 ∷ [], 1, 133)
+greatest : goes (sent (step_of Message Scalar) value encoded (residues.of 256)) ≡ (1 ∷ 0 ∷ [], 1, 133)
 greatest = refl
 
 -- 5 and 256, of at most three
-two_of_three : goes (sent_bounded (step_of Message (Bounded 3)) in_field 3 value spelled (numbers (5 ∷ 256 ∷ [])))
+two_of_three : goes (sent_bounded (step_of Message (Bounded 3)) in_field 3 value encoded (numbers (5 ∷ 256 ∷ [])))
     ≡ (2 ∷ 0 ∷ 5 ∷ 1 ∷ 0 ∷ [], 7, 8)
 unfolding count_width first_chunks
 two_of_three = refl
@@ -89,11 +89,11 @@ two_carried = refl
 two_with_no_count : goes (observed_list (step_of Message (Fixed 2)) value (numbers (5 ∷ 256 ∷ []))) ≡ ([], 7, 134)
 two_with_no_count = refl
 
-none_of_three : goes (sent_bounded (step_of Message (Bounded 3)) in_field 3 value spelled []) ≡ (0 ∷ [], 3, 134)
+none_of_three : goes (sent_bounded (step_of Message (Bounded 3)) in_field 3 value encoded []) ≡ (0 ∷ [], 3, 134)
 unfolding count_width first_chunks
 none_of_three = refl
 
-none_of_none : goes (sent_bounded (step_of Message (Bounded 0)) in_field 0 value spelled []) ≡ ([], 2, 133)
+none_of_none : goes (sent_bounded (step_of Message (Bounded 0)) in_field 0 value encoded []) ≡ ([], 2, 133)
 unfolding count_width first_chunks
 none_of_none = refl
 

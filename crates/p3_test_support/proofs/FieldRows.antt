@@ -54,11 +54,11 @@ drawn_of_64_bits = refl
 
 -- ---- an element of four coefficients
 
--- 11, 13, 17, 19 are spelled 0000000b 0000000d 00000011 00000013; a byte fewer is too short
-spelled_four : flat_map (scalar.wire baby_bear.residues 4) (baby_bear.residues.of 11 ∷ baby_bear.residues.of
+-- 11, 13, 17, 19 are encoded 0000000b 0000000d 00000011 00000013; a byte fewer is too short
+encoded_four : flat_map (scalar.wire baby_bear.residues 4) (baby_bear.residues.of 11 ∷ baby_bear.residues.of
     13 ∷ baby_bear.residues.of 17 ∷ baby_bear.residues.of 19 ∷ [])
     ≡ 0 ∷ 0 ∷ 0 ∷ 11 ∷ 0 ∷ 0 ∷ 0 ∷ 13 ∷ 0 ∷ 0 ∷ 0 ∷ 17 ∷ 0 ∷ 0 ∷ 0 ∷ 19 ∷ []
-spelled_four = refl
+encoded_four = refl
 
 read_four : extension.read (scalar.read baby_bear.residues 4) 4 4 (λ xs. xs)
     (0 ∷ 0 ∷ 0 ∷ 11 ∷ 0 ∷ 0 ∷ 0 ∷ 13 ∷ 0 ∷ 0 ∷ 0 ∷ 17 ∷ 0 ∷ 0 ∷ 0 ∷ 19 ∷ [])

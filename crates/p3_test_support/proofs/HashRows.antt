@@ -5,8 +5,8 @@ use Rattle.p3_challenger_core.specs.Segments.{Call, observe, observe_empty_array
 use Rattle.p3_challenger_core.specs.Segments.{segments, run_calls, run_calls_to_digest, run_segments}
 use Rattle.p3_challenger_core.specs.Segments.{run_segments_to_digest}
 use Rattle.p3_challenger_core.specs.SegmentLaws.{cut-only}
-use Rattle.p3_hash_challenger.specs.HashCalls.{HashFunction, HashSponge, absorbing, hash_by_calls}
-use Rattle.p3_hash_challenger.specs.HashSegments.{hash_by_segments, hashed, handed_in_turn, outputs_from}
+use Rattle.p3_hash_challenger.specs.HashCalls.{HashFunction, HashSponge, with_pending, hash_by_calls}
+use Rattle.p3_hash_challenger.specs.HashSegments.{hash_by_segments, hashed, queries_in_order, outputs_from}
 use Rattle.p3_test_support.specs.LengthHasher.{length_digest}
 
 -- what is pending at the start: its hash is 4, 5, .. 35, and the hash of that is 32, 33, .. 63
@@ -17,18 +17,18 @@ abbrev by_length : HashFunction ℕ
 by_length = record { digest = length_digest; out_len = 32; filler = 0 }
 
 abbrev run : List (Call ℕ) → Run ℕ (List ℕ) (HashSponge ℕ)
-run calls = run_calls (hash_by_calls by_length) (absorbing start) calls
+run calls = run_calls (hash_by_calls by_length) (with_pending start) calls
 
 abbrev run_to_digest : List (Call ℕ) → Run ℕ (List ℕ) (List ℕ)
-run_to_digest calls = run_calls_to_digest (hash_by_calls by_length) (absorbing start) calls
+run_to_digest calls = run_calls_to_digest (hash_by_calls by_length) (with_pending start) calls
 
 -- the same by the definition over segments
 abbrev run_by_segments : List (Call ℕ) → Run ℕ (List ℕ) (HashSponge ℕ)
-run_by_segments calls = run_segments (hash_by_segments by_length) (absorbing start) (segments calls)
+run_by_segments calls = run_segments (hash_by_segments by_length) (with_pending start) (segments calls)
 
 abbrev run_to_digest_by_segments : List (Call ℕ) → Run ℕ (List ℕ) (List ℕ)
 run_to_digest_by_segments calls =
-    run_segments_to_digest (hash_by_segments by_length) (absorbing start) (segments calls)
+    run_segments_to_digest (hash_by_segments by_length) (with_pending start) (segments calls)
 
 -- the outputs are 35, 34, 33, and after an array of no places in place of the third draw 63
 three_draws : (run (draw ∷ draw ∷ draw ∷ [])).answers ≡ 35 ∷ 34 ∷ 33 ∷ []
@@ -38,78 +38,78 @@ empty_array : (run (draw ∷ draw ∷ observe_empty_array ∷ draw ∷ [])).answ
 empty_array = refl
 
 three_draws_by_segments : (run_by_segments (draw ∷ draw ∷ draw ∷ [])).answers ≡ 35 ∷ 34 ∷ 33 ∷ []
-unfolding hashed handed_in_turn outputs_from
+unfolding hashed queries_in_order outputs_from
 three_draws_by_segments = refl
 
 empty_array_by_segments : (run_by_segments (draw ∷ draw ∷ observe_empty_array ∷ draw ∷ [])).answers ≡ 35 ∷ 34 ∷ 63 ∷ []
-unfolding hashed handed_in_turn outputs_from
+unfolding hashed queries_in_order outputs_from
 empty_array_by_segments = refl
 
--- ---- what is handed to the hash function
+-- ---- the queries to the hash function
 
 -- three draws hash one string
-three_draws_handed : (run (draw ∷ draw ∷ draw ∷ [])).handed ≡ start ∷ []
-three_draws_handed = refl
+three_draws_queries : (run (draw ∷ draw ∷ draw ∷ [])).queries ≡ start ∷ []
+three_draws_queries = refl
 
 -- after an array of no places the next draw hashes the digest
-empty_array_handed : (run (draw ∷ draw ∷ observe_empty_array ∷ draw ∷ [])).handed ≡ start ∷ range_with_len 4 32 ∷ []
-empty_array_handed = refl
+empty_array_queries : (run (draw ∷ draw ∷ observe_empty_array ∷ draw ∷ [])).queries ≡ start ∷ range_with_len 4 32 ∷ []
+empty_array_queries = refl
 
 -- as does a draw after all 32 places
-places_handed : (run (replicate 32 draw)).handed ≡ start ∷ []
-places_handed = refl
+places_queries : (run (replicate 32 draw)).queries ≡ start ∷ []
+places_queries = refl
 
-more_places_handed : (run (replicate 33 draw)).handed ≡ start ∷ range_with_len 4 32 ∷ []
-more_places_handed = refl
+more_places_queries : (run (replicate 33 draw)).queries ≡ start ∷ range_with_len 4 32 ∷ []
+more_places_queries = refl
 
 -- what was observed stands after what is pending
-observed_handed : (run (observe 9 ∷ observe 8 ∷ draw ∷ [])).handed ≡ (0 ∷ 1 ∷ 2 ∷ 3 ∷ 9 ∷ 8 ∷ []) ∷ []
-observed_handed = refl
+observed_queries : (run (observe 9 ∷ observe 8 ∷ draw ∷ [])).queries ≡ (0 ∷ 1 ∷ 2 ∷ 3 ∷ 9 ∷ 8 ∷ []) ∷ []
+observed_queries = refl
 
 -- a digest hashes all that is pending, whatever outputs are left
-digest_handed : (run_to_digest []).handed ≡ start ∷ []
-digest_handed = refl
+digest_queries : (run_to_digest []).queries ≡ start ∷ []
+digest_queries = refl
 
-three_draws_digest_handed : (run_to_digest (draw ∷ draw ∷ draw ∷ [])).handed ≡ start ∷ range_with_len 4 32 ∷ []
-three_draws_digest_handed = refl
+three_draws_digest_queries : (run_to_digest (draw ∷ draw ∷ draw ∷ [])).queries ≡ start ∷ range_with_len 4 32 ∷ []
+three_draws_digest_queries = refl
 
 three_draws_digest : (run_to_digest (draw ∷ draw ∷ draw ∷ [])).after ≡ range_with_len 32 32
 three_draws_digest = refl
 
 -- the same by segments
-three_draws_handed_by_segments : (run_by_segments (draw ∷ draw ∷ draw ∷ [])).handed ≡ start ∷ []
-unfolding hashed handed_in_turn outputs_from
-three_draws_handed_by_segments = refl
+three_draws_queries_by_segments : (run_by_segments (draw ∷ draw ∷ draw ∷ [])).queries ≡ start ∷ []
+unfolding hashed queries_in_order outputs_from
+three_draws_queries_by_segments = refl
 
-empty_array_handed_by_segments : (run_by_segments (draw ∷ draw ∷ observe_empty_array ∷ draw ∷ [])).handed ≡ start ∷
+empty_array_queries_by_segments : (run_by_segments (draw ∷ draw ∷ observe_empty_array ∷ draw ∷ [])).queries ≡ start ∷
     range_with_len 4 32 ∷ []
-unfolding hashed handed_in_turn outputs_from
-empty_array_handed_by_segments = refl
+unfolding hashed queries_in_order outputs_from
+empty_array_queries_by_segments = refl
 
-places_handed_by_segments : (run_by_segments (replicate 32 draw)).handed ≡ start ∷ []
-unfolding hashed handed_in_turn outputs_from
-places_handed_by_segments = refl
+places_queries_by_segments : (run_by_segments (replicate 32 draw)).queries ≡ start ∷ []
+unfolding hashed queries_in_order outputs_from
+places_queries_by_segments = refl
 
-more_places_handed_by_segments : (run_by_segments (replicate 33 draw)).handed ≡ start ∷ range_with_len 4 32 ∷ []
-unfolding hashed handed_in_turn outputs_from
-more_places_handed_by_segments = refl
+more_places_queries_by_segments : (run_by_segments (replicate 33 draw)).queries ≡ start ∷ range_with_len 4 32 ∷ []
+unfolding hashed queries_in_order outputs_from
+more_places_queries_by_segments = refl
 
-observed_handed_by_segments : (run_by_segments (observe 9 ∷ observe 8 ∷ draw ∷ [])).handed ≡
+observed_queries_by_segments : (run_by_segments (observe 9 ∷ observe 8 ∷ draw ∷ [])).queries ≡
     (0 ∷ 1 ∷ 2 ∷ 3 ∷ 9 ∷ 8 ∷ []) ∷ []
-unfolding hashed handed_in_turn outputs_from
-observed_handed_by_segments = refl
+unfolding hashed queries_in_order outputs_from
+observed_queries_by_segments = refl
 
-digest_handed_by_segments : (run_to_digest_by_segments []).handed ≡ start ∷ []
-unfolding hashed handed_in_turn outputs_from
-digest_handed_by_segments = refl
+digest_queries_by_segments : (run_to_digest_by_segments []).queries ≡ start ∷ []
+unfolding hashed queries_in_order outputs_from
+digest_queries_by_segments = refl
 
-three_draws_digest_handed_by_segments : (run_to_digest_by_segments (draw ∷ draw ∷ draw ∷ [])).handed ≡ start ∷
+three_draws_digest_queries_by_segments : (run_to_digest_by_segments (draw ∷ draw ∷ draw ∷ [])).queries ≡ start ∷
     range_with_len 4 32 ∷ []
-unfolding hashed handed_in_turn outputs_from
-three_draws_digest_handed_by_segments = refl
+unfolding hashed queries_in_order outputs_from
+three_draws_digest_queries_by_segments = refl
 
 three_draws_digest_by_segments : (run_to_digest_by_segments (draw ∷ draw ∷ draw ∷ [])).after ≡ range_with_len 32 32
-unfolding hashed handed_in_turn outputs_from
+unfolding hashed queries_in_order outputs_from
 three_draws_digest_by_segments = refl
 
 -- ---- the cut

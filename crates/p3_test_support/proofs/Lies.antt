@@ -3,7 +3,7 @@ use Rattle.std.proofs.Common.{◌≡◌, ℕ, zero, suc, ◌<◌, ◌≤◌, Lis
 use Rattle.std.proofs.Common.{Bool, true, false, Ok, refl, lit<, inl, inr, arith}
 use Rattle.p3_symmetric.specs.Digests.{IsDigest}
 use Rattle.p3_field_core.specs.Residues.{Residues}
-use Rattle.p3_challenger_core.specs.Reading.{IsByte, AreBytes, IsPrefixCodeOn, OneBegins, TellsApart}
+use Rattle.p3_challenger_core.specs.Reading.{IsByte, AreBytes, IsPrefixCodeOn, OneBegins, IsPrefixFree}
 use Rattle.p3_challenger_core.specs.Sponge.{IsFed, after_steps}
 use Rattle.p3_challenger_core.specs.Observation.{Observation, IsObservation}
 use Rattle.p3_challenger_core.specs.Sampling.{Sampling, IsSampling}
@@ -147,9 +147,9 @@ restarting_step =
 restarting_step-refused : OnlyDraws suc restarting_step → ⊥
 restarting_step-refused is = let left = is.steps 1 in absurd (omega (arith, left.1, grows left.0 1))
 
--- ---- spellings
+-- ---- encodings
 
--- every value has one spelling
+-- every value has one encoding
 abbrev constant : Encoding ℕ
 constant = record { width = 1; wire = λ _. 0 ∷ []; read = λ bytes. Ok (0, bytes) }
 
@@ -229,7 +229,7 @@ other_number-refused : ((n : ℕ) → suc n ≡ n) → ⊥
 other_number-refused is = let one = is 0 in absurd (omega (arith, one))
 
 -- a witness feeds nothing
-unfed_witness-refused : TellsApart {T = ℕ} {S = ℕ} (λ _. []) → ⊥
+unfed_witness-refused : IsPrefixFree {T = ℕ} {S = ℕ} (λ _. []) → ⊥
 unfed_witness-refused laws = absurd (omega (arith, (laws.prefix_code 0 1 [] [] refl).0))
 
 -- the bytes of candidates feed nothing

@@ -4,8 +4,8 @@ use Rattle.std.proofs.Common.{◌≡◌, ℕ, List, [], ◌∷◌, ◌++◌, inl
 use Rattle.std.specs.List.{range_with_len}
 use Rattle.p3_challenger_core.specs.Segments.{Call, observe, observe_empty_array, draw, run_calls}
 use Rattle.p3_small_primes.specs.F257Residues.{F257, residues}
-use Rattle.p3_read_back.specs.Handed.{observed_values, CollideAtSomePlace, ReadsBack}
-use Rattle.p3_hash_challenger.specs.HashCalls.{HashRun, absorbing, hash_by_calls}
+use Rattle.p3_read_back.specs.Queries.{observed_values, CollideAtSomePlace, ReadsBack}
+use Rattle.p3_hash_challenger.specs.HashCalls.{HashRun, with_pending, hash_by_calls}
 use Rattle.p3_hash_challenger.specs.HashReadBack as hash
 use Rattle.p3_duplex.specs.DuplexCalls.{DuplexRun, fresh, duplex_by_calls}
 use Rattle.p3_duplex.specs.DuplexReadBack as duplex
@@ -14,7 +14,7 @@ use Rattle.p3_test_support.specs.ReadBackWorlds.{by_length, turn, element_of}
 -- ---- a hash function of lengths, with 0, 1, 2, 3 pending at the start
 
 abbrev hashing : List (Call ℕ) → HashRun ℕ
-hashing calls = run_calls (hash_by_calls by_length) (absorbing (0 ∷ 1 ∷ 2 ∷ 3 ∷ [])) calls
+hashing calls = run_calls (hash_by_calls by_length) (with_pending (0 ∷ 1 ∷ 2 ∷ 3 ∷ [])) calls
 
 abbrev observed_and_drawn : ℕ → List (Call ℕ)
 observed_and_drawn n = observe n ∷ draw ∷ []
@@ -30,8 +30,8 @@ same_pending : (hashing (observed_and_drawn 5)).after ≡ (hashing (observed_and
 same_pending = refl
 
 -- one string is hashed by each, and the two collide
-hashed_strings_collide : CollideAtSomePlace (hash.Collide by_length) (hashing (observed_and_drawn 5)).handed
-    (hashing (observed_and_drawn 6)).handed
+hashed_strings_collide : CollideAtSomePlace (hash.Collide by_length) (hashing (observed_and_drawn 5)).queries
+    (hashing (observed_and_drawn 6)).queries
 hashed_strings_collide =
     record {
       place = 0;
@@ -53,10 +53,10 @@ slice_between = draw ∷ [] ++ draw ∷ []
 nothing_observed : observed_values array_between ≡ observed_values slice_between
 nothing_observed = refl
 
-array_hashed : (hashing array_between).handed ≡ (0 ∷ 1 ∷ 2 ∷ 3 ∷ []) ∷ range_with_len 4 32 ∷ []
+array_hashed : (hashing array_between).queries ≡ (0 ∷ 1 ∷ 2 ∷ 3 ∷ []) ∷ range_with_len 4 32 ∷ []
 array_hashed = refl
 
-slice_hashed : (hashing slice_between).handed ≡ (0 ∷ 1 ∷ 2 ∷ 3 ∷ []) ∷ []
+slice_hashed : (hashing slice_between).queries ≡ (0 ∷ 1 ∷ 2 ∷ 3 ∷ []) ∷ []
 slice_hashed = refl
 
 -- ---- three cells of the field of order 257, of which two are the rate, under a turn by two places
@@ -74,10 +74,10 @@ observed n = observe (element_of n)
 abbrev two_blocks : ℕ → List (Call F257)
 two_blocks n = observed n ∷ observed 0 ∷ observed 7 ∷ observed 7 ∷ draw ∷ []
 
-one_permuted : (permuting (two_blocks 1)).handed ≡ state 1 0 2 ∷ state 7 7 5 ∷ []
+one_permuted : (permuting (two_blocks 1)).queries ≡ state 1 0 2 ∷ state 7 7 5 ∷ []
 one_permuted = refl
 
-two_permuted : (permuting (two_blocks 2)).handed ≡ state 2 0 2 ∷ state 7 7 5 ∷ []
+two_permuted : (permuting (two_blocks 2)).queries ≡ state 2 0 2 ∷ state 7 7 5 ∷ []
 two_permuted = refl
 
 one_draw : (permuting (two_blocks 1)).answers ≡ element_of 9 ∷ []
@@ -90,8 +90,8 @@ pub one_is_not_two : element_of 1 ≡ element_of 2 → ⊥
 one_is_not_two e = let numbers : ◌≡◌ {A = ℕ} 1 2 = ap residues.number e in absurd (omega (arith, numbers))
 
 -- the first states come to (3, 3, 3) and to (3, 4, 3): nothing stands past cell 2, and there they differ by 0
-permuted_states_collide : CollideAtSomePlace (duplex.Collide residues turn 2) (permuting (two_blocks 1)).handed
-    (permuting (two_blocks 2)).handed
+permuted_states_collide : CollideAtSomePlace (duplex.Collide residues turn 2) (permuting (two_blocks 1)).queries
+    (permuting (two_blocks 2)).queries
 permuted_states_collide =
     record {
       place = 0;
@@ -105,7 +105,7 @@ permuted_states_collide =
 -- ---- without the cell that counts the values, 5 is not told from 5 and a zero after it
 
 abbrev without_count : List (Call F257) → DuplexRun F257
-without_count calls = let run = permuting calls in record run { handed = map (take 2) run.handed }
+without_count calls = let run = permuting calls in record run { queries = map (take 2) run.queries }
 
 without_count-refused : ReadsBack without_count (λ s. s.pending) → ⊥
 without_count-refused told =

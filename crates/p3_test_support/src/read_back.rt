@@ -2,7 +2,7 @@
 //! other values were observed, all ends alike, and so there is a collision.
 ghost use Rattle.std.specs.Prelude.{ℕ, List, [], ◌∷◌, ◌++◌, map};
 ghost use Rattle.p3_small_primes.specs.F257Residues.{residues};
-ghost use Rattle.p3_read_back.specs.Handed.{CollideAtSomePlace};
+ghost use Rattle.p3_read_back.specs.Queries.{CollideAtSomePlace};
 ghost use Rattle.p3_hash_challenger.specs.HashReadBack as hash_read_back;
 ghost use Rattle.p3_duplex.specs.DuplexReadBack as duplex_read_back;
 ghost use Rattle.p3_test_support.specs.ReadBackWorlds.{by_length, turn, element_of};

@@ -1,6 +1,6 @@
 // What becomes of a proof between the prover and the verifier.
 use anyhow::{Result, bail};
-use conformance_words::words::split_first;
+use conformance_tokens::tokens::split_first;
 use std::alloc::Global;
 
 /// A change of a proof.
@@ -20,15 +20,15 @@ pub enum Change {
 
 impl Change {
     /// Reads a change.
-    pub fn parse(alloc: Global, name: &str, words: &str) -> Result<Change> {
+    pub fn parse(alloc: Global, name: &str, tokens: &str) -> Result<Change> {
         match name {
             "flip" => {
-                let (index, mask) = split_first(words)?;
+                let (index, mask) = split_first(tokens)?;
                 Ok(Change::Flip(index.parse()?, mask.parse()?))
             }
-            "narg" => Ok(Change::Whole(hex::decode(alloc, words)?)),
-            "cut" => Ok(Change::Cut(words.parse()?)),
-            "more" => Ok(Change::More(hex::decode(alloc, words)?)),
+            "narg" => Ok(Change::Whole(hex::decode(alloc, tokens)?)),
+            "cut" => Ok(Change::Cut(tokens.parse()?)),
+            "more" => Ok(Change::More(hex::decode(alloc, tokens)?)),
             _ => bail!("an unknown change"),
         }
     }

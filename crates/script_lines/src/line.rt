@@ -16,7 +16,7 @@ pub enum Form {
 pub struct Line<'a> {
     /// How much the answer tells.
     pub form: Form,
-    /// The word of the world.
+    /// The token of the world.
     pub world: &'a str,
     /// The version and the name of the protocol.
     pub version: u8,
@@ -44,18 +44,18 @@ impl<'a> Line<'a> {
             }
             None => (None, rest),
         };
-        let mut words = spec.split_whitespace();
-        let form = match words.next() {
+        let mut tokens = spec.split_whitespace();
+        let form = match tokens.next() {
             Some("run") => Form::Short,
             Some("play") => Form::Long,
             _ => bail!("neither run nor play"),
         };
-        let world = words.next().context("no world")?;
-        let version = words.next().context("no version")?.parse()?;
-        let name = words.next().context("no name")?;
+        let world = tokens.next().context("no world")?;
+        let version = tokens.next().context("no version")?.parse()?;
+        let name = tokens.next().context("no name")?;
         let mut chunks = Vec::new(alloc);
-        for word in words {
-            chunks.push(hex::decode(alloc, word)?)?;
+        for token in tokens {
+            chunks.push(hex::decode(alloc, token)?)?;
         }
         Ok(Line {
             form,

@@ -14,10 +14,10 @@ pub enum Rule {
 
 impl Rule {
     /// Reads a rule.
-    pub fn parse(word: &str) -> Result<Rule> {
-        match word {
+    pub fn parse(token: &str) -> Result<Rule> {
+        match token {
             "distinct" => Ok(Rule::Distinct),
-            _ => Ok(Rule::AtLeast(word.parse()?)),
+            _ => Ok(Rule::AtLeast(token.parse()?)),
         }
     }
 }

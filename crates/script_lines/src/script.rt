@@ -5,7 +5,7 @@ use crate::recording::record;
 use crate::steps::{parse_step, parse_value};
 use crate::world::{SeparatorOf, World, scalars};
 use anyhow::{Result, bail};
-use conformance_words::words::split_name;
+use conformance_tokens::tokens::split_name;
 use p3_challenger::fs::DomainSeparator;
 use p3_challenger::fs::script::{Sent, Step};
 use std::alloc::Global;
@@ -93,12 +93,12 @@ impl<S: World> Script<S> {
 
     // Reads a step, or what may stand after the steps.
     fn read(&mut self, alloc: Global, text: &str) -> Result<()> {
-        let (name, words) = split_name(text);
+        let (name, tokens) = split_name(text);
         match name {
             "" => {}
-            "narg" | "flip" | "cut" | "more" => self.change = Change::parse(alloc, name, words)?,
-            "carried" => self.carried = Some(scalars::<S>(alloc, words)?),
-            "handed" => self.played.sent.push(parse_value(alloc, words)?)?,
+            "narg" | "flip" | "cut" | "more" => self.change = Change::parse(alloc, name, tokens)?,
+            "carried" => self.carried = Some(scalars::<S>(alloc, tokens)?),
+            "handed" => self.played.sent.push(parse_value(alloc, tokens)?)?,
             _ => self.played.push(alloc, text)?,
         }
         Ok(())

@@ -1,8 +1,8 @@
 // The other worlds: a suite over each other challenger and each alphabet.
 use crate::world::World;
 use anyhow::{Result, bail};
-use conformance_words::symbol::symbols;
-use conformance_words::words::parse_row;
+use conformance_tokens::symbol::symbols;
+use conformance_tokens::tokens::parse_row;
 use p3_challenger::fs::script::AcceptAll;
 use p3_challenger::{
     HashChallenger, MultiField32Challenger, SerializingChallenger32, SerializingChallenger64,
@@ -21,8 +21,8 @@ fn bytes(alloc: Global) -> Bytes {
     HashChallenger::new(Vec::new(alloc), Sha256Hasher)
 }
 
-fn accept_all(word: &str) -> Result<AcceptAll> {
-    match word {
+fn accept_all(token: &str) -> Result<AcceptAll> {
+    match token {
         "0" => Ok(AcceptAll),
         _ => bail!("a rule that this world has not"),
     }
@@ -33,14 +33,14 @@ impl World for HashSuite {
         Ok(bytes(alloc))
     }
 
-    fn opaque(alloc: Global, words: &str) -> Result<[u8; 32]> {
+    fn opaque(alloc: Global, tokens: &str) -> Result<[u8; 32]> {
         let mut value = [0; 32];
-        hex::decode_to_slice(words, &mut value)?;
+        hex::decode_to_slice(tokens, &mut value)?;
         Ok(value)
     }
 
-    fn rule(word: &str) -> Result<AcceptAll> {
-        accept_all(word)
+    fn rule(token: &str) -> Result<AcceptAll> {
+        accept_all(token)
     }
 }
 
@@ -49,14 +49,14 @@ impl World for Serializing32Suite {
         Ok(SerializingChallenger32::new(bytes(alloc), DRAW_LIMIT))
     }
 
-    fn opaque(_alloc: Global, words: &str) -> Result<Hash<BabyBear, u8, 32>> {
+    fn opaque(_alloc: Global, tokens: &str) -> Result<Hash<BabyBear, u8, 32>> {
         let mut value = [0; 32];
-        hex::decode_to_slice(words, &mut value)?;
+        hex::decode_to_slice(tokens, &mut value)?;
         Ok(Hash::from(value))
     }
 
-    fn rule(word: &str) -> Result<AcceptAll> {
-        accept_all(word)
+    fn rule(token: &str) -> Result<AcceptAll> {
+        accept_all(token)
     }
 }
 
@@ -65,15 +65,15 @@ impl World for Serializing64Suite {
         Ok(SerializingChallenger64::new(bytes(alloc), DRAW_LIMIT))
     }
 
-    fn opaque(alloc: Global, words: &str) -> Result<Hash<Goldilocks, u64, 4>> {
-        match parse_row(alloc, words)?.as_slice() {
+    fn opaque(alloc: Global, tokens: &str) -> Result<Hash<Goldilocks, u64, 4>> {
+        match parse_row(alloc, tokens)?.as_slice() {
             &[a, b, c, d] => Ok(Hash::from([a, b, c, d])),
             _ => bail!("no digest of four words"),
         }
     }
 
-    fn rule(word: &str) -> Result<AcceptAll> {
-        accept_all(word)
+    fn rule(token: &str) -> Result<AcceptAll> {
+        accept_all(token)
     }
 }
 
@@ -82,16 +82,16 @@ impl World for MultiFieldSuite {
         Ok(MultiField32Challenger::new(Turn)?)
     }
 
-    fn opaque(alloc: Global, words: &str) -> Result<Hash<F257, BabyBear, 2>> {
-        let numbers = parse_row(alloc, words)?;
-        let words: Vec<BabyBear> = symbols(alloc, numbers.as_slice())?;
-        match words.as_slice() {
+    fn opaque(alloc: Global, tokens: &str) -> Result<Hash<F257, BabyBear, 2>> {
+        let numbers = parse_row(alloc, tokens)?;
+        let tokens: Vec<BabyBear> = symbols(alloc, numbers.as_slice())?;
+        match tokens.as_slice() {
             &[a, b] => Ok(Hash::from([a, b])),
             _ => bail!("no digest of two words"),
         }
     }
 
-    fn rule(word: &str) -> Result<AcceptAll> {
-        accept_all(word)
+    fn rule(token: &str) -> Result<AcceptAll> {
+        accept_all(token)
     }
 }

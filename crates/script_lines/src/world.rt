@@ -1,8 +1,8 @@
-// The worlds that scripts are played in, by the word that a file has for each.
+// The worlds that scripts are played in, by the token that a file has for each.
 use crate::rule::Rule;
 use anyhow::{Result, bail};
-use conformance_words::symbol::{element, element_of};
-use conformance_words::words::parse_row;
+use conformance_tokens::symbol::{element, element_of};
+use conformance_tokens::tokens::parse_row;
 use p3_challenger::DuplexChallenger;
 use p3_challenger::fs::script::{Both, StepGroup, Suite};
 use p3_challenger::fs::{
@@ -25,11 +25,11 @@ pub trait World: Suite {
         Ok(format!(in alloc; "next {first} {second}")?)
     }
 
-    /// The value of these words that the challenger itself knows how to observe.
-    fn opaque(alloc: Global, words: &str) -> Result<Self::Opaque>;
+    /// The value of these tokens that the challenger itself knows how to observe.
+    fn opaque(alloc: Global, tokens: &str) -> Result<Self::Opaque>;
 
-    /// The rule of this word.
-    fn rule(word: &str) -> Result<Self::Accept>;
+    /// The rule of this token.
+    fn rule(token: &str) -> Result<Self::Accept>;
 }
 
 /// What binds a transcript to a script.
@@ -80,12 +80,12 @@ impl<const K: usize, G: StepGroup<Sponge<K>, F257>> World for Small<K, G> {
         Ok(DuplexChallenger::new(Turn, DRAW_LIMIT))
     }
 
-    fn opaque(_alloc: Global, words: &str) -> Result<F257> {
-        element(words.parse()?)
+    fn opaque(_alloc: Global, tokens: &str) -> Result<F257> {
+        element(tokens.parse()?)
     }
 
-    fn rule(word: &str) -> Result<Rule> {
-        Rule::parse(word)
+    fn rule(token: &str) -> Result<Rule> {
+        Rule::parse(token)
     }
 }
 
@@ -140,12 +140,12 @@ impl World for Notes {
         Ok(text)
     }
 
-    fn opaque(_alloc: Global, words: &str) -> Result<F257> {
-        element(words.parse()?)
+    fn opaque(_alloc: Global, tokens: &str) -> Result<F257> {
+        element(tokens.parse()?)
     }
 
-    fn rule(word: &str) -> Result<Rule> {
-        Rule::parse(word)
+    fn rule(token: &str) -> Result<Rule> {
+        Rule::parse(token)
     }
 }
 
@@ -158,19 +158,19 @@ fn draw<S: Suite>(challenger: &mut S::Challenger) -> Result<u64> {
 }
 
 /// The scalars of these numbers.
-pub fn scalars<S: World>(alloc: Global, words: &str) -> Result<Vec<S::Field>> {
+pub fn scalars<S: World>(alloc: Global, tokens: &str) -> Result<Vec<S::Field>> {
     let mut scalars = Vec::new(alloc);
-    for number in parse_row(alloc, words)? {
+    for number in parse_row(alloc, tokens)? {
         scalars.push(element(number)?)?;
     }
     Ok(scalars)
 }
 
 /// The elements of the extension of which these numbers are the coefficients, one element after the other.
-pub fn extensions<S: World>(alloc: Global, words: &str) -> Result<Vec<S::Extension>> {
+pub fn extensions<S: World>(alloc: Global, tokens: &str) -> Result<Vec<S::Extension>> {
     let mut extensions = Vec::new(alloc);
     let mut coefficients = Vec::new(alloc);
-    for scalar in scalars::<S>(alloc, words)? {
+    for scalar in scalars::<S>(alloc, tokens)? {
         coefficients.push(scalar)?;
         if coefficients.len() == S::Extension::DIMENSION {
             extensions.push(element_of(coefficients.as_slice())?)?;

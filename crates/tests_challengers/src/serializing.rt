@@ -6,7 +6,7 @@ use p3_challenger_core::{
     sample_array,
 };
 use p3_field::{BabyBear, Coeffs, F257, Goldilocks, PrimeCharacteristicRing};
-use p3_grinding::{CanSampleUniformBits, GrindingChallenger, Replica};
+use p3_grinding::{CanSampleUniformBits, GrindingChallenger, TryClone};
 use p3_hash_challenger::HashChallenger;
 use p3_serializing::{SerializingChallenger32, SerializingChallenger64};
 use p3_symmetric::{Hash, MerkleCap};
@@ -156,11 +156,11 @@ fn long_elements_and_digests_are_bytes(rt: HostRuntime) -> Result<(), Fail> {
     Ok(())
 }
 
-fn draws_group_by_group<C: Replica + CanSample<BabyBear> + CanSampleBits<usize>>(
+fn draws_group_by_group<C: TryClone + CanSample<BabyBear> + CanSampleBits<usize>>(
     rt: &impl Abort,
     challenger: &mut C,
 ) -> Result<bool, ChallengerError> {
-    let three = bits(rt, &mut challenger.copy()?, 5)? == 3;
+    let three = bits(rt, &mut challenger.try_clone()?, 5)? == 3;
     let first = draws(challenger, short(539042339))?;
     let drawn: [BabyBear; 2] = sample_array(challenger)?;
     Ok(three && first && drawn == [short(471670303), short(404298267)])
@@ -228,11 +228,11 @@ fn byte_is_dropped_before_a_witness(rt: HostRuntime) {
     assert!(rt; holds(&rt, drops_a_byte(&rt, &mut challenger)));
 }
 
-fn finds_no_witness<C: Replica + GrindingChallenger<Witness = F257> + CanSample<F257>>(
+fn finds_no_witness<C: TryClone + GrindingChallenger<Witness = F257> + CanSample<F257>>(
     rt: &impl Abort,
     challenger: &mut C,
 ) -> Result<bool, ChallengerError> {
-    let refused = !passes(rt, &mut challenger.copy()?, 1, 0)?;
+    let refused = !passes(rt, &mut challenger.try_clone()?, 1, 0)?;
     let none = grind(rt, challenger, 1) == Err(ChallengerError::NoWitness);
     let passed = passes(rt, challenger, 0, 9)?;
     let found = grind(rt, challenger, 0)? == F257::from_u64(0);

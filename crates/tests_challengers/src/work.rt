@@ -4,7 +4,7 @@ use crate::support::{draws, grind, holds, passes};
 use p3_challenger_core::{CanObserve, CanSample, ChallengerError};
 use p3_duplex::DuplexChallenger;
 use p3_field::F257;
-use p3_grinding::{GrindingChallenger, Replica, UniformGrindingChallenger};
+use p3_grinding::{GrindingChallenger, TryClone, UniformGrindingChallenger};
 use p3_symmetric::Turn;
 use p3_test_support::element;
 use std::process::Abort;
@@ -50,21 +50,21 @@ fn passes_uniform<C: UniformGrindingChallenger<Witness = F257>>(
 
 // What challengers do stands in generic functions, which are proved from their bounds alone.
 
-fn finds_least_witnesses<C: Replica + GrindingChallenger<Witness = F257> + CanSample<F257>>(
+fn finds_least_witnesses<C: TryClone + GrindingChallenger<Witness = F257> + CanSample<F257>>(
     rt: &impl Abort,
     mut challenger: C,
 ) -> Result<bool, ChallengerError> {
-    let mut copy = challenger.copy()?;
+    let mut copy = challenger.try_clone()?;
     let of_three_bits = grind(rt, &mut copy, 3)? == element(6) && draws(&mut copy, &[2, 4])?;
     let of_eight_bits = grind(rt, &mut &mut challenger, 8)? == element(254);
     Ok(of_three_bits && of_eight_bits && draws(&mut challenger, &[2, 4])?)
 }
 
-fn finds_no_witness<C: Replica + GrindingChallenger<Witness = F257> + CanSample<F257>>(
+fn finds_no_witness<C: TryClone + GrindingChallenger<Witness = F257> + CanSample<F257>>(
     rt: &impl Abort,
     mut challenger: C,
 ) -> Result<bool, ChallengerError> {
-    let mut copy = challenger.copy()?;
+    let mut copy = challenger.try_clone()?;
     let none = grind(rt, &mut copy, 1) == Err(ChallengerError::NoWitness);
     let unchanged = draws(&mut copy, &[2, 1, 5, 3])?;
     challenger.observe(element(5))?;
@@ -83,34 +83,34 @@ fn asks_for_no_work<C: UniformGrindingChallenger<Witness = F257> + CanSample<F25
     Ok(first && uniform && draws(challenger, &[2, 1])?)
 }
 
-fn finds_uniform_witness<C: Replica + UniformGrindingChallenger<Witness = F257> + CanSample<F257>>(
+fn finds_uniform_witness<C: TryClone + UniformGrindingChallenger<Witness = F257> + CanSample<F257>>(
     rt: &impl Abort,
     challenger: &C,
     resample: bool,
 ) -> Result<bool, ChallengerError> {
-    let mut copy = challenger.copy()?;
+    let mut copy = challenger.try_clone()?;
     let found = grind_uniform(rt, &mut copy, 8, resample)? == element(255);
     Ok(found && draws(&mut copy, &[2, 4])?)
 }
 
 fn finds_uniform_witnesses<
-    C: Replica + UniformGrindingChallenger<Witness = F257> + CanSample<F257>,
+    C: TryClone + UniformGrindingChallenger<Witness = F257> + CanSample<F257>,
 >(rt: &impl Abort, challenger: &C) -> Result<bool, ChallengerError> {
     let again = finds_uniform_witness(rt, challenger, true)?;
     let or_fails = finds_uniform_witness(rt, challenger, false)?;
-    let mut copy = challenger.copy()?;
+    let mut copy = challenger.try_clone()?;
     let plain = grind(rt, &mut copy, 8)? == element(254) && draws(&mut copy, &[2, 4])?;
     Ok(again && or_fails && plain)
 }
 
-fn meets_the_limit<C: Replica + UniformGrindingChallenger<Witness = F257>>(
+fn meets_the_limit<C: TryClone + UniformGrindingChallenger<Witness = F257>>(
     rt: &impl Abort,
     challenger: &C,
 ) -> Result<bool, ChallengerError> {
-    let found = grind_uniform(rt, &mut challenger.copy()?, 8, true)? == element(255);
+    let found = grind_uniform(rt, &mut challenger.try_clone()?, 8, true)? == element(255);
     let limit = Err(ChallengerError::DrawLimit);
-    let met = passes_uniform(rt, &mut challenger.copy()?, 8, 254, true) == limit;
-    let rejected = !passes_uniform(rt, &mut challenger.copy()?, 8, 254, false)?;
+    let met = passes_uniform(rt, &mut challenger.try_clone()?, 8, 254, true) == limit;
+    let rejected = !passes_uniform(rt, &mut challenger.try_clone()?, 8, 254, false)?;
     Ok(found && met && rejected)
 }
 

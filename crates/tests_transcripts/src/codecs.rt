@@ -38,18 +38,18 @@ pub fn refusal(reason: &'static str) -> TranscriptError {
     TranscriptError::BadProofShape { reason }
 }
 
-// Asserts how an element is spelled through its codec's bound, and that it is read back.
-fn assert_spelled<K: Codec<C, F>, C: Sponge, F: PrimeField64>(
+// Asserts how an element is encoded through its codec's bound, and that it is read back.
+fn assert_encoded<K: Codec<C, F>, C: Sponge, F: PrimeField64>(
     rt: &impl Abort,
     alloc: Global,
     number: u64,
-    spelling: &[u8],
+    encoding: &[u8],
 ) -> Result<(), Fail> {
     let mut wire = vec![in alloc; 7u8]?;
     K::encode(&F::from_u64(number), &mut wire)?;
-    assert_eq!(rt; wire.as_slice().split_first(), Some((&7, spelling)));
-    assert_eq!(rt; K::wire_len(), spelling.len());
-    assert_eq!(rt; K::decode(spelling)?.as_canonical_u64(), number);
+    assert_eq!(rt; wire.as_slice().split_first(), Some((&7, encoding)));
+    assert_eq!(rt; K::wire_len(), encoding.len());
+    assert_eq!(rt; K::decode(encoding)?.as_canonical_u64(), number);
     wire.push(0)?;
     let with_more = wire.as_slice().get(1..);
     assert_eq!(rt; number_at_head::<F>(with_more.unwrap_or(&[]))?, number);
@@ -63,32 +63,32 @@ fn number_at_head<F: TranscriptField>(bytes: &[u8]) -> Result<u64, TranscriptErr
 
 #[test]
 fn an_element_is_its_canonical_number(rt: HostRuntime) -> Result<(), Fail> {
-    assert_spelled::<BytesToFieldCodec<BabyBear>, Bytes, BabyBear>(
+    assert_encoded::<BytesToFieldCodec<BabyBear>, Bytes, BabyBear>(
         &rt,
         rt.alloc(),
         0,
         &[0, 0, 0, 0],
     )?;
-    assert_spelled::<BytesToFieldCodec<BabyBear>, Bytes, BabyBear>(
+    assert_encoded::<BytesToFieldCodec<BabyBear>, Bytes, BabyBear>(
         &rt,
         rt.alloc(),
         2013265920,
         &[0x78, 0, 0, 0],
     )?;
-    assert_spelled::<BytesToFieldCodec<Goldilocks>, Bytes, Goldilocks>(
+    assert_encoded::<BytesToFieldCodec<Goldilocks>, Bytes, Goldilocks>(
         &rt,
         rt.alloc(),
         0,
         &[0; 8],
     )?;
-    assert_spelled::<BytesToFieldCodec<Goldilocks>, Bytes, Goldilocks>(
+    assert_encoded::<BytesToFieldCodec<Goldilocks>, Bytes, Goldilocks>(
         &rt,
         rt.alloc(),
         18446744069414584320,
         &[0xff, 0xff, 0xff, 0xff, 0, 0, 0, 0],
     )?;
-    assert_spelled::<FieldToFieldCodec<F257>, Elements, F257>(&rt, rt.alloc(), 0, &[0, 0])?;
-    assert_spelled::<FieldToFieldCodec<F257>, Elements, F257>(&rt, rt.alloc(), 256, &[1, 0])
+    assert_encoded::<FieldToFieldCodec<F257>, Elements, F257>(&rt, rt.alloc(), 0, &[0, 0])?;
+    assert_encoded::<FieldToFieldCodec<F257>, Elements, F257>(&rt, rt.alloc(), 256, &[1, 0])
 }
 
 #[test]

@@ -3,4 +3,4 @@ pub mod DemoRuns
 pub mod FirstLemmas
 pub mod InputLemmas
 pub mod ScriptLemmas
-pub mod WordLemmas
+pub mod ArgumentLemmas

@@ -2,7 +2,7 @@
 use Rattle.std.specs.Borrow.{Bor}
 use Rattle.std.specs.Prelude.{◌≡◌, ℕ, List, [], ◌∷◌, codes}
 use Rattle.p3_challenger.specs.BabyBearResidues.{BabyBear}
-use Rattle.p3_challenger.specs.HashCalls.{absorbing}
+use Rattle.p3_challenger.specs.HashCalls.{with_pending}
 use Rattle.p3_challenger.specs.Kind.TheVariants as kind
 use Rattle.p3_challenger.specs.PatternSteps.{steps_of}
 use Rattle.p3_challenger.specs.ProverOutcomes.{IsProved}
@@ -18,7 +18,7 @@ use Rattle.p3_challenger.specs.Step.TheVariants as step
 use Rattle.transcript_program.specs.Demo.{demo_steps}
 use Rattle.transcript_program.specs.DemoTypes.{DemoChallenger, DemoStep, DemoRules, DemoRun, DemoValue, DemoDrawn}
 use Rattle.transcript_program.specs.Report.{report}
-use Rattle.transcript_program.specs.declared.words.ToProve.{ToProve}
+use Rattle.transcript_program.specs.declared.arguments.ToProve.{ToProve}
 
 -- a label, which says this
 pub record LabelOf (text : List ℕ) : Type 0 where
@@ -40,7 +40,7 @@ pub record DemoLabels : Type 0 where
 -- SHA-256 with nothing before it, and a limit of 1000 candidates for a scalar
 abbrev pub demo_challenger : DemoChallenger
 demo_challenger =
-    record { inner = record { sponge = absorbing []; hasher = record {} }; draw_limit = 1000 }
+    record { inner = record { sponge = with_pending []; hasher = record {} }; draw_limit = 1000 }
 
 -- version 1 of the protocol `demo`, with its pattern, and one chunk
 pub record IsDemoSeparator {U D : Type 0} (separator : DomainSeparator U D) : Type 0 where

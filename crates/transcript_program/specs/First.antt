@@ -39,7 +39,7 @@ abbrev pub read_whole : List ℕ → Result BabyBear (List ℕ)
 read_whole narg = if nat_lt (length narg) width then Err too_short else nothing_after (read narg)
 
 -- what a verifier may answer on a proof: it accepts exactly what is, whole, a scalar, by that
--- scalar's run, and else tells why it is none; want of memory comes in place of an acceptance alone
+-- scalar's run, and else tells why it is none; being out of memory comes in place of an acceptance alone
 abbrev pub Verifies : {R : Type 0} → Result BabyBear (List ℕ) → (BabyBear → R → Type 0) → Result R TranscriptError
     → Type 0
 Verifies (Ok value) Accepts (Ok found) = Accepts value found

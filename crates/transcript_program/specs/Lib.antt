@@ -1,3 +1,4 @@
+pub mod Arguments
 pub mod Demo
 pub mod DemoScript
 pub mod DemoTypes
@@ -5,4 +6,3 @@ pub mod First
 pub mod Program
 pub mod Report
 pub mod Scalar
-pub mod Words

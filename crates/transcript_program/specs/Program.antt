@@ -7,22 +7,22 @@ use Rattle.std.specs.declared.io.ErrorKind.TheVariants.{InvalidData}
 use Rattle.hex.specs.Hex.{encode_lower}
 use Rattle.sha2.specs.Sha256.{sha256}
 use Rattle.p3_challenger.specs.HashState.{HashState, function_of}
-use Rattle.p3_challenger.specs.HashCalls.{absorbing}
+use Rattle.p3_challenger.specs.HashCalls.{with_pending}
 use Rattle.transcript_program.specs.Scalar.{number, wire}
 use Rattle.p3_challenger.specs.BabyBearResidues.{BabyBear}
 use Rattle.p3_challenger.specs.Sha256Hasher.{Sha256Hasher}
 use Rattle.p3_challenger.specs.ChallengerError.TheVariants as challenger
 use Rattle.p3_challenger.specs.TranscriptError.{TranscriptError}
 use Rattle.p3_challenger.specs.TranscriptError.TheVariants.{BadProofShape, Challenger, OutOfMemory}
-use Rattle.transcript_program.specs.declared.words.Request.{Request}
-use Rattle.transcript_program.specs.declared.words.Request.TheVariants.{First, DemoPattern, Prove, Verify}
+use Rattle.transcript_program.specs.declared.arguments.Request.{Request}
+use Rattle.transcript_program.specs.declared.arguments.Request.TheVariants.{First, DemoPattern, Prove, Verify}
 use Rattle.transcript_program.specs.declared.program.Answer.{Answer}
 use Rattle.transcript_program.specs.declared.program.Answer.TheVariants.{Done, Proof, Refused, NoInput, Usage}
 use Rattle.transcript_program.specs.First.{IsRun}
 use Rattle.transcript_program.specs.Demo.{demo_text}
 use Rattle.transcript_program.specs.DemoTypes.{DemoRules}
 use Rattle.transcript_program.specs.DemoScript.{IsDemoProof, RefusesDemoProof, IsDemoReport, RefusesDemoReport}
-use Rattle.transcript_program.specs.Words.{Asks}
+use Rattle.transcript_program.specs.Arguments.{Asks}
 
 abbrev pub usage_line : List ℕ
 usage_line = codes "usage: transcript first|pattern|prove|verify" ++ 10 ∷ []
@@ -32,12 +32,12 @@ abbrev pub lines : List ℕ → BabyBear → List ℕ
 lines proof challenge =
     codes "wire " ++ (encode_lower proof ++ 10 ∷ (codes "challenge " ++ (decimal (number challenge) ++ 10 ∷ [])))
 
--- the lines of a scalar: its spelling, and the challenge that SHA-256 draws with nothing before it
+-- the lines of a scalar: its encoding, and the challenge that SHA-256 draws with nothing before it
 pub record IsFirstText (x : BabyBear) (text : List ℕ) : Type 0 where
   pub challenge : BabyBear
   pub after : HashState ℕ Sha256Hasher
   pub run : IsRun (function_of (λ _ message. sha256 message) 32 0)
-      (record { sponge = absorbing []; hasher = record {} }) x challenge after
+      (record { sponge = with_pending []; hasher = record {} }) x challenge after
   pub text_is : text ≡ lines (wire x) challenge
 
 -- why an error refused a run, as the program says it
@@ -87,12 +87,12 @@ module _ (rules : DemoRules) where
   IsAnswerTo request old new NoInput = ReadsInput request
   IsAnswerTo request old new Usage = ⊥
 
-  -- the answer to the words of a command line: that to what they ask for, or that they ask for nothing
+  -- the answer to the arguments of a command line: that to what they ask for, or that they ask for nothing
   abbrev pub IsAnswer : List (List ℕ) → Option (List ℕ) → Option (List ℕ) → Answer → Type 0
-  IsAnswer words old new Usage = (request : Request) → Asks words request → ⊥
-  IsAnswer words old new answer = (request : Request) × Asks words request × IsAnswerTo request old new answer
+  IsAnswer arguments old new Usage = (request : Request) → Asks arguments request → ⊥
+  IsAnswer arguments old new answer = (request : Request) × Asks arguments request × IsAnswerTo request old new answer
 
--- what is answered where the words could not be read: a word that is no text asks for nothing; else memory was
+-- what is answered where the arguments could not be read: an argument that is no text asks for nothing; else memory was
 -- wanting
 abbrev pub unread : ErrorKind → Answer
 unread InvalidData = Usage

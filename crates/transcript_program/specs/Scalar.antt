@@ -22,7 +22,7 @@ bits = 31
 abbrev pub width : ℕ
 width = 4
 
--- its one spelling
+-- its one encoding
 abbrev pub wire : BabyBear → List ℕ
 wire x = scalar.wire residues width x
 

@@ -17,7 +17,7 @@ type ScalarCodec = BytesToFieldCodec<BabyBear>;
 /// What a prover has once it sent a scalar and drew one.
 #[derive(Debug, Drop)]
 pub struct FirstRun<H, const OUT_LEN: usize> {
-    /// The proof: the spelling of the scalar, 4 bytes.
+    /// The proof: the encoding of the scalar, 4 bytes.
     pub wire: Vec<u8>,
     /// The scalar that was drawn.
     pub challenge: BabyBear,
@@ -28,7 +28,7 @@ pub struct FirstRun<H, const OUT_LEN: usize> {
 /// What a verifier has once it read a scalar and drew one.
 #[derive(Debug, Drop)]
 pub struct FirstRead<H, const OUT_LEN: usize> {
-    /// The scalar that the proof spells.
+    /// The scalar that the proof encodes.
     pub value: BabyBear,
     /// The scalar that was drawn.
     pub challenge: BabyBear,
@@ -36,7 +36,7 @@ pub struct FirstRead<H, const OUT_LEN: usize> {
     pub challenger: HashChallenger<u8, H, OUT_LEN>,
 }
 
-/// Sends a scalar: observes it, spells it in the proof, and draws a challenge.
+/// Sends a scalar: observes it, encodes it in the proof, and draws a challenge.
 ///
 /// The one error is [`TranscriptError::OutOfMemory`]. The challenger is gone then.
 pub fn prove<H: CryptographicHasher<u8, [u8; OUT_LEN]>, const OUT_LEN: usize>(
@@ -62,7 +62,7 @@ pub fn prove<H: CryptographicHasher<u8, [u8; OUT_LEN]>, const OUT_LEN: usize>(
 
 /// Reads a scalar that makes up the whole proof `narg`, observes it, and draws a challenge.
 ///
-/// The errors are [`TranscriptError::BadProofShape`], exactly where `narg` is not the spelling of a
+/// The errors are [`TranscriptError::BadProofShape`], exactly where `narg` is not the encoding of a
 /// scalar, and [`TranscriptError::OutOfMemory`]. The challenger is gone then.
 pub fn verify<H: CryptographicHasher<u8, [u8; OUT_LEN]>, const OUT_LEN: usize>(
     mut challenger: HashChallenger<u8, H, OUT_LEN>,
@@ -73,7 +73,7 @@ pub fn verify<H: CryptographicHasher<u8, [u8; OUT_LEN]>, const OUT_LEN: usize>(
         (found.value ≡ value)
         × IsRun (function_of H.hash OUT_LEN H.filler) challenger value found.challenge found.challenger) result }
 
-    // What is accepted is, whole, the spelling of the scalar that is answered.
+    // What is accepted is, whole, the encoding of the scalar that is answered.
     ensures whole { IfOk result (λ found. narg.now ≡ wire found.value) }
 
     // The proof of a prover that started from an equal challenger is accepted, unless memory runs

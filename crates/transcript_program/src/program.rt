@@ -1,15 +1,15 @@
-//! What the program answers to its words.
+//! What the program answers to its arguments.
 ghost use Rattle.std.specs.Prelude.{◌≡◌, map, IfOk, IfErr, string_bytes};
 ghost use Rattle.std.specs.IoError.{error_kind};
 ghost use Rattle.p3_challenger.specs.BabyBearResidues.{BabyBear};
 ghost use Rattle.transcript_program.specs.Demo.{demo_text};
 ghost use Rattle.transcript_program.specs.Program.{IsAnswer, IsAnswerTo, ReadsInput, Tells, IsFirstText, lines};
 ghost use Rattle.transcript_program.specs.Program.{status_of, reason_of, unread};
-ghost use Rattle.transcript_program.specs.Words.{Asks};
+ghost use Rattle.transcript_program.specs.Arguments.{Asks};
 
+use crate::arguments::{Request, parse};
 use crate::input::Unread;
 use crate::script::Demo;
-use crate::words::{Request, parse};
 use crate::{demo, first, input, script};
 use p3_challenger::fs::TranscriptError;
 use p3_challenger::fs::script::Meaning;
@@ -39,7 +39,7 @@ pub enum Answer {
     /// Standard input could not be read, or did not end. A line with the reason `input` is written, and the status is
     /// 1.
     NoInput,
-    /// The words ask for nothing. The usage line is written, and the status is 2.
+    /// The arguments ask for nothing. The usage line is written, and the status is 2.
     Usage,
 }
 
@@ -76,18 +76,23 @@ impl fmt::Display for Answer {
     }
 }
 
-/// The whole program: writes its answer to the words of its command line, without the program's name, and gives
+/// The whole program: writes its answer to the arguments of its command line, without the program's name, and gives
 /// the answer's status; but 1 where the write failed.
 ///
-/// Standard input is read where the words ask for a proof to be verified, and only there.
-pub fn run<R: Read, W: Write>(alloc: Global, words: &[&str], reader: &mut R, writer: &mut W) -> u8
-    ensures told { (answer : Answer) × IsAnswer (⟦<Demo as Meaning>⟧.rules 1) (map (λ word. word.now) words.now)
+/// Standard input is read where the arguments ask for a proof to be verified, and only there.
+pub fn run<R: Read, W: Write>(
+    alloc: Global,
+    arguments: &[&str],
+    reader: &mut R,
+    writer: &mut W,
+) -> u8
+    ensures told { (answer : Answer) × IsAnswer (⟦<Demo as Meaning>⟧.rules 1) (map (λ argument. argument.now) arguments.now)
         (R.remaining reader.old) (R.remaining reader.new) answer
         × Tells answer result (W.contents writer.old) (W.contents writer.new) }
-    ensures unread { ((request : Request) → Asks (map (λ word. word.now) words.now) request →
+    ensures unread { ((request : Request) → Asks (map (λ argument. argument.now) arguments.now) request →
         ReadsInput request → ⊥) → reader.new ≡ reader.old }
 {
-    write_answer(&answer_to(alloc, words, reader), writer)
+    write_answer(&answer_to(alloc, arguments, reader), writer)
 }
 
 /// Writes the answer, and gives its status; but 1 where the write failed.
@@ -104,7 +109,7 @@ pub fn write_answer<W: Write>(answer: &Answer, writer: &mut W) -> u8
     }
 }
 
-/// The answer where the words of the command line could not be read: the usage line where one of them is no text,
+/// The answer where the arguments of the command line could not be read: the usage line where one of them is no text,
 /// and else a refusal, since nothing but memory can be wanting.
 pub fn answer_unread(error: &io::Error) -> Answer
     ensures { result ≡ unread (error_kind error.now) }
@@ -115,15 +120,15 @@ pub fn answer_unread(error: &io::Error) -> Answer
     }
 }
 
-/// The answer to the words of a command line. Standard input is read where they ask for a proof to be verified, and
+/// The answer to the arguments of a command line. Standard input is read where they ask for a proof to be verified, and
 /// only there.
-pub fn answer_to<R: Read>(alloc: Global, words: &[&str], reader: &mut R) -> Answer
-    ensures answer { IsAnswer (⟦<Demo as Meaning>⟧.rules 1) (map (λ word. word.now) words.now)
+pub fn answer_to<R: Read>(alloc: Global, arguments: &[&str], reader: &mut R) -> Answer
+    ensures answer { IsAnswer (⟦<Demo as Meaning>⟧.rules 1) (map (λ argument. argument.now) arguments.now)
         (R.remaining reader.old) (R.remaining reader.new) result }
-    ensures unread { ((request : Request) → Asks (map (λ word. word.now) words.now) request →
+    ensures unread { ((request : Request) → Asks (map (λ argument. argument.now) arguments.now) request →
         ReadsInput request → ⊥) → reader.new ≡ reader.old }
 {
-    match parse(words) {
+    match parse(arguments) {
         Some(request) => answer_request(alloc, request, reader),
         None => Answer::Usage,
     }
@@ -167,7 +172,7 @@ fn verify_input<R: Read>(alloc: Global, public: BabyBear, reader: &mut R) -> Ans
     }
 }
 
-/// Why an error refused a run, in the words of the program.
+/// Why an error refused a run, in the program's text.
 pub fn reason(error: &TranscriptError) -> &'static str
     ensures { result.now ≡ reason_of error.now }
 {

@@ -9,7 +9,7 @@ ghost use Rattle.transcript_program.specs.DemoScript.{DemoLabels, demo_script, d
 ghost use Rattle.transcript_program.specs.DemoScript.{IsDemoProof, RefusesDemoProof, IsDemoReport, RefusesDemoReport};
 ghost use Rattle.transcript_program.specs.DemoScript.{DemoContent, Says, IsReport, sent_by};
 
-use crate::words::{MAX_NOTE_LEN, MAX_VALUES, SALT_LEN, ToProve};
+use crate::arguments::{MAX_NOTE_LEN, MAX_VALUES, SALT_LEN, ToProve};
 use crate::{demo, report};
 use p3_challenger::fs::script::{AcceptAll, Both, Drawn, Meaning, Received, Sent, Step, Suite};
 use p3_challenger::fs::{
@@ -144,7 +144,7 @@ fn copied<T: Copy>(alloc: Global, values: &[T]) -> Result<Vec<T>, AllocError>
 
 /// The bytes of a proof of the demo protocol.
 ///
-/// The errors are those of [`script::prove`], and want of memory.
+/// The errors are those of [`script::prove`], and out of memory.
 pub fn prove(alloc: Global, ask: &ToProve<'_>) -> Result<Vec<u8>, TranscriptError>
     ensures ok { IfOk result (λ proof. IsDemoProof (⟦<Demo as Meaning>⟧.rules 1) ask.now proof.items) }
     ensures err { IfErr result (λ e. (e ≡ TranscriptError.OutOfMemory)
@@ -161,7 +161,7 @@ pub fn prove(alloc: Global, ask: &ToProve<'_>) -> Result<Vec<u8>, TranscriptErro
 
 /// What a proof of the demo protocol with this public input says, in lines.
 ///
-/// The errors are those of [`script::verify`], and want of memory.
+/// The errors are those of [`script::verify`], and out of memory.
 pub fn verify(alloc: Global, input: BabyBear, proof: &[u8]) -> Result<String, TranscriptError>
     ensures ok { IfOk result (λ text.
         IsDemoReport (⟦<Demo as Meaning>⟧.rules 1) input proof.now (string_bytes text)) }

@@ -1,3 +1,3 @@
 pub mod CallByCall
-pub mod HandsOver
+pub mod MakesQueries
 pub mod Steps

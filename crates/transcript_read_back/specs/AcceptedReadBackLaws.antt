@@ -1,15 +1,15 @@
--- From what accepted proofs of one script handed over to their values.
+-- From what accepted proofs of one script queried to their values.
 use Rattle.std.proofs.Common.{◌≡◌, inl, inr, List, refl, sym, ap, ◌∙◌}
 use Rattle.p3_challenger.specs.Segments.{Call}
 use Rattle.p3_challenger.specs.Segments as segments
-use Rattle.p3_challenger.specs.Handed.{LeaveSamePending}
-use Rattle.p3_challenger.specs.Handed as handed
+use Rattle.p3_challenger.specs.Queries.{LeaveSamePending}
+use Rattle.p3_challenger.specs.Queries as queries
 use Rattle.p3_challenger.specs.AnswersBound.{AgreeButHints, EqualSymbolsHaveEqualValues}
 use Rattle.p3_challenger.specs.Fronts.{last, symbols}
 use Rattle.p3_challenger.specs.Rules.{Rules}
 use Rattle.p3_challenger.specs.Scripts.{play_of}
 use Rattle.p3_challenger.specs.Verdicts.{with_steps}
-use Rattle.transcript_read_back.specs.AcceptedReadBack.{Script, Accepted, AcceptsAndHands, AnswersEndAlike}
+use Rattle.transcript_read_back.specs.AcceptedReadBack.{Script, Accepted, AcceptsAndQueries, AnswersEndAlike}
 use Rattle.transcript_read_back.specs.AcceptedReadBack.{AcceptedReadBack, AcceptedReadBackOrCollide}
 use Rattle.transcript_read_back.specs.CallByCall.{IsCallByCall}
 use Rattle.transcript_read_back.specs.TranscriptReadBackLaws.{symbols-told, symbols-told_or_collide}
@@ -21,8 +21,8 @@ module _ {F EF O Ac M : Type 0} (Su U C K D G It S T : Type 0) (rules : Rules S 
   module _ (s : Script Su U C K D G It S T rules state run pending)
       (v w : Accepted Su U C K D G It S T rules state run pending)
       (alike : AnswersEndAlike Su U C K D G It S T rules state run pending start s v w) where
-    module _ (ms ns : List M) (one : AcceptsAndHands Su U C K D G It S T rules state run pending s v ms)
-        (other : AcceptsAndHands Su U C K D G It S T rules state run pending s w ns) where
+    module _ (ms ns : List M) (one : AcceptsAndQueries Su U C K D G It S T rules state run pending s v ms)
+        (other : AcceptsAndQueries Su U C K D G It S T rules state run pending s w ns) where
       ends-alike : pending (last rules (play_of rules) (with_steps s s.steps one.accepted.values))
           ≡ pending (last rules (play_of rules) (with_steps s s.steps other.accepted.values))
       ends-alike =
@@ -37,25 +37,25 @@ module _ {F EF O Ac M : Type 0} (Su U C K D G It S T : Type 0) (rules : Rules S 
           equal s one.proof other.proof one.carried other.carried v w one.accepted other.accepted one.holds
           other.holds same
 
-  pub accepted-read_back : handed.ReadsBack (run start) pending →
+  pub accepted-read_back : queries.ReadsBack (run start) pending →
       AcceptedReadBack Su U C K D G It S T rules state run pending start
   accepted-read_back reads s v w ms alike one other =
       agree s v w alike ms ms one other
       (symbols-told run pending fed next by rules (play_of rules) start
       (with_steps s s.steps one.accepted.values) (with_steps s s.steps other.accepted.values) ms ms
-      (alike.begins, alike.begins) (ends-alike s v w alike ms ms one other) one.hands other.hands reads refl)
+      (alike.begins, alike.begins) (ends-alike s v w alike ms ms one other) one.makes other.makes reads refl)
 
   pub accepted-read_back_or_collide : (LastAlike : List M → List M → Type 0) (Collide : M → M → Type 0)
       (CallsEndAlike : List (Call T) → List (Call T) → Type 0) →
-      ((calls others : List (Call T)) → LastAlike (run start calls).handed (run start others).handed →
+      ((calls others : List (Call T)) → LastAlike (run start calls).queries (run start others).queries →
       LeaveSamePending (run start) pending calls others → CallsEndAlike calls others) →
-      handed.ReadsBackOrCollides (run start) pending CallsEndAlike Collide →
+      queries.ReadsBackOrCollides (run start) pending CallsEndAlike Collide →
       AcceptedReadBackOrCollide Su U C K D G It S T rules state run pending LastAlike Collide start
   accepted-read_back_or_collide LastAlike Collide CallsEndAlike alike_are reads s v w ms ns alike one other as_many
       last_alike =
       elim (symbols-told_or_collide run pending fed next by rules (play_of rules) start
       (with_steps s s.steps one.accepted.values) (with_steps s s.steps other.accepted.values) ms ns
-      (alike.begins, alike.begins) (ends-alike s v w alike ms ns one other) one.hands other.hands LastAlike
+      (alike.begins, alike.begins) (ends-alike s v w alike ms ns one other) one.makes other.makes LastAlike
       Collide CallsEndAlike alike_are reads as_many last_alike) [
         | inl same ↦ inl (agree s v w alike ms ns one other same)
         | inr found ↦ inr found

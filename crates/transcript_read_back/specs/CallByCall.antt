@@ -9,7 +9,7 @@ use Rattle.p3_challenger.specs.HashCalls.{HashFunction}
 use Rattle.p3_challenger.specs.HashState.{HashState}
 use Rattle.p3_challenger.specs.HashState as hash
 
--- A challenger of states S and symbols T: what calls from a state on answer and hand over, and the
+-- A challenger of states S and symbols T: what calls from a state on answer and query, and the
 -- state that they leave.
 module _ {S T M : Type 0} (run : S → List (Call T) → Run T M S) where
   -- the state that calls leave
@@ -30,7 +30,7 @@ abbrev pub duplex_run : {F P : Type 0} → Residues F → (P → List F → List
     Run F (List F) (DuplexState F P)
 duplex_run r permute rate c calls =
     let run = duplex.run r permute rate c calls in
-    record { answers = run.answers; handed = run.handed; after = duplex.after_calls r permute rate c calls }
+    record { answers = run.answers; queries = run.queries; after = duplex.after_calls r permute rate c calls }
 
 abbrev pub duplex_pending : {F P : Type 0} → DuplexState F P → List F
 duplex_pending c = c.sponge.pending
@@ -40,7 +40,7 @@ abbrev pub hash_run : {T H : Type 0} → (H → HashFunction T) → HashState T 
     Run T (List T) (HashState T H)
 hash_run function s calls =
     let run = hash.run function s calls in
-    record { answers = run.answers; handed = run.handed; after = hash.after_calls function s calls }
+    record { answers = run.answers; queries = run.queries; after = hash.after_calls function s calls }
 
 abbrev pub hash_pending : {T H : Type 0} → HashState T H → List T
 hash_pending s = s.sponge.pending

@@ -19,7 +19,7 @@ use Rattle.p3_challenger.specs.Sha256Hasher.{Sha256Hasher}
 use Rattle.transcript_read_back.specs.AcceptedReadBack.{AcceptedReadBack, AcceptedReadBackOrCollide}
 use Rattle.transcript_read_back.specs.CallByCall.{duplex_run, duplex_pending, EndInSame}
 use Rattle.transcript_read_back.specs.CallByCall.{hash_run, hash_pending}
-use Rattle.transcript_read_back.specs.ScriptReadBack.{EachScriptHandsOver, ScriptsReadBack}
+use Rattle.transcript_read_back.specs.ScriptReadBack.{EachScriptMakesQueries, ScriptsReadBack}
 use Rattle.transcript_read_back.specs.ScriptReadBack.{ScriptsReadBackOrCollide}
 use Rattle.transcript_read_back.specs.declared.recursive.OverDuplex.{OverDuplex}
 use Rattle.transcript_read_back.specs.declared.recursive.OverHash.{OverHash}
@@ -33,14 +33,14 @@ Challenger P = DuplexState BabyBear P
 module _ {P : Type 0} (width rate : ℕ)
     (rules : Rules (Challenger P) BabyBear BabyBear BabyBear (Coeffs BabyBear 4)
     (Hash BabyBear BabyBear 8) AcceptAll) (permute : P → List BabyBear → List BabyBear) where
-  -- each finished run hands states to the permutation
+  -- each finished run queries the permutation
   abbrev pub EachHandsStates : Type 0
   EachHandsStates =
-      EachScriptHandsOver (OverDuplex P width rate) (FieldUnit BabyBear) (Challenger P)
+      EachScriptMakesQueries (OverDuplex P width rate) (FieldUnit BabyBear) (Challenger P)
       (FieldToFieldCodec BabyBear) Sha256Hasher Both BabyBear (Challenger P) BabyBear rules
       (duplex_run residues permute rate)
 
-  -- from this challenger on, runs that hand over the same states, and leave the same pending, are
+  -- from this challenger on, runs that query the same states, and leave the same pending, are
   -- bound
   abbrev pub StatesTell : Challenger P → Type 0
   StatesTell start =
@@ -48,7 +48,7 @@ module _ {P : Type 0} (width rate : ℕ)
       (FieldToFieldCodec BabyBear) Sha256Hasher Both BabyBear (Challenger P) BabyBear rules
       (duplex_run residues permute rate) duplex_pending start
 
-  -- and so are runs that hand over equally many, the same last, or at one place of these two states
+  -- and so are runs that query equally many, the same last, or at one place of these two states
   -- collide
   abbrev pub StatesTellOrCollide : Challenger P → Type 0
   StatesTellOrCollide start =
@@ -57,7 +57,7 @@ module _ {P : Type 0} (width rate : ℕ)
       (duplex_run residues permute rate) duplex_pending EndInSame
       (duplex.Collide residues (permute start.permutation) rate) start
 
-  -- two accepted proofs of one script that hand over the same states agree; or equally many, and
+  -- two accepted proofs of one script that query the same states agree; or equally many, and
   -- they agree or two states collide
   abbrev pub StatesTellValues : Challenger P → Type 0
   StatesTellValues start =
@@ -76,10 +76,10 @@ module _ {P : Type 0} (width rate : ℕ)
 module _ {H : Type 0}
     (rules : Rules (HashState ℕ H) ℕ ℕ BabyBear (Coeffs BabyBear 4) (List ℕ) AcceptAll)
     (function : H → HashFunction ℕ) where
-  -- each finished run hands strings to the hash function
+  -- each finished run queries the hash function
   abbrev pub EachHandsStrings : Type 0
   EachHandsStrings =
-      EachScriptHandsOver (OverHash H) ℕ (HashState ℕ H) (BytesToFieldCodec BabyBear)
+      EachScriptMakesQueries (OverHash H) ℕ (HashState ℕ H) (BytesToFieldCodec BabyBear)
       Sha256Hasher Plain ℕ (HashState ℕ H) ℕ rules (hash_run function)
 
   -- from this challenger on, runs that hash the same strings, and leave the same pending, are bound

@@ -5,7 +5,7 @@ use Rattle.p3_challenger.specs.Sponge.{after_steps}
 use Rattle.p3_challenger.specs.Segments.{Call, observe, draw}
 use Rattle.p3_challenger.specs.Segments as segments
 use Rattle.p3_challenger.specs.CallRowLaws.{observed_values-append, observed_values-observes, observed_values-draws}
-use Rattle.p3_challenger.specs.Handed.{observed_values}
+use Rattle.p3_challenger.specs.Queries.{observed_values}
 use Rattle.p3_challenger.specs.Binding.{IsHeld, AreHeld}
 use Rattle.p3_challenger.specs.Fronts.{Run, IsFinished, seed, seeded, last}
 use Rattle.p3_challenger.specs.Fronts as fronts

@@ -4,17 +4,17 @@ use Rattle.p3_challenger.specs.Segments.{Call, Run}
 use Rattle.p3_challenger.specs.Rules.{Rules}
 use Rattle.p3_challenger.specs.Scripts.{play_of}
 use Rattle.p3_challenger.specs.Step as script
-use Rattle.transcript_read_back.specs.TranscriptReadBack.{EachHandsOver, TranscriptsReadBack}
+use Rattle.transcript_read_back.specs.TranscriptReadBack.{EachMakesQueries, TranscriptsReadBack}
 use Rattle.transcript_read_back.specs.TranscriptReadBack.{TranscriptsReadBackOrCollide}
 
 module _ {S T M I F EF O Ac : Type 0} (Su U C K D G It St Sy : Type 0) (rules : Rules S T I F EF O Ac)
     (run : S → List (Call T) → Run T M S) where
-  -- each finished run of a script hands something over
-  abbrev pub EachScriptHandsOver : Type 0
-  EachScriptHandsOver =
-      EachHandsOver run rules (λ (x : script.Step Su F EF U O C K Ac D G It St Sy). play_of rules x) U D
+  -- each finished run of a script makes a query
+  abbrev pub EachScriptMakesQueries : Type 0
+  EachScriptMakesQueries =
+      EachMakesQueries run rules (λ (x : script.Step Su F EF U O C K Ac D G It St Sy). play_of rules x) U D
 
-  -- runs of scripts are bound by what they hand over
+  -- runs of scripts are bound by what they query
   abbrev pub ScriptsReadBack : (S → List T) → S → Type 0
   ScriptsReadBack pending start =
       TranscriptsReadBack run rules

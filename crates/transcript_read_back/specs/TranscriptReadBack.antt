@@ -1,29 +1,29 @@
--- What whole transcripts handed to a permutation, or to a hash function, tells of them.
+-- What whole transcripts query a permutation, or a hash function, with tells of them.
 use Rattle.std.specs.Prelude.{◌≡◌, ◌⊎◌, List, length}
 use Rattle.p3_challenger.specs.Segments.{Call}
 use Rattle.p3_challenger.specs.Segments as segments
-use Rattle.p3_challenger.specs.Handed.{CollideAtSomePlace}
+use Rattle.p3_challenger.specs.Queries.{CollideAtSomePlace}
 use Rattle.p3_challenger.specs.Binding.{AreHeld, AreBound}
 use Rattle.p3_challenger.specs.Fronts.{Run, IsFinished, IsWhole, absorbed, last}
 use Rattle.p3_challenger.specs.Plays.{Play}
 use Rattle.p3_challenger.specs.Rules.{Rules}
 use Rattle.transcript_read_back.specs.RunCalls.{AreOfRun}
 
--- a challenger of states S and symbols T call by call, where an M is handed over: a state of its
+-- a challenger of states S and symbols T call by call, where a query is an M: a state of its
 -- permutation, or a string that it hashes
 module _ {S T M : Type 0} (run : S → List (Call T) → segments.Run T M S) {X I F EF O Ac : Type 0}
     (rules : Rules S T I F EF O Ac) (play : X → Play S T F EF O) where
-  -- the run of a script hands these over, in order
-  pub record HandsOver {U D : Type 0} (x : Run X F EF S U D) (handed : List M) : Type 0 where
+  -- the run of a script makes these queries, in order
+  pub record MakesQueries {U D : Type 0} (x : Run X F EF S U D) (queries : List M) : Type 0 where
     pub calls : List (Call T)
     pub are_calls : AreOfRun run play rules x calls
-    pub handed_are : handed ≡ (run x.challenger calls).handed
+    pub queries_are : queries ≡ (run x.challenger calls).queries
 
-  -- each finished run, of what a program can hold, hands something over
-  abbrev pub EachHandsOver : (U D : Type 0) → Type 0
-  EachHandsOver U D =
+  -- each finished run, of what a program can hold, makes a query
+  abbrev pub EachMakesQueries : (U D : Type 0) → Type 0
+  EachMakesQueries U D =
       (x : Run X F EF S U D) → IsFinished rules play x → AreHeld rules.IsOwn (absorbed rules play x) →
-      (handed : List M) × HandsOver x handed
+      (queries : List M) × MakesQueries x queries
 
   -- what is pending in a state
   module _ (pending : S → List T) where
@@ -36,18 +36,18 @@ module _ {S T M : Type 0} (run : S → List (Call T) → segments.Run T M S) {X 
       pub as_far : (IsWhole rules play x × IsWhole rules play y) ⊎ (length x.steps ≡ length y.steps)
       pub pending_same : pending (last rules play x) ≡ pending (last rules play y)
 
-    -- Two runs that end alike, and hand over the same, are bound: their protocols and instances are
+    -- Two runs that end alike, and query the same, are bound: their protocols and instances are
     -- the same, and so are their steps, unless the renderings of their patterns collide.
     abbrev pub TranscriptsReadBack : (U D : Type 0) → S → Type 0
     TranscriptsReadBack U D start =
-        (x y : Run X F EF S U D) (handed : List M) → EndAlike start x y → HandsOver x handed → HandsOver y handed →
+        (x y : Run X F EF S U D) (queries : List M) → EndAlike start x y → MakesQueries x queries → MakesQueries y queries →
         AreBound rules play x y
 
-    -- Two runs that end alike, and hand over equally many, the last alike, are bound, or at one
-    -- place of what they hand over two collide.
+    -- Two runs that end alike, and query equally many, the last alike, are bound, or at one
+    -- place of what they query two collide.
     abbrev pub TranscriptsReadBackOrCollide : (U D : Type 0) (LastAlike : List M → List M → Type 0)
         (Collide : M → M → Type 0) → S → Type 0
     TranscriptsReadBackOrCollide U D LastAlike Collide start =
-        (x y : Run X F EF S U D) (handed others : List M) → EndAlike start x y → HandsOver x handed →
-        HandsOver y others → length handed ≡ length others → LastAlike handed others →
-        AreBound rules play x y ⊎ CollideAtSomePlace Collide handed others
+        (x y : Run X F EF S U D) (queries others : List M) → EndAlike start x y → MakesQueries x queries →
+        MakesQueries y others → length queries ≡ length others → LastAlike queries others →
+        AreBound rules play x y ⊎ CollideAtSomePlace Collide queries others

@@ -1,15 +1,15 @@
--- From what is handed over to equal runs.
+-- From what is queried to equal runs.
 use Rattle.std.proofs.Common.{◌≡◌, ◌⊎◌, inl, inr, List, length, refl, sym, ap, ◌∙◌, subst}
 use Rattle.p3_challenger.specs.Segments.{Call}
 use Rattle.p3_challenger.specs.Segments as segments
-use Rattle.p3_challenger.specs.Handed.{observed_values, LeaveSamePending, CollideAtSomePlace}
-use Rattle.p3_challenger.specs.Handed as handed
+use Rattle.p3_challenger.specs.Queries.{observed_values, LeaveSamePending, CollideAtSomePlace}
+use Rattle.p3_challenger.specs.Queries as queries
 use Rattle.p3_challenger.specs.Binding.{SymbolsBind, AreBound}
 use Rattle.p3_challenger.specs.Fronts.{Run, last, symbols}
 use Rattle.p3_challenger.specs.Plays.{Play}
 use Rattle.p3_challenger.specs.Rules.{Rules}
 use Rattle.transcript_read_back.specs.CallByCall.{after_calls, IsCallByCall}
-use Rattle.transcript_read_back.specs.TranscriptReadBack.{HandsOver, EndAlike, TranscriptsReadBack}
+use Rattle.transcript_read_back.specs.TranscriptReadBack.{MakesQueries, EndAlike, TranscriptsReadBack}
 use Rattle.transcript_read_back.specs.TranscriptReadBack.{TranscriptsReadBackOrCollide}
 use Rattle.transcript_read_back.specs.RunCallLaws.{observed-run, after-run}
 
@@ -17,11 +17,11 @@ module _ {S T M : Type 0} (run : S → List (Call T) → segments.Run T M S) (pe
     (fed : S → List T → S) (next : S → S) (by : IsCallByCall run fed next) {X I F EF O Ac U D : Type 0}
     (rules : Rules S T I F EF O Ac) (play : X → Play S T F EF O) (start : S) where
   abbrev Hands : Run X F EF S U D → List M → Type 0
-  Hands x ms = HandsOver run rules play x ms
+  Hands x ms = MakesQueries run rules play x ms
 
-  handed-from_start : (x : Run X F EF S U D) (ms : List M) (h : Hands x ms) → x.challenger ≡ start →
-      ms ≡ (run start h.calls).handed
-  handed-from_start x ms h begins = h.handed_are ∙ ap (λ s. (run s h.calls).handed) begins
+  queries-from_start : (x : Run X F EF S U D) (ms : List M) (h : Hands x ms) → x.challenger ≡ start →
+      ms ≡ (run start h.calls).queries
+  queries-from_start x ms h begins = h.queries_are ∙ ap (λ s. (run s h.calls).queries) begins
 
   pending-from_start : (x : Run X F EF S U D) (ms : List M) (h : Hands x ms) → x.challenger ≡ start →
       pending (last rules play x) ≡ pending (after_calls run start h.calls)
@@ -39,32 +39,32 @@ module _ {S T M : Type 0} (run : S → List (Call T) → segments.Run T M S) (pe
         sym (observed-run run play rules x h.calls h.are_calls) ∙ values
         ∙ observed-run run play rules y k.calls k.are_calls
 
-    -- what is handed over tells the symbols
-    pub symbols-told : handed.ReadsBack (run start) pending → ms ≡ ns → symbols rules play x ≡ symbols rules play y
+    -- what is queried tells the symbols
+    pub symbols-told : queries.ReadsBack (run start) pending → ms ≡ ns → symbols rules play x ≡ symbols rules play y
     symbols-told reads equal =
         same-symbols
         (reads h.calls k.calls
-        (sym (handed-from_start x ms h begin.0) ∙ equal ∙ handed-from_start y ns k begin.1) same-pending)
+        (sym (queries-from_start x ms h begin.0) ∙ equal ∙ queries-from_start y ns k begin.1) same-pending)
 
     -- or two collide
     module _ (LastAlike : List M → List M → Type 0) (Collide : M → M → Type 0)
         (CallsEndAlike : List (Call T) → List (Call T) → Type 0)
-        (alike_are : (calls others : List (Call T)) → LastAlike (run start calls).handed (run start others).handed →
+        (alike_are : (calls others : List (Call T)) → LastAlike (run start calls).queries (run start others).queries →
         LeaveSamePending (run start) pending calls others → CallsEndAlike calls others) where
-      pub symbols-told_or_collide : handed.ReadsBackOrCollides (run start) pending CallsEndAlike Collide →
+      pub symbols-told_or_collide : queries.ReadsBackOrCollides (run start) pending CallsEndAlike Collide →
           length ms ≡ length ns → LastAlike ms ns →
           (symbols rules play x ≡ symbols rules play y) ⊎ CollideAtSomePlace Collide ms ns
       symbols-told_or_collide reads as_many last_alike =
-          let one : ms ≡ (run start h.calls).handed = handed-from_start x ms h begin.0 in
-          let other : ns ≡ (run start k.calls).handed = handed-from_start y ns k begin.1 in
-          let alike_there : LastAlike (run start h.calls).handed (run start k.calls).handed =
-          subst (λ l. LastAlike (run start h.calls).handed l) other (subst (λ l. LastAlike l ns) one last_alike) in
+          let one : ms ≡ (run start h.calls).queries = queries-from_start x ms h begin.0 in
+          let other : ns ≡ (run start k.calls).queries = queries-from_start y ns k begin.1 in
+          let alike_there : LastAlike (run start h.calls).queries (run start k.calls).queries =
+          subst (λ l. LastAlike (run start h.calls).queries l) other (subst (λ l. LastAlike l ns) one last_alike) in
           elim (reads h.calls k.calls (sym (ap length one) ∙ as_many ∙ ap length other)
           (alike_are h.calls k.calls alike_there same-pending)) [
             | inl values ↦ inl (same-symbols values)
             | inr found ↦ inr
                 (subst (λ l. CollideAtSomePlace Collide ms l) (sym other)
-                (subst (λ l. CollideAtSomePlace Collide l (run start k.calls).handed) (sym one) found))
+                (subst (λ l. CollideAtSomePlace Collide l (run start k.calls).queries) (sym one) found))
           ]
 
   -- ---- with the law that symbols bind
@@ -75,16 +75,16 @@ module _ {S T M : Type 0} (run : S → List (Call T) → segments.Run T M S) (pe
     bound x y alike same =
         bind x y record { finished = alike.finished; held = alike.held; as_far = alike.as_far; same = same }
 
-    pub transcripts-read_back : handed.ReadsBack (run start) pending →
+    pub transcripts-read_back : queries.ReadsBack (run start) pending →
         TranscriptsReadBack run rules play pending U D start
     transcripts-read_back reads x y ms alike h k =
         bound x y alike (symbols-told x y ms ms alike.begin alike.pending_same h k reads refl)
 
     pub transcripts-read_back_or_collide : (LastAlike : List M → List M → Type 0) (Collide : M → M → Type 0)
         (CallsEndAlike : List (Call T) → List (Call T) → Type 0) →
-        ((calls others : List (Call T)) → LastAlike (run start calls).handed (run start others).handed →
+        ((calls others : List (Call T)) → LastAlike (run start calls).queries (run start others).queries →
         LeaveSamePending (run start) pending calls others → CallsEndAlike calls others) →
-        handed.ReadsBackOrCollides (run start) pending CallsEndAlike Collide →
+        queries.ReadsBackOrCollides (run start) pending CallsEndAlike Collide →
         TranscriptsReadBackOrCollide run rules play pending U D LastAlike Collide start
     transcripts-read_back_or_collide LastAlike Collide CallsEndAlike alike_are reads x y ms ns alike h k as_many last =
         elim (symbols-told_or_collide x y ms ns alike.begin alike.pending_same h k LastAlike Collide CallsEndAlike

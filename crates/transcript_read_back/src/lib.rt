@@ -1,4 +1,4 @@
-//! What a transcript handed to the permutation of its challenger, or to the hash function, tells of
+//! What a transcript queried the permutation of its challenger, or the hash function, with tells of
 //! the transcript.
 #![tactic(auto)]
 

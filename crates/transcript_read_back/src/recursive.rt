@@ -14,7 +14,7 @@
 ghost use Rattle.std.specs.Prelude.{◌≡◌, ◌<◌, ◌≤◌};
 ghost use Rattle.p3_challenger.specs.BabyBearResidues as baby_bear;
 ghost use Rattle.p3_challenger.specs.DuplexCalls.{fresh};
-ghost use Rattle.p3_challenger.specs.HashCalls.{absorbing};
+ghost use Rattle.p3_challenger.specs.HashCalls.{with_pending};
 ghost use Rattle.p3_challenger.specs.HashState.{function_of};
 ghost use Rattle.transcript_read_back.specs.Recursive.{EachHandsStates, StatesTell, StatesTellOrCollide};
 ghost use Rattle.transcript_read_back.specs.Recursive.{StatesTellValues, StatesTellValuesOrCollide};
@@ -110,16 +110,16 @@ impl<H: CryptographicHasher<u8, [u8; 32]>> Suite for OverHash<H> {
 
 /// A challenger of zeros. What is permuted tells whole transcripts that are played from it on:
 ///
-/// - `hands_over`: each finished run of a script is a list of calls, and hands states to the
+/// - `makes_queries`: each finished run of a script is a list of calls, and queries the
 ///   permutation.
-/// - `tells`: two finished runs, whole ones or fronts of equally many steps, that hand over the same
+/// - `tells`: two finished runs, whole ones or fronts of equally many steps, that query the same
 ///   states and leave the same pending have the same version, name and chunks. Their patterns are
 ///   the same but for the names of types, and so is what each step absorbed, unless the alternate
 ///   renderings of the two patterns differ and share a digest.
-/// - `or_collides`: where they hand over equally many states, the same last, it is so too, or at one
-///   place of what they hand over stand two different states whose images are equal past cell
+/// - `or_collides`: where they query equally many states, the same last, it is so too, or at one
+///   place of what they query stand two different states whose images are equal past cell
 ///   `RATE`, and in cell `RATE` differ by a number from `-RATE` to `RATE`.
-/// - `accepted`: two accepted proofs of one script that hand over the same states, and whose final
+/// - `accepted`: two accepted proofs of one script that query the same states, and whose final
 ///   challengers have the same pending, have the same values but for hints and witnesses of 0 bits,
 ///   the same challenges and the same final challenger. `accepted_or_collides` says it of equally
 ///   many states, as above.
@@ -139,7 +139,7 @@ pub fn begin_duplex<
       permutation = permutation;
       draw_limit = draw_limit;
     } }
-    ensures hands_over { EachHandsStates WIDTH RATE
+    ensures makes_queries { EachHandsStates WIDTH RATE
         (⟦<OverDuplex<P, WIDTH, RATE> as Meaning>⟧.rules 1) P.permutation }
     ensures tells { StatesTell WIDTH RATE
         (⟦<OverDuplex<P, WIDTH, RATE> as Meaning>⟧.rules 1) P.permutation result }
@@ -168,8 +168,8 @@ pub fn begin_hash<H: CryptographicHasher<u8, [u8; 32]>>(
     initial_state: Vec<u8>,
     hasher: H,
 ) -> HashChallenger<u8, H, 32>
-    ensures value { result ≡ record { sponge = absorbing initial_state.items; hasher = hasher } }
-    ensures hands_over { EachHandsStrings (⟦<OverHash<H> as Meaning>⟧.rules 1) (function_of H.hash 32 H.filler) }
+    ensures value { result ≡ record { sponge = with_pending initial_state.items; hasher = hasher } }
+    ensures makes_queries { EachHandsStrings (⟦<OverHash<H> as Meaning>⟧.rules 1) (function_of H.hash 32 H.filler) }
     ensures tells { StringsTell (⟦<OverHash<H> as Meaning>⟧.rules 1) (function_of H.hash 32 H.filler) result }
     ensures or_collides { StringsTellOrCollide (⟦<OverHash<H> as Meaning>⟧.rules 1)
         (function_of H.hash 32 H.filler) result }

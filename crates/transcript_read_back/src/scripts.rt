@@ -4,13 +4,13 @@ ghost use Rattle.p3_challenger.specs.Segments.{Call, Run};
 ghost use Rattle.p3_challenger.specs.Sponge.{IsNonEmpty};
 ghost use Rattle.transcript_read_back.specs.CallByCall.{IsCallByCall};
 ghost use Rattle.transcript_read_back.specs.GroupDraws.{DrawsAndFeeds};
-ghost use Rattle.transcript_read_back.specs.ScriptReadBack.{EachScriptHandsOver};
+ghost use Rattle.transcript_read_back.specs.ScriptReadBack.{EachScriptMakesQueries};
 
 use p3_challenger::fs::script::{Meaning, Suite};
 use p3_challenger::fs::{counts_are_told, separators_have_seeds};
 
 /// Each finished run of a script is a list of calls on the challenger, which observe just the
-/// symbols that the run feeds, and leave the state that it leaves: so it hands something over.
+/// symbols that the run feeds, and leave the state that it leaves: so it makes a query.
 ///
 /// Conditions: each item of the alphabet, each value of the codec, and each value of the opaque
 /// type that is its own feeds something; and so the group's steps are made of what is fed and
@@ -30,7 +30,7 @@ pub fn scripts_are_calls<S: Suite>()
         Run S.Challenger.Symbol (List S.Challenger.Symbol) S.Challenger.State) →
         IsCallByCall run S.Challenger.fed S.Challenger.next →
         let rules = ⟦<S as Meaning>⟧.rules S.Field.DIMENSION in
-        EachScriptHandsOver S S.Unit S.Challenger S.Codec S.Digest S.Group S.Unit.Item S.Challenger.State
+        EachScriptMakesQueries S S.Unit S.Challenger S.Codec S.Digest S.Group S.Unit.Item S.Challenger.State
         S.Challenger.Symbol rules run }
 {
     separators_have_seeds::<S::Unit, S::Digest>();

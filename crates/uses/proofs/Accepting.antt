@@ -122,10 +122,10 @@ module _ {S Symbol : Type 0} (o : Observation S Symbol BabyBear) (places divisor
 
   pub begins : v ≡ record { transcript = v.transcript; bytes = e.wire claim.slope ++ offset_on }
   begins =
-      let spelled = ahead.unread
+      let encoded = ahead.unread
       ∙ append_assoc (e.wire claim.slope) (e.wire claim.offset ++ e.wire claim.quotient) rest
       ∙ ap (λ l. e.wire claim.slope ++ l) (append_assoc (e.wire claim.offset) (e.wire claim.quotient) rest) in
-      λ i. record { transcript = v.transcript; bytes = spelled i }
+      λ i. record { transcript = v.transcript; bytes = encoded i }
 
   line_at : (k : ℕ) (p : Playing) → p.pattern ≡ v.transcript.playing.pattern → p.position ≡ k → p.finished ≡ false →
       (s : Step) →
@@ -282,8 +282,8 @@ module _ {S Symbol : Type 0} (o : Observation S Symbol BabyBear) (places divisor
         position = ap (λ (q : Playing). q.position) here;
         going = ap (λ (q : Playing). q.finished) here;
         run = subst (λ u. IsRun o places divisors e u claim (bytes_of e claim)) (sym at)
-            (record { place = run.place; divisor = run.divisor; spelled = refl });
-        unread = ap (λ (w : Driving S). w.bytes) is ∙ unread ∙ run.spelled ∙ sym (append-nil (bytes_of e claim));
+            (record { place = run.place; divisor = run.divisor; encoded = refl });
+        unread = ap (λ (w : Driving S). w.bytes) is ∙ unread ∙ run.encoded ∙ sym (append-nil (bytes_of e claim));
       }
 
   -- one that has played it all ends

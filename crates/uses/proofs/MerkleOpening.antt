@@ -97,12 +97,12 @@ module _ (digest : List ℕ → List ℕ) (start : ℕ) (leaf bytes : List ℕ) 
     pub siblings : List (List ℕ)
     pub levels : length siblings ≡ count
     pub nodes : AreNodes siblings
-    pub spelled : bytes ≡ concat siblings ++ left
+    pub encoded : bytes ≡ concat siblings ++ left
     pub reaches : (more : List (List ℕ)) → climbed digest start leaf (siblings ++ more) ≡ climbed digest place node more
 
   pub climbed-none : IsClimbed 0 start leaf bytes
   climbed-none =
-      record { siblings = []; levels = refl; nodes = tt; spelled = refl; reaches = λ more. refl }
+      record { siblings = []; levels = refl; nodes = tt; encoded = refl; reaches = λ more. refl }
 
   pub climbed-more : (count place : ℕ) (node left sibling rest next : List ℕ) → IsClimbed count place node left →
       (left ≡ sibling ++ rest) × (length sibling ≡ 32) → next ≡ above digest place node sibling →
@@ -112,7 +112,7 @@ module _ (digest : List ℕ → List ℕ) (start : ℕ) (leaf bytes : List ℕ) 
         siblings = so_far.siblings ++ (sibling ∷ []);
         levels = omega (arith, so_far.levels, length-append so_far.siblings (sibling ∷ []));
         nodes = nodes-append so_far.siblings (sibling ∷ []) so_far.nodes (read.1, tt);
-        spelled = so_far.spelled
+        encoded = so_far.encoded
             ∙ ap (λ l. concat so_far.siblings ++ l)
             (read.0 ∙ ap (λ l. l ++ rest) (sym (append-nil sibling)))
             ∙ sym (append_assoc (concat so_far.siblings) (sibling ++ []) rest)
@@ -128,7 +128,7 @@ module _ (digest : List ℕ → List ℕ) (start : ℕ) (leaf bytes : List ℕ) 
         siblings = all.siblings;
         levels = all.levels ∙ is;
         nodes = all.nodes;
-        spelled = all.spelled;
+        encoded = all.encoded;
         reaches = sym (all.reaches []) ∙ ap (climbed digest start leaf) (append-nil all.siblings);
       }
 
@@ -157,7 +157,7 @@ module _ {S : Type 0} (digest : List ℕ → List ℕ) (d : Sampling S BabyBear)
         root = root;
         salt = salt;
         path = path;
-        spelled = of_root.0
+        encoded = of_root.0
             ∙ ap (λ l. root ++ l) (of_leaf.0 ∙ ap (λ l. (length leaf ∷ leaf) ++ l) of_salt.0);
         root_bytes = of_root.1;
         leaf_bytes = of_leaf.1;

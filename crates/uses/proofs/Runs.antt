@@ -66,12 +66,12 @@ module _ {S Symbol : Type 0} (o : Observation S Symbol BabyBear) (places divisor
       places.sampled after_offset ≡ Some claim.place → after_place ≡ places.after after_offset →
       IsDivisor divisors after_place claim.divisor → bytes ≡ bytes_of e claim →
       IsRun o places divisors e s claim bytes
-  run-by s after_slope after_offset after_place claim bytes slope offset place then divisor spelled =
+  run-by s after_slope after_offset after_place claim bytes slope offset place then divisor encoded =
       let observed : after_offset ≡ after_line o s claim = offset ∙ ap (λ u. o.observed u claim.offset) slope in
       record {
         place = ap places.sampled (sym observed) ∙ place;
         divisor = subst (λ u. IsDivisor divisors u claim.divisor) (then ∙ ap places.after observed) divisor;
-        spelled = spelled;
+        encoded = encoded;
       }
 
   -- what is so of a state and bytes is so of equal ones

@@ -8,7 +8,7 @@ use Rattle.p3_challenger.specs.FieldToFieldCodec.{FieldToFieldCodec}
 use Rattle.p3_challenger.specs.AcceptAll.{AcceptAll}
 use Rattle.p3_challenger.specs.Both.{Both}
 use Rattle.p3_challenger.specs.Hash.{Hash}
-use Rattle.p3_challenger.specs.HashCalls.{absorbing}
+use Rattle.p3_challenger.specs.HashCalls.{with_pending}
 use Rattle.p3_challenger.specs.HashState.{HashState}
 use Rattle.p3_challenger.specs.Kind.TheVariants as kind
 use Rattle.p3_challenger.specs.SerializingState.{SerializingState}
@@ -22,7 +22,7 @@ ScriptChallenger = SerializingState (HashState ℕ Sha256Hasher)
 
 -- one that observed nothing, with a limit of 1000 candidates for a scalar
 abbrev pub fresh_challenger : ScriptChallenger
-fresh_challenger = record { inner = record { sponge = absorbing []; hasher = record {} }; draw_limit = 1000 }
+fresh_challenger = record { inner = record { sponge = with_pending []; hasher = record {} }; draw_limit = 1000 }
 
 -- a step of the script
 abbrev pub ScriptStep : Type 0

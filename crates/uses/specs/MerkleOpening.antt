@@ -31,7 +31,7 @@ pub record IsClimb (digest : List ℕ → List ℕ) (place : ℕ) (node bytes to
   pub siblings : List (List ℕ)
   pub levels : length siblings ≡ 3
   pub nodes : AreNodes siblings
-  pub spelled : bytes ≡ concat siblings ++ left
+  pub encoded : bytes ≡ concat siblings ++ left
   pub reaches : top ≡ climbed digest place node siblings
 
 -- one of eight places is that of an element that is drawn, which leaves this state
@@ -49,7 +49,7 @@ pub record IsOpened {S : Type 0} (digest : List ℕ → List ℕ) (d : Sampling 
   pub root : List ℕ
   pub salt : List ℕ
   pub path : List ℕ
-  pub spelled : bytes ≡ root ++ ((length leaf ∷ leaf) ++ (salt ++ path))
+  pub encoded : bytes ≡ root ++ ((length leaf ∷ leaf) ++ (salt ++ path))
   pub root_bytes : length root ≡ 32
   pub leaf_bytes : length leaf ≤ 64
   pub salt_bytes : length salt ≡ 16

@@ -57,7 +57,7 @@ IsDivisor d s x = ((taken d (λ y kept. may_divide y) 100 [] s).gives ≡ Some x
 abbrev pub after_line : {S Symbol : Type 0} → Observation S Symbol BabyBear → S → Claim → S
 after_line o s claim = o.observed (o.observed s claim.slope) claim.offset
 
--- slope, offset and quotient, spelled one after another
+-- slope, offset and quotient, encoded one after another
 abbrev pub bytes_of : Encoding BabyBear → Claim → List ℕ
 bytes_of e claim = e.wire claim.slope ++ (e.wire claim.offset ++ e.wire claim.quotient)
 
@@ -67,7 +67,7 @@ pub record IsRun {S Symbol : Type 0} (o : Observation S Symbol BabyBear) (places
     (e : Encoding BabyBear) (s : S) (claim : Claim) (bytes : List ℕ) : Type 0 where
   pub place : places.sampled (after_line o s claim) ≡ Some claim.place
   pub divisor : IsDivisor divisors (places.after (after_line o s claim)) claim.divisor
-  pub spelled : bytes ≡ bytes_of e claim
+  pub encoded : bytes ≡ bytes_of e claim
 
 -- the answer of a verifier is that of a run
 abbrev pub AnswersRun : (Claim → Type 0) → Option Claim → Type 0
@@ -78,7 +78,7 @@ abbrev pub AcceptsRuns : (Claim → Type 0) → Result (Option Claim) Transcript
 AcceptsRuns IsRunOf result =
     (claim : Claim) → IsRunOf claim → MatchResult result (λ found. IsAnswer found claim) (λ e. e ≡ OutOfMemory)
 
--- what a prover hands over: the line's value at the place, times a power of the divisor that divides by it
+-- what a prover queries: the line's value at the place, times a power of the divisor that divides by it
 abbrev pub quotient_of : Claim → BabyBear
 quotient_of claim =
     product_of residues (sum_of residues (product_of residues claim.slope claim.place) claim.offset)

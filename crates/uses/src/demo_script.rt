@@ -1,7 +1,7 @@
 //! A protocol as a script: the types that play it, its steps as data, and a call for each side.
 //!
 //! Both sides know a number. The prover sends a salt and at most four values, and finds a witness for 8 bits of work. Then
-//! a challenge is drawn, the prover hands over a note that no challenge depends on, and two places are drawn, of 4 bits
+//! a challenge is drawn, the prover queries a note that no challenge depends on, and two places are drawn, of 4 bits
 //! each. No code stands here for any of these steps. The contract of [`verify`] says which bytes are accepted, and what
 //! comes of them; that of [`prove_and_verify`], that both sides end in one state.
 ghost use Rattle.std.specs.Prelude.{◌≡◌, List, [], IfOk, IfErr, IfSome};
@@ -157,7 +157,7 @@ pub struct Agreed {
 /// Proves that these values were sent, and verifies the proof: both sides draw the same.
 ///
 /// Nothing is answered where other values are sent than the steps have: a salt of 8 bytes, a list of scalars, and the
-/// bytes of a note. The errors are those of [`script::prove`], and want of memory.
+/// bytes of a note. The errors are those of [`script::prove`], and out of memory.
 pub fn prove_and_verify(
     alloc: Global,
     separator: &Separator,

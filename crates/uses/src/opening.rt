@@ -1,12 +1,12 @@
 //! A Merkle opening read from a hostile proof.
 //!
 //! A prover sends the root of a tree, and a place is drawn. Then it sends the leaf at the place, at most
-//! [`MOST_LEAF_BYTES`] of it, and a salt, without which the leaf could be guessed from its hash; and it hands over the
+//! [`MOST_LEAF_BYTES`] of it, and a salt, without which the leaf could be guessed from its hash; and it queries the
 //! siblings on the way to the root. These are hints: they only have to make up the root, which was observed before the
 //! place was drawn. The contract of [`verify`] says that they do, that the proof is these bytes and no others, and that
 //! whatever is drawn next depends on the leaf and the salt too. The leaf is lent from the proof itself.
 ghost use Rattle.std.specs.Prelude.{◌≡◌, ◌<◌, ◌↔◌, ◌++◌, [], ◌∷◌, IsTrue, IfOk, IfSome, OnOk};
-ghost use Rattle.p3_challenger.specs.HashCalls.{absorbing};
+ghost use Rattle.p3_challenger.specs.HashCalls.{with_pending};
 ghost use Rattle.p3_challenger.specs.HashState.{observed};
 ghost use Rattle.p3_challenger.specs.Observation.{observed_all};
 ghost use Rattle.p3_challenger.specs.SeparatorSeed.{seed_of_separator};
@@ -132,7 +132,7 @@ fn root_of(alloc: Global, leaves: &[Leaf<'_>]) -> Result<Node, AllocError> {
 
 /// Reads a proof, and gives the leaf that it opens, or none where it is not in the tree.
 ///
-/// The errors are those of the transcript: a proof that is too short or too long, a leaf that is too long, and want of
+/// The errors are those of the transcript: a proof that is too short or too long, a leaf that is too long, and out of
 /// memory.
 pub fn verify<'a>(
     alloc: Global,
@@ -143,7 +143,7 @@ pub fn verify<'a>(
         let seed = seed_of_separator digest separator.now in
         IfOk result (λ found. IfSome found (λ opened. IsOpened digest
         ⟦<Coefficient as Codec<Challenger, BabyBear>>⟧.sampling (observed_all observed) proof.now
-        (record { sponge = absorbing seed; hasher = record {} }) opened.place opened.bytes.now []
+        (record { sponge = with_pending seed; hasher = record {} }) opened.place opened.bytes.now []
         (⟦<Challenger as Sponge>⟧.state opened.challenger))) }
 {
     let mut verifier = Verifier::new(alloc, challenger(alloc), separator, proof)?;
@@ -264,7 +264,7 @@ fn same_bytes(a: &[u8], b: &[u8]) -> bool
 
 // What both sides begin with.
 fn challenger(alloc: Global) -> Challenger
-    ensures { result.sponge ≡ absorbing [] }
+    ensures { result.sponge ≡ with_pending [] }
 {
     Challenger::new(Vec::new(alloc), Sha256Hasher)
 }

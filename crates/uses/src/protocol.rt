@@ -1,12 +1,12 @@
 //! A small protocol, whole: the pattern of its steps, a prover and a verifier.
 //!
-//! The prover sends a line over a field. A place is drawn, and a divisor other than 0. The prover hands over the line's
+//! The prover sends a line over a field. A place is drawn, and a divisor other than 0. The prover queries the line's
 //! value at the place, divided by the divisor. That number is a hint: it is not absorbed, so no challenge depends on
 //! it, and the verifier checks it by itself. The place and the divisor have to depend on the line. The contract of
 //! [`verify`] says that they do, and which bytes the proof is.
 ghost use Rattle.std.specs.Prelude.{◌≡◌, ◌+◌, ◌++◌, ℕ, List, [], Some, codes, length, IfOk, OnOk, MatchResult};
 ghost use Rattle.p3_challenger.specs.BabyBearResidues as baby_bear;
-ghost use Rattle.p3_challenger.specs.HashCalls.{absorbing};
+ghost use Rattle.p3_challenger.specs.HashCalls.{with_pending};
 ghost use Rattle.p3_challenger.specs.Drivers.{proving_of};
 ghost use Rattle.p3_challenger.specs.Reading.{AreBytes};
 ghost use Rattle.p3_challenger.specs.SeparatorSeed.{pattern_of, seed_of_separator};
@@ -77,7 +77,7 @@ impl Line for Claim {
         let seed = seed_of_separator ⟦<Sha256Hasher as DigestHasher>⟧.digest_of separator in
         IsRun scalars.observation scalars.sampling
         ⟦<Coefficient as Codec<Challenger, BabyBear>>⟧.sampling scalars.encoding
-        (record { sponge = absorbing seed; hasher = record {} }) claim proof };
+        (record { sponge = with_pending seed; hasher = record {} }) claim proof };
 }
 
 /// Sends the line, and gives the bytes of the proof. The one error in fact is that memory is out.
@@ -91,7 +91,7 @@ pub fn prove(
         let scalars = ⟦<Scalars as Codec<Challenger, BabyBear>>⟧ in
         IfOk result (λ proof. IsSent scalars.observation scalars.sampling
         ⟦<Coefficient as Codec<Challenger, BabyBear>>⟧.sampling scalars.encoding
-        (record { sponge = absorbing seed; hasher = record {} }) slope offset proof.items) }
+        (record { sponge = with_pending seed; hasher = record {} }) slope offset proof.items) }
 {
     let mut prover = Prover::new(alloc, challenger(alloc), separator)?;
     let sent = send(&mut prover, alloc, slope, offset);
@@ -127,8 +127,8 @@ fn send(
 /// Reads a proof, and gives the claim that it makes, or none where its quotient is wrong. A proof has 12 bytes.
 ///
 /// The errors are those of the transcript: a proof that is too short or too long, a number that is no element of the
-/// field, and want of memory. A proof that [`prove`] sent under the same separator, one that [`separator`] made, is
-/// accepted, for the same claim; want of memory alone can come instead.
+/// field, and out of memory. A proof that [`prove`] sent under the same separator, one that [`separator`] made, is
+/// accepted, for the same claim; only being out of memory can come instead.
 pub fn verify(
     alloc: Global,
     separator: &Separator,
@@ -227,7 +227,7 @@ fn draw_divisor<S: SymmetricSteps<Challenger = Challenger, Digest = Sha256Hasher
 
 // What both sides begin with.
 fn challenger(alloc: Global) -> Challenger
-    ensures { result.sponge ≡ absorbing [] }
+    ensures { result.sponge ≡ with_pending [] }
 {
     Challenger::new(Vec::new(alloc), Sha256Hasher)
 }

@@ -17,7 +17,7 @@
 ghost use Rattle.std.specs.Prelude.{◌≡◌, ◌<◌, ◌≤◌, ◌++◌, List};
 ghost use Rattle.p3_challenger.specs.BabyBearResidues as baby_bear;
 ghost use Rattle.p3_challenger.specs.Segments.{run_calls};
-ghost use Rattle.p3_challenger.specs.HashCalls.{absorbing};
+ghost use Rattle.p3_challenger.specs.HashCalls.{with_pending};
 ghost use Rattle.p3_challenger.specs.HashState.{function_of};
 ghost use Rattle.p3_challenger.specs.HashReadBack as hash;
 ghost use Rattle.p3_challenger.specs.DuplexCalls.{duplex_by_calls, fresh};
@@ -33,7 +33,7 @@ pub fn begin_with_bytes<H: CryptographicHasher<u8, [u8; 32]>>(
     initial_state: Vec<u8>,
     hasher: H,
 ) -> HashChallenger<u8, H, 32>
-    ensures starts { result ≡ record { sponge = absorbing initial_state.items; hasher = hasher } }
+    ensures starts { result ≡ record { sponge = with_pending initial_state.items; hasher = hasher } }
     ensures tells { hash.ReadsBack (function_of H.hash 32 H.filler hasher) result.sponge }
     ensures or_collides { hash.ReadsBackOrCollides (function_of H.hash 32 H.filler hasher) result.sponge }
 {
@@ -49,7 +49,7 @@ pub fn begin_with_elements<
     const OUT_LEN: usize,
 >(initial_state: Vec<F>, hasher: H) -> HashChallenger<F, H, OUT_LEN>
     requires { 0 < OUT_LEN }
-    ensures starts { result ≡ record { sponge = absorbing initial_state.items; hasher = hasher } }
+    ensures starts { result ≡ record { sponge = with_pending initial_state.items; hasher = hasher } }
     ensures tells { hash.ReadsBack (function_of H.hash OUT_LEN H.filler hasher) result.sponge }
     ensures or_collides { hash.ReadsBackOrCollides (function_of H.hash OUT_LEN H.filler hasher) result.sponge }
 {
@@ -76,7 +76,7 @@ pub fn begin_with_zeros<P: CryptographicPermutation<[BabyBear; 16]>>(
     ensures or_collides { duplex.ReadsBackOrCollides baby_bear.residues (P.permutation permutation) 8 result.sponge }
     ensures rounds { (a b c d : List baby_bear.BabyBear) →
         let run = run_calls (duplex_by_calls baby_bear.residues (P.permutation permutation) 8) result.sponge in
-        (run (two_rounds a b)).handed ≡ (run (two_rounds c d)).handed
+        (run (two_rounds a b)).queries ≡ (run (two_rounds c d)).queries
         → (run (two_rounds a b)).after.pending ≡ (run (two_rounds c d)).after.pending → a ++ b ≡ c ++ d }
 {
     DuplexChallenger::new(permutation, draw_limit)

@@ -113,7 +113,7 @@ impl<'a, U: Unit, C: CanObserve<U::Item>, D: DigestHasher> VerifierState<'a, C, 
 
     /// Reads at most `max` scalars, after their count.
     ///
-    /// A count above `max` is passed. The count is absorbed before any scalar is read. Where the scalars' spellings
+    /// A count above `max` is passed. The count is absorbed before any scalar is read. Where the scalars' encodings
     /// take more bytes than are left, they are refused before any is read; and the scalars before one that is none are
     /// absorbed.
     ///
@@ -226,7 +226,7 @@ impl<'a, C: Sponge, U, D: DigestHasher> VerifierState<'a, C, U, D> {
 
     /// Reads `n` scalars.
     ///
-    /// Where their spellings take more bytes than are left, they are refused before any is read. The scalars before one
+    /// Where their encodings take more bytes than are left, they are refused before any is read. The scalars before one
     /// that is none are absorbed.
     pub fn next_scalars<F: ScalarField, Cdc: Codec<C, F>>(
         &mut self,
@@ -311,7 +311,7 @@ impl<'a, C: Sponge, U, D: DigestHasher> VerifierState<'a, C, U, D> {
         Ok(self.steps.bind(value))
     }
 
-    // Reads so many values, and observes each before it reads the next one. Where their spellings take more bytes than
+    // Reads so many values, and observes each before it reads the next one. Where their encodings take more bytes than
     // are left, none is read, and no memory is asked for.
     fn receive_values<A: Copy, Cdc: Codec<C, A>>(
         &mut self,

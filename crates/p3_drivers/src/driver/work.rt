@@ -73,7 +73,7 @@ impl<C: GrindingChallenger, U, D: DigestHasher> VerifierState<'_, C, U, D> {
     /// and is read all the same.
     ///
     /// Where too few bits are 0, the step is refused with [`TranscriptError::BadProofShape`] and `pow witness does not
-    /// produce enough zero bits`: the check is done then. Bytes that spell no witness are passed.
+    /// produce enough zero bits`: the check is done then. Bytes that encode no witness are passed.
     /// [`TranscriptError::OutOfMemory`] comes only where the check is refused memory: the witness is read then, and the
     /// challenger is as that check leaves it. Condition: `bits` is at most
     /// [`max_bits`](p3_challenger_core::CanSampleBits::max_bits).

@@ -13,7 +13,7 @@ ghost use Rattle.p3_duplex.specs.DuplexState.{DuplexState, run, after_calls};
 use crate::DuplexChallenger;
 use p3_challenger_core::{CanFinalizeDigest, CanObserve, CanSample, CanSampleBits, Sponge};
 use p3_field_core::{BasedVectorSpace, PrimeField64, UniformSamplingField};
-use p3_grinding::{CanSampleUniformBits, PrepareCheck};
+use p3_grinding::{BeforeWitness, CanSampleUniformBits};
 use p3_symmetric::{CryptographicPermutation, Hash, MerkleCap};
 
 impl<
@@ -98,15 +98,15 @@ impl<
     /// A law: the body is empty, and a caller cites the clauses.
     pub fn checks_are_calls()
         ensures none { (witness : F) (c : DuplexState F P) →
-            (check_of ⟦<Self as PrepareCheck>⟧.before_witness ⟦<Self as CanObserve<F>>⟧.observation
+            (check_of ⟦<Self as BeforeWitness>⟧.before_witness ⟦<Self as CanObserve<F>>⟧.observation
             (all_zero (⟦<Self as CanSampleBits<usize>>⟧.bits_sampling 0)) 0 witness).sampled c ≡ Some Bool.true }
         ensures sampled { (more : ℕ) (witness x : F) (c : DuplexState F P) →
             (run F.residues P.permutation RATE c (observe witness ∷ draw ∷ [])).answers ≡ x ∷ [] →
-            (check_of ⟦<Self as PrepareCheck>⟧.before_witness ⟦<Self as CanObserve<F>>⟧.observation
+            (check_of ⟦<Self as BeforeWitness>⟧.before_witness ⟦<Self as CanObserve<F>>⟧.observation
             (all_zero (⟦<Self as CanSampleBits<usize>>⟧.bits_sampling (suc more))) (suc more) witness).sampled c
             ≡ Some (F.residues.number x % 2 ^ suc more == 0) }
         ensures after { (more : ℕ) (witness : F) (c : DuplexState F P) →
-            (check_of ⟦<Self as PrepareCheck>⟧.before_witness ⟦<Self as CanObserve<F>>⟧.observation
+            (check_of ⟦<Self as BeforeWitness>⟧.before_witness ⟦<Self as CanObserve<F>>⟧.observation
             (all_zero (⟦<Self as CanSampleBits<usize>>⟧.bits_sampling (suc more))) (suc more) witness).after c
             ≡ after_calls F.residues P.permutation RATE c (observe witness ∷ draw ∷ []) }
     {}

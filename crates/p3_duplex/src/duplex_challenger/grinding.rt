@@ -3,7 +3,7 @@ use crate::DuplexChallenger;
 use p3_challenger_core::ChallengerError;
 use p3_field_core::{PrimeField64, UniformSamplingField};
 use p3_grinding::{
-    GrindingChallenger, PrepareCheck, Replica, UniformGrindingChallenger, least_uniform_witness,
+    BeforeWitness, GrindingChallenger, TryClone, UniformGrindingChallenger, least_uniform_witness,
     least_witness,
 };
 use p3_symmetric::CryptographicPermutation;
@@ -13,14 +13,14 @@ impl<
     P: CryptographicPermutation<[F; WIDTH]>,
     const WIDTH: usize,
     const RATE: usize,
-> Replica for DuplexChallenger<F, P, WIDTH, RATE> {
-    ghost copies_may_fail = { ⊥ };
+> TryClone for DuplexChallenger<F, P, WIDTH, RATE> {
+    ghost clones_may_fail = { ⊥ };
 
-    fn copy(&self) -> Result<Self, ChallengerError> {
+    fn try_clone(&self) -> Result<Self, ChallengerError> {
         Ok(self.clone())
     }
 
-    fn copy_from(&mut self, other: &Self) -> Result<(), ChallengerError> {
+    fn try_clone_from(&mut self, other: &Self) -> Result<(), ChallengerError> {
         *self = other.clone();
         Ok(())
     }
@@ -31,7 +31,7 @@ impl<
     P: CryptographicPermutation<[F; WIDTH]>,
     const WIDTH: usize,
     const RATE: usize,
-> PrepareCheck for DuplexChallenger<F, P, WIDTH, RATE> {
+> BeforeWitness for DuplexChallenger<F, P, WIDTH, RATE> {
     ghost use Rattle.p3_grinding.specs.Checks.{draws_nothing};
     ghost use Rattle.p3_grinding.specs.CheckLaws.{draws_nothing-is_sampling};
 
@@ -39,7 +39,7 @@ impl<
 
     ghost prepares = { draws_nothing-is_sampling _ };
 
-    fn prepare_check(&mut self) -> Result<(), ChallengerError> {
+    fn draw_before_witness(&mut self) -> Result<(), ChallengerError> {
         Ok(())
     }
 }
@@ -58,7 +58,7 @@ impl<
     // A search takes no memory.
     ghost may_run_out = { λ _. ⊥ };
 
-    ghost tells_witnesses = { record { prefix_code = one_symbol_each; some = λ _. tt } };
+    ghost witnesses_prefix_free = { record { prefix_code = one_symbol_each; some = λ _. tt } };
 
     ghost number_is = { λ n. refl };
 

@@ -9,7 +9,7 @@ ghost use Rattle.p3_duplex.specs.DuplexState.{DuplexState};
 use crate::DuplexChallenger;
 use p3_challenger_core::{CanObserve, CanSampleBits};
 use p3_field_core::{PrimeField64, UniformSamplingField};
-use p3_grinding::{CanSampleUniformBits, PrepareCheck};
+use p3_grinding::{BeforeWitness, CanSampleUniformBits};
 use p3_symmetric::{CryptographicPermutation, Hash, MerkleCap};
 
 impl<
@@ -44,7 +44,7 @@ impl<
     /// A law: the body is empty, and a caller cites the clause.
     pub fn checks_are_not_refused()
         ensures { (bits : ℕ) (witness : F) (e : ChallengerError) (c d : DuplexState F P) →
-            ¬ (RefusesDraw (check_of ⟦<Self as PrepareCheck>⟧.before_witness
+            ¬ (RefusesDraw (check_of ⟦<Self as BeforeWitness>⟧.before_witness
             ⟦<Self as CanObserve<F>>⟧.observation
             (all_zero (⟦<Self as CanSampleBits<usize>>⟧.bits_sampling bits)) bits witness) e c d) }
     {}
@@ -62,11 +62,11 @@ impl<
     /// A law: the body is empty, and a caller cites the clauses.
     pub fn uniform_checks_take_no_memory()
         ensures memory { (resample : Bool) (bits : ℕ) (witness : F) (c d : DuplexState F P) →
-            ¬ ((check_of ⟦<Self as PrepareCheck>⟧.before_witness ⟦<Self as CanObserve<F>>⟧.observation
+            ¬ ((check_of ⟦<Self as BeforeWitness>⟧.before_witness ⟦<Self as CanObserve<F>>⟧.observation
             (zero_and_uniform (⟦<Self as CanSampleUniformBits<F>>⟧.uniform resample bits)) bits witness).may_leave
             c d) }
         ensures unrefused { (bits : ℕ) (witness : F) (e : ChallengerError) (c d : DuplexState F P) →
-            ¬ (RefusesDraw (check_of ⟦<Self as PrepareCheck>⟧.before_witness
+            ¬ (RefusesDraw (check_of ⟦<Self as BeforeWitness>⟧.before_witness
             ⟦<Self as CanObserve<F>>⟧.observation
             (zero_and_uniform (⟦<Self as CanSampleUniformBits<F>>⟧.uniform false bits)) bits witness) e c d) }
     {}

@@ -1,18 +1,18 @@
 //! Proof of work on bytes: candidates are tried on a copy, which takes no memory once it has room.
 use crate::HashChallenger;
 use p3_challenger_core::ChallengerError;
-use p3_grinding::{ByteGrindingChallenger, Replica};
+use p3_grinding::{ByteGrindingChallenger, TryClone};
 use p3_symmetric::CryptographicHasher;
 
-impl<T: Copy, H: CryptographicHasher<T, [T; OUT_LEN]>, const OUT_LEN: usize> Replica
+impl<T: Copy, H: CryptographicHasher<T, [T; OUT_LEN]>, const OUT_LEN: usize> TryClone
     for HashChallenger<T, H, OUT_LEN> {
-    ghost copies_may_fail = { Unit {0} };
+    ghost clones_may_fail = { Unit {0} };
 
-    fn copy(&self) -> Result<Self, ChallengerError> {
+    fn try_clone(&self) -> Result<Self, ChallengerError> {
         self.clone()
     }
 
-    fn copy_from(&mut self, other: &Self) -> Result<(), ChallengerError> {
+    fn try_clone_from(&mut self, other: &Self) -> Result<(), ChallengerError> {
         if other.digest.is_none() {
             self.input_buffer.clear();
             self.input_buffer
@@ -33,5 +33,5 @@ impl<
 > ByteGrindingChallenger<W, S> for HashChallenger<u8, H, OUT_LEN> {
     ghost use Rattle.p3_challenger_core.specs.SymbolLaws.{one_symbol_each};
 
-    ghost tells_bytes = { λ x y a b _ _ same. one_symbol_each x y a b same };
+    ghost bytes_prefix_free = { λ x y a b _ _ same. one_symbol_each x y a b same };
 }

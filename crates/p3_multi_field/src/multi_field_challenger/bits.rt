@@ -1,7 +1,7 @@
 //! Numbers of some bits, drawn from a multi-field challenger: the low bits of one scalar.
 ghost use Rattle.std.specs.Prelude.{◌≡◌, ◌^◌, ◌≤◌, ◌%◌};
 
-use crate::{MultiField32Challenger, Paired};
+use crate::{HasFieldPair, MultiField32Challenger};
 use p3_challenger_core::{CanSample, CanSampleBits, ChallengerError, FieldChallenger};
 use p3_field_bridge::FieldBridge;
 use p3_field_core::{PrimeField32, PrimeField64, log2_ceil_u64};
@@ -26,17 +26,17 @@ impl<
 
     // A draw takes no memory and has no limit: it is never refused.
     ghost bits_sampling = { λ bits. unrefused_draw
-        (λ s. Some (F.residues.number (multi_state.sampled ⟦<PF as Paired<F>>⟧.pair P.permutation RATE s) % 2 ^ bits))
-        (λ s. multi_state.after_sampled ⟦<PF as Paired<F>>⟧.pair P.permutation RATE s) };
+        (λ s. Some (F.residues.number (multi_state.sampled ⟦<PF as HasFieldPair<F>>⟧.field_pair P.permutation RATE s) % 2 ^ bits))
+        (λ s. multi_state.after_sampled ⟦<PF as HasFieldPair<F>>⟧.field_pair P.permutation RATE s) };
 
     ghost number = { λ n. n };
 
     ghost number_tells = { λ _ _ same. same };
 
-    ghost samples_bits = { λ bits. bits-sampled ⟦<PF as Paired<F>>⟧.pair P.permutation RATE bits };
+    ghost samples_bits = { λ bits. bits-sampled ⟦<PF as HasFieldPair<F>>⟧.field_pair P.permutation RATE bits };
 
     ghost bits_below = { λ bits s x _ drawn. low_bits-below
-        (F.residues.number (multi_state.sampled ⟦<PF as Paired<F>>⟧.pair P.permutation RATE s)) bits x drawn };
+        (F.residues.number (multi_state.sampled ⟦<PF as HasFieldPair<F>>⟧.field_pair P.permutation RATE s)) bits x drawn };
 
     ghost most_bits_short = { most_bits-short F.residues.order };
 

@@ -5,7 +5,7 @@ ghost use Rattle.p3_challenger_core.specs.Observation.{observed_all};
 ghost use Rattle.p3_multi_field.specs.MultiFieldCalls.{words_over, emptied, permuting};
 
 use super::{plus_number, zero};
-use crate::{MultiField32Challenger, Paired};
+use crate::{HasFieldPair, MultiField32Challenger};
 use p3_challenger_core::{CanObserve, ChallengerError};
 use p3_field_bridge::FieldBridge;
 use p3_field_core::{PrimeField32, PrimeField64};
@@ -40,7 +40,7 @@ impl<
     // Absorbs what is pending. Where nothing is, the outputs left are dropped.
     fn empty(&mut self)
         ensures emptied { self.new ≡ record self.old {
-          sponge = emptied ⟦<PF as Paired<F>>⟧.pair
+          sponge = emptied ⟦<PF as HasFieldPair<F>>⟧.field_pair
               (P.permutation self.old.permutation) RATE self.old.sponge.cells self.old.sponge.pending;
         } }
         ensures none_pending { self.new.sponge.pending ≡ [] }
@@ -57,7 +57,7 @@ impl<
         requires none { self.old.sponge.pending ≡ [] }
         requires fits { length block.now ≤ RATE }
         ensures { self.new ≡ record self.old {
-          sponge = permuting ⟦<PF as Paired<F>>⟧.pair
+          sponge = permuting ⟦<PF as HasFieldPair<F>>⟧.field_pair
               (P.permutation self.old.permutation) RATE (words_over PF.residues RATE self.old.sponge.cells block.now);
         } }
     {
@@ -70,7 +70,7 @@ impl<
     // Observes a digest of words: they are absorbed in blocks, after what is pending.
     fn push_digest(&mut self, words: &[PF])
         ensures { self.new
-            ≡ multi_state.digest_observed ⟦<PF as Paired<F>>⟧.pair P.permutation RATE self.old words.now }
+            ≡ multi_state.digest_observed ⟦<PF as HasFieldPair<F>>⟧.field_pair P.permutation RATE self.old words.now }
     {
         let _ = &self.sponge_state;
         self.empty();
@@ -85,7 +85,7 @@ impl<
     // Makes the scalars of parts pending, part by part.
     fn push_parts<Part: AsSlice<F>>(&mut self, parts: &[Part])
         ensures { self.new ≡ observed_all
-            (λ s part. multi_state.scalars_observed ⟦<PF as Paired<F>>⟧.pair P.permutation RATE s (Part.items part))
+            (λ s part. multi_state.scalars_observed ⟦<PF as HasFieldPair<F>>⟧.field_pair P.permutation RATE s (Part.items part))
             self.old parts.now }
     {
         for i in 0..parts.len() {
@@ -97,7 +97,7 @@ impl<
     fn push_lists<Part: AsSlice<F>, V: AsSlice<Part>>(&mut self, values: &[V])
         ensures { self.new ≡ observed_all
             (λ s value. observed_all
-            (λ u part. multi_state.scalars_observed ⟦<PF as Paired<F>>⟧.pair P.permutation RATE u (Part.items part))
+            (λ u part. multi_state.scalars_observed ⟦<PF as HasFieldPair<F>>⟧.field_pair P.permutation RATE u (Part.items part))
             s (V.items value))
             self.old values.now }
     {
@@ -109,7 +109,7 @@ impl<
     // Observes digests one after another.
     fn push_digests<D: AsSlice<PF>>(&mut self, digests: &[D])
         ensures { self.new ≡ observed_all
-            (λ s words. multi_state.digest_observed ⟦<PF as Paired<F>>⟧.pair P.permutation RATE s (D.items words))
+            (λ s words. multi_state.digest_observed ⟦<PF as HasFieldPair<F>>⟧.field_pair P.permutation RATE s (D.items words))
             self.old digests.now }
     {
         for i in 0..digests.len() {
@@ -121,7 +121,7 @@ impl<
     fn push_caps<D: AsSlice<PF>, V: AsSlice<D>>(&mut self, caps: &[V])
         ensures { self.new ≡ observed_all
             (λ s cap. observed_all
-            (λ u words. multi_state.digest_observed ⟦<PF as Paired<F>>⟧.pair P.permutation RATE u (D.items words))
+            (λ u words. multi_state.digest_observed ⟦<PF as HasFieldPair<F>>⟧.field_pair P.permutation RATE u (D.items words))
             s (V.items cap))
             self.old caps.now }
     {
@@ -168,13 +168,13 @@ impl<
 
     // An observation takes no memory: it is never refused.
     ghost observation = { unrefused_observe (λ xs. map scalar xs)
-        (λ s xs. multi_state.scalars_observed ⟦<PF as Paired<F>>⟧.pair P.permutation RATE s xs) };
+        (λ s xs. multi_state.scalars_observed ⟦<PF as HasFieldPair<F>>⟧.field_pair P.permutation RATE s xs) };
 
     ghost slice_may_leave = { λ _ _ _. ⊥ };
 
-    ghost observes = { is_observation ⟦<PF as Paired<F>>⟧.pair P.permutation RATE (λ xs. map scalar xs)
-        (λ s xs. multi_state.scalars_observed ⟦<PF as Paired<F>>⟧.pair P.permutation RATE s xs)
-        (λ s xs. scalars-fed ⟦<PF as Paired<F>>⟧.pair P.permutation RATE s xs) };
+    ghost observes = { is_observation ⟦<PF as HasFieldPair<F>>⟧.field_pair P.permutation RATE (λ xs. map scalar xs)
+        (λ s xs. multi_state.scalars_observed ⟦<PF as HasFieldPair<F>>⟧.field_pair P.permutation RATE s xs)
+        (λ s xs. scalars-fed ⟦<PF as HasFieldPair<F>>⟧.field_pair P.permutation RATE s xs) };
 
     ghost slice_leaves = { λ _ _ _ h. absurd h };
 
@@ -207,16 +207,16 @@ impl<
     // An observation takes no memory: it is never refused.
     ghost observation = { unrefused_observe (λ lists. flat_map (λ list. map scalar list.items) lists.items)
         (λ s lists. observed_all
-        (λ u list. multi_state.scalars_observed ⟦<PF as Paired<F>>⟧.pair P.permutation RATE u list.items)
+        (λ u list. multi_state.scalars_observed ⟦<PF as HasFieldPair<F>>⟧.field_pair P.permutation RATE u list.items)
         s lists.items) };
 
     ghost slice_may_leave = { λ _ _ _. ⊥ };
 
-    ghost observes = { is_observation ⟦<PF as Paired<F>>⟧.pair P.permutation RATE
+    ghost observes = { is_observation ⟦<PF as HasFieldPair<F>>⟧.field_pair P.permutation RATE
         (λ lists. flat_map (λ list. map scalar list.items) lists.items)
         (λ s lists. observed_all
-        (λ u list. multi_state.scalars_observed ⟦<PF as Paired<F>>⟧.pair P.permutation RATE u list.items) s lists.items)
-        (λ s lists. lists-fed ⟦<PF as Paired<F>>⟧.pair P.permutation RATE (λ list. list.items) s lists.items) };
+        (λ u list. multi_state.scalars_observed ⟦<PF as HasFieldPair<F>>⟧.field_pair P.permutation RATE u list.items) s lists.items)
+        (λ s lists. lists-fed ⟦<PF as HasFieldPair<F>>⟧.field_pair P.permutation RATE (λ list. list.items) s lists.items) };
 
     ghost slice_leaves = { λ _ _ _ h. absurd h };
 
@@ -248,13 +248,13 @@ impl<
 
     // An observation takes no memory: it is never refused.
     ghost observation = { unrefused_observe (λ words. digest (values_of words) ∷ [])
-        (λ s words. multi_state.digest_observed ⟦<PF as Paired<F>>⟧.pair P.permutation RATE s (values_of words)) };
+        (λ s words. multi_state.digest_observed ⟦<PF as HasFieldPair<F>>⟧.field_pair P.permutation RATE s (values_of words)) };
 
     ghost slice_may_leave = { λ _ _ _. ⊥ };
 
-    ghost observes = { is_observation ⟦<PF as Paired<F>>⟧.pair P.permutation RATE
+    ghost observes = { is_observation ⟦<PF as HasFieldPair<F>>⟧.field_pair P.permutation RATE
         (λ words. digest (values_of words) ∷ [])
-        (λ s words. multi_state.digest_observed ⟦<PF as Paired<F>>⟧.pair P.permutation RATE s (values_of words))
+        (λ s words. multi_state.digest_observed ⟦<PF as HasFieldPair<F>>⟧.field_pair P.permutation RATE s (values_of words))
         (λ _ _. refl) };
 
     ghost slice_leaves = { λ _ _ _ h. absurd h };
@@ -286,13 +286,13 @@ impl<
 
     // An observation takes no memory: it is never refused.
     ghost observation = { unrefused_observe (λ cap. map digest cap)
-        (λ s cap. multi_state.digests_observed ⟦<PF as Paired<F>>⟧.pair P.permutation RATE s cap) };
+        (λ s cap. multi_state.digests_observed ⟦<PF as HasFieldPair<F>>⟧.field_pair P.permutation RATE s cap) };
 
     ghost slice_may_leave = { λ _ _ _. ⊥ };
 
-    ghost observes = { is_observation ⟦<PF as Paired<F>>⟧.pair P.permutation RATE (λ cap. map digest cap)
-        (λ s cap. multi_state.digests_observed ⟦<PF as Paired<F>>⟧.pair P.permutation RATE s cap)
-        (λ s cap. digests-fed ⟦<PF as Paired<F>>⟧.pair P.permutation RATE s cap) };
+    ghost observes = { is_observation ⟦<PF as HasFieldPair<F>>⟧.field_pair P.permutation RATE (λ cap. map digest cap)
+        (λ s cap. multi_state.digests_observed ⟦<PF as HasFieldPair<F>>⟧.field_pair P.permutation RATE s cap)
+        (λ s cap. digests-fed ⟦<PF as HasFieldPair<F>>⟧.field_pair P.permutation RATE s cap) };
 
     ghost slice_leaves = { λ _ _ _ h. absurd h };
 
@@ -323,13 +323,13 @@ impl<
 
     // An observation takes no memory: it is never refused.
     ghost observation = { unrefused_observe (λ cap. map digest cap.now)
-        (λ s cap. multi_state.digests_observed ⟦<PF as Paired<F>>⟧.pair P.permutation RATE s cap.now) };
+        (λ s cap. multi_state.digests_observed ⟦<PF as HasFieldPair<F>>⟧.field_pair P.permutation RATE s cap.now) };
 
     ghost slice_may_leave = { λ _ _ _. ⊥ };
 
-    ghost observes = { is_observation ⟦<PF as Paired<F>>⟧.pair P.permutation RATE (λ cap. map digest cap.now)
-        (λ s cap. multi_state.digests_observed ⟦<PF as Paired<F>>⟧.pair P.permutation RATE s cap.now)
-        (λ s cap. digests-fed ⟦<PF as Paired<F>>⟧.pair P.permutation RATE s cap.now) };
+    ghost observes = { is_observation ⟦<PF as HasFieldPair<F>>⟧.field_pair P.permutation RATE (λ cap. map digest cap.now)
+        (λ s cap. multi_state.digests_observed ⟦<PF as HasFieldPair<F>>⟧.field_pair P.permutation RATE s cap.now)
+        (λ s cap. digests-fed ⟦<PF as HasFieldPair<F>>⟧.field_pair P.permutation RATE s cap.now) };
 
     ghost slice_leaves = { λ _ _ _ h. absurd h };
 

@@ -3,7 +3,7 @@ use crate::MultiField32Challenger;
 use p3_challenger_core::ChallengerError;
 use p3_field_bridge::FieldBridge;
 use p3_field_core::{PrimeField32, PrimeField64};
-use p3_grinding::{GrindingChallenger, PrepareCheck, Replica, least_witness};
+use p3_grinding::{BeforeWitness, GrindingChallenger, TryClone, least_witness};
 use p3_symmetric::CryptographicPermutation;
 
 impl<
@@ -12,15 +12,15 @@ impl<
     P: CryptographicPermutation<[PF; WIDTH]>,
     const WIDTH: usize,
     const RATE: usize,
-> Replica for MultiField32Challenger<F, PF, P, WIDTH, RATE> {
-    ghost copies_may_fail = { ⊥ };
+> TryClone for MultiField32Challenger<F, PF, P, WIDTH, RATE> {
+    ghost clones_may_fail = { ⊥ };
 
-    fn copy(&self) -> Result<Self, ChallengerError> {
+    fn try_clone(&self) -> Result<Self, ChallengerError> {
         Ok(self.clone())
     }
 
     // Of what may be pending only what is so is copied.
-    fn copy_from(&mut self, other: &Self) -> Result<(), ChallengerError> {
+    fn try_clone_from(&mut self, other: &Self) -> Result<(), ChallengerError> {
         let scalars = other.pending();
         self.sponge_state = other.sponge_state;
         self.pending[..scalars.len()].copy_from_slice(scalars);
@@ -37,7 +37,7 @@ impl<
     P: CryptographicPermutation<[PF; WIDTH]>,
     const WIDTH: usize,
     const RATE: usize,
-> PrepareCheck for MultiField32Challenger<F, PF, P, WIDTH, RATE> {
+> BeforeWitness for MultiField32Challenger<F, PF, P, WIDTH, RATE> {
     ghost use Rattle.p3_grinding.specs.Checks.{draws_nothing};
     ghost use Rattle.p3_grinding.specs.CheckLaws.{draws_nothing-is_sampling};
 
@@ -45,7 +45,7 @@ impl<
 
     ghost prepares = { draws_nothing-is_sampling _ };
 
-    fn prepare_check(&mut self) -> Result<(), ChallengerError> {
+    fn draw_before_witness(&mut self) -> Result<(), ChallengerError> {
         Ok(())
     }
 }
@@ -65,7 +65,7 @@ impl<
     // A search takes no memory.
     ghost may_run_out = { λ _. ⊥ };
 
-    ghost tells_witnesses = { record { prefix_code = scalar-prefix_code; some = λ _. tt } };
+    ghost witnesses_prefix_free = { record { prefix_code = scalar-prefix_code; some = λ _. tt } };
 
     ghost number_is = { λ n. refl };
 

@@ -10,7 +10,7 @@ use crate::MultiField32Challenger;
 use p3_challenger_core::{CanObserve, CanSampleBits};
 use p3_field_bridge::FieldBridge;
 use p3_field_core::{PrimeField32, PrimeField64};
-use p3_grinding::PrepareCheck;
+use p3_grinding::BeforeWitness;
 use p3_symmetric::{CryptographicPermutation, Hash, MerkleCap};
 
 impl<
@@ -46,7 +46,7 @@ impl<
     /// A law: the body is empty, and a caller cites the clause.
     pub fn checks_are_not_refused()
         ensures { (bits : ℕ) (witness : F) (e : ChallengerError) (c d : MultiFieldState F PF P) →
-            ¬ (RefusesDraw (check_of ⟦<Self as PrepareCheck>⟧.before_witness
+            ¬ (RefusesDraw (check_of ⟦<Self as BeforeWitness>⟧.before_witness
             ⟦<Self as CanObserve<F>>⟧.observation
             (all_zero (⟦<Self as CanSampleBits<usize>>⟧.bits_sampling bits)) bits witness) e c d) }
     {}

@@ -13,7 +13,7 @@ ghost use Rattle.p3_serializing.specs.SerializingGroups.{answers_by_calls, after
 use crate::{SerializedIn, SerializingChallenger};
 use p3_challenger_core::{CanFinalizeDigest, CanObserve, CanSample, CanSampleBits};
 use p3_field_core::BasedVectorSpace;
-use p3_grinding::{CanSampleUniformBits, PrepareCheck};
+use p3_grinding::{BeforeWitness, CanSampleUniformBits};
 use p3_symmetric::{Hash, MerkleCap};
 
 impl<F: SerializedIn<BYTES>, Inner: CanObserve<u8>, const BYTES: usize> SerializingChallenger<
@@ -98,26 +98,26 @@ impl<
     /// A law: the body is empty, and a caller cites the clauses.
     pub fn checks_are_calls()
         ensures none { (witness : F) (s : SerializingState Inner.State) →
-            (check_of ⟦<Self as PrepareCheck>⟧.before_witness ⟦<Self as CanObserve<F>>⟧.observation
+            (check_of ⟦<Self as BeforeWitness>⟧.before_witness ⟦<Self as CanObserve<F>>⟧.observation
             (all_zero (⟦<Self as CanSampleBits<usize>>⟧.bits_sampling 0)) 0 witness).sampled s ≡ Some Bool.true }
         ensures sampled { (more n : ℕ) (witness : F) (s : SerializingState Inner.State) →
             IsSome (Inner.CanSample.sampling.sampled s.inner) →
             answers_by_calls (by_calls ⟦<Self as CanObserve<F>>⟧.observation.observed
             ⟦<Self as CanSample<F>>⟧.sampling ⟦<Self as CanSampleBits<usize>>⟧.bits_sampling
             (λ resample count. (⟦<Self as CanSampleUniformBits<F>>⟧.uniform resample count).draw)
-            ⟦<Self as PrepareCheck>⟧.before_witness.after)
+            ⟦<Self as BeforeWitness>⟧.before_witness.after)
             (drop_byte ∷ observe witness ∷ draw_bits (suc more) ∷ []) s ≡ bits (Some n) ∷ [] →
-            (check_of ⟦<Self as PrepareCheck>⟧.before_witness ⟦<Self as CanObserve<F>>⟧.observation
+            (check_of ⟦<Self as BeforeWitness>⟧.before_witness ⟦<Self as CanObserve<F>>⟧.observation
             (all_zero (⟦<Self as CanSampleBits<usize>>⟧.bits_sampling (suc more))) (suc more) witness).sampled s
             ≡ Some (n == 0) }
         ensures after { (more : ℕ) (witness : F) (s : SerializingState Inner.State) →
             IsSome (Inner.CanSample.sampling.sampled s.inner) →
-            (check_of ⟦<Self as PrepareCheck>⟧.before_witness ⟦<Self as CanObserve<F>>⟧.observation
+            (check_of ⟦<Self as BeforeWitness>⟧.before_witness ⟦<Self as CanObserve<F>>⟧.observation
             (all_zero (⟦<Self as CanSampleBits<usize>>⟧.bits_sampling (suc more))) (suc more) witness).after s
             ≡ after_calls (by_calls ⟦<Self as CanObserve<F>>⟧.observation.observed
             ⟦<Self as CanSample<F>>⟧.sampling ⟦<Self as CanSampleBits<usize>>⟧.bits_sampling
             (λ resample count. (⟦<Self as CanSampleUniformBits<F>>⟧.uniform resample count).draw)
-            ⟦<Self as PrepareCheck>⟧.before_witness.after)
+            ⟦<Self as BeforeWitness>⟧.before_witness.after)
             (drop_byte ∷ observe witness ∷ draw_bits (suc more) ∷ []) s }
     {}
 }

@@ -5,7 +5,7 @@ ghost use Rattle.p3_challenger_core.specs.declared.error.ChallengerError.TheVari
 use crate::{SerializedIn, SerializingChallenger};
 use p3_challenger_core::{CanSample, CanSampleBits, ChallengerError};
 use p3_grinding::{
-    ByteGrindingChallenger, CanSampleUniformBits, GrindingChallenger, PrepareCheck, Replica,
+    BeforeWitness, ByteGrindingChallenger, CanSampleUniformBits, GrindingChallenger, TryClone,
     UniformBitsError, least_witness,
 };
 use std::marker::PhantomData;
@@ -22,31 +22,31 @@ impl<
     /// The one error is [`ChallengerError::OutOfMemory`]. The Rust crate's `Clone`, which answers no error.
     pub fn clone(&self) -> Result<Self, ChallengerError>
         ensures ok { IfOk result (λ c. state_of Inner.state c ≡ state_of Inner.state self.now) }
-        ensures err { IfErr result (λ e. Inner.copies_may_fail × (e ≡ OutOfMemory)) }
+        ensures err { IfErr result (λ e. Inner.clones_may_fail × (e ≡ OutOfMemory)) }
     {
-        self.copy()
+        self.try_clone()
     }
 }
 
-impl<F, Inner: Replica, const BYTES: usize> Replica for SerializingChallenger<F, Inner, BYTES> {
-    ghost copies_may_fail = { Inner.copies_may_fail };
+impl<F, Inner: TryClone, const BYTES: usize> TryClone for SerializingChallenger<F, Inner, BYTES> {
+    ghost clones_may_fail = { Inner.clones_may_fail };
 
-    fn copy(&self) -> Result<Self, ChallengerError> {
+    fn try_clone(&self) -> Result<Self, ChallengerError> {
         Ok(SerializingChallenger {
-            inner: self.inner.copy()?,
+            inner: self.inner.try_clone()?,
             draw_limit: self.draw_limit,
             field: PhantomData,
         })
     }
 
-    fn copy_from(&mut self, other: &Self) -> Result<(), ChallengerError> {
-        self.inner.copy_from(&other.inner)?;
+    fn try_clone_from(&mut self, other: &Self) -> Result<(), ChallengerError> {
+        self.inner.try_clone_from(&other.inner)?;
         self.draw_limit = other.draw_limit;
         Ok(())
     }
 }
 
-impl<F, Inner: CanSample<u8>, const BYTES: usize> PrepareCheck
+impl<F, Inner: CanSample<u8>, const BYTES: usize> BeforeWitness
     for SerializingChallenger<F, Inner, BYTES> {
     ghost use Rattle.p3_serializing.specs.SerializingState.{byte_dropped};
     ghost use Rattle.p3_serializing.specs.SerializingStateLaws.{byte_dropped-drawn};
@@ -56,7 +56,7 @@ impl<F, Inner: CanSample<u8>, const BYTES: usize> PrepareCheck
 
     ghost prepares = { byte_dropped-drawn Inner.next Inner.sampling Inner.samples };
 
-    fn prepare_check(&mut self) -> Result<(), ChallengerError> {
+    fn draw_before_witness(&mut self) -> Result<(), ChallengerError> {
         let _byte: u8 = self.inner.sample()?;
         Ok(())
     }
@@ -99,9 +99,9 @@ impl<
 
     // Where a copy or a check of some number of bits may be refused for memory.
     ghost may_run_out = { may_run_out_of Inner.CanObserve.observation Inner.CanObserve.slice_may_leave
-        Inner.CanSample.sampling F.residues BYTES Inner.copies_may_fail };
+        Inner.CanSample.sampling F.residues BYTES Inner.clones_may_fail };
 
-    ghost tells_witnesses = { elements-tell_apart Inner.CanObserve.observation.symbols Inner.tells_bytes F.residues
+    ghost witnesses_prefix_free = { elements-tell_apart Inner.CanObserve.observation.symbols Inner.bytes_prefix_free F.residues
         F.are_residues BYTES F.order_fits };
 
     ghost number_is = { λ n. refl };

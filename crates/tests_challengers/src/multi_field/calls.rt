@@ -5,7 +5,7 @@ use p3_challenger_core::{
     CanFinalizeDigest, CanObserve, CanSample, CanSampleBits, ChallengerError,
 };
 use p3_field::{BabyBear, F257, Goldilocks};
-use p3_grinding::Replica;
+use p3_grinding::TryClone;
 use p3_multi_field::MultiField32Challenger;
 use p3_symmetric::Turn;
 use p3_test_support::element;
@@ -16,14 +16,14 @@ type Larger = MultiField32Challenger<BabyBear, Goldilocks, Turn<2>, 3, 2>;
 
 // Three scalars, of which one is observed as an array.
 fn packs_and_draws<
-    C: Replica
+    C: TryClone
         + CanObserve<F257>
         + CanObserve<[F257; 1]>
         + CanSample<F257>
         + CanFinalizeDigest<Digest = [BabyBear; 2]>,
 >(mut challenger: C) -> Result<bool, ChallengerError> {
     observe_each(&mut challenger, &[1, 2])?;
-    let mut copy = challenger.copy()?;
+    let mut copy = challenger.try_clone()?;
     let drawn = draws_after(&mut copy, [element(3)], &[237, 11, 0, 4, 0, 6])?;
     observe_each(&mut challenger, &[3])?;
     Ok(drawn && ends_in(challenger, 4, 787459))

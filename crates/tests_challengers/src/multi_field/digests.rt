@@ -3,7 +3,7 @@ use crate::multi_field::{draws_after, ends_in, fresh, observe_each, word};
 use crate::support::{draws, holds};
 use p3_challenger_core::{CanFinalizeDigest, CanObserve, CanSample, ChallengerError};
 use p3_field::{BabyBear, F257};
-use p3_grinding::Replica;
+use p3_grinding::TryClone;
 use p3_symmetric::{Hash, MerkleCap};
 use std::alloc::{AllocError, Global};
 use std::test::Fail;
@@ -32,9 +32,9 @@ fn cap(alloc: Global) -> Result<Cap, AllocError> {
 
 // A scalar and a digest of one word do the same.
 fn confuses_scalars_with_words<
-    C: Replica + CanObserve<F257> + CanObserve<Digest<1>> + CanSample<F257>,
+    C: TryClone + CanObserve<F257> + CanObserve<Digest<1>> + CanSample<F257>,
 >(mut challenger: C) -> Result<bool, ChallengerError> {
-    let mut copy = challenger.copy()?;
+    let mut copy = challenger.try_clone()?;
     let scalar_first = {
         observe_each(&mut copy, &[5])?;
         draws(&mut copy, &[0, 7, 0, 2])?
@@ -45,10 +45,10 @@ fn confuses_scalars_with_words<
 
 // A digest of no words drops the outputs, and an array of no scalars does not.
 fn drops_outputs_at_an_empty_digest<
-    C: Replica + CanObserve<[F257; 0]> + CanObserve<Digest<0>> + CanSample<F257>,
+    C: TryClone + CanObserve<[F257; 0]> + CanObserve<Digest<0>> + CanSample<F257>,
 >(mut challenger: C) -> Result<bool, ChallengerError> {
     let first = draws(&mut challenger, &[0])?;
-    let mut copy = challenger.copy()?;
+    let mut copy = challenger.try_clone()?;
     let none: [F257; 0] = [];
     let kept = draws_after(&mut copy, none, &[2])?;
     let digest: Digest<0> = Hash::from([]);

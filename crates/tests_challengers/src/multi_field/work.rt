@@ -3,24 +3,24 @@ use crate::multi_field::{fresh, observe_each};
 use crate::support::{draws, grind, holds};
 use p3_challenger_core::{CanObserve, CanSample, ChallengerError};
 use p3_field::F257;
-use p3_grinding::{GrindingChallenger, Replica};
+use p3_grinding::{GrindingChallenger, TryClone};
 use p3_test_support::element;
 use std::process::Abort;
 
 // Whether this is the least witness of so many bits.
-fn grinds<C: Replica + GrindingChallenger<Witness = F257>>(
+fn grinds<C: TryClone + GrindingChallenger<Witness = F257>>(
     rt: &impl Abort,
     challenger: &C,
     bits: usize,
     witness: u64,
 ) -> Result<bool, ChallengerError> {
-    let mut copy = challenger.copy()?;
+    let mut copy = challenger.try_clone()?;
     Ok(grind(rt, &mut copy, bits)? == element(witness))
 }
 
 // The least witnesses of so few bits, with two scalars pending.
 fn finds_least_witnesses<
-    C: Replica + GrindingChallenger<Witness = F257> + CanObserve<F257> + CanSample<F257>,
+    C: TryClone + GrindingChallenger<Witness = F257> + CanObserve<F257> + CanSample<F257>,
 >(rt: &impl Abort, mut challenger: C) -> Result<bool, ChallengerError> {
     observe_each(&mut challenger, &[1, 2])?;
     let none = grinds(rt, &challenger, 0, 0)?;

@@ -17,7 +17,7 @@ returns-clause-equal_symbols_bind g c =
       };
       extension = record { feeds = λ x. refl; places = g.met.S.Extension.BasedVectorSpace.length_coefficients };
       opaque = c.requires.opaque;
-      witness = λ there. (g.met.S.Group.StepGroup.tells_witnesses there).prefix_code;
+      witness = λ there. (g.met.S.Group.StepGroup.witnesses_prefix_free there).prefix_code;
       counts = record {
         told = c.counts_are_told.ensures.told;
         as_long = c.counts_are_told.ensures.as_long;

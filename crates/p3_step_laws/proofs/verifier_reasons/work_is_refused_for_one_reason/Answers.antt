@@ -7,25 +7,25 @@ use Rattle.p3_step_laws.proofs.verifier_reasons.work_is_refused_for_one_reason.G
 
 pub returns-clause-ground : goal.returns-clause-ground
 returns-clause-ground g c = λ step bits.
-    ground-one_reason (work_of step g.C.Witness.PrimeCharacteristicRing.residues g.C.PrepareCheck.before_witness
+    ground-one_reason (work_of step g.C.Witness.PrimeCharacteristicRing.residues g.C.BeforeWitness.before_witness
     g.C.CanObserve.observation g.C.CanSampleBits.bits_sampling bits)
     g.C.GrindingChallenger.may_run_out
 
 pub returns-clause-read : goal.returns-clause-read
 returns-clause-read g c = λ step bits.
-    work-one_reason (work_of step g.C.Witness.PrimeCharacteristicRing.residues g.C.PrepareCheck.before_witness
+    work-one_reason (work_of step g.C.Witness.PrimeCharacteristicRing.residues g.C.BeforeWitness.before_witness
     g.C.CanObserve.observation g.C.CanSampleBits.bits_sampling bits)
-    (check-limit g.C.PrepareCheck.before_witness g.C.CanObserve.observation
-    (all_zero (g.C.CanSampleBits.bits_sampling bits)) g.met.C.PrepareCheck.prepares.limit_gives_none
+    (check-limit g.C.BeforeWitness.before_witness g.C.CanObserve.observation
+    (all_zero (g.C.CanSampleBits.bits_sampling bits)) g.met.C.BeforeWitness.prepares.limit_gives_none
     (all_zero-limit (g.C.CanSampleBits.bits_sampling bits) (g.met.C.CanSampleBits.samples_bits bits).limit_gives_none)
     bits)
     (encoding g.C.Witness.PrimeCharacteristicRing.residues g.C.Witness.Field.bit_length)
 
 pub returns-clause-carried : goal.returns-clause-carried
 returns-clause-carried g c = λ step bits x.
-    carried-one_reason (work_of step g.C.Witness.PrimeCharacteristicRing.residues g.C.PrepareCheck.before_witness
+    carried-one_reason (work_of step g.C.Witness.PrimeCharacteristicRing.residues g.C.BeforeWitness.before_witness
     g.C.CanObserve.observation g.C.CanSampleBits.bits_sampling bits)
-    (check-limit g.C.PrepareCheck.before_witness g.C.CanObserve.observation
-    (all_zero (g.C.CanSampleBits.bits_sampling bits)) g.met.C.PrepareCheck.prepares.limit_gives_none
+    (check-limit g.C.BeforeWitness.before_witness g.C.CanObserve.observation
+    (all_zero (g.C.CanSampleBits.bits_sampling bits)) g.met.C.BeforeWitness.prepares.limit_gives_none
     (all_zero-limit (g.C.CanSampleBits.bits_sampling bits) (g.met.C.CanSampleBits.samples_bits bits).limit_gives_none)
     bits) x

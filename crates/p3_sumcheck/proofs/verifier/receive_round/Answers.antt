@@ -17,7 +17,7 @@ returns-clause-ok g c =
     let are = subst AreBytes c.unread-unread.ensures.unread c.unread-unread.ensures.bytes in
     round-read m before here (verifying_of g.C.Sponge.state c.challenge_scalar.new.self) c.in_ok-first.first
     c.in_ok-first.second _ _
-    (pair-read m (c.read_values_are_spelled.ensures.list (pair_step m.field) 2) before _ here are c.in_ok-first.ensures)
+    (pair-read m (c.read_values_are_encoded.ensures.list (pair_step m.field) 2) before _ here are c.in_ok-first.ensures)
     c.in_ok-challenge_scalar.ensures.0 c.in_ok-challenge_scalar.ensures.1 c.into_inner-challenge.ensures
 
 pub returns-then-not-adds-clause-err : goal.returns-then-not-adds-clause-err
@@ -32,7 +32,7 @@ returns-then-not-adds-clause-err g c =
       (
         c.in_ok-first.first,
         c.in_ok-first.second,
-        pair-read m (c.read_values_are_spelled.ensures.list (pair_step m.field) 2) before _ here are
+        pair-read m (c.read_values_are_encoded.ensures.list (pair_step m.field) 2) before _ here are
             c.in_ok-first.ensures,
         search rules,
       ),
@@ -53,7 +53,7 @@ returns-in_err-challenge_scalar-clause-err g c =
       c.in_ok-first.first,
       c.in_ok-first.second,
       here,
-      pair-read m (c.read_values_are_spelled.ensures.list (pair_step m.field) 2) before _ here are
+      pair-read m (c.read_values_are_encoded.ensures.list (pair_step m.field) 2) before _ here are
           c.in_ok-first.ensures,
       search rules,
       c.in_err-challenge_scalar.ensures.0,

@@ -1,8 +1,8 @@
 use Rattle.std.proofs.Common.{◌≡◌, ℕ, List, [], ◌∷◌, ◌++◌, length, ◌%◌, refl, sym, ap, subst, ◌∙◌, inl, inr, arith}
 use Rattle.std.proofs.Common.{length-append}
 use Rattle.p3_challenger_core.specs.Segments.{observe, draw}
-use Rattle.p3_read_back.specs.HandedLaws.{number-decides}
-use Rattle.p3_hash_challenger.specs.HashCalls.{HashSponge, absorbing}
+use Rattle.p3_read_back.specs.QueriesLaws.{number-decides}
+use Rattle.p3_hash_challenger.specs.HashCalls.{HashSponge, with_pending}
 use Rattle.p3_hash_challenger.specs.HashReadBack.{ReadsBackOrCollides}
 use Rattle.p3_test_support.specs.LengthHasher.{digest_of_length, length_digest}
 use Rattle.p3_test_support.specs.ReadBackWorlds.{by_length}
@@ -17,7 +17,7 @@ one_longer xs =
 
 pub returns : goal.returns
 returns c =
-    let start : c.new.result.sponge ≡ absorbing c.args.initial_state.items = ap (λ s. s.sponge) c.new.ensures.value in
+    let start : c.new.result.sponge ≡ with_pending c.args.initial_state.items = ap (λ s. s.sponge) c.new.ensures.value in
     let told = subst (λ (s : HashSponge ℕ). ReadsBackOrCollides by_length s) start
     (c.new.ensures.or_collides number-decides) in
     elim (told (observe 5 ∷ draw ∷ []) (observe 6 ∷ draw ∷ []) refl (one_longer c.args.initial_state.items)) [

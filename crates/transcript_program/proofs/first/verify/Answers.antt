@@ -25,9 +25,9 @@ returns-clause-exact g c =
 
 -- the scalar that was decoded is the prover's, and so are the challenge and the challenger
 pub returns-clause-accepts : goal.returns-clause-accepts
-returns-clause-accepts g c = λ value challenge after run spelled.
+returns-clause-accepts g c = λ value challenge after run encoded.
     let found : ◌≡◌ {A = Result BabyBear TranscriptError} (Ok c.in_ok-found.found) (Ok value) =
-    c.in_ok-found.ensures.only value [] spelled in
+    c.in_ok-found.ensures.only value [] encoded in
     let same : c.in_ok-found.found ≡ value = cc in
     let hasher = g.H.CryptographicHasher in
     let function = function_of hasher.hash g.row.OUT_LEN hasher.filler in

@@ -6,6 +6,6 @@ returns g c =
     record {
       bits_drawn = g.met.C.CanSampleBits.samples_bits;
       uniform_drawn = λ width. (g.met.C.CanSampleUniformBits.draws_uniform true width).draws;
-      before_drawn = g.met.C.PrepareCheck.prepares;
+      before_drawn = g.met.C.BeforeWitness.prepares;
       witness_observed = g.met.C.CanObserve.observes;
     }

@@ -8,6 +8,6 @@ returns g c =
     record {
       bits_drawn = g.met.C.CanSampleBits.samples_bits;
       uniform_drawn = λ _. unrefused_draw-is_sampling next (λ _. Some 0) (λ s. s) (no_steps next);
-      before_drawn = g.met.C.PrepareCheck.prepares;
+      before_drawn = g.met.C.BeforeWitness.prepares;
       witness_observed = g.met.C.CanObserve.observes;
     }

@@ -11,8 +11,8 @@ use Rattle.transcript_read_back.proofs.recursive.begin_duplex.Goals as goal
 pub scripts_are_calls-requires-clause-opaque_feeds : goal.scripts_are_calls-requires-clause-opaque_feeds
 scripts_are_calls-requires-clause-opaque_feeds g c = λ x _. some-of_length 7 _ (length-values x)
 
-pub returns-clause-hands_over : goal.returns-clause-hands_over
-returns-clause-hands_over g c =
+pub returns-clause-makes_queries : goal.returns-clause-makes_queries
+returns-clause-makes_queries g c =
     c.scripts_are_calls.ensures (duplex_run residues g.P.CryptographicPermutation.permutation g.row.RATE)
     c.duplex_is_call_by_call.ensures
 

@@ -1,5 +1,5 @@
 use Rattle.std.proofs.Common.{ap}
-use Rattle.p3_challenger.specs.HandedLaws.{number-decides}
+use Rattle.p3_challenger.specs.QueriesLaws.{number-decides}
 use Rattle.p3_challenger.specs.HashState.{function_of}
 use Rattle.transcript_read_back.specs.AcceptedReadBackLaws.{accepted-read_back, accepted-read_back_or_collide}
 use Rattle.transcript_read_back.specs.CallByCall.{hash_run}
@@ -11,8 +11,8 @@ use Rattle.transcript_read_back.proofs.recursive.begin_hash.Goals as goal
 pub scripts_are_calls-requires-clause-opaque_feeds : goal.scripts_are_calls-requires-clause-opaque_feeds
 scripts_are_calls-requires-clause-opaque_feeds g c = λ values is. some-of_length 31 values is
 
-pub returns-clause-hands_over : goal.returns-clause-hands_over
-returns-clause-hands_over g c =
+pub returns-clause-makes_queries : goal.returns-clause-makes_queries
+returns-clause-makes_queries g c =
     let hasher = g.H.CryptographicHasher in
     c.scripts_are_calls.ensures (hash_run (function_of hasher.hash 32 hasher.filler)) c.hash_is_call_by_call.ensures
 

@@ -1,7 +1,7 @@
 use Rattle.p3_challenger.specs.SamplingLaws.{in_row-is_sampling, made_of-is_sampling}
 use Rattle.p3_challenger.specs.Sampling as sampling
 use Rattle.transcript_read_back.specs.AmidLaws.{some-exactly, row-exactly}
-use Rattle.transcript_read_back.proofs.HandsOver.{each-hands_over}
+use Rattle.transcript_read_back.proofs.MakesQueries.{each-makes_queries}
 use Rattle.transcript_read_back.proofs.Steps.{FeedsAndDraws, Any, each-any}
 use Rattle.transcript_read_back.proofs.scripts.scripts_are_calls.Goals as goal
 
@@ -29,7 +29,7 @@ returns g c = λ run by.
       opaque = some-exactly next fed g.S.Suite.is_own g.S.Challenger.CanObserve-2.observation
           g.met.S.Challenger.CanObserve-2.observes c.requires.opaque_feeds;
       witness = c.requires.group.witness_observed;
-      witness_some = λ there. (g.met.S.Group.StepGroup.tells_witnesses there).some;
+      witness_some = λ there. (g.met.S.Group.StepGroup.witnesses_prefix_free there).some;
       scalars = is_codec.samples;
       extensions = made_of-is_sampling next g.S.Extension.BasedVectorSpace.element
           (sampling.in_row codec.sampling g.S.Extension.BasedVectorSpace.DIMENSION)
@@ -38,4 +38,4 @@ returns g c = λ run by.
       uniform = c.requires.group.uniform_drawn;
       before_witness = c.requires.group.before_drawn;
     } in
-    each-hands_over _ _ _ _ _ _ _ _ _ _ run fed next by laws c.separators_have_seeds.ensures.bytes
+    each-makes_queries _ _ _ _ _ _ _ _ _ _ run fed next by laws c.separators_have_seeds.ensures.bytes

@@ -13,24 +13,24 @@ use Rattle.p3_challenger.specs.Driving.{Driving}
 use Rattle.uses.proofs.Accepting.{begins, divisor-drawn, divisor-next, draws-place, ends-past, completing-of, memory-of}
 use Rattle.uses.proofs.Accepting.{plays-on, plays-or_memory, reads, reads-or_memory, same-claim}
 use Rattle.uses.proofs.Accepting.{sends-offset, sends-quotient, sends-slope}
-use Rattle.uses.proofs.ReadBytes.{bytes-left, bytes-read, value-left, value-read, spelled-whole}
+use Rattle.uses.proofs.ReadBytes.{bytes-left, bytes-read, value-left, value-read, encoded-whole}
 use Rattle.uses.proofs.Runs.{counted, read}
 use Rattle.uses.proofs.protocol.receive.Goals as goal
 
 elements : Encoding BabyBear
 elements = encoding residues 31
 
-are_spelled : IsEncoding elements
+are_encoded : IsEncoding elements
 unfolding elements
-are_spelled = is_encoding residues (laws 2013265921 (lit< tt)) 31 (lit< tt)
+are_encoded = is_encoding residues (laws 2013265921 (lit< tt)) 31 (lit< tt)
 
 pub returns-clause-read : goal.returns-clause-read
 unfolding elements
 returns-clause-read c are =
-    let of_slope = value-read elements are_spelled _ _ _ are c.in_ok-slope.ensures.read in
-    let of_offset = value-read elements are_spelled _ _ _ of_slope.1 c.in_ok-offset.ensures.read in
+    let of_slope = value-read elements are_encoded _ _ _ are c.in_ok-slope.ensures.read in
+    let of_offset = value-read elements are_encoded _ _ _ of_slope.1 c.in_ok-offset.ensures.read in
     let of_hint = bytes-read 4 _ _ _ c.in_ok-next_hint.ensures.exact.read in
-    let quotient = spelled-whole elements _ c.in_ok-quotient.quotient of_hint.1 c.in_ok-quotient.ensures.found in
+    let quotient = encoded-whole elements _ c.in_ok-quotient.quotient of_hint.1 c.in_ok-quotient.ensures.found in
     rw (c.into_inner.ensures, c.into_inner-2.ensures)
     (read _ _ _ _ _ _ (elements.wire (bound_value c.in_ok-slope.slope))
     (elements.wire (bound_value c.in_ok-offset.offset))
@@ -115,7 +115,7 @@ returns-in_err-next_hint-clause-accepted c claim rest ahead =
     let divisor = c.in_ok-divisor.ensures.accepted claim.divisor next drawn in
     let played = divisor.1 ∙ ap (λ t. step_on t.playing) here in
     let left = c.in_ok-divisor.ensures.bytes ∙ ap (λ w. w.bytes) place.1 in
-    let wide : length (elements.wire claim.quotient) ≡ 4 = are_spelled.fixed_width claim.quotient in
+    let wide : length (elements.wire claim.quotient) ≡ 4 = are_encoded.fixed_width claim.quotient in
     let transcript = (verifying_of (λ s. s) c.draw_divisor.new.side).transcript in
     let p = err_from_is_err_and c.from_residual-in_err-next_hint.result c.from_residual-in_err-next_hint.ensures.1 in
     rw (p.1, p.2)
@@ -142,7 +142,7 @@ returns-in_err-quotient-clause-accepted c claim rest ahead =
     let divisor = c.in_ok-divisor.ensures.accepted claim.divisor next drawn in
     let played = divisor.1 ∙ ap (λ t. step_on t.playing) here in
     let left = c.in_ok-divisor.ensures.bytes ∙ ap (λ w. w.bytes) place.1 in
-    let wide : length (elements.wire claim.quotient) ≡ 4 = are_spelled.fixed_width claim.quotient in
+    let wide : length (elements.wire claim.quotient) ≡ 4 = are_encoded.fixed_width claim.quotient in
     let transcript = (verifying_of (λ s. s) c.draw_divisor.new.side).transcript in
     let hint = reads _ _ _ (completing-of _ _ 4 wide (c.hint_is_received.ensures.complete _ _))
     (memory-of _ _ 4 wide (c.only_memory_refuses_hints.ensures.fixed _ _)) _ _
@@ -170,7 +170,7 @@ returns-clause-accepted c claim rest ahead =
     let divisor = c.in_ok-divisor.ensures.accepted claim.divisor next drawn in
     let played = divisor.1 ∙ ap (λ t. step_on t.playing) here in
     let left = c.in_ok-divisor.ensures.bytes ∙ ap (λ w. w.bytes) place.1 in
-    let wide : length (elements.wire claim.quotient) ≡ 4 = are_spelled.fixed_width claim.quotient in
+    let wide : length (elements.wire claim.quotient) ≡ 4 = are_encoded.fixed_width claim.quotient in
     let transcript = (verifying_of (λ s. s) c.draw_divisor.new.side).transcript in
     let hint = reads _ _ _ (completing-of _ _ 4 wide (c.hint_is_received.ensures.complete _ _))
     (memory-of _ _ 4 wide (c.only_memory_refuses_hints.ensures.fixed _ _)) _ _

@@ -35,7 +35,7 @@ returns-clause-run c =
           (record {
             place = c.in_ok-claim.ensures.place;
             divisor = c.in_ok-claim.ensures.divisor;
-            spelled = refl;
+            encoded = refl;
           }),
     )
 

@@ -1,4 +1,4 @@
-use Rattle.p3_challenger.specs.HandedLaws.{number-decides}
+use Rattle.p3_challenger.specs.QueriesLaws.{number-decides}
 use Rattle.uses.proofs.read_back.begin_with_bytes.Goals as goal
 
 pub returns-clause-or_collides : goal.returns-clause-or_collides

@@ -10,7 +10,7 @@ pub returns-clause-or_collides : goal.returns-clause-or_collides
 returns-clause-or_collides g c = c.new.ensures.or_collides (lit< tt)
 
 pub returns-clause-rounds : goal.returns-clause-rounds
-returns-clause-rounds g c one other third fourth handed pending =
+returns-clause-rounds g c one other third fourth queries pending =
     sym (rounds-observe one other)
-    ∙ c.new.ensures.reads_back (lit< tt) (two_rounds one other) (two_rounds third fourth) handed pending
+    ∙ c.new.ensures.reads_back (lit< tt) (two_rounds one other) (two_rounds third fourth) queries pending
     ∙ rounds-observe third fourth

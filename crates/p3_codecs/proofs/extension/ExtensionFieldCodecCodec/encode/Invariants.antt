@@ -2,7 +2,7 @@ use Rattle.std.proofs.Common.{◌≡◌, ◌++◌, take}
 use Rattle.std.specs.List.{flat_map}
 use Rattle.p3_codecs.proofs.extension.ExtensionFieldCodecCodec.encode.Given as goal
 
--- the coefficients so far are spelled
+-- the coefficients so far are encoded
 abbrev pub invariant-loop-coefficient : goal.invariant-loop-coefficient
 invariant-loop-coefficient g l =
     l.out.items ≡ l.initial.out.items ++ flat_map g.BaseCodec.Codec.encoding.wire

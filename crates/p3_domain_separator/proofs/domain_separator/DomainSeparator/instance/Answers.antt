@@ -39,11 +39,11 @@ returns-clause-chunks g c =
     let id = c.args.self.now.is_identifier in
     let is = c.args.self.now.is_label in
     let chunk = c.args.chunk.now in
-    let spelled : c.args.self.now.protocol_id ≡ identifier id.version id.name = id.spelled in
+    let encoded : c.args.self.now.protocol_id ≡ identifier id.version id.name = id.encoded in
     let short : length id.name ≤ 62 = id.short in
     let counts : FitsCount chunk = search rules in
     let fit : All FitsCount (is.chunks ++ (chunk ∷ [])) = All-push FitsCount is.chunks chunk is.counted counts in
     let label : c.push_counted.new.bytes.items ≡ label_of (is.chunks ++ (chunk ∷ [])) =
-    c.in_ok-push_counted.ensures.ok ∙ ap (λ front. front ++ counted chunk) is.spelled
+    c.in_ok-push_counted.ensures.ok ∙ ap (λ front. front ++ counted chunk) is.encoded
     ∙ sym (label_more is.chunks chunk) in
     search made_of

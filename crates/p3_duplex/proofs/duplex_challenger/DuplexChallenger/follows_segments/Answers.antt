@@ -5,7 +5,7 @@ use Rattle.p3_duplex.specs.DuplexCalls.{duplex_by_calls}
 use Rattle.p3_duplex.specs.DuplexSegments.{duplex_by_segments}
 use Rattle.p3_duplex.specs.DuplexState.{DuplexState}
 use Rattle.p3_duplex.proofs.DuplexSteps.{Fits, kept-fits, duplex_steps}
-use Rattle.p3_duplex.proofs.DuplexHanded.{Agree, same_call, same_digest}
+use Rattle.p3_duplex.proofs.DuplexQueries.{Agree, same_call, same_digest}
 use Rattle.p3_duplex.proofs.duplex_challenger.DuplexChallenger.follows_segments.Goals as goal
 
 -- a challenger keeps what the calls ask of its sponge
@@ -26,10 +26,10 @@ returns g c =
     record {
       calls = run_calls-segments (Fits rate) by_calls by_segments steps c.args.self.now.sponge fits;
       digest = run_calls-segments_to_digest (Fits rate) by_calls by_segments steps c.args.self.now.sponge fits;
-      handed = λ calls other same. run_calls-same (Agree residues permute other rate) by_calls
+      queries = λ calls other same. run_calls-same (Agree residues permute other rate) by_calls
           (duplex_by_calls residues other rate) (same_call residues permute other rate)
           (same_digest residues permute other rate) c.args.self.now.sponge calls same;
-      handed_to_digest = λ calls other same. run_calls_to_digest-same (Agree residues permute other rate) by_calls
+      queries_to_digest = λ calls other same. run_calls_to_digest-same (Agree residues permute other rate) by_calls
           (duplex_by_calls residues other rate) (same_call residues permute other rate)
           (same_digest residues permute other rate) c.args.self.now.sponge calls same;
     }

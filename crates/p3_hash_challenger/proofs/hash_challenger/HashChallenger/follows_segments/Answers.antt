@@ -5,7 +5,7 @@ use Rattle.p3_hash_challenger.specs.HashCalls.{HashSponge, hash_by_calls}
 use Rattle.p3_hash_challenger.specs.HashSegments.{hash_by_segments}
 use Rattle.p3_hash_challenger.specs.HashState.{function_of}
 use Rattle.p3_hash_challenger.proofs.HashSteps.{hash_steps}
-use Rattle.p3_hash_challenger.proofs.HashHanded.{Agree, same_call, same_digest}
+use Rattle.p3_hash_challenger.proofs.HashQueries.{Agree, same_call, same_digest}
 use Rattle.p3_hash_challenger.proofs.hash_challenger.HashChallenger.follows_segments.Goals as goal
 
 -- a challenger never has more outputs left than a digest has places
@@ -24,10 +24,10 @@ returns g c =
     record {
       calls = run_calls-segments keeps by_calls by_segments steps s fits;
       digest = run_calls-segments_to_digest keeps by_calls by_segments steps s fits;
-      handed = λ calls other agree.
+      queries = λ calls other agree.
           run_calls-same (Agree h other) by_calls (hash_by_calls (record h { digest = other }))
           (same_call h other) (same_digest h other) s calls agree;
-      handed_to_digest = λ calls other agree.
+      queries_to_digest = λ calls other agree.
           run_calls_to_digest-same (Agree h other) by_calls (hash_by_calls (record h { digest = other }))
           (same_call h other) (same_digest h other) s calls agree;
     }

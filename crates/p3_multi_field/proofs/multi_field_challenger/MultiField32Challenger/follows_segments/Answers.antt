@@ -6,7 +6,7 @@ use Rattle.p3_multi_field.specs.MultiFieldSegments.{multi_field_by_segments}
 use Rattle.p3_multi_field.specs.MultiFieldState.{MultiFieldState}
 use Rattle.p3_multi_field.proofs.Numbers.{some_product}
 use Rattle.p3_multi_field.proofs.MultiFieldSteps.{Fits, kept-fits, multi_field_steps}
-use Rattle.p3_multi_field.proofs.MultiFieldHanded.{Agree, same_call, same_end}
+use Rattle.p3_multi_field.proofs.MultiFieldQueries.{Agree, same_call, same_end}
 use Rattle.p3_multi_field.proofs.multi_field_challenger.MultiField32Challenger.follows_segments.Goals as goal
 
 -- a challenger keeps what the calls ask of its sponge
@@ -32,10 +32,10 @@ returns g c =
     record {
       calls = run_calls-segments (Fits pair rate) by_calls by_segments steps c.args.self.now.sponge fits;
       digest = run_calls-segments_to_digest (Fits pair rate) by_calls by_segments steps c.args.self.now.sponge fits;
-      handed = λ calls other same. run_calls-same (Agree pair permute other rate) by_calls
+      queries = λ calls other same. run_calls-same (Agree pair permute other rate) by_calls
           (multi_field_by_calls pair other rate) (same_call pair permute other rate)
           (same_end pair permute other rate) c.args.self.now.sponge calls same;
-      handed_to_digest = λ calls other same. run_calls_to_digest-same (Agree pair permute other rate) by_calls
+      queries_to_digest = λ calls other same. run_calls_to_digest-same (Agree pair permute other rate) by_calls
           (multi_field_by_calls pair other rate) (same_call pair permute other rate)
           (same_end pair permute other rate) c.args.self.now.sponge calls same;
     }

@@ -18,7 +18,7 @@ returns-in_err-sent g c =
     g.C.Witness.Named.name_bytes) (Fixed c.args.bits) in
     rw (p.1, p.2) (inl (
       search-refused
-          (work_of step g.C.Witness.PrimeCharacteristicRing.residues g.C.PrepareCheck.before_witness
+          (work_of step g.C.Witness.PrimeCharacteristicRing.residues g.C.BeforeWitness.before_witness
           g.C.CanObserve.observation g.C.CanSampleBits.bits_sampling c.args.bits)
           g.C.GrindingChallenger.may_run_out (transcript_of (state c.args.self.now.challenger) c.args.self.now.steps)
           (transcript_of (state c.grind.new.self) c.take_algebra.new.self)

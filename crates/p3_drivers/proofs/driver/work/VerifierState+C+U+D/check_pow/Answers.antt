@@ -21,7 +21,7 @@ returns-in_err-sent g c =
     let step = algebra_step Pow c.args.label.now (algebra_of residues.order g.C.Witness.BasedVectorSpace.DIMENSION
     (g.D.DigestHasher.digest_of g.C.Witness.AlgebraIdentity.identity) g.C.Witness.Named.name_bytes)
     (Fixed c.args.bits) in
-    let work = work_of step residues g.C.PrepareCheck.before_witness g.C.CanObserve.observation
+    let work = work_of step residues g.C.BeforeWitness.before_witness g.C.CanObserve.observation
     g.C.CanSampleBits.bits_sampling c.args.bits in
     rw (p.1, p.2) (inl (not-read (reads.received_work work (encoding residues g.C.Witness.Field.bit_length))
     (verifying_of state c.args.self.now) (verifying_of state c.read_witness.new.self) c.in_err-sent.field-0.0

@@ -9,5 +9,5 @@ returns-clause-err g c =
     let state = state_of g.Inner.Sponge.state in
     IfErr-weaker c.least_witness.result _ _
     (λ e. refused-search observes.observation observes.slice_may_leave g.Inner.CanSample.sampling
-    g.F.PrimeCharacteristicRing.residues g.row.BYTES g.Inner.Replica.copies_may_fail c.args.bits e
+    g.F.PrimeCharacteristicRing.residues g.row.BYTES g.Inner.TryClone.clones_may_fail c.args.bits e
     (state c.args.self.now) (state c.least_witness.new.challenger)) c.least_witness.ensures.err

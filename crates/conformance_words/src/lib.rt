@@ -1,8 +1,0 @@
-//! What the programs that compare answers read and write: the lines of their files, the words of a call, the symbols
-//! that numbers stand for, and how answers are written.
-#![tactic(auto)]
-
-pub mod answer;
-pub mod line;
-pub mod symbol;
-pub mod words;

@@ -1,7 +1,0 @@
-use Rattle.transcript_program.proofs.WordLemmas.{none_there}
-use Rattle.transcript_program.proofs.words.parse_parts.Goals as goal
-
-pub returns-in_err-input-clause-none : goal.returns-in_err-input-clause-none
-returns-in_err-input-clause-none c =
-    none_there c.from_residual.result c.from_residual.ensures (λ ask asks.
-    c.in_err-input.ensures.none ask.input asks.input_is)

@@ -1,8 +1,0 @@
-use Rattle.std.proofs.Common.{rules, sym, ◌∙◌}
-use Rattle.std.specs.Cmp.Lexicographic.{same_text}
-use Rattle.transcript_program.proofs.WordLemmas.{no_words}
-use Rattle.transcript_program.proofs.words.parse_request.Goals as goal
-
-pub returns-then-is_empty-clause-some : goal.returns-then-is_empty-clause-some
-returns-then-is_empty-clause-some c =
-    (same_text _ _ (sym c.if-eq-2.true ∙ c.eq-2.ensures), no_words c.args.args.now (search rules))
