@@ -7,7 +7,7 @@ use Rattle.p3_challenger.specs.Reading.{AreBytes}
 use Rattle.p3_challenger.specs.Reads.{Reading, received}
 use Rattle.p3_challenger.specs.RoundLaws.{listed-played}
 use Rattle.p3_challenger.specs.Rounds.{steps_of_rounds}
-use Rattle.p3_challenger.specs.Spelled.{AnyValue, OnlyReads}
+use Rattle.p3_challenger.specs.Encoded.{AnyValue, OnlyReads}
 use Rattle.p3_challenger.specs.Steps.{Step}
 use Rattle.p3_challenger.specs.TranscriptError.{TranscriptError}
 use Rattle.p3_challenger.specs.TranscriptError.TheVariants.{BadProofShape, Challenger, InvalidKind, LabelTooLong}
@@ -70,7 +70,7 @@ module _ {S Symbol F : Type 0} (m : Sumcheck S Symbol F) where
           challenger = receives.challenger;
           playing = receives.playing;
         };
-        bytes = encoded.spelled before.bytes x here.bytes are receives.read;
+        bytes = encoded.encoded before.bytes x here.bytes are receives.read;
       }
 
   pub sum-read : OnlyReads read_sum AnyValue (λ x. sent_sum m x) → (n : ℕ) (before here after : Driving S) (x : F)

@@ -20,7 +20,7 @@ use p3_challenger::CanObserve;
 use p3_challenger::fs::{
     Codec, Declared, DomainSeparator, Hierarchy, Interaction, InteractionPattern, Kind, Length,
     Pattern, PatternState, ProverState, TranscriptError, Unit, VerifierState,
-    only_memory_refuses_sent_values, read_values_are_spelled, sent_value_is_received,
+    only_memory_refuses_sent_values, read_values_are_encoded, sent_value_is_received,
 };
 use p3_field::ScalarField;
 use p3_sumcheck::{SumcheckError, declare, prove, sum, verify};
@@ -292,7 +292,7 @@ fn receive_sum<
         × (verifying_of C.state verifier.new ≡ with_bytes after rest)) IsMemory }
 {
     // Laws, which do nothing: what is read of bytes is encoded so; and a sum that was sent is received, or memory is out.
-    read_values_are_spelled::<F, U, C, Cdc>();
+    read_values_are_encoded::<F, U, C, Cdc>();
     sent_value_is_received::<F, C, Cdc>();
     only_memory_refuses_sent_values::<F, U, C, Cdc>();
     let _unread = verifier.unread();

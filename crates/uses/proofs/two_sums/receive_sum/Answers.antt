@@ -18,7 +18,7 @@ returns-clause-accepts g c =
     g.F.BasedVectorSpace.DIMENSION (g.D.DigestHasher.digest_of g.F.AlgebraIdentity.identity) g.F.Named.name_bytes)
     g.Cdc.Codec.observation g.Cdc.Codec.sampling g.Cdc.Codec.encoding in
     let are = subst AreBytes c.unread-unread.ensures.unread c.unread-unread.ensures.bytes in
-    sum-read m (c.read_values_are_spelled.ensures.value (sum_step m.field)) c.args.rounds
+    sum-read m (c.read_values_are_encoded.ensures.value (sum_step m.field)) c.args.rounds
     (verifying_of g.C.Sponge.state c.args.verifier.now) (verifying_of g.C.Sponge.state c.next_scalar.new.self)
     (verifying_of g.C.Sponge.state c.verify.new.verifier) _ _ are c.in_ok-next_scalar.ensures c.into_inner-sum.ensures
     c.in_ok-point.ensures.accepts
