@@ -4,14 +4,15 @@
 
 mod two_proofs;
 
-use p3_challenger::fs::script::{
-    binding, challenges_bind_what_came_before, equal_symbols_have_equal_values,
-};
-use p3_challenger::{
-    HashChallenger, duplex_arrays_are_prefix_code, duplex_elements_are_prefix_code,
-    hash_arrays_are_prefix_code, hash_values_are_prefix_code, multi_field_arrays_are_prefix_code,
+use p3_challenger::HashChallenger;
+use p3_challenger::laws::prefix_codes::{
+    duplex_arrays_are_prefix_code, duplex_elements_are_prefix_code, hash_arrays_are_prefix_code,
+    hash_values_are_prefix_code, multi_field_arrays_are_prefix_code,
     multi_field_scalars_are_prefix_code, serialized_digests_are_prefix_code,
     serialized_elements_are_prefix_code,
+};
+use p3_challenger::laws::scripts::{
+    binding, challenges_bind_what_came_before, equal_symbols_have_equal_values,
 };
 use p3_field::{BabyBear, F257, Goldilocks};
 use p3_symmetric::{Sha256Hasher, Turn};

@@ -7,10 +7,10 @@ ghost use Rattle.p3_challenger.specs.RunsBound.{AreOwn};
 ghost use Rattle.p3_challenger.specs.Scripts.{play_of};
 ghost use Rattle.p3_challenger.specs.Verdicts.{script_of};
 
-use p3_challenger::fs::script::{
-    Fault, Meaning, Step, Suite, Verified, equal_symbols_have_equal_values, verify,
-};
-use p3_challenger::fs::{Codec, DomainSeparator, Unit, slices_are_bytes};
+use p3_challenger::fs::script::{Fault, Meaning, Step, Suite, Verified, verify};
+use p3_challenger::fs::{Codec, DomainSeparator, Unit};
+use p3_challenger::laws::prefix_codes::slices_are_bytes;
+use p3_challenger::laws::scripts::equal_symbols_have_equal_values;
 use p3_challenger::{CanObserve, Sponge};
 use std::alloc::Global;
 

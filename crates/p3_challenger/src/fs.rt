@@ -6,125 +6,21 @@
 //!                                                              ->  VerifierState  <-  the proof
 //! ```
 //!
-//! `CALLING.md` of this crate lists the steps: what each is called on either side, and how it is recorded. Under
+//! `docs/GUIDE.md` lists the steps: what each is called on either side, and how it is recorded. Under
 //! [`script`] whole protocols are lists of steps, which one call plays.
 
 pub mod script;
 
-pub use p3_codecs::AlphabetOf;
-pub use p3_codecs::BytesToFieldCodec;
-pub use p3_codecs::Codec;
-pub use p3_codecs::EXTRA_BYTES;
-pub use p3_codecs::ExtensionFieldCodec;
-pub use p3_codecs::FieldToFieldCodec;
-pub use p3_codecs::FieldUnit;
-pub use p3_codecs::MIN_CHALLENGE_SECURITY_BITS;
-pub use p3_codecs::ScalarCodec;
-pub use p3_codecs::Unit;
-pub use p3_codecs::symbols_begin;
-pub use p3_domain_separator::DomainSeparator;
-pub use p3_domain_separator::PROTOCOL_ID_LEN;
-pub use p3_domain_separator::identifiers_are_injective;
-pub use p3_domain_separator::labels_are_injective;
-pub use p3_domain_separator::seeds_are_prefix_code;
-pub use p3_domain_separator::separators_have_seeds;
-pub use p3_driver_core::SymmetricSteps;
-pub use p3_driver_core::TranscriptBound;
-pub use p3_driver_core::bit_draws_feed_nothing;
-pub use p3_driver_core::bytes_feed_their_symbols;
-pub use p3_driver_core::counted_values_feed_their_symbols;
-pub use p3_driver_core::counts_are_told;
-pub use p3_driver_core::counts_take_the_least_width;
-pub use p3_driver_core::draws_feed_nothing;
-pub use p3_driver_core::finished_players_refuse;
-pub use p3_driver_core::listed_steps_are_next;
-pub use p3_driver_core::markers_and_hints_feed_nothing;
-pub use p3_driver_core::next_steps_are_not_wrong;
-pub use p3_driver_core::opaque_values_feed_their_symbols;
-pub use p3_driver_core::rejecting_draws_keep_the_first_accepted;
-pub use p3_driver_core::rejecting_uniform_draws_keep_the_first_accepted;
-pub use p3_driver_core::slices_are_bytes;
-pub use p3_driver_core::uniform_draws_feed_nothing;
-pub use p3_driver_core::values_feed_their_symbols;
-pub use p3_driver_core::work_feeds_its_witness;
-pub use p3_drivers::ProverState;
-pub use p3_drivers::VerifierState;
-pub use p3_duplex::duplex_elements_are_prefix_code;
-pub use p3_fs_core::Alternate;
-pub use p3_fs_core::Declared;
-pub use p3_fs_core::Hierarchy;
-pub use p3_fs_core::Interaction;
-pub use p3_fs_core::InvalidKindInfo;
-pub use p3_fs_core::Kind;
-pub use p3_fs_core::Label;
-pub use p3_fs_core::Length;
-pub use p3_fs_core::MismatchedBeginEndInfo;
-pub use p3_fs_core::MissingBeginInfo;
-pub use p3_fs_core::MissingEndInfo;
-pub use p3_fs_core::PatternError;
-pub use p3_fs_core::TranscriptError;
-pub use p3_fs_core::TranscriptField;
-pub use p3_fs_core::TypeTag;
-pub use p3_fs_core::bound_byte_width;
-pub use p3_fs_core::counts_are_prefix_code;
-pub use p3_fs_core::decode_len_be;
-pub use p3_fs_core::encode_len_be;
-pub use p3_hash_challenger::hash_values_are_prefix_code;
-pub use p3_patterns::InteractionPattern;
-pub use p3_patterns::Pattern;
-pub use p3_patterns::PatternPlayer;
-pub use p3_patterns::PatternState;
-pub use p3_patterns::equal_renderings_are_equal_patterns;
-pub use p3_step_laws::bit_draws_are_refused_for_one_reason;
-pub use p3_step_laws::bit_draws_tell_limits;
-pub use p3_step_laws::bytes_are_refused_for_one_reason;
-pub use p3_step_laws::bytes_are_unread_for_one_reason;
-pub use p3_step_laws::bytes_tell_limits;
-pub use p3_step_laws::carried_lists_are_let_through;
-pub use p3_step_laws::carried_lists_are_refused_for_one_reason;
-pub use p3_step_laws::carried_work_agrees;
-pub use p3_step_laws::counted_hint_is_received;
-pub use p3_step_laws::drawn_bits_agree;
-pub use p3_step_laws::drawn_uniform_bits_agree;
-pub use p3_step_laws::drawn_values_agree;
-pub use p3_step_laws::draws_are_refused_for_one_reason;
-pub use p3_step_laws::draws_tell_limits;
-pub use p3_step_laws::ended_verifiers_are_not_refused;
-pub use p3_step_laws::extensions_are_refused_for_one_reason;
-pub use p3_step_laws::hint_is_received;
-pub use p3_step_laws::hints_are_refused_for_one_reason;
-pub use p3_step_laws::hints_are_unread_for_one_reason;
-pub use p3_step_laws::markers_agree;
-pub use p3_step_laws::markers_and_hints_tell_limits;
-pub use p3_step_laws::markers_are_refused_for_one_reason;
-pub use p3_step_laws::observed_counted_values_agree;
-pub use p3_step_laws::observed_values_agree;
-pub use p3_step_laws::only_memory_refuses_drawn_bits;
-pub use p3_step_laws::only_memory_refuses_drawn_uniform_bits;
-pub use p3_step_laws::only_memory_refuses_drawn_values;
-pub use p3_step_laws::only_memory_refuses_hints;
-pub use p3_step_laws::only_memory_refuses_markers;
-pub use p3_step_laws::only_memory_refuses_observed_values;
-pub use p3_step_laws::only_memory_refuses_opaque_values;
-pub use p3_step_laws::only_memory_refuses_sent_bytes;
-pub use p3_step_laws::only_memory_refuses_sent_values;
-pub use p3_step_laws::opaque_values_agree;
-pub use p3_step_laws::opaque_values_are_refused_for_one_reason;
-pub use p3_step_laws::opaque_values_tell_limits;
-pub use p3_step_laws::read_bytes_are_encoded;
-pub use p3_step_laws::read_hints_are_encoded;
-pub use p3_step_laws::read_values_are_encoded;
-pub use p3_step_laws::read_work_is_encoded;
-pub use p3_step_laws::sent_bytes_are_received;
-pub use p3_step_laws::sent_counted_bytes_are_received;
-pub use p3_step_laws::sent_counted_values_are_received;
-pub use p3_step_laws::sent_value_is_received;
-pub use p3_step_laws::sent_values_are_received;
-pub use p3_step_laws::sent_work_is_received;
-pub use p3_step_laws::uniform_draws_are_refused_for_one_reason;
-pub use p3_step_laws::uniform_draws_tell_limits;
-pub use p3_step_laws::values_are_refused_for_one_reason;
-pub use p3_step_laws::values_are_unread_for_one_reason;
-pub use p3_step_laws::values_tell_limits;
-pub use p3_step_laws::work_is_refused_for_one_reason;
-pub use p3_step_laws::work_tells_limits;
+pub use p3_codecs::{
+    AlphabetOf, BytesToFieldCodec, Codec, EXTRA_BYTES, ExtensionFieldCodec, FieldToFieldCodec,
+    FieldUnit, MIN_CHALLENGE_SECURITY_BITS, ScalarCodec, Unit,
+};
+pub use p3_domain_separator::{DomainSeparator, PROTOCOL_ID_LEN};
+pub use p3_driver_core::{SymmetricSteps, TranscriptBound};
+pub use p3_drivers::{ProverState, VerifierState};
+pub use p3_fs_core::{
+    Alternate, Declared, Hierarchy, Interaction, InvalidKindInfo, Kind, Label, Length,
+    MismatchedBeginEndInfo, MissingBeginInfo, MissingEndInfo, PatternError, TranscriptError,
+    TranscriptField, TypeTag, bound_byte_width, decode_len_be, encode_len_be,
+};
+pub use p3_patterns::{InteractionPattern, Pattern, PatternPlayer, PatternState};

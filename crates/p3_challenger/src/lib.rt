@@ -6,28 +6,24 @@
 #![tactic(auto)]
 
 pub mod fs;
+pub mod laws;
 
 pub use p3_challenger_core::{
     CanFinalizeDigest, CanObserve, CanSample, CanSampleBits, ChallengerError, FieldChallenger,
-    Sponge, array_has_places, calls_have_one_cut, sample_array,
+    Sponge, sample_array,
 };
-pub use p3_duplex::{
-    DuplexChallenger, duplex_arrays_are_prefix_code, duplex_elements_are_prefix_code,
-};
+pub use p3_duplex::DuplexChallenger;
 pub use p3_field_core::UniformSamplingField;
 pub use p3_grinding::{
     BeforeWitness, ByteCandidates, ByteGrindingChallenger, CanSampleUniformBits,
     GrindingChallenger, ResamplingError, TryClone, UniformBitsError, UniformGrindingChallenger,
     least_uniform_witness, least_witness,
 };
-pub use p3_hash_challenger::{
-    HashChallenger, hash_arrays_are_prefix_code, hash_values_are_prefix_code,
-};
+pub use p3_hash_challenger::HashChallenger;
 pub use p3_multi_field::{
     HasFieldPair, MultiField32Challenger, MultiField32ChallengerError, MultiFieldSymbol,
-    multi_field_arrays_are_prefix_code, multi_field_scalars_are_prefix_code,
 };
 pub use p3_serializing::{
     SerializedIn, SerializingChallenger, SerializingChallenger32, SerializingChallenger64,
-    SerializingState, serialized_digests_are_prefix_code, serialized_elements_are_prefix_code,
+    SerializingState,
 };

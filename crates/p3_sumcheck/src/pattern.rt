@@ -10,8 +10,8 @@ ghost use Rattle.p3_sumcheck.specs.Sumchecks.{RefusesToDeclare, round_steps};
 
 use p3_challenger::fs::{
     Declared, Hierarchy, Interaction, Kind, Length, Pattern, PatternState, TranscriptError,
-    listed_steps_are_next,
 };
+use p3_challenger::laws::refusals::listed_steps_are_next;
 use p3_field::ScalarField;
 use p3_symmetric::DigestHasher;
 

@@ -16,9 +16,10 @@ ghost use Rattle.p3_sumcheck.specs.declared.round.Round.{Round};
 use crate::table::{adds, value_at};
 use crate::{Round, SumcheckError};
 use p3_challenger::CanObserve;
-use p3_challenger::fs::{
-    Codec, Declared, TranscriptError, Unit, VerifierState, only_memory_refuses_drawn_values,
-    only_memory_refuses_sent_values, read_values_are_encoded,
+use p3_challenger::fs::{Codec, Declared, TranscriptError, Unit, VerifierState};
+use p3_challenger::laws::encodings::read_values_are_encoded;
+use p3_challenger::laws::memory::{
+    only_memory_refuses_drawn_values, only_memory_refuses_sent_values,
 };
 use p3_field::ScalarField;
 use p3_symmetric::DigestHasher;

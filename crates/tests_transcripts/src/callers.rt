@@ -1,8 +1,9 @@
 // The generic callers of the crate `uses`, at types that users have.
 use p3_challenger::fs::{
     BytesToFieldCodec, DomainSeparator, FieldToFieldCodec, FieldUnit, Hierarchy, Interaction,
-    InteractionPattern, Kind, Length, ProverState, hash_values_are_prefix_code,
+    InteractionPattern, Kind, Length, ProverState,
 };
+use p3_challenger::laws::prefix_codes::hash_values_are_prefix_code;
 use p3_challenger::{CanFinalizeDigest, CanObserve, DuplexChallenger, HashChallenger};
 use p3_field::{BabyBear, F257, PrimeCharacteristicRing, PrimeField64};
 use p3_symmetric::{Sha256Hasher, Turn};

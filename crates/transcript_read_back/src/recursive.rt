@@ -24,14 +24,14 @@ ghost use Rattle.transcript_read_back.specs.Recursive.{StringsTellValues, String
 use crate::call_by_call::{duplex_is_call_by_call, hash_is_call_by_call};
 use crate::groups::{all_steps_draw_and_feed, plain_steps_draw_and_feed};
 use crate::scripts::scripts_are_calls;
-use p3_challenger::fs::script::{
-    AcceptAll, Both, Meaning, Plain, Suite, binding, equal_symbols_have_equal_values,
-};
+use p3_challenger::fs::script::{AcceptAll, Both, Meaning, Plain, Suite};
 use p3_challenger::fs::{BytesToFieldCodec, FieldToFieldCodec, FieldUnit};
-use p3_challenger::{
-    DuplexChallenger, HashChallenger, duplex_arrays_are_prefix_code,
-    duplex_elements_are_prefix_code, hash_arrays_are_prefix_code, hash_values_are_prefix_code,
+use p3_challenger::laws::prefix_codes::{
+    duplex_arrays_are_prefix_code, duplex_elements_are_prefix_code, hash_arrays_are_prefix_code,
+    hash_values_are_prefix_code,
 };
+use p3_challenger::laws::scripts::{binding, equal_symbols_have_equal_values};
+use p3_challenger::{DuplexChallenger, HashChallenger};
 use p3_field::{BabyBear, Coeffs};
 use p3_symmetric::{CryptographicHasher, CryptographicPermutation, Hash, Sha256Hasher};
 use std::marker::PhantomData;

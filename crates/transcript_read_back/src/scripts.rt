@@ -7,7 +7,8 @@ ghost use Rattle.transcript_read_back.specs.GroupDraws.{DrawsAndFeeds};
 ghost use Rattle.transcript_read_back.specs.ScriptReadBack.{EachScriptMakesQueries};
 
 use p3_challenger::fs::script::{Meaning, Suite};
-use p3_challenger::fs::{counts_are_told, separators_have_seeds};
+use p3_challenger::laws::domain_separation::separators_have_seeds;
+use p3_challenger::laws::prefix_codes::counts_are_told;
 
 /// Each finished run of a script is a list of calls on the challenger, which observe just the
 /// symbols that the run feeds, and leave the state that it leaves: so it makes a query.

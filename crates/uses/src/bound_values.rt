@@ -5,7 +5,8 @@ ghost use Rattle.p3_challenger.specs.Sponge.{IsFed};
 ghost use Rattle.p3_challenger.specs.Reading.{AreBytes, IsPrefixCodeOn};
 ghost use Rattle.uses.specs.BoundValues.{of_three, of_bytes, RefusesInTurn};
 
-use p3_challenger::fs::{Codec, Unit, symbols_begin};
+use p3_challenger::fs::{Codec, Unit};
+use p3_challenger::laws::symbols::symbols_begin;
 use p3_challenger::{CanObserve, ChallengerError};
 
 /// Absorbs a value, a byte string and a second value.

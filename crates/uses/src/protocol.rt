@@ -21,9 +21,11 @@ ghost use Rattle.uses.specs.Protocol.{after_line, bytes_of, element_step, may_di
 use p3_challenger::fs::{
     BytesToFieldCodec, Codec, DomainSeparator, ExtensionFieldCodec, Hierarchy, Interaction,
     InteractionPattern, Kind, Length, Pattern, PatternState, ProverState, SymmetricSteps,
-    TranscriptError, TranscriptField, VerifierState, hint_is_received,
+    TranscriptError, TranscriptField, VerifierState,
+};
+use p3_challenger::laws::completeness::{hint_is_received, sent_value_is_received};
+use p3_challenger::laws::memory::{
     only_memory_refuses_drawn_values, only_memory_refuses_hints, only_memory_refuses_sent_values,
-    sent_value_is_received,
 };
 use p3_challenger::{HashChallenger, Sponge};
 use p3_field::{AlgebraIdentity, BabyBear, PrimeCharacteristicRing, PrimeField32, PrimeField64};

@@ -14,6 +14,8 @@ ghost use Rattle.p3_challenger.specs.Dependence.{DrawsAfter};
 use p3_challenger::CanObserve;
 use p3_challenger::fs::{
     Codec, DomainSeparator, ProverState, TranscriptBound, TranscriptError, Unit, VerifierState,
+};
+use p3_challenger::laws::symbols::{
     bytes_feed_their_symbols, draws_feed_nothing, values_feed_their_symbols,
 };
 use p3_field::ScalarField;

@@ -20,8 +20,10 @@ use p3_challenger::CanObserve;
 use p3_challenger::fs::{
     Codec, Declared, DomainSeparator, Hierarchy, Interaction, InteractionPattern, Kind, Length,
     Pattern, PatternState, ProverState, TranscriptError, Unit, VerifierState,
-    only_memory_refuses_sent_values, read_values_are_encoded, sent_value_is_received,
 };
+use p3_challenger::laws::completeness::sent_value_is_received;
+use p3_challenger::laws::encodings::read_values_are_encoded;
+use p3_challenger::laws::memory::only_memory_refuses_sent_values;
 use p3_field::ScalarField;
 use p3_sumcheck::{SumcheckError, declare, prove, sum, verify};
 use p3_symmetric::DigestHasher;

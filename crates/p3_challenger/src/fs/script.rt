@@ -7,14 +7,12 @@
 //!
 //! A [`Suite`] names the types that play together. A protocol in which a value depends on a challenge is played step by
 //! step, by [`prover_step`] and [`verifier_step`]. What the symbols say of a run that it fed the challenger is the law
-//! [`binding`]. Not in the Rust crate.
+//! [`binding`](crate::laws::scripts::binding). Not in the Rust crate.
 
-pub use p3_binding::binding;
 pub use p3_script::{
     AcceptAll, AcceptRule, BitsPow, Both, Distinct, Drawn, Fault, Meaning, Plain, Received, Sent,
-    Step, StepGroup, Suite, script_steps_are_lawful,
+    Step, StepGroup, Suite,
 };
-pub use p3_script_binding::{challenges_bind_what_came_before, equal_symbols_have_equal_values};
 pub use p3_script_checks::{admitted, carried_len, fits, sent_matches};
 pub use p3_script_prover::{Played, Proved, prove, prover_step};
 pub use p3_script_round_trip::{prove_and_verify, verify_proved};

@@ -56,6 +56,30 @@ impl<'a, U: Unit, C: CanObserve<U::Item>, D: DigestHasher> VerifierState<'a, C, 
         )
     }
 
+    /// Observes at most `max` scalars that both sides know, after their count.
+    ///
+    /// More are refused with [`TranscriptError::BadProofShape`] and `list length exceeds the recorded maximum`,
+    /// whatever the next step is, unless a step was refused before. Nothing is absorbed then. Condition: `U` is an
+    /// alphabet. Not in the Rust crate.
+    pub fn observe_public_scalars_bounded<F: ScalarField, Cdc: Codec<C, F>>(
+        &mut self,
+        label: Label,
+        values: &[F],
+        max: usize,
+    ) -> Result<Vec<TranscriptBound<F>>, TranscriptError>
+        requires { U.is_alphabet }
+        ensures exact { let step = ⟦<F as Declared<F, D>>⟧.step Public label.now (Bounded max) in
+            let alphabet = ⟦<U as AlphabetOf<C>>⟧.alphabet in
+            CarriesWithin (length values.now) max
+            (meaning.observed_bounded step alphabet max Cdc.observation values.now)
+            (verifying_of C.state self.old) bound_values result (verifying_of C.state self.new) }
+        ensures count { IfOk result (λ bounds. vec_len bounds ≡ length values.now) }
+    {
+        let count = values.len();
+        self.steps.carried_within(count, max)?;
+        self.observe_counted::<F, F, Cdc>(Kind::Public, label, values, max)
+    }
+
     /// Reads `len` bytes that hide what was sent later, and lends them.
     ///
     /// Condition: `U` is an alphabet. Bytes that are too long for it are refused with

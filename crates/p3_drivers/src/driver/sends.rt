@@ -50,6 +50,29 @@ impl<U: Unit, C: CanObserve<U::Item>, D: DigestHasher> ProverState<C, U, D> {
         )
     }
 
+    /// Observes at most `max` scalars that both sides know, after their count.
+    ///
+    /// More are refused with [`PatternError::OverCap`](p3_fs_core::PatternError::OverCap), with nothing done.
+    /// Condition: `U` is an alphabet. Not in the Rust crate.
+    pub fn add_public_scalars_bounded<F: ScalarField, Cdc: Codec<C, F>>(
+        &mut self,
+        label: Label,
+        values: &[F],
+        max: usize,
+    ) -> Result<Vec<TranscriptBound<F>>, TranscriptError>
+        requires { U.is_alphabet }
+        ensures exact { let step = ⟦<F as Declared<F, D>>⟧.step Public label.now (Bounded max) in
+            let alphabet = ⟦<U as AlphabetOf<C>>⟧.alphabet in
+            KeepsWithin (length values.now) max
+            (meaning.observed_bounded step alphabet max Cdc.observation values.now)
+            (proving_of C.state self.old) bound_values result (proving_of C.state self.new) }
+        ensures count { IfOk result (λ bounds. vec_len bounds ≡ length values.now) }
+    {
+        let count = values.len();
+        self.steps.within(count, max)?;
+        self.observe_counted::<F, F, Cdc>(Kind::Public, label, values, max)
+    }
+
     /// Sends bytes that hide what is sent later.
     ///
     /// Condition: `U` is an alphabet. Bytes that are too long for it are refused with
