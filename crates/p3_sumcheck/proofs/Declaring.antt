@@ -1,11 +1,10 @@
 -- The steps of rounds, as they are recorded and as they are played.
-use Rattle.std.proofs.Common.{◌≡◌, ℕ, ◌+◌, ◌-◌, ◌<◌, inl, inr, true, false, List, [], ◌∷◌, ◌++◌, length, sym, ap, subst, ◌∙◌, arith}
+use Rattle.std.proofs.Common.{◌≡◌, ℕ, ◌+◌, ◌-◌, ◌<◌, false, List, [], ◌∷◌, ◌++◌, length, sym, ap, subst, ◌∙◌, arith}
 use Rattle.std.proofs.Common.{append_assoc}
 use Rattle.p3_challenger.specs.Hierarchy.TheVariants.{Atomic}
 use Rattle.p3_challenger.specs.Kind.{Kind}
-use Rattle.p3_challenger.specs.Kind.TheVariants.{Protocol}
 use Rattle.p3_challenger.specs.Length.{Length}
-use Rattle.p3_challenger.specs.PatternGrammar.{IsPattern, IsViable}
+use Rattle.p3_challenger.specs.PatternGrammar.{IsViable}
 use Rattle.p3_challenger.specs.Recording.{Recording, Records, RefusesToRecord}
 use Rattle.p3_challenger.specs.RoundLaws.{rounds-steps, steps_of_rounds-flat, steps_of_rounds-then}
 use Rattle.p3_challenger.specs.Rounds.{AreRounds, steps_of_rounds}
@@ -16,31 +15,11 @@ use Rattle.p3_challenger.specs.TranscriptLaws.{next-then}
 use Rattle.p3_challenger.specs.Transcripts.{AreNext, Transcript, steps_on}
 use Rattle.p3_sumcheck.specs.Sumchecks.{PlaysRound, RefusesToDeclare, Sumcheck, drawn_challenge, round_steps}
 use Rattle.p3_sumcheck.specs.declared.round.Round.{Round}
+use Rattle.p3_sumcheck.specs.DeclaringLaws.{only-memory, viable-first}
 
 -- a step of the same type as another
 abbrev pub alike : Kind → List ℕ → Length → Step → Step
 alike kind label length s = step_with Atomic kind label s.type_tag s.type_name (carried_by s.type_tag length)
-
--- steps that some pattern begins with: the first ones, and one after them
-viable-first : (before done others : List Step) (s : Step) → IsViable (before ++ (done ++ (s ∷ others))) →
-    IsViable ((before ++ done) ++ (s ∷ []))
-viable-first before done others s viable =
-    let is : (before ++ (done ++ (s ∷ others))) ++ viable.0 ≡ ((before ++ done) ++ (s ∷ [])) ++ (others ++ viable.0)
-    = ap (λ l. l ++ viable.0) (sym (append_assoc before done (s ∷ others)))
-    ∙ append_assoc (before ++ done) (s ∷ others) viable.0
-    ∙ sym (append_assoc (before ++ done) (s ∷ []) (others ++ viable.0)) in
-    (others ++ viable.0, subst (IsPattern Protocol) is viable.1)
-
--- a recorder that refused none yet refuses such a step for want of memory alone
-only-memory : (here after : Recording) (s : Step) (e : TranscriptError) → here.finished ≡ false →
-    IsViable (here.steps ++ (s ∷ [])) → RefusesToRecord here s e after → e ≡ OutOfMemory
-only-memory here after s e going viable refuses = elim refuses.fault [
-  | inl late ↦ let ended = late.0 in absurd (cc)
-  | inr fault ↦ elim fault.1 [
-    | inl stuck ↦ absurd (stuck.0 viable)
-    | inr memory ↦ memory.1
-  ]
-]
 
 module _ (first second : Step) where
   rounds-more : (n : ℕ) → steps_of_rounds (first ∷ second ∷ []) (n + 1)

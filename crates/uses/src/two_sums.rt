@@ -3,13 +3,15 @@
 //! A prover has two tables of `2^n` values. It sends the sum of the first, and plays its rounds; and then the same of
 //! the second, whose challenges depend on all that was sent before. Whoever has the tables checks in the end that each
 //! has the last value at its point.
-ghost use Rattle.std.specs.Prelude.{◌≡◌, ◌≤◌, ◌^◌, ◌++◌, [], ℕ, List, length, IfErr, IfOk, MatchResult, OnOk};
+ghost use Rattle.std.specs.Prelude.{◌≡◌, ◌≤◌, ◌^◌, ◌++◌, [], ℕ, List, false, length, IfErr, IfOk, MatchResult, OnOk};
 ghost use Rattle.p3_challenger.specs.Completeness.{IsOwnRefusal};
 ghost use Rattle.p3_challenger.specs.Driving.{Driving};
 ghost use Rattle.p3_challenger.specs.Drivers.{proving_of, verifying_of};
 ghost use Rattle.p3_challenger.specs.Observation.{observed_all};
+ghost use Rattle.p3_challenger.specs.PatternGrammar.{IsViable};
 ghost use Rattle.p3_challenger.specs.PatternSteps.{steps_of};
 ghost use Rattle.p3_challenger.specs.SeparatorSeed.{pattern_of, seed_of_separator};
+ghost use Rattle.p3_challenger.specs.TranscriptError.TheVariants.{OutOfMemory};
 ghost use Rattle.p3_challenger.specs.Transcripts.{AreNext, steps_on};
 ghost use Rattle.p3_sumcheck.specs.Sumchecks.{IsMemory, IsSumcheckFault, sumcheck_of};
 ghost use Rattle.uses.specs.TwoSums.{AcceptsTwo, AreReduced, IsReduced, ProvesTwo, ReadsSum, ReadsTwo, SendsSum, SendsTwo};
@@ -42,12 +44,13 @@ pub struct Reduced<F> {
 
 /// The pattern of two sums of tables of `2^n` values, where `n` is the number of rounds.
 ///
-/// The one error in fact is that memory is out.
+/// The one error is that memory is out.
 pub fn pattern<F: ScalarField, U, D: DigestHasher>(
     alloc: Global,
     rounds: usize,
 ) -> Result<InteractionPattern, TranscriptError>
-    ensures { IfOk result (λ pattern. steps_of pattern ≡ steps_of_two ⟦<F as Declared<F, D>>⟧.algebra rounds) }
+    ensures steps { IfOk result (λ pattern. steps_of pattern ≡ steps_of_two ⟦<F as Declared<F, D>>⟧.algebra rounds) }
+    ensures only { IfErr result (λ e. e ≡ OutOfMemory) }
 {
     let mut recorder = PatternState::<U>::new(alloc);
     let recorded = record_two::<F, U, D>(&mut recorder, rounds);
@@ -58,8 +61,11 @@ fn record_two<F: ScalarField, U, D: DigestHasher>(
     recorder: &mut PatternState<U>,
     rounds: usize,
 ) -> Result<(), TranscriptError>
-    ensures { OnOk result (recorder.new.steps
+    ensures steps { OnOk result (recorder.new.steps
         ≡ recorder.old.steps ++ steps_of_two ⟦<F as Declared<F, D>>⟧.algebra rounds) }
+    ensures only { let steps = steps_of_two ⟦<F as Declared<F, D>>⟧.algebra rounds in
+        recorder.old.finished ≡ false → IsViable (recorder.old.steps ++ steps) →
+        MatchResult result (λ _. recorder.new.finished ≡ false) (λ e. e ≡ OutOfMemory) }
 {
     record_sum::<F, U, D>(recorder, rounds)?;
     record_sum::<F, U, D>(recorder, rounds)
@@ -69,8 +75,11 @@ fn record_sum<F: ScalarField, U, D: DigestHasher>(
     recorder: &mut PatternState<U>,
     rounds: usize,
 ) -> Result<(), TranscriptError>
-    ensures { OnOk result (recorder.new.steps
+    ensures steps { OnOk result (recorder.new.steps
         ≡ recorder.old.steps ++ steps_of_sum ⟦<F as Declared<F, D>>⟧.algebra rounds) }
+    ensures only { let steps = steps_of_sum ⟦<F as Declared<F, D>>⟧.algebra rounds in
+        recorder.old.finished ≡ false → IsViable (recorder.old.steps ++ steps) →
+        MatchResult result (λ _. recorder.new.finished ≡ false) (λ e. e ≡ OutOfMemory) }
 {
     let leaf = Hierarchy::Atomic;
     let sum = Interaction::algebra::<F, F, D>(leaf, Kind::Message, "sum", Length::Scalar);

@@ -1,6 +1,7 @@
 use Rattle.std.proofs.Common.{sym, ap}
 use Rattle.std.proofs.lemmas.Result.{err_from_is_err_and}
 use Rattle.p3_challenger.specs.Algebras.{algebra_of}
+use Rattle.p3_challenger.specs.Drivers.{verifying_of}
 use Rattle.p3_challenger.specs.Observation.{observed_all}
 use Rattle.p3_challenger.specs.SeparatorSeed.{pattern_of, seed_of_separator}
 use Rattle.p3_sumcheck.specs.ReadingLaws.{own-reading_fault}
@@ -53,10 +54,11 @@ returns-in_err-end-clause-only g c has =
     let pattern = pattern_of c.args.separator.now in
     let steps = steps_of_two m.field c.args.rounds in
     let next = begun-next steps challenger pattern c.args.proof.now _ c.in_ok-verifier.ensures.ok has in
-    let played = passed-played steps challenger pattern c.args.proof.now _ c.in_ok-verifier.ensures.ok has _
+    let end = verifying_of g.C.Sponge.state c.receive_two-received.new.verifier in
+    let played = passed-played steps challenger pattern c.args.proof.now _ c.in_ok-verifier.ensures.ok has end
     (c.in_ok-read.ensures.only next) in
     let p = err_from_is_err_and c.from_residual-in_err-end.result c.from_residual-in_err-end.ensures.1 in
-    rw (p.1, p.2) (end-fault _ _ played c.in_err-end.ensures.err)
+    rw (p.1, p.2) (end-fault end _ played c.in_err-end.ensures.err)
 
 pub returns-clause-complete : goal.returns-clause-complete
 returns-clause-complete g c first second first_size second_size short it =
