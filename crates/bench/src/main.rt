@@ -10,6 +10,7 @@ mod multi_field;
 mod patterns;
 mod scripts;
 mod seeds;
+mod sumcheck;
 mod timing;
 mod work;
 
@@ -40,10 +41,11 @@ fn main(rt: HostRuntime) -> Result<()> {
     let patterns = patterns::measure(&rt, runs)?;
     let drivers = drivers::measure(&rt, runs)?;
     let scripts = scripts::measure(&rt, runs)?;
+    let sumcheck = sumcheck::measure(&rt, runs)?;
     let work = work::measure(&rt, runs)?;
     // The sums are shown so that nothing of what makes them can be left out.
     println!(rt;
-        "sums: {duplex} {hash} {multi_field} {seeds} {patterns} {drivers} {scripts} {work}"
+        "sums: {duplex} {hash} {multi_field} {seeds} {patterns} {drivers} {scripts} {sumcheck} {work}"
     )?;
     Ok(())
 }

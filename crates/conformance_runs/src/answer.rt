@@ -1,4 +1,5 @@
 // A script on both sides, each in both ways.
+use crate::hostile::{Changes, Tally, try_changes};
 use crate::proving::prove_by_steps;
 use crate::told::Told;
 use crate::verifying::verify_by_steps;
@@ -18,20 +19,32 @@ pub struct Answered {
     pub steps: usize,
 }
 
-/// Plays the script of a line with a prover, and then with a verifier of the proof as the line changes it.
-pub fn answer<S: World>(alloc: Global, line: &Line<'_>) -> Result<Answered> {
+/// Plays the script of a line with a prover, and then with a verifier of the proof as the line changes it; and judges
+/// changes of the proof.
+pub fn play<S: World>(
+    alloc: Global,
+    line: &Line<'_>,
+    changes: &mut Changes,
+    tally: &mut Tally,
+) -> Result<Answered> {
     let mut script = Script::<S>::parse(alloc, line)?;
     let steps = script.played.steps.len();
-    let text = if admitted(script.played.steps.as_slice()) {
-        both_sides(alloc, line, &mut script)?
-    } else {
-        String::from_str(alloc, "not admitted")?
-    };
+    if !admitted(script.played.steps.as_slice()) {
+        let text = String::from_str(alloc, "not admitted")?;
+        return Ok(Answered { text, steps });
+    }
+    let separator = script.separator(alloc, line)?;
+    let text = both_sides(alloc, line, &separator, &mut script)?;
+    try_changes(alloc, &separator, &script.played, changes, tally)?;
     Ok(Answered { text, steps })
 }
 
-fn both_sides<S: World>(alloc: Global, line: &Line<'_>, script: &mut Script<S>) -> Result<String> {
-    let separator = script.separator(alloc, line)?;
+fn both_sides<S: World>(
+    alloc: Global,
+    line: &Line<'_>,
+    separator: &SeparatorOf<S>,
+    script: &mut Script<S>,
+) -> Result<String> {
     let mut text = String::new(alloc);
     let fit = fits(script.played.steps.as_slice(), separator.pattern());
     if fit != are_steps_of(script.played.steps.as_slice(), separator.pattern()) {
@@ -40,12 +53,12 @@ fn both_sides<S: World>(alloc: Global, line: &Line<'_>, script: &mut Script<S>) 
     if script.pattern.is_some() {
         text.push_str(if fit { "fits ; " } else { "other steps ; " })?;
     }
-    let mut written = prover_side(alloc, &separator, script)?;
+    let mut written = prover_side(alloc, separator, script)?;
     script.change.apply(&mut written.narg)?;
     if let Some(carried) = script.carried.take() {
         written.carried = carried;
     }
-    let verdict = verifier_side(alloc, &separator, script, &written)?;
+    let verdict = verifier_side(alloc, separator, script, &written)?;
     push_told(&mut text, line.form, &written.told)?;
     text.push_str(" ; verify ")?;
     push_told(&mut text, line.form, &verdict)?;

@@ -4,11 +4,10 @@ use crate::mutation::change;
 use anyhow::{Result, bail};
 use p3_challenger::ChallengerError;
 use p3_challenger::fs::TranscriptError;
-use p3_challenger::fs::script::{admitted, carried_len, prove, sent_matches, verify};
+use p3_challenger::fs::script::{Step, admitted, carried_len, prove, sent_matches, verify};
 use p3_field::PrimeField64;
 use rand_xoshiro::Xoshiro256PlusPlus;
-use script_lines::line::Line;
-use script_lines::script::Script;
+use script_lines::script::Steps;
 use script_lines::world::{SeparatorOf, World};
 use std::alloc::Global;
 
@@ -49,33 +48,36 @@ impl Tally {
     }
 }
 
-/// Proves the script of a line, and verifies so many changes of its proof. The error is a change of which the verdict is
-/// neither of the two, or that memory ran out. A script that is not proved is left out.
+/// From what proofs are changed, and how often each one is.
+#[derive(Drop)]
+pub struct Changes {
+    pub rng: Xoshiro256PlusPlus,
+    pub count: u64,
+}
+
+/// Proves the script, and verifies so many changes of its proof. The error is a change of which the verdict is neither of the
+/// two, or that memory ran out. A script that is not proved is left out.
 pub fn try_changes<S: World>(
     alloc: Global,
-    line: &Line<'_>,
-    rng: &mut Xoshiro256PlusPlus,
-    count: u64,
+    separator: &SeparatorOf<S>,
+    script: &Steps<S>,
+    changes: &mut Changes,
     tally: &mut Tally,
 ) -> Result<()> {
-    let script = Script::<S>::parse(alloc, line)?;
-    let separator = script.separator(alloc, line)?;
-    let (steps, sent) = (
-        script.played.steps.as_slice(),
-        script.played.sent.as_slice(),
-    );
+    let (steps, sent) = (script.steps.as_slice(), script.sent.as_slice());
     if !admitted(steps) || !sent_matches(steps, sent) {
         return Ok(());
     }
-    let Ok(proved) = prove::<S>(alloc, S::fresh(alloc)?, &separator, steps, sent) else {
+    let Ok(proved) = prove::<S>(alloc, S::fresh(alloc)?, separator, steps, sent) else {
         return Ok(());
     };
     let carried = proved.carried.as_slice();
-    for _ in 0..count {
+    for _ in 0..changes.count {
         let mut narg = Vec::new(alloc);
         narg.extend_from_slice(proved.narg.as_slice())?;
-        change(rng, &mut narg, S::Field::ORDER_U64, element_width::<S>())?;
-        judge(alloc, &separator, &script, carried, narg.as_slice(), tally)?;
+        let width = element_width::<S>();
+        change(&mut changes.rng, &mut narg, S::Field::ORDER_U64, width)?;
+        judge(alloc, separator, steps, carried, narg.as_slice(), tally)?;
     }
     Ok(())
 }
@@ -84,12 +86,11 @@ pub fn try_changes<S: World>(
 fn judge<S: World>(
     alloc: Global,
     separator: &SeparatorOf<S>,
-    script: &Script<S>,
+    steps: &[Step<S>],
     carried: &[S::Field],
     narg: &[u8],
     tally: &mut Tally,
 ) -> Result<()> {
-    let steps = script.played.steps.as_slice();
     if !admitted(steps) || carried_len(steps) != carried.len() {
         bail!("another number of witnesses than these steps carry");
     }

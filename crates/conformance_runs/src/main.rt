@@ -29,7 +29,7 @@
 //! after such a verifier ` ; unread N ; next a b`, how many bytes it left. Where the end was refused no challenger is
 //! left to draw from.
 //!
-//! Then it changes each proof at random, twice, and asks that the changed one is refused for a reason, or accepted and just
+//! Each proof is also changed at random, twice, and the program asks that the changed one is refused for a reason, or accepted and just
 //! the encoding of what was received. Its second word is a seed, and its third how often each proof is changed; with that
 //! it prints how many of the changed proofs came to what.
 #![tactic(auto)]
@@ -44,9 +44,9 @@ mod told;
 mod verifying;
 mod whole;
 
-use answer::{Answered, answer};
+use answer::{Answered, play};
 use anyhow::{Context, Result, bail};
-use hostile::{Tally, try_changes};
+use hostile::{Changes, Tally};
 use p3_challenger::fs::script::{BitsPow, Both, Plain};
 use rand_core::SeedableRng;
 use rand_xoshiro::Xoshiro256PlusPlus;
@@ -76,20 +76,15 @@ fn main(rt: HostRuntime) -> Result<ExitCode> {
     let asked = words.next();
     let shows = asked.is_some();
     let count = number_or(asked, CHANGES)?;
-    let mut rng = Xoshiro256PlusPlus::seed_from_u64(seed);
+    let rng = Xoshiro256PlusPlus::seed_from_u64(seed);
+    let mut changes = Changes { rng, count };
     let mut agree = true;
     for file in FILES {
         let path = format!(in rt.alloc(); "{folder}/{file}.txt")?;
         let text = fs::read_to_string(&rt, path.as_str()).context(path.as_str())?;
-        let outcome = compare(rt.alloc(), text.as_str()).context(path.as_str())?;
-        for (line, answer) in &outcome.differing {
-            agree = false;
-            println!(rt; "{file}: line {line} answers {answer}")?;
-        }
-        let Outcome { lines, steps, .. } = &outcome;
-        println!(rt; "{file}: {lines} lines, {steps} steps, agree")?;
-        let tally = changes(rt.alloc(), text.as_str(), &mut rng, count).context(path.as_str())?;
-        tell(&rt, file, &tally, shows)?;
+        let outcome = play_file(rt.alloc(), text.as_str(), &mut changes).context(path.as_str())?;
+        agree = agree && outcome.differing.is_empty();
+        tell(&rt, file, &outcome, shows)?;
     }
     Ok(ExitCode::from(if agree { 0 } else { 1 }))
 }
@@ -102,8 +97,29 @@ fn number_or(word: Option<String>, other: u64) -> Result<u64> {
     }
 }
 
-// Says how many changed proofs there were, and, where that is asked for, what became of how many.
-fn tell(rt: &HostRuntime, file: &str, tally: &Tally, shows: bool) -> Result<()> {
+// How a file was played: how many lines agree, and the others with what is answered. A line is counted from 1. And what
+// became of the changed proofs.
+#[derive(Drop)]
+struct Outcome {
+    lines: usize,
+    steps: usize,
+    differing: Vec<(usize, String)>,
+    tally: Tally,
+}
+
+// Says how the lines were answered and how many changed proofs there were; and, where that is asked for, what became of
+// how many.
+fn tell(rt: &HostRuntime, file: &str, outcome: &Outcome, shows: bool) -> Result<()> {
+    for (line, answer) in &outcome.differing {
+        println!(rt; "{file}: line {line} answers {answer}")?;
+    }
+    let Outcome {
+        lines,
+        steps,
+        tally,
+        ..
+    } = outcome;
+    println!(rt; "{file}: {lines} lines, {steps} steps, agree")?;
     let total = tally.total();
     println!(rt;
         "{file}: {total} changed proofs, each refused or the encoding of what was received"
@@ -118,20 +134,13 @@ fn tell(rt: &HostRuntime, file: &str, tally: &Tally, shows: bool) -> Result<()> 
     Ok(())
 }
 
-// How a file was played: how many lines agree, and the others with what is answered. A line is counted from 1.
-#[derive(Drop)]
-struct Outcome {
-    lines: usize,
-    steps: usize,
-    differing: Vec<(usize, String)>,
-}
-
-// Plays each line of a file.
-fn compare(alloc: Global, text: &str) -> Result<Outcome> {
+// Plays each line of a file, and changes its proof.
+fn play_file(alloc: Global, text: &str, changes: &mut Changes) -> Result<Outcome> {
     let mut outcome = Outcome {
         lines: 0,
         steps: 0,
         differing: Vec::new(alloc),
+        tally: Tally::new(alloc),
     };
     let mut number = 0usize;
     for text in text.lines() {
@@ -140,7 +149,9 @@ fn compare(alloc: Global, text: &str) -> Result<Outcome> {
             continue;
         }
         let line = Line::parse(alloc, text).context(format_args!("line {number}"))?;
-        let found = answer_in(alloc, &line).context(format_args!("line {number}"))?;
+        let found = play_line(alloc, &line, changes, &mut outcome.tally).context(format_args!(
+            "line {number}"
+        ))?;
         if found.text.as_str() == line.answer {
             outcome.lines = outcome.lines.saturating_add(1);
             outcome.steps = outcome.steps.saturating_add(found.steps);
@@ -151,46 +162,23 @@ fn compare(alloc: Global, text: &str) -> Result<Outcome> {
     Ok(outcome)
 }
 
-// Changes the proof of each line, so many times.
-fn changes(alloc: Global, text: &str, rng: &mut Xoshiro256PlusPlus, count: u64) -> Result<Tally> {
-    let mut tally = Tally::new(alloc);
-    for text in text.lines() {
-        if !text.starts_with('#') {
-            let line = Line::parse(alloc, text).context(text)?;
-            changes_in(alloc, &line, rng, count, &mut tally).context(text)?;
-        }
-    }
-    Ok(tally)
-}
-
-// Calls a function in the world of a line.
-macro_rules! in_world {
-    ($line:expr, $function:ident($($word:expr),*)) => {
-        match $line.world {
-            "s" => $function::<Small<2, Both>>($($word),*),
-            "s_bits" => $function::<Small<2, BitsPow>>($($word),*),
-            "s_plain" => $function::<Small<2, Plain>>($($word),*),
-            "s_turn1" => $function::<Small<1, Both>>($($word),*),
-            "notes" => $function::<Notes>($($word),*),
-            "hash" => $function::<HashSuite>($($word),*),
-            "ser32" => $function::<Serializing32Suite>($($word),*),
-            "ser64" => $function::<Serializing64Suite>($($word),*),
-            "multi" => $function::<MultiFieldSuite>($($word),*),
-            _ => bail!("an unknown world"),
-        }
-    };
-}
-
-fn answer_in(alloc: Global, line: &Line<'_>) -> Result<Answered> {
-    in_world!(line, answer(alloc, line))
-}
-
-fn changes_in(
+// Plays a line in its world. Each world is named once, since what its suite owes is proved again wherever it is named.
+fn play_line(
     alloc: Global,
     line: &Line<'_>,
-    rng: &mut Xoshiro256PlusPlus,
-    count: u64,
+    changes: &mut Changes,
     tally: &mut Tally,
-) -> Result<()> {
-    in_world!(line, try_changes(alloc, line, rng, count, tally))
+) -> Result<Answered> {
+    match line.world {
+        "s" => play::<Small<2, Both>>(alloc, line, changes, tally),
+        "s_bits" => play::<Small<2, BitsPow>>(alloc, line, changes, tally),
+        "s_plain" => play::<Small<2, Plain>>(alloc, line, changes, tally),
+        "s_turn1" => play::<Small<1, Both>>(alloc, line, changes, tally),
+        "notes" => play::<Notes>(alloc, line, changes, tally),
+        "hash" => play::<HashSuite>(alloc, line, changes, tally),
+        "ser32" => play::<Serializing32Suite>(alloc, line, changes, tally),
+        "ser64" => play::<Serializing64Suite>(alloc, line, changes, tally),
+        "multi" => play::<MultiFieldSuite>(alloc, line, changes, tally),
+        _ => bail!("an unknown world"),
+    }
 }

@@ -18,8 +18,8 @@ pub use Rattle.p3_challenger_core.specs.Segments
 pub use Rattle.p3_challenger_core.specs.Sponge
 pub use Rattle.p3_challenger_core.specs.SymbolLaws
 pub use Rattle.p3_read_back.specs.CallRowLaws
-pub use Rattle.p3_read_back.specs.Handed
-pub use Rattle.p3_read_back.specs.HandedLaws
+pub use Rattle.p3_read_back.specs.Queries
+pub use Rattle.p3_read_back.specs.QueriesLaws
 pub use Rattle.p3_read_back.specs.SumLaws
 pub use Rattle.p3_duplex.specs.DuplexCalls
 pub use Rattle.p3_duplex.specs.DuplexReadBack

@@ -4,6 +4,7 @@ pub mod Folding
 pub mod Outcomes
 pub mod Over
 pub mod Reading
+pub mod Refusing
 pub mod Sending
 pub mod Sums
 mod WorkedRows

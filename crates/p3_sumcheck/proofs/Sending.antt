@@ -20,7 +20,7 @@ use Rattle.p3_sumcheck.specs.Sumchecks.{PlaysRound, Proves, RefusesToProve, Refu
 use Rattle.p3_sumcheck.specs.Sumchecks.{drawn_challenge, round_steps, sent_pair}
 use Rattle.p3_sumcheck.specs.Tables.{folded, folded_at, high_half, low_half, total}
 use Rattle.p3_sumcheck.proofs.ClaimLaws.{folded-length, folded_at-more, true_rounds-length, true_rounds-more}
-use Rattle.p3_sumcheck.proofs.Declaring.{rounds-pass, steps_of}
+use Rattle.p3_sumcheck.proofs.Declaring.{rounds-left, rounds-pass, steps_of}
 
 -- a list of one value
 one-value : {F : Type 0} (xs : List F) (x : F) → length xs ≡ 1 → x ≡ get_or xs 0 x → xs ≡ x ∷ []
@@ -188,11 +188,7 @@ module _ {S Symbol F : Type 0} (m : Sumcheck S Symbol F) where
       let plays : AreRounds (PlaysRound m) before.transcript rounds here.transcript
       = rounds-seen (WritesRound m) (λ v. v.transcript) (PlaysRound m) (λ b x a round. round.plays) before rounds here
       writes in
-      let steps = round_steps m.field in
-      let all = subst (λ l. AreNext l before.transcript.playing)
-      (ap (steps_of_rounds steps) is ∙ steps_of_rounds-then steps (length rounds) k) next in
-      subst (AreNext (steps_of m k)) (sym ((rounds-pass m rounds before.transcript here.transcript plays).1))
-      (next-then (steps_of m (length rounds)) (steps_of m k) before.transcript.playing all)
+      rounds-left m n k before.transcript here.transcript rounds is next plays
 
   -- nothing is left of no values
   none-folded : (point : List F) → length (folded_at m.residues point []) ≡ 0

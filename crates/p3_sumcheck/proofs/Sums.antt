@@ -1,5 +1,5 @@
 -- Sums of tables in parts, and of what is folded.
-use Rattle.std.proofs.Common.{◌≡◌, ℕ, ◌+◌, ◌/◌, ◌<◌, List, [], ◌∷◌, ◌++◌, length, take, sum_by, get_or, sym, ap, ◌∙◌}
+use Rattle.std.proofs.Common.{◌≡◌, ℕ, ◌+◌, ◌/◌, ◌<◌, List, [], ◌∷◌, ◌++◌, length, take, drop, sum_by, get_or, sym, ap, ◌∙◌}
 use Rattle.std.proofs.lemmas.List.Sums.{sum_by-cons, sum_by-take-drop, sum_by_more, sum_by_push}
 use Rattle.p3_challenger.specs.Residues.{Residues, IsResidues, sum_of}
 use Rattle.p3_challenger.specs.Rings.{IsRing}
@@ -10,11 +10,22 @@ module _ {F : Type 0} (r : Residues F) (laws : IsResidues r) where
   ring : IsRing r
   ring = residues-ring r laws
 
-  -- the totals of the halves add to that of the table
+  -- the totals of a front of a table and of what is left add to that of the table
+  pub total-split : (table : List F) (k : ℕ) → sum_of r (total r (take k table)) (total r (drop k table)) ≡ total r table
+  total-split table k =
+      ring.sum_of_numbers (sum_by r.number (take k table)) (sum_by r.number (drop k table))
+      ∙ ap r.of (sum_by-take-drop r.number table k)
+
+  pub total-parts : (table front rest : List F) (k : ℕ) (x y u : F) → front ≡ take k table → rest ≡ drop k table →
+      x ≡ total r front → y ≡ total r rest → u ≡ sum_of r x y → u ≡ total r table
+  total-parts table front rest k x y u is_front is_rest first second adds =
+      let one = first ∙ ap (total r) is_front in
+      let other = second ∙ ap (total r) is_rest in
+      adds ∙ (λ i. sum_of r (one i) (other i)) ∙ total-split table k
+
+  -- those of its halves
   pub total-halves : (table : List F) → sum_of r (total r (low_half table)) (total r (high_half table)) ≡ total r table
-  total-halves table =
-      ring.sum_of_numbers (sum_by r.number (low_half table)) (sum_by r.number (high_half table))
-      ∙ ap r.of (sum_by-take-drop r.number table (length table / 2))
+  total-halves table = total-split table (length table / 2)
 
   -- the total of a list with one value in front
   pub total-cons : (x : F) (xs : List F) → total r (x ∷ xs) ≡ sum_of r x (total r xs)

@@ -1,3 +1,5 @@
 pub mod Claims
+pub mod DeclaringLaws
+pub mod ReadingLaws
 pub mod Sumchecks
 pub mod Tables

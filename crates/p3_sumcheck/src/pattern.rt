@@ -1,8 +1,10 @@
 //! The steps of a sumcheck in a pattern.
 ghost use Rattle.std.specs.Prelude.{◌≡◌, ◌++◌, ℕ, List, false, length, IfErr, OnOk};
+ghost use Rattle.p3_challenger.specs.PatternGrammar.{IsViable};
 ghost use Rattle.p3_challenger.specs.Playing.{Playing};
 ghost use Rattle.p3_challenger.specs.Rounds.{steps_of_rounds};
 ghost use Rattle.p3_challenger.specs.Steps.{Step};
+ghost use Rattle.p3_challenger.specs.TranscriptError.TheVariants.{OutOfMemory};
 ghost use Rattle.p3_challenger.specs.Transcripts.{AreNext};
 ghost use Rattle.p3_sumcheck.specs.Sumchecks.{RefusesToDeclare, round_steps};
 
@@ -17,7 +19,8 @@ use p3_symmetric::DigestHasher;
 /// challenge, `fold`.
 ///
 /// The errors are those of the recorder: it took the steps before the refused one, and takes no
-/// other.
+/// other. Where it has refused none yet, and some pattern begins with its steps and these, memory
+/// alone is refused.
 pub fn declare<F: ScalarField, U, D: DigestHasher>(
     recorder: &mut PatternState<U>,
     rounds: usize,
@@ -29,6 +32,10 @@ pub fn declare<F: ScalarField, U, D: DigestHasher>(
     ensures err { let steps = round_steps ⟦<F as Declared<F, D>>⟧.algebra in
         IfErr result (λ e. RefusesToDeclare (steps_of_rounds steps rounds) recorder.old e
         recorder.new) }
+    ensures only { let steps = round_steps ⟦<F as Declared<F, D>>⟧.algebra in
+        recorder.old.finished ≡ false →
+        IsViable (recorder.old.steps ++ steps_of_rounds steps rounds) →
+        IfErr result (λ e. e ≡ OutOfMemory) }
 {
     let leaf = Hierarchy::Atomic;
     let pair = Interaction::algebra::<F, F, D>(leaf, Kind::Message, "round", Length::Fixed(2));

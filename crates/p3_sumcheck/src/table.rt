@@ -30,13 +30,31 @@ pub fn sum<F: PrimeField64>(values: &[F]) -> F
     total
 }
 
-/// The sums of the two halves of a table.
+/// The sums of the two halves of a table, in one pass over both.
 pub(crate) fn sums_of_halves<F: PrimeField64>(table: &[F]) -> (F, F)
     ensures first { result.0 ≡ tables.total F.residues (tables.low_half table.now) }
     ensures second { result.1 ≡ tables.total F.residues (tables.high_half table.now) }
 {
     let (low, high) = table.split_at(table.len() / 2);
-    (sum(low), sum(high))
+    let (front, rest) = high.split_at(low.len());
+    let (first, second) = sums_of_two(low, front);
+    (first, second + sum(rest))
+}
+
+// The sums of two lists of one length. In one pass, since then the additions of one list do not
+// wait for those of the other.
+fn sums_of_two<F: PrimeField64>(first: &[F], second: &[F]) -> (F, F)
+    requires { length first.now ≡ length second.now }
+    ensures first { result.0 ≡ tables.total F.residues first.now }
+    ensures second { result.1 ≡ tables.total F.residues second.now }
+{
+    let mut one = F::ZERO;
+    let mut other = F::ZERO;
+    for i in 0..first.len() {
+        one = one + first[i];
+        other = other + second[i];
+    }
+    (one, other)
 }
 
 /// Folds a table at `x` where it lies, in one pass, and gives the sums of the two halves of what is

@@ -7,6 +7,8 @@ pub mod Either
 pub mod MerkleOpening
 pub mod OwnHasher
 pub mod ReadBytes
+pub mod ReadSums
+pub mod RecordSums
 pub mod Rejecting
 pub mod Runs
 pub mod SentAndDrawn

@@ -10,8 +10,10 @@ use Rattle.p3_challenger.specs.Playing.{IsPlayed}
 use Rattle.p3_challenger.specs.Proving.{Writes}
 use Rattle.p3_challenger.specs.Rounds.{steps_of_rounds}
 use Rattle.p3_challenger.specs.Steps.{Step}
-use Rattle.p3_challenger.specs.Transcripts.{Meaning}
-use Rattle.p3_sumcheck.specs.Sumchecks.{Proves, Sumcheck, round_steps}
+use Rattle.p3_challenger.specs.Transcripts.{Meaning, PlaysStep}
+use Rattle.p3_challenger.specs.Verifying.{EndsReading}
+use Rattle.p3_sumcheck.specs.declared.round.Round.{Round}
+use Rattle.p3_sumcheck.specs.Sumchecks.{Accepts, Proves, Sumcheck, challenges_of, round_steps}
 use Rattle.p3_sumcheck.specs.Tables.{total}
 use Rattle.uses.specs.declared.two_sums.Reduced.{Reduced}
 
@@ -35,6 +37,10 @@ begun challenger pattern =
       };
       bytes = [];
     }
+
+-- a driver that stands there, with these bytes left
+abbrev pub with_bytes : {S : Type 0} → Driving S → List ℕ → Driving S
+with_bytes driver bytes = record { transcript = driver.transcript; bytes = bytes }
 
 module _ {S Symbol F : Type 0} (m : Sumcheck S Symbol F) where
   abbrev pub sent_sum : F → Meaning S Symbol F
@@ -74,6 +80,30 @@ module _ {S Symbol F : Type 0} (m : Sumcheck S Symbol F) where
     pub one_is : IsReduced first it.one one
     pub other_is : IsReduced second it.other other
 
--- a driver that stands there, with these bytes left
-abbrev pub with_bytes : {S : Type 0} → Driving S → List ℕ → Driving S
-with_bytes driver bytes = record { transcript = driver.transcript; bytes = bytes }
+  -- ---- the verifier's side, of any bytes
+
+  -- this value's bytes are next, and it is observed
+  pub record ReadsValue (x : F) (before after : Driving S) : Type 0 where
+    pub plays : PlaysStep (sent_sum x) before.transcript x after.transcript
+    pub bytes : before.bytes ≡ m.encoding.wire x ++ after.bytes
+
+  -- a sum is read, and rounds that bring it to the value that is left
+  pub record ReadsSum (n : ℕ) (read : Reduced F) (before after : Driving S) : Type 0 where
+    pub rounds : List (Round F)
+    pub here : Driving S
+    pub sum : ReadsValue read.sum before here
+    pub accepts : Accepts m read.sum n here rounds read.value after
+    pub point : read.point.items ≡ challenges_of rounds
+
+  -- the same of two sums
+  pub record ReadsTwo (n : ℕ) (one other : Reduced F) (before after : Driving S) : Type 0 where
+    pub here : Driving S
+    pub first : ReadsSum n one before here
+    pub second : ReadsSum n other here after
+
+  -- these bytes are two sums with their rounds, and nothing is left of them
+  pub record AcceptsTwo (n : ℕ) (one other : Reduced F) (challenger : S) (pattern : PatternSteps) (proof : List ℕ) :
+      Type 0 where
+    pub end : Driving S
+    pub reads : ReadsTwo n one other (with_bytes (begun challenger pattern) proof) end
+    pub ends : EndsReading end

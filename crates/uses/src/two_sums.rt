@@ -3,16 +3,19 @@
 //! A prover has two tables of `2^n` values. It sends the sum of the first, and plays its rounds; and then the same of
 //! the second, whose challenges depend on all that was sent before. Whoever has the tables checks in the end that each
 //! has the last value at its point.
-ghost use Rattle.std.specs.Prelude.{◌≡◌, ◌≤◌, ◌^◌, ◌++◌, [], ℕ, List, length, IfErr, IfOk, MatchResult, OnOk};
+ghost use Rattle.std.specs.Prelude.{◌≡◌, ◌≤◌, ◌^◌, ◌++◌, [], ℕ, List, false, length, IfErr, IfOk, MatchResult, OnOk};
 ghost use Rattle.p3_challenger.specs.Completeness.{IsOwnRefusal};
 ghost use Rattle.p3_challenger.specs.Driving.{Driving};
 ghost use Rattle.p3_challenger.specs.Drivers.{proving_of, verifying_of};
 ghost use Rattle.p3_challenger.specs.Observation.{observed_all};
+ghost use Rattle.p3_challenger.specs.PatternGrammar.{IsViable};
 ghost use Rattle.p3_challenger.specs.PatternSteps.{steps_of};
 ghost use Rattle.p3_challenger.specs.SeparatorSeed.{pattern_of, seed_of_separator};
+ghost use Rattle.p3_challenger.specs.TranscriptError.TheVariants.{OutOfMemory};
 ghost use Rattle.p3_challenger.specs.Transcripts.{AreNext, steps_on};
-ghost use Rattle.p3_sumcheck.specs.Sumchecks.{IsMemory, sumcheck_of};
-ghost use Rattle.uses.specs.TwoSums.{AreReduced, IsReduced, ProvesTwo, SendsSum, SendsTwo, steps_of_sum, steps_of_two};
+ghost use Rattle.p3_sumcheck.specs.Sumchecks.{IsMemory, IsSumcheckFault, sumcheck_of};
+ghost use Rattle.uses.specs.TwoSums.{AcceptsTwo, AreReduced, IsReduced, ProvesTwo, ReadsSum, ReadsTwo, SendsSum, SendsTwo};
+ghost use Rattle.uses.specs.TwoSums.{steps_of_sum, steps_of_two};
 ghost use Rattle.uses.specs.TwoSums.{with_bytes};
 
 use p3_challenger::CanObserve;
@@ -21,6 +24,7 @@ use p3_challenger::fs::{
     Pattern, PatternState, ProverState, TranscriptError, Unit, VerifierState,
 };
 use p3_challenger::laws::completeness::sent_value_is_received;
+use p3_challenger::laws::encodings::read_values_are_encoded;
 use p3_challenger::laws::memory::only_memory_refuses_sent_values;
 use p3_field::ScalarField;
 use p3_sumcheck::{SumcheckError, declare, prove, sum, verify};
@@ -40,12 +44,13 @@ pub struct Reduced<F> {
 
 /// The pattern of two sums of tables of `2^n` values, where `n` is the number of rounds.
 ///
-/// The one error in fact is that memory is out.
+/// The one error is that memory is out.
 pub fn pattern<F: ScalarField, U, D: DigestHasher>(
     alloc: Global,
     rounds: usize,
 ) -> Result<InteractionPattern, TranscriptError>
-    ensures { IfOk result (λ pattern. steps_of pattern ≡ steps_of_two ⟦<F as Declared<F, D>>⟧.algebra rounds) }
+    ensures steps { IfOk result (λ pattern. steps_of pattern ≡ steps_of_two ⟦<F as Declared<F, D>>⟧.algebra rounds) }
+    ensures only { IfErr result (λ e. e ≡ OutOfMemory) }
 {
     let mut recorder = PatternState::<U>::new(alloc);
     let recorded = record_two::<F, U, D>(&mut recorder, rounds);
@@ -56,8 +61,11 @@ fn record_two<F: ScalarField, U, D: DigestHasher>(
     recorder: &mut PatternState<U>,
     rounds: usize,
 ) -> Result<(), TranscriptError>
-    ensures { OnOk result (recorder.new.steps
+    ensures steps { OnOk result (recorder.new.steps
         ≡ recorder.old.steps ++ steps_of_two ⟦<F as Declared<F, D>>⟧.algebra rounds) }
+    ensures only { let steps = steps_of_two ⟦<F as Declared<F, D>>⟧.algebra rounds in
+        recorder.old.finished ≡ false → IsViable (recorder.old.steps ++ steps) →
+        MatchResult result (λ _. recorder.new.finished ≡ false) (λ e. e ≡ OutOfMemory) }
 {
     record_sum::<F, U, D>(recorder, rounds)?;
     record_sum::<F, U, D>(recorder, rounds)
@@ -67,8 +75,11 @@ fn record_sum<F: ScalarField, U, D: DigestHasher>(
     recorder: &mut PatternState<U>,
     rounds: usize,
 ) -> Result<(), TranscriptError>
-    ensures { OnOk result (recorder.new.steps
+    ensures steps { OnOk result (recorder.new.steps
         ≡ recorder.old.steps ++ steps_of_sum ⟦<F as Declared<F, D>>⟧.algebra rounds) }
+    ensures only { let steps = steps_of_sum ⟦<F as Declared<F, D>>⟧.algebra rounds in
+        recorder.old.finished ≡ false → IsViable (recorder.old.steps ++ steps) →
+        MatchResult result (λ _. recorder.new.finished ≡ false) (λ e. e ≡ OutOfMemory) }
 {
     let leaf = Hierarchy::Atomic;
     let sum = Interaction::algebra::<F, F, D>(leaf, Kind::Message, "sum", Length::Scalar);
@@ -173,8 +184,13 @@ fn send_sum<
 
 /// Reads a proof of two sums, and gives what is left of each.
 ///
-/// What [`prove_two`] sent from an equal challenger under the same separator is accepted, with the sums of its tables and
-/// the value of each at its point; or memory is out.
+/// What is accepted of any bytes are two sums, each in the one encoding of its element, and after each so many rounds that
+/// bring it to the value that is left, with nothing after them. Whether a value is that of a table at its point is for who
+/// has the table to see. What [`prove_two`] sent from an equal challenger under the same separator is accepted, with the
+/// sums of its tables and the value of each at its point; or memory is out.
+///
+/// Under a separator of that pattern the error is [`SumcheckError::Round`] of a pair that does not add to the claim; else the
+/// proof has another shape, the challenger or the alphabet refuses, or memory is out.
 ///
 /// Conditions: `U` is an alphabet, and the codec has at least
 /// [`MIN_CHALLENGE_SECURITY_BITS`](p3_challenger::fs::MIN_CHALLENGE_SECURITY_BITS) of security.
@@ -193,7 +209,14 @@ pub fn verify_two<
 ) -> Result<(Reduced<F>, Reduced<F>), SumcheckError>
     requires alphabet { U.is_alphabet }
     requires secure { 128 ≤ Cdc.SECURITY_BITS }
-    ensures { let m = sumcheck_of F.residues ⟦<F as Declared<F, D>>⟧.algebra Cdc.observation
+    ensures accepts { let m = sumcheck_of F.residues ⟦<F as Declared<F, D>>⟧.algebra Cdc.observation
+        Cdc.sampling Cdc.encoding in
+        let s = observed_all C.observation.observed (C.state challenger)
+        (U.items (seed_of_separator D.digest_of separator.now)) in
+        IfOk result (λ read. AcceptsTwo m rounds read.0 read.1 s (pattern_of separator.now) proof.now) }
+    ensures only { (pattern_of separator.now).steps ≡ steps_of_two ⟦<F as Declared<F, D>>⟧.algebra rounds →
+        IfErr result (IsSumcheckFault rounds) }
+    ensures complete { let m = sumcheck_of F.residues ⟦<F as Declared<F, D>>⟧.algebra Cdc.observation
         Cdc.sampling Cdc.encoding in
         let s = observed_all C.observation.observed (C.state challenger)
         (U.items (seed_of_separator D.digest_of separator.now)) in
@@ -223,7 +246,17 @@ fn receive_two<
     verifier: &mut VerifierState<'_, C, U, D>,
 ) -> Result<(Reduced<F>, Reduced<F>), SumcheckError>
     requires { 128 ≤ Cdc.SECURITY_BITS }
-    ensures { let m = sumcheck_of F.residues ⟦<F as Declared<F, D>>⟧.algebra Cdc.observation
+    ensures accepts { let m = sumcheck_of F.residues ⟦<F as Declared<F, D>>⟧.algebra Cdc.observation
+        Cdc.sampling Cdc.encoding in
+        let before = verifying_of C.state verifier.old in
+        let after = verifying_of C.state verifier.new in
+        IfOk result (λ read. ReadsTwo m rounds read.0 read.1 before after) }
+    ensures only { let steps = steps_of_two ⟦<F as Declared<F, D>>⟧.algebra in
+        let before = (verifying_of C.state verifier.old).transcript.playing in
+        AreNext (steps rounds) before → MatchResult result
+        (λ _. (verifying_of C.state verifier.new).transcript.playing ≡ steps_on (steps rounds) before)
+        (IsSumcheckFault rounds) }
+    ensures complete { let m = sumcheck_of F.residues ⟦<F as Declared<F, D>>⟧.algebra Cdc.observation
         Cdc.sampling Cdc.encoding in
         (first second : List F) (before after : Driving C.State) (sent : List ℕ) →
         length first ≡ 2 ^ rounds → length second ≡ 2 ^ rounds →
@@ -250,7 +283,17 @@ fn receive_sum<
     verifier: &mut VerifierState<'_, C, U, D>,
 ) -> Result<Reduced<F>, SumcheckError>
     requires { 128 ≤ Cdc.SECURITY_BITS }
-    ensures { let m = sumcheck_of F.residues ⟦<F as Declared<F, D>>⟧.algebra Cdc.observation
+    ensures accepts { let m = sumcheck_of F.residues ⟦<F as Declared<F, D>>⟧.algebra Cdc.observation
+        Cdc.sampling Cdc.encoding in
+        let before = verifying_of C.state verifier.old in
+        let after = verifying_of C.state verifier.new in
+        IfOk result (λ read. ReadsSum m rounds read before after) }
+    ensures only { let steps = steps_of_sum ⟦<F as Declared<F, D>>⟧.algebra in
+        let before = (verifying_of C.state verifier.old).transcript.playing in
+        AreNext (steps rounds) before → MatchResult result
+        (λ _. (verifying_of C.state verifier.new).transcript.playing ≡ steps_on (steps rounds) before)
+        (IsSumcheckFault rounds) }
+    ensures complete { let m = sumcheck_of F.residues ⟦<F as Declared<F, D>>⟧.algebra Cdc.observation
         Cdc.sampling Cdc.encoding in
         (table : List F) (before after : Driving C.State) (sent rest : List ℕ) →
         length table ≡ 2 ^ rounds → (it : SendsSum m table before after) →
@@ -259,9 +302,11 @@ fn receive_sum<
         MatchResult result (λ read. IsReduced m table it read
         × (verifying_of C.state verifier.new ≡ with_bytes after rest)) IsMemory }
 {
-    // Laws, which do nothing: a sum that was sent is received, or memory is out.
+    // Laws, which do nothing: what is read of bytes is encoded so; and a sum that was sent is received, or memory is out.
+    read_values_are_encoded::<F, U, C, Cdc>();
     sent_value_is_received::<F, C, Cdc>();
     only_memory_refuses_sent_values::<F, U, C, Cdc>();
+    let _unread = verifier.unread();
     let sum = verifier.next_scalar::<F, Cdc>("sum")?.into_inner();
     let (point, value) = verify::<F, U, C, D, Cdc>(alloc, sum, rounds, verifier)?;
     Ok(Reduced { sum, point, value })

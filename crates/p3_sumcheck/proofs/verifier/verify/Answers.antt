@@ -3,6 +3,7 @@ use Rattle.p3_challenger.specs.Drivers.{verifying_of}
 use Rattle.p3_sumcheck.specs.Sumchecks.{drawn_challenge, pair_step}
 use Rattle.p3_sumcheck.proofs.Outcomes.{complete, disagrees, outcome, passed, sound}
 use Rattle.p3_sumcheck.proofs.Over.{over}
+use Rattle.p3_sumcheck.proofs.Refusing.{faults}
 use Rattle.p3_sumcheck.proofs.verifier.verify.Goals as goal
 
 pub returns-clause-only : goal.returns-clause-only
@@ -28,6 +29,15 @@ returns-clause-passed g c =
     c.args.claim c.args.rounds (verifying_of g.C.Sponge.state c.args.verifier.now)
     (verifying_of g.C.Sponge.state c.receive_rounds.new.verifier) c.receive_rounds.result
     c.receive_rounds.ensures.accepts
+
+pub returns-clause-next : goal.returns-clause-next
+returns-clause-next g c next =
+    let m = over g.F.PrimeCharacteristicRing.residues g.F.BasedVectorSpace.DIMENSION
+    (g.D.DigestHasher.digest_of g.F.AlgebraIdentity.identity) g.F.Named.name_bytes g.Cdc.Codec.observation
+    g.Cdc.Codec.sampling g.Cdc.Codec.encoding in
+    faults m c.args.claim c.args.rounds (verifying_of g.C.Sponge.state c.args.verifier.now)
+    (verifying_of g.C.Sponge.state c.receive_rounds.new.verifier) c.receive_rounds.result next
+    c.receive_rounds.ensures.refuses
 
 pub returns-clause-disagrees : goal.returns-clause-disagrees
 returns-clause-disagrees g c i played current here end few accepts differs =

@@ -1,16 +1,60 @@
-use Rattle.std.proofs.Common.{◌∙◌, ap}
+use Rattle.std.proofs.Common.{◌∙◌, ap, subst}
 use Rattle.std.proofs.lemmas.Result.{err_from_is_err_and}
 use Rattle.p3_challenger.specs.Algebras.{algebra_of}
 use Rattle.p3_challenger.specs.Drivers.{verifying_of}
+use Rattle.p3_challenger.specs.Reading.{AreBytes}
+use Rattle.p3_sumcheck.specs.ReadingLaws.{next-reading_fault}
 use Rattle.p3_sumcheck.specs.Sumchecks.{sumcheck_of}
 use Rattle.p3_sumcheck.specs.declared.error.SumcheckError.TheVariants.{Transcript}
 use Rattle.p3_sumcheck.specs.Tables.{total}
 use Rattle.uses.specs.TwoSums.{sum_step}
+use Rattle.uses.proofs.ReadSums.{read_sum, sum-passes, sum-read, sum-then}
 use Rattle.uses.proofs.TwoSums.{rounds-bytes, rounds-left, sum-received, sum-refused}
 use Rattle.uses.proofs.two_sums.receive_sum.Goals as goal
 
-pub returns : goal.returns
-returns g c table p q sent rest size it is_sent start =
+pub returns-clause-accepts : goal.returns-clause-accepts
+returns-clause-accepts g c =
+    let m = sumcheck_of g.F.PrimeCharacteristicRing.residues (algebra_of g.F.PrimeCharacteristicRing.residues.order
+    g.F.BasedVectorSpace.DIMENSION (g.D.DigestHasher.digest_of g.F.AlgebraIdentity.identity) g.F.Named.name_bytes)
+    g.Cdc.Codec.observation g.Cdc.Codec.sampling g.Cdc.Codec.encoding in
+    let are = subst AreBytes c.unread-unread.ensures.unread c.unread-unread.ensures.bytes in
+    sum-read m (c.read_values_are_encoded.ensures.value (sum_step m.field)) c.args.rounds
+    (verifying_of g.C.Sponge.state c.args.verifier.now) (verifying_of g.C.Sponge.state c.next_scalar.new.self)
+    (verifying_of g.C.Sponge.state c.verify.new.verifier) _ _ are c.in_ok-next_scalar.ensures c.into_inner-sum.ensures
+    c.in_ok-point.ensures.accepts
+
+pub returns-clause-only : goal.returns-clause-only
+returns-clause-only g c next =
+    let m = sumcheck_of g.F.PrimeCharacteristicRing.residues (algebra_of g.F.PrimeCharacteristicRing.residues.order
+    g.F.BasedVectorSpace.DIMENSION (g.D.DigestHasher.digest_of g.F.AlgebraIdentity.identity) g.F.Named.name_bytes)
+    g.Cdc.Codec.observation g.Cdc.Codec.sampling g.Cdc.Codec.encoding in
+    sum-passes m c.args.rounds (verifying_of g.C.Sponge.state c.args.verifier.now)
+    (verifying_of g.C.Sponge.state c.next_scalar.new.self) (verifying_of g.C.Sponge.state c.verify.new.verifier) _
+    c.in_ok-next_scalar.ensures c.in_ok-point.ensures.passed
+
+pub returns-in_err-next_scalar-clause-only : goal.returns-in_err-next_scalar-clause-only
+returns-in_err-next_scalar-clause-only g c next =
+    let m = sumcheck_of g.F.PrimeCharacteristicRing.residues (algebra_of g.F.PrimeCharacteristicRing.residues.order
+    g.F.BasedVectorSpace.DIMENSION (g.D.DigestHasher.digest_of g.F.AlgebraIdentity.identity) g.F.Named.name_bytes)
+    g.Cdc.Codec.observation g.Cdc.Codec.sampling g.Cdc.Codec.encoding in
+    let e = err_from_is_err_and c.from_residual.result c.from_residual.ensures.1 in
+    rw (e.1, e.2)
+    (next-reading_fault (read_sum m) (verifying_of g.C.Sponge.state c.args.verifier.now)
+    (verifying_of g.C.Sponge.state c.next_scalar.new.self) _ next.0 c.in_err-next_scalar.ensures)
+
+pub returns-in_err-point-clause-only : goal.returns-in_err-point-clause-only
+returns-in_err-point-clause-only g c next =
+    let m = sumcheck_of g.F.PrimeCharacteristicRing.residues (algebra_of g.F.PrimeCharacteristicRing.residues.order
+    g.F.BasedVectorSpace.DIMENSION (g.D.DigestHasher.digest_of g.F.AlgebraIdentity.identity) g.F.Named.name_bytes)
+    g.Cdc.Codec.observation g.Cdc.Codec.sampling g.Cdc.Codec.encoding in
+    let e = err_from_is_err_and c.from_residual-in_err-point.result c.from_residual-in_err-point.ensures.1 in
+    rw (e.1, e.2)
+    (c.in_err-point.ensures.next
+    (sum-then m c.args.rounds (verifying_of g.C.Sponge.state c.args.verifier.now)
+    (verifying_of g.C.Sponge.state c.next_scalar.new.self) _ next c.in_ok-next_scalar.ensures))
+
+pub returns-clause-complete : goal.returns-clause-complete
+returns-clause-complete g c table p q sent rest size it is_sent start =
     let m = sumcheck_of g.F.PrimeCharacteristicRing.residues (algebra_of g.F.PrimeCharacteristicRing.residues.order
     g.F.BasedVectorSpace.DIMENSION (g.D.DigestHasher.digest_of g.F.AlgebraIdentity.identity) g.F.Named.name_bytes)
     g.Cdc.Codec.observation g.Cdc.Codec.sampling g.Cdc.Codec.encoding in
@@ -24,8 +68,8 @@ returns g c table p q sent rest size it is_sent start =
     (rounds-left m table p q it sent rest is_sent) first.1 in
     (record { sum = sum; point = read.0; value = read.1 }, read.2)
 
-pub returns-in_err-next_scalar : goal.returns-in_err-next_scalar
-returns-in_err-next_scalar g c table p q sent rest size it is_sent start =
+pub returns-in_err-next_scalar-clause-complete : goal.returns-in_err-next_scalar-clause-complete
+returns-in_err-next_scalar-clause-complete g c table p q sent rest size it is_sent start =
     let m = sumcheck_of g.F.PrimeCharacteristicRing.residues (algebra_of g.F.PrimeCharacteristicRing.residues.order
     g.F.BasedVectorSpace.DIMENSION (g.D.DigestHasher.digest_of g.F.AlgebraIdentity.identity) g.F.Named.name_bytes)
     g.Cdc.Codec.observation g.Cdc.Codec.sampling g.Cdc.Codec.encoding in
@@ -36,8 +80,8 @@ returns-in_err-next_scalar g c table p q sent rest size it is_sent start =
     (verifying_of g.C.Sponge.state c.args.verifier.now) (verifying_of g.C.Sponge.state c.next_scalar.new.self) _ start
     c.in_err-next_scalar.ensures))
 
-pub returns-in_err-point : goal.returns-in_err-point
-returns-in_err-point g c table p q sent rest size it is_sent start =
+pub returns-in_err-point-clause-complete : goal.returns-in_err-point-clause-complete
+returns-in_err-point-clause-complete g c table p q sent rest size it is_sent start =
     let m = sumcheck_of g.F.PrimeCharacteristicRing.residues (algebra_of g.F.PrimeCharacteristicRing.residues.order
     g.F.BasedVectorSpace.DIMENSION (g.D.DigestHasher.digest_of g.F.AlgebraIdentity.identity) g.F.Named.name_bytes)
     g.Cdc.Codec.observation g.Cdc.Codec.sampling g.Cdc.Codec.encoding in
