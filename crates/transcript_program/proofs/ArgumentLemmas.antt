@@ -10,6 +10,11 @@ pub none_there : {T A : Type 0} (found : Option T) → found ≡ None → A → 
 none_there (Some x) is h = tt
 none_there None is h = h
 
+-- where there is none, what follows of what holds there
+pub none_weaker : {T A B : Type 0} (found : Option T) → (A → B) → IfNone found A → IfNone found B
+none_weaker None f h = f h
+none_weaker (Some x) f h = tt
+
 -- two texts that were compared and differ are not one
 pub other_text : (xs ys : List ℕ) → false ≡ pointwise nat_eq xs ys → xs ≡ ys → ⊥
 other_text xs ys differs same = true≢false (sym ((bytes_decides xs ys).1 same) ∙ sym differs)
