@@ -1,5 +1,5 @@
 // The steps of a script, as a file writes them: `NAME LABEL WORDS`, the tokens being what the step has.
-use crate::world::{World, extensions, one, scalars};
+use crate::world::{World, extension, extensions, scalar, scalars};
 use anyhow::{Result, bail};
 use conformance_tokens::tokens::{look_up, split_first, split_name};
 use p3_challenger::fs::script::{Sent, Step};
@@ -49,9 +49,9 @@ pub fn parse_value<S: World>(alloc: Global, text: &str) -> Result<Sent<S>> {
     let (name, tokens) = split_name(text);
     match name {
         "bytes" => Ok(Sent::Bytes(hex::decode(alloc, tokens)?)),
-        "sc" => Ok(Sent::Scalar(one(scalars::<S>(alloc, tokens)?.as_slice())?)),
+        "sc" => Ok(Sent::Scalar(scalar::<S>(alloc, tokens)?)),
         "scs" => Ok(Sent::Scalars(scalars::<S>(alloc, tokens)?)),
-        "ext" => Ok(Sent::Extension(one(extensions::<S>(alloc, tokens)?.as_slice())?)),
+        "ext" => Ok(Sent::Extension(extension::<S>(alloc, tokens)?)),
         _ => bail!("an unknown kind of value"),
     }
 }
@@ -109,11 +109,11 @@ fn parse_sent<S: World>(alloc: Global, name: &str, label: Label, tokens: &str) -
         "sc" if tokens == "#" => Ok((Step::Scalar { label }, None)),
         "ext" if tokens == "#" => Ok((Step::Extension { label }, None)),
         "sc" => {
-            let value = one(scalars::<S>(alloc, tokens)?.as_slice())?;
+            let value = scalar::<S>(alloc, tokens)?;
             Ok((Step::Scalar { label }, Some(Sent::Scalar(value))))
         }
         "ext" => {
-            let value = one(extensions::<S>(alloc, tokens)?.as_slice())?;
+            let value = extension::<S>(alloc, tokens)?;
             Ok((Step::Extension { label }, Some(Sent::Extension(value))))
         }
         _ => parse_list(alloc, label, tokens),
@@ -133,7 +133,7 @@ fn parse_list<S: World>(alloc: Global, label: Label, tokens: &str) -> Result<Mov
 fn parse_known<S: World>(alloc: Global, name: &str, label: Label, tokens: &str) -> Result<Step<S>> {
     match name {
         "pub" => {
-            let value = one(scalars::<S>(alloc, tokens)?.as_slice())?;
+            let value = scalar::<S>(alloc, tokens)?;
             Ok(Step::PublicScalar { label, value })
         }
         "pubs" => {
@@ -162,7 +162,7 @@ fn parse_known_extensions<S: World>(
 ) -> Result<Step<S>> {
     match name {
         "oext" => {
-            let value = one(extensions::<S>(alloc, tokens)?.as_slice())?;
+            let value = extension::<S>(alloc, tokens)?;
             Ok(Step::ObserveExtension { label, value })
         }
         "oextb" => {

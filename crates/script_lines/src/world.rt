@@ -183,8 +183,18 @@ pub fn extensions<S: World>(alloc: Global, tokens: &str) -> Result<Vec<S::Extens
     Ok(extensions)
 }
 
-/// The one value of a list of one.
-pub fn one<T: Copy>(values: &[T]) -> Result<T> {
+/// The scalar of the one number.
+pub fn scalar<S: World>(alloc: Global, tokens: &str) -> Result<S::Field> {
+    one(scalars::<S>(alloc, tokens)?.as_slice())
+}
+
+/// The element of the extension of which these numbers are the coefficients.
+pub fn extension<S: World>(alloc: Global, tokens: &str) -> Result<S::Extension> {
+    one(extensions::<S>(alloc, tokens)?.as_slice())
+}
+
+// The one value of a list of one.
+fn one<T: Copy>(values: &[T]) -> Result<T> {
     match values {
         &[value] => Ok(value),
         _ => bail!("no one value"),
