@@ -1,4 +1,5 @@
 -- What a run of the demo script says.
+use Rattle.std.specs.declared.alloc.Global.{Global}
 use Rattle.std.proofs.Common.{◌≡◌, ℕ, List, [], ◌∷◌, ◌++◌, Option, Some, None, IsSome, refl, ap, sym, ◌∙◌, subst}
 use Rattle.std.specs.Borrow.{Bor}
 use Rattle.std.specs.Option.{option_map}
@@ -151,7 +152,7 @@ nine play x0 x1 x2 x3 x4 x5 x6 x7 x8 s Goal k (v0 ∷ v1 ∷ v2 ∷ v3 ∷ v4 �
     absurd f.3.3.3.3.3.3.3.3.3
 
 -- those of the script: a salt, values, a witness and a note, with one challenge and the indices
-shaped : (rules : DemoRules) (labels : DemoLabels) (inputs : Vec BabyBear) (s : DemoChallenger)
+shaped : (rules : DemoRules) (labels : DemoLabels) (inputs : Vec BabyBear Global) (s : DemoChallenger)
     (v0 v1 v2 v3 v4 v5 v6 v7 v8 : DemoValue) →
     Finishes (demo_play rules) (demo_script labels inputs) (v0 ∷ v1 ∷ v2 ∷ v3 ∷ v4 ∷ v5 ∷ v6 ∷ v7 ∷ v8 ∷ []) s →
     (content : DemoContent) × Says (v2 ∷ v3 ∷ v4 ∷ v6 ∷ [])
@@ -195,7 +196,7 @@ shaped rules labels inputs s v0 v1 v2 v3 v4 v5 v6 v7 v8 f =
       },
     )
 
-pub run-says : (rules : DemoRules) (labels : DemoLabels) (inputs : Vec BabyBear) (values : List DemoValue)
+pub run-says : (rules : DemoRules) (labels : DemoLabels) (inputs : Vec BabyBear Global) (values : List DemoValue)
     (s : DemoChallenger) → Finishes (demo_play rules) (demo_script labels inputs) values s →
     (content : DemoContent) × Says (in_proof (demo_play rules) (demo_script labels inputs) values)
     (challenges (demo_play rules) (demo_script labels inputs) values s) content
@@ -211,7 +212,7 @@ run-says rules labels inputs values s f =
     (shaped rules labels inputs s) values f
 
 -- so what a verifier that accepts has received and drawn says something
-pub accepted-says : (rules : DemoRules) (run : DemoRun) (labels : DemoLabels) (inputs : Vec BabyBear) (bytes : List ℕ)
+pub accepted-says : (rules : DemoRules) (run : DemoRun) (labels : DemoLabels) (inputs : Vec BabyBear Global) (bytes : List ℕ)
     (received : List DemoValue) (drawn : List DemoDrawn) (end : DemoChallenger) →
     run.steps ≡ demo_script labels inputs → Accepts rules (demo_play rules) run bytes [] received drawn end →
     (content : DemoContent) × Says received drawn content

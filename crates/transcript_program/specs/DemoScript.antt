@@ -1,4 +1,5 @@
 -- The demo protocol as a script, and what its two sides answer.
+use Rattle.std.specs.declared.alloc.Global.{Global}
 use Rattle.std.specs.Borrow.{Bor}
 use Rattle.std.specs.Prelude.{◌≡◌, ℕ, List, [], ◌∷◌, Vec, codes}
 use Rattle.p3_challenger.specs.BabyBearResidues.{BabyBear}
@@ -50,7 +51,7 @@ pub record IsDemoSeparator {U D : Type 0} (separator : DomainSeparator U D) : Ty
   pub pattern_is : steps_of (separator_of separator).pattern ≡ demo_steps
 
 -- its steps, with this public list
-abbrev pub demo_script : DemoLabels → Vec BabyBear → List DemoStep
+abbrev pub demo_script : DemoLabels → Vec BabyBear Global → List DemoStep
 demo_script labels inputs =
     step.Begin labels.opener.label kind.Protocol
     ∷ step.PublicScalarsBounded labels.inputs.label inputs 4
@@ -66,7 +67,7 @@ demo_script labels inputs =
 -- the protocol with these inputs, from its challenger and under its separator
 pub record IsDemo (inputs : List BabyBear) (run : DemoRun) : Type 0 where
   pub labels : DemoLabels
-  pub list : Vec BabyBear
+  pub list : Vec BabyBear Global
   pub list_is : list.items ≡ inputs
   pub steps_are : run.steps ≡ demo_script labels list
   pub challenger_is : run.challenger ≡ demo_challenger

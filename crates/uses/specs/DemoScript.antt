@@ -1,4 +1,5 @@
 -- The demo protocol as a script.
+use Rattle.std.specs.declared.alloc.Global.{Global}
 use Rattle.std.specs.Borrow.{Bor}
 use Rattle.std.specs.Prelude.{◌≡◌, ℕ, List, [], ◌∷◌, Vec, codes}
 use Rattle.p3_challenger.specs.Goldilocks.{Goldilocks}
@@ -36,7 +37,7 @@ pub record Labelled (text : List ℕ) : Type 0 where
   pub says : label.now ≡ text
 
 -- the steps with these numbers
-pub record AreDemoSteps (inputs : Vec Goldilocks) (steps : List ScriptStep) : Type 0 where
+pub record AreDemoSteps (inputs : Vec Goldilocks Global) (steps : List ScriptStep) : Type 0 where
   pub opener : Labelled (codes "demo")
   pub numbers : Labelled (codes "inputs")
   pub salt : Labelled (codes "salt")
