@@ -78,7 +78,7 @@ abbrev pub AcceptsRuns : (Claim → Type 0) → Result (Option Claim) Transcript
 AcceptsRuns IsRunOf result =
     (claim : Claim) → IsRunOf claim → MatchResult result (λ found. IsAnswer found claim) (λ e. e ≡ OutOfMemory)
 
--- what a prover queries: the line's value at the place, times a power of the divisor that divides by it
+-- what a prover gives: the line's value at the place, times a power of the divisor that divides by it
 abbrev pub quotient_of : Claim → BabyBear
 quotient_of claim =
     product_of residues (sum_of residues (product_of residues claim.slope claim.place) claim.offset)

@@ -1,7 +1,7 @@
 //! A Merkle opening read from a hostile proof.
 //!
 //! A prover sends the root of a tree, and a place is drawn. Then it sends the leaf at the place, at most
-//! [`MOST_LEAF_BYTES`] of it, and a salt, without which the leaf could be guessed from its hash; and it queries the
+//! [`MOST_LEAF_BYTES`] of it, and a salt, without which the leaf could be guessed from its hash; and it gives the
 //! siblings on the way to the root. These are hints: they only have to make up the root, which was observed before the
 //! place was drawn. The contract of [`verify`] says that they do, that the proof is these bytes and no others, and that
 //! whatever is drawn next depends on the leaf and the salt too. The leaf is lent from the proof itself.

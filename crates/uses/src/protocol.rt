@@ -1,6 +1,6 @@
 //! A small protocol, whole: the pattern of its steps, a prover and a verifier.
 //!
-//! The prover sends a line over a field. A place is drawn, and a divisor other than 0. The prover queries the line's
+//! The prover sends a line over a field. A place is drawn, and a divisor other than 0. The prover gives the line's
 //! value at the place, divided by the divisor. That number is a hint: it is not absorbed, so no challenge depends on
 //! it, and the verifier checks it by itself. The place and the divisor have to depend on the line. The contract of
 //! [`verify`] says that they do, and which bytes the proof is.
