@@ -11,6 +11,7 @@ use conformance_tokens::line::Step;
 use conformance_tokens::symbol::{Extended, numbers_of};
 use p3_challenger::DuplexChallenger;
 use p3_field::{BabyBear, F257, Goldilocks};
+use p3_lanes::{LanePermutation, PackedField};
 use p3_symmetric::{CryptographicPermutation, Turn};
 use std::alloc::Global;
 
@@ -82,7 +83,7 @@ fn over_f257(
     duplex_difference!(F257, way, alloc, shape, steps)
 }
 
-impl<F: Extended, P: CryptographicPermutation<[F; W]>, const W: usize, const R: usize> Replayed
+impl<F: Extended + PackedField, P: LanePermutation<F, W>, const W: usize, const R: usize> Replayed
     for Duplex<F, P, W, R> {
     fn answer(&mut self, alloc: Global, call: &str) -> Result<String> {
         let call = ChallengerCall::<F>::parse(alloc, call)?;
@@ -148,7 +149,7 @@ fn observe_arrays<
 }
 
 // What a clone draws.
-fn clone_draw<F: Extended, P: CryptographicPermutation<[F; W]>, const W: usize, const R: usize>(
+fn clone_draw<F: Extended + PackedField, P: LanePermutation<F, W>, const W: usize, const R: usize>(
     alloc: Global,
     challenger: &DuplexChallenger<F, P, W, R>,
 ) -> Result<String> {

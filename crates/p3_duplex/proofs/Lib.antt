@@ -7,3 +7,5 @@ pub mod Overwriting
 pub mod Pushing
 pub mod Uniform
 pub mod ReadBack
+pub mod LaneBatches
+pub mod LaneSearching

@@ -5,3 +5,4 @@ pub mod DuplexState
 pub mod DuplexStateLaws
 pub mod DuplexUniform
 pub mod DuplexUniformLaws
+pub mod LaneSearch

@@ -28,6 +28,7 @@ mod bits;
 mod calls;
 mod digests;
 mod grinding;
+mod lane_search;
 mod refusals;
 mod uniform;
 

@@ -1,48 +1,56 @@
 -- Where the rounds are next, a verifier refuses none for the sake of the pattern.
-use Rattle.std.proofs.Common.{◌≡◌, ℕ, ◌+◌, ◌-◌, ◌<◌, inl, inr, suc, length, sym, subst, arith, Result, Ok, Err}
+use Rattle.std.proofs.Common.{◌≡◌, ℕ, ◌+◌, ◌-◌, ◌<◌, ◌⊎◌, List, inl, inr, suc, length, sym, subst, arith, Result, Err}
 use Rattle.std.specs.Result.{IfErr}
+use Rattle.p3_challenger.specs.Completeness.{IsOwnRefusal}
 use Rattle.p3_challenger.specs.CompletenessLaws.{next-own_refusal}
 use Rattle.p3_challenger.specs.Driving.{Driving}
+use Rattle.p3_challenger.specs.Errors.{IsBadShape}
+use Rattle.p3_challenger.specs.TranscriptError.{TranscriptError}
 use Rattle.p3_challenger.specs.TranscriptLaws.{next-first}
 use Rattle.p3_challenger.specs.Transcripts.{AreNext, IsNext}
 use Rattle.p3_sumcheck.specs.declared.error.SumcheckError.{SumcheckError}
 use Rattle.p3_sumcheck.specs.declared.error.SumcheckError.TheVariants as fault
-use Rattle.p3_sumcheck.specs.ReadingLaws.{next-reading_fault, own-reading_fault}
-use Rattle.p3_sumcheck.specs.Sumchecks.{IsSumcheckFault, Refuses, RefusesRound, Sumcheck, drawn_challenge}
+use Rattle.p3_sumcheck.specs.ReadingLaws.{next-reading_fault}
+use Rattle.p3_sumcheck.specs.Sumchecks.{Refuses, RefusesRound, Sumcheck, drawn_challenge}
 use Rattle.p3_sumcheck.specs.Sumchecks.{read_pair, round_steps}
 use Rattle.p3_sumcheck.proofs.Declaring.{rounds-left, steps_of}
 use Rattle.p3_sumcheck.proofs.Reading.{reads-plays}
 
+-- a step of it that was refused is refused so
+abbrev IsStepFault : SumcheckError → Type 0
+IsStepFault (fault.Round i) = Unit {0}
+IsStepFault (fault.Transcript e) = ((reason : List ℕ) × IsBadShape reason e) ⊎ IsOwnRefusal e
+
 module _ {S Symbol F : Type 0} (m : Sumcheck S Symbol F) where
-  round-fault : (claim : F) (i n : ℕ) (before after : Driving S) (e : SumcheckError) → i < n →
-      AreNext (round_steps m.field) before.transcript.playing → RefusesRound m claim i before e after →
-      IsSumcheckFault n e
-  round-fault claim i n before after (fault.Round j) few next refuses = subst (λ k. k < n) (sym refuses.0) few
-  round-fault claim i n before after (fault.Transcript e) few next refuses = elim refuses [
+  round-fault : (claim : F) (i : ℕ) (before after : Driving S) (e : SumcheckError) →
+      AreNext (round_steps m.field) before.transcript.playing → RefusesRound m claim i before e after → IsStepFault e
+  round-fault claim i before after (fault.Round j) next refuses = tt
+  round-fault claim i before after (fault.Transcript e) next refuses = elim refuses [
     | inl unread ↦ next-reading_fault (read_pair m) before after e next.0 unread
     | inr undrawn ↦
         let here = sym (undrawn.3.plays.playing) in
-        own-reading_fault e
-        (next-own_refusal (drawn_challenge m) undrawn.2.transcript after.transcript e
+        inr (next-own_refusal (drawn_challenge m) undrawn.2.transcript after.transcript e
         (subst (λ p. IsNext p (drawn_challenge m).interaction) here next.1.0) undrawn.5)
   ]
 
   refusal-fault : (claim : F) (n : ℕ) (before after : Driving S) (e : SumcheckError) →
-      AreNext (steps_of m n) before.transcript.playing → Refuses m claim n before e after → IsSumcheckFault n e
+      AreNext (steps_of m n) before.transcript.playing → Refuses m claim n before e after → IsStepFault e
   refusal-fault claim n before after e next refuses = elim refuses.refuses [
-    | inr memory ↦ subst (IsSumcheckFault n) (sym memory.1) tt
+    | inr memory ↦ subst IsStepFault (sym memory.1) (inr tt)
     | inl round ↦
         let done = length refuses.rounds in
         let is : n ≡ done + suc (n - done - 1) = omega (arith, round.0) in
         let here = rounds-left m n (suc (n - done - 1)) before.transcript refuses.here.transcript refuses.rounds is
         next (reads-plays m before refuses.rounds refuses.here refuses.accepts.reads) in
-        round-fault refuses.current done n refuses.here after e round.0
+        round-fault refuses.current done refuses.here after e
         (next-first (round_steps m.field) (steps_of m (n - done - 1)) refuses.here.transcript.playing here) round.1
   ]
 
   -- so of a verifier's answer
   pub faults : {R : Type 0} (claim : F) (n : ℕ) (before after : Driving S) (result : Result R SumcheckError) →
       AreNext (steps_of m n) before.transcript.playing → IfErr result (λ e. Refuses m claim n before e after) →
-      IfErr result (IsSumcheckFault n)
-  faults claim n before after (Ok read) next refuses = tt
-  faults claim n before after (Err e) next refuses = refusal-fault claim n before after e next refuses
+      (e : TranscriptError) → result ≡ Err (fault.Transcript e) →
+      ((reason : List ℕ) × IsBadShape reason e) ⊎ IsOwnRefusal e
+  faults {R} claim n before after result next refuses e is =
+      refusal-fault claim n before after (fault.Transcript e) next
+      (subst (λ (r : Result R SumcheckError). IfErr r (λ f. Refuses m claim n before f after)) is refuses)

@@ -16,7 +16,7 @@ use Rattle.p3_challenger.specs.Rounds.{AreRounds}
 use Rattle.p3_challenger.specs.Sampling.{Sampling}
 use Rattle.p3_challenger.specs.Steps.{Step}
 use Rattle.p3_challenger.specs.TranscriptError.{TranscriptError}
-use Rattle.p3_challenger.specs.TranscriptError.TheVariants.{BadProofShape, Challenger, OutOfMemory}
+use Rattle.p3_challenger.specs.TranscriptError.TheVariants.{OutOfMemory}
 use Rattle.p3_challenger.specs.Transcripts.{Meaning, PlaysStep, RefusesStep, Transcript}
 use Rattle.p3_challenger.specs.Verifying.{RefusesToRead}
 use Rattle.p3_sumcheck.specs.declared.error.SumcheckError.{SumcheckError}
@@ -148,18 +148,6 @@ module _ {S Symbol F : Type 0} (m : Sumcheck S Symbol F) where
     pub accepts : Accepts claim (length rounds) before rounds current here
     pub refuses : ((length rounds < n) × RefusesRound current (length rounds) here e after)
         ⊎ ((length rounds ≤ n) × (e ≡ fault.Transcript OutOfMemory) × (after ≡ here))
-
--- a step that reads, and is next, is refused so: the proof has another shape, or the challenger or memory is refused
-abbrev pub IsReadingFault : TranscriptError → Type 0
-IsReadingFault (BadProofShape reason) = Unit {0}
-IsReadingFault (Challenger e) = Unit {0}
-IsReadingFault OutOfMemory = Unit {0}
-IsReadingFault _ = ⊥
-
--- and of so many rounds the next one: or its pair does not add to the claim
-abbrev pub IsSumcheckFault : ℕ → SumcheckError → Type 0
-IsSumcheckFault n (fault.Round i) = i < n
-IsSumcheckFault n (fault.Transcript e) = IsReadingFault e
 
 -- memory was refused
 abbrev pub IsMemory : SumcheckError → Type 0

@@ -1,4 +1,4 @@
-// The steps of a script, as a file writes them: `NAME LABEL WORDS`, the tokens being what the step has.
+// The steps of a script, as a file writes them: `NAME LABEL ARGUMENTS`, the arguments being what the step has.
 use crate::world::{World, extension, extensions, scalar, scalars};
 use anyhow::{Result, bail};
 use conformance_tokens::tokens::{look_up, split_first, split_name};

@@ -4,11 +4,15 @@
 #[cfg(test)]
 mod candidates;
 #[cfg(test)]
+mod counting;
+#[cfg(test)]
 mod hash;
 #[cfg(test)]
 mod multi_field;
 #[cfg(test)]
 mod printed;
+#[cfg(test)]
+mod searches;
 #[cfg(test)]
 mod serializing;
 #[cfg(test)]

@@ -38,21 +38,7 @@ fn edges_and_random_pairs_of_goldilocks(rt: HostRuntime) {
 fn disagreement_at_edges<F: PrimeField64>(order: u64) -> Option<(u64, u64)>
     requires { 4 < order }
 {
-    let edges = [
-        0,
-        1,
-        2,
-        order / 2,
-        order / 2 + 1,
-        order - 2,
-        order - 1,
-        0x7fff_ffff % order,
-        0x8000_0000 % order,
-        0xffff_ffff % order,
-        0x1_0000_0000 % order,
-        0x8000_0000_0000_0000 % order,
-        0xffff_ffff_ffff_ffff % order,
-    ];
+    let edges = edges_below(order);
     for left in edges {
         for right in edges {
             if !agrees::<F>(left, right, order) {
@@ -77,7 +63,28 @@ fn disagreement_at_random<F: PrimeField64>(order: u64) -> Option<(u64, u64)>
     None
 }
 
-fn strewn(number: u64) -> u64 {
+// Numbers near the ends, the middle and the powers of 2.
+pub(crate) fn edges_below(order: u64) -> [u64; 13]
+    requires { 4 < order }
+{
+    [
+        0,
+        1,
+        2,
+        order / 2,
+        order / 2 + 1,
+        order - 2,
+        order - 1,
+        0x7fff_ffff % order,
+        0x8000_0000 % order,
+        0xffff_ffff % order,
+        0x1_0000_0000 % order,
+        0x8000_0000_0000_0000 % order,
+        0xffff_ffff_ffff_ffff % order,
+    ]
+}
+
+pub(crate) fn strewn(number: u64) -> u64 {
     let mixed = number.wrapping_mul(0x9e37_79b9_7f4a_7c15);
     let mixed = (mixed ^ (mixed >> 30)).wrapping_mul(0xbf58_476d_1ce4_e5b9);
     mixed ^ (mixed >> 31)

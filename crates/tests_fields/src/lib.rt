@@ -6,4 +6,6 @@ mod arithmetic;
 #[cfg(test)]
 mod bridges;
 #[cfg(test)]
+mod lanes;
+#[cfg(test)]
 mod tests;

@@ -34,8 +34,8 @@ module _ {P : Type 0} (width rate : ℕ)
     (rules : Rules (Challenger P) BabyBear BabyBear BabyBear (Coeffs BabyBear 4)
     (Hash BabyBear BabyBear 8) AcceptAll) (permute : P → List BabyBear → List BabyBear) where
   -- each finished run queries the permutation
-  abbrev pub EachHandsStates : Type 0
-  EachHandsStates =
+  abbrev pub EachQueriesStates : Type 0
+  EachQueriesStates =
       EachScriptMakesQueries (OverDuplex P width rate) (FieldUnit BabyBear) (Challenger P)
       (FieldToFieldCodec BabyBear) Sha256Hasher Both BabyBear (Challenger P) BabyBear rules
       (duplex_run residues permute rate)
@@ -77,8 +77,8 @@ module _ {H : Type 0}
     (rules : Rules (HashState ℕ H) ℕ ℕ BabyBear (Coeffs BabyBear 4) (List ℕ) AcceptAll)
     (function : H → HashFunction ℕ) where
   -- each finished run queries the hash function
-  abbrev pub EachHandsStrings : Type 0
-  EachHandsStrings =
+  abbrev pub EachQueriesStrings : Type 0
+  EachQueriesStrings =
       EachScriptMakesQueries (OverHash H) ℕ (HashState ℕ H) (BytesToFieldCodec BabyBear)
       Sha256Hasher Plain ℕ (HashState ℕ H) ℕ rules (hash_run function)
 

@@ -16,21 +16,21 @@ use Rattle.transcript_read_back.specs.RunCallLaws.{observed-run, after-run}
 module _ {S T M : Type 0} (run : S → List (Call T) → segments.Run T M S) (pending : S → List T)
     (fed : S → List T → S) (next : S → S) (by : IsCallByCall run fed next) {X I F EF O Ac U D : Type 0}
     (rules : Rules S T I F EF O Ac) (play : X → Play S T F EF O) (start : S) where
-  abbrev Hands : Run X F EF S U D → List M → Type 0
-  Hands x ms = MakesQueries run rules play x ms
+  abbrev Queries : Run X F EF S U D → List M → Type 0
+  Queries x ms = MakesQueries run rules play x ms
 
-  queries-from_start : (x : Run X F EF S U D) (ms : List M) (h : Hands x ms) → x.challenger ≡ start →
+  queries-from_start : (x : Run X F EF S U D) (ms : List M) (h : Queries x ms) → x.challenger ≡ start →
       ms ≡ (run start h.calls).queries
   queries-from_start x ms h begins = h.queries_are ∙ ap (λ s. (run s h.calls).queries) begins
 
-  pending-from_start : (x : Run X F EF S U D) (ms : List M) (h : Hands x ms) → x.challenger ≡ start →
+  pending-from_start : (x : Run X F EF S U D) (ms : List M) (h : Queries x ms) → x.challenger ≡ start →
       pending (last rules play x) ≡ pending (after_calls run start h.calls)
   pending-from_start x ms h begins =
       ap pending (after-run run fed next by play rules x h.calls h.are_calls)
       ∙ ap (λ s. pending (after_calls run s h.calls)) begins
 
   module _ (x y : Run X F EF S U D) (ms ns : List M) (begin : (x.challenger ≡ start) × (y.challenger ≡ start))
-      (same : pending (last rules play x) ≡ pending (last rules play y)) (h : Hands x ms) (k : Hands y ns) where
+      (same : pending (last rules play x) ≡ pending (last rules play y)) (h : Queries x ms) (k : Queries y ns) where
     same-pending : LeaveSamePending (run start) pending h.calls k.calls
     same-pending = sym (pending-from_start x ms h begin.0) ∙ same ∙ pending-from_start y ns k begin.1
 

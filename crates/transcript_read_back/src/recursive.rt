@@ -16,9 +16,9 @@ ghost use Rattle.p3_challenger.specs.BabyBearResidues as baby_bear;
 ghost use Rattle.p3_challenger.specs.DuplexCalls.{fresh};
 ghost use Rattle.p3_challenger.specs.HashCalls.{with_pending};
 ghost use Rattle.p3_challenger.specs.HashState.{function_of};
-ghost use Rattle.transcript_read_back.specs.Recursive.{EachHandsStates, StatesTell, StatesTellOrCollide};
+ghost use Rattle.transcript_read_back.specs.Recursive.{EachQueriesStates, StatesTell, StatesTellOrCollide};
 ghost use Rattle.transcript_read_back.specs.Recursive.{StatesTellValues, StatesTellValuesOrCollide};
-ghost use Rattle.transcript_read_back.specs.Recursive.{EachHandsStrings, StringsTell, StringsTellOrCollide};
+ghost use Rattle.transcript_read_back.specs.Recursive.{EachQueriesStrings, StringsTell, StringsTellOrCollide};
 ghost use Rattle.transcript_read_back.specs.Recursive.{StringsTellValues, StringsTellValuesOrCollide};
 
 use crate::call_by_call::{duplex_is_call_by_call, hash_is_call_by_call};
@@ -33,7 +33,8 @@ use p3_challenger::laws::prefix_codes::{
 use p3_challenger::laws::scripts::{binding, equal_symbols_have_equal_values};
 use p3_challenger::{DuplexChallenger, HashChallenger};
 use p3_field::{BabyBear, Coeffs};
-use p3_symmetric::{CryptographicHasher, CryptographicPermutation, Hash, Sha256Hasher};
+use p3_lanes::LanePermutation;
+use p3_symmetric::{CryptographicHasher, Hash, Sha256Hasher};
 use std::marker::PhantomData;
 
 /// Scripts over a `DuplexChallenger` of `WIDTH` elements of `BabyBear`, of which `RATE` are the
@@ -41,7 +42,7 @@ use std::marker::PhantomData;
 /// steps of every kind.
 pub struct OverDuplex<P, const WIDTH: usize, const RATE: usize>(PhantomData<P>);
 
-impl<P: CryptographicPermutation<[BabyBear; WIDTH]>, const WIDTH: usize, const RATE: usize> Suite
+impl<P: LanePermutation<BabyBear, WIDTH>, const WIDTH: usize, const RATE: usize> Suite
     for OverDuplex<P, WIDTH, RATE> {
     ghost use Rattle.std.proofs.Common.{lit<};
     ghost use Rattle.std.specs.List.{each_same};
@@ -125,11 +126,10 @@ impl<H: CryptographicHasher<u8, [u8; 32]>> Suite for OverHash<H> {
 ///   many states, as above.
 ///
 /// `RATE` is from 1 to 255 and below `WIDTH`, and `draw_limit` is at least 1.
-pub fn begin_duplex<
-    P: CryptographicPermutation<[BabyBear; WIDTH]>,
-    const WIDTH: usize,
-    const RATE: usize,
->(permutation: P, draw_limit: u64) -> DuplexChallenger<BabyBear, P, WIDTH, RATE>
+pub fn begin_duplex<P: LanePermutation<BabyBear, WIDTH>, const WIDTH: usize, const RATE: usize>(
+    permutation: P,
+    draw_limit: u64,
+) -> DuplexChallenger<BabyBear, P, WIDTH, RATE>
     requires rate { 0 < RATE }
     requires capacity { RATE < WIDTH }
     requires count { RATE ≤ 255 }
@@ -139,7 +139,7 @@ pub fn begin_duplex<
       permutation = permutation;
       draw_limit = draw_limit;
     } }
-    ensures makes_queries { EachHandsStates WIDTH RATE
+    ensures makes_queries { EachQueriesStates WIDTH RATE
         (⟦<OverDuplex<P, WIDTH, RATE> as Meaning>⟧.rules 1) P.permutation }
     ensures tells { StatesTell WIDTH RATE
         (⟦<OverDuplex<P, WIDTH, RATE> as Meaning>⟧.rules 1) P.permutation result }
@@ -169,7 +169,7 @@ pub fn begin_hash<H: CryptographicHasher<u8, [u8; 32]>>(
     hasher: H,
 ) -> HashChallenger<u8, H, 32>
     ensures value { result ≡ record { sponge = with_pending initial_state.items; hasher = hasher } }
-    ensures makes_queries { EachHandsStrings (⟦<OverHash<H> as Meaning>⟧.rules 1) (function_of H.hash 32 H.filler) }
+    ensures makes_queries { EachQueriesStrings (⟦<OverHash<H> as Meaning>⟧.rules 1) (function_of H.hash 32 H.filler) }
     ensures tells { StringsTell (⟦<OverHash<H> as Meaning>⟧.rules 1) (function_of H.hash 32 H.filler) result }
     ensures or_collides { StringsTellOrCollide (⟦<OverHash<H> as Meaning>⟧.rules 1)
         (function_of H.hash 32 H.filler) result }

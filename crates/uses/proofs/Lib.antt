@@ -6,6 +6,7 @@ pub mod DemoLemmas
 pub mod Either
 pub mod MerkleOpening
 pub mod OwnHasher
+pub mod Powers
 pub mod ReadBytes
 pub mod ReadSums
 pub mod RecordSums

@@ -1,6 +1,8 @@
 -- Two sums in one transcript, as a verifier reads them of any bytes.
-use Rattle.std.proofs.Common.{◌≡◌, ℕ, List, [], refl, sym, ap, subst, ◌∙◌}
+use Rattle.std.proofs.Common.{◌≡◌, ℕ, ◌<◌, ◌⊎◌, List, [], inl, inr, length, refl, sym, ap, subst, ◌∙◌, rules}
+use Rattle.p3_challenger.specs.Completeness.{IsOwnRefusal}
 use Rattle.p3_challenger.specs.Driving.{Driving}
+use Rattle.p3_challenger.specs.Errors.{IsBadShape}
 use Rattle.p3_challenger.specs.PatternSteps.{PatternSteps}
 use Rattle.p3_challenger.specs.Playing.{IsPlayed}
 use Rattle.p3_challenger.specs.Reading.{AreBytes}
@@ -16,11 +18,13 @@ use Rattle.p3_challenger.specs.TranscriptError.TheVariants.{Pattern}
 use Rattle.p3_challenger.specs.TranscriptLaws.{played-ends}
 use Rattle.p3_challenger.specs.Transcripts.{AreNext, steps_on}
 use Rattle.p3_challenger.specs.Verifying.{EndsReading, Receives, RefusesEnd}
+use Rattle.p3_sumcheck.specs.declared.error.SumcheckError.{SumcheckError}
+use Rattle.p3_sumcheck.specs.declared.error.SumcheckError.TheVariants as fault
 use Rattle.p3_sumcheck.specs.declared.round.Round.{Round}
-use Rattle.p3_sumcheck.specs.Sumchecks.{Accepts, IsReadingFault, Sumcheck, challenges_of, round_steps}
+use Rattle.p3_sumcheck.specs.Sumchecks.{Accepts, Refuses, Sumcheck, challenges_of, round_steps}
 use Rattle.uses.specs.declared.two_sums.Reduced.{Reduced}
 use Rattle.uses.specs.TwoSums.{AcceptsTwo, ReadsSum, ReadsTwo, ReadsValue, begun, sent_sum, steps_of_sum, sum_step}
-use Rattle.uses.specs.TwoSums.{with_bytes}
+use Rattle.uses.specs.TwoSums.{IsSumcheckFault, with_bytes}
 use Rattle.uses.proofs.TwoSums.{all-next}
 
 -- ---- the pattern
@@ -42,16 +46,16 @@ module _ {S : Type 0} (steps : List Step) (challenger : S) (pattern : PatternSte
 
 -- the end is then refused for the sake of the proof alone
 pub end-fault : {S : Type 0} (v : Driving S) (e : TranscriptError) → IsPlayed v.transcript.playing → RefusesEnd v e →
-    IsReadingFault e
-end-fault v (MissingBegin info) played refuses = refuses
-end-fault v (InvalidKind info) played refuses = refuses
-end-fault v (MismatchedBeginEnd info) played refuses = refuses
-end-fault v (MissingEnd info) played refuses = refuses
-end-fault v (BadProofShape reason) played refuses = tt
-end-fault v (Pattern e) played refuses = played-ends v.transcript.playing (Pattern e) played refuses
-end-fault v (Challenger e) played refuses = tt
-end-fault v LabelTooLong played refuses = refuses
-end-fault v OutOfMemory played refuses = tt
+    ((reason : List ℕ) × IsBadShape reason e) ⊎ IsOwnRefusal e
+end-fault v (MissingBegin info) played refuses = absurd refuses
+end-fault v (InvalidKind info) played refuses = absurd refuses
+end-fault v (MismatchedBeginEnd info) played refuses = absurd refuses
+end-fault v (MissingEnd info) played refuses = absurd refuses
+end-fault v (BadProofShape reason) played refuses = inl (reason.now, refl)
+end-fault v (Pattern e) played refuses = absurd (played-ends v.transcript.playing (Pattern e) played refuses)
+end-fault v (Challenger e) played refuses = inr tt
+end-fault v LabelTooLong played refuses = absurd refuses
+end-fault v OutOfMemory played refuses = inr tt
 
 -- ---- what is read
 
@@ -103,3 +107,14 @@ module _ {S Symbol F : Type 0} (m : Sumcheck S Symbol F) where
       EndsReading end → AcceptsTwo m n one other challenger pattern proof
   two-accepted n one other challenger pattern proof v end is reads ends =
       record { end = end; reads = subst (λ d. ReadsTwo m n one other d end) is reads; ends = ends }
+
+  -- what a sumcheck whose steps are next is refused for
+  pub sumcheck-fault : (claim : F) (n : ℕ) (before after : Driving S) (e : SumcheckError) →
+      Refuses m claim n before e after →
+      ((f : TranscriptError) → e ≡ fault.Transcript f → ((reason : List ℕ) × IsBadShape reason f) ⊎ IsOwnRefusal f) →
+      IsSumcheckFault n e
+  sumcheck-fault claim n before after (fault.Transcript f) refuses step = step f refl
+  sumcheck-fault claim n before after (fault.Round i) refuses step = elim refuses.refuses [
+    | inl round ↦ subst (λ k. k < n) (sym round.1.0) round.0
+    | inr memory ↦ search (rules, memory.1)
+  ]

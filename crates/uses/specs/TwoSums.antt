@@ -1,7 +1,9 @@
 -- Two sumchecks in one transcript, each after the sum that it is of.
-use Rattle.std.specs.Prelude.{◌≡◌, ℕ, List, [], ◌∷◌, ◌++◌, false, codes}
+use Rattle.std.specs.Prelude.{◌≡◌, ◌<◌, ◌⊎◌, ℕ, List, [], ◌∷◌, ◌++◌, false, codes}
 use Rattle.p3_challenger.specs.Algebras.{NamedAlgebra, algebra_step}
+use Rattle.p3_challenger.specs.Completeness.{IsOwnRefusal}
 use Rattle.p3_challenger.specs.Driving.{Driving}
+use Rattle.p3_challenger.specs.Errors.{IsBadShape}
 use Rattle.p3_challenger.specs.Kind.TheVariants.{Message}
 use Rattle.p3_challenger.specs.Length.TheVariants.{Scalar}
 use Rattle.p3_challenger.specs.Meanings.{sent}
@@ -12,6 +14,8 @@ use Rattle.p3_challenger.specs.Rounds.{steps_of_rounds}
 use Rattle.p3_challenger.specs.Steps.{Step}
 use Rattle.p3_challenger.specs.Transcripts.{Meaning, PlaysStep}
 use Rattle.p3_challenger.specs.Verifying.{EndsReading}
+use Rattle.p3_sumcheck.specs.declared.error.SumcheckError.{SumcheckError}
+use Rattle.p3_sumcheck.specs.declared.error.SumcheckError.TheVariants as fault
 use Rattle.p3_sumcheck.specs.declared.round.Round.{Round}
 use Rattle.p3_sumcheck.specs.Sumchecks.{Accepts, Proves, Sumcheck, challenges_of, round_steps}
 use Rattle.p3_sumcheck.specs.Tables.{total}
@@ -107,3 +111,9 @@ module _ {S Symbol F : Type 0} (m : Sumcheck S Symbol F) where
     pub end : Driving S
     pub reads : ReadsTwo n one other (with_bytes (begun challenger pattern) proof) end
     pub ends : EndsReading end
+
+-- Sumchecks of so many rounds whose steps are next are refused so: a round's pair does not add to its claim, the proof
+-- has another shape, or the challenger or memory is refused.
+abbrev pub IsSumcheckFault : ℕ → SumcheckError → Type 0
+IsSumcheckFault n (fault.Round i) = i < n
+IsSumcheckFault n (fault.Transcript e) = ((reason : List ℕ) × IsBadShape reason e) ⊎ IsOwnRefusal e

@@ -1,14 +1,16 @@
 //! A permutation of one's own, for a [`DuplexChallenger`](p3_challenger::DuplexChallenger).
 //!
 //! What a challenger needs is one method and one line of contract: which function of the cells the permutation is. That
-//! it is hard to invert, or a permutation at all, no contract says; it is the word of who brings it. [`Stir`] shows the
-//! form and is of no strength.
-ghost use Rattle.std.specs.Prelude.{◌≡◌, ◌+◌, slice_index_or};
+//! it is hard to invert, or a permutation at all, no contract says; it is the word of who brings it. Where witnesses are
+//! searched for, it works on states side by side in lanes too, and is proved to make of each what it makes of one alone.
+//! [`Stir`] shows the form and is of no strength.
+ghost use Rattle.std.specs.Prelude.{◌≡◌, ◌+◌, ◌<◌, ℕ, slice_index_or};
 ghost use Rattle.p3_challenger.specs.BabyBearResidues.{residues};
 ghost use Rattle.p3_challenger.specs.Residues.{power_of, plus};
 
 use p3_challenger::DuplexChallenger;
 use p3_field::{BabyBear, PrimeCharacteristicRing};
+use p3_lanes::{BabyBearLanes, LanePermutation, PackedValue};
 use p3_symmetric::CryptographicPermutation;
 
 /// Each of four cells gets its place and one added and is taken to the seventh power; and then all get the sum of all.
@@ -33,11 +35,35 @@ impl CryptographicPermutation<[BabyBear; 4]> for Stir {
     }
 }
 
+// The same of states side by side: each operation is on all lanes.
+impl LanePermutation<BabyBear, 4> for Stir {
+    fn permute_lanes(&self, state: &mut [BabyBearLanes; 4]) {
+        let first = stirred_lanes(state[0], 1);
+        let second = stirred_lanes(state[1], 2);
+        let third = stirred_lanes(state[2], 3);
+        let fourth = stirred_lanes(state[3], 4);
+        let total = first + second + third + fourth;
+        *state = [first + total, second + total, third + total, fourth + total];
+    }
+}
+
 // A cell with a number added, to the seventh power.
 fn stirred_cell(cell: BabyBear, constant: u64) -> BabyBear
     ensures { result ≡ power_of residues (plus residues cell constant) 7 }
 {
     (cell + BabyBear::from_u64(constant)).exp_u64(7)
+}
+
+// The same in each lane.
+fn stirred_lanes(cells: BabyBearLanes, constant: u64) -> BabyBearLanes
+    ensures { let lane = ⟦<BabyBearLanes as PackedValue<BabyBear>>⟧.in_lane in
+        (l : ℕ) → l < 8 →
+        lane l result ≡ power_of residues (plus residues (lane l cells) constant) 7 }
+{
+    let once = cells + BabyBearLanes::broadcast(BabyBear::from_u64(constant));
+    let twice = once * once;
+    let thrice = twice * once;
+    thrice * thrice * once
 }
 
 /// A challenger that observed nothing yet, and draws at most so many values for one that is not rejected.

@@ -9,6 +9,7 @@ ghost use Rattle.uses.specs.OwnRounds.{after_round};
 
 use p3_challenger::DuplexChallenger;
 use p3_field::{BabyBear, PrimeCharacteristicRing};
+use p3_lanes::{BabyBearLanes, LanePermutation, permute_each_lane};
 use p3_symmetric::CryptographicPermutation;
 
 /// How many rounds there are.
@@ -33,6 +34,13 @@ impl CryptographicPermutation<[BabyBear; 2]> for Rounds {
         for constant in &self.constants {
             play_round(*constant, state);
         }
+    }
+}
+
+// States side by side in lanes are permuted one after another: searches for witnesses ask for no more.
+impl LanePermutation<BabyBear, 2> for Rounds {
+    fn permute_lanes(&self, state: &mut [BabyBearLanes; 2]) {
+        permute_each_lane(self, state);
     }
 }
 

@@ -13,10 +13,9 @@ ghost use Rattle.p3_challenger.specs.PatternSteps.{steps_of};
 ghost use Rattle.p3_challenger.specs.SeparatorSeed.{pattern_of, seed_of_separator};
 ghost use Rattle.p3_challenger.specs.TranscriptError.TheVariants.{OutOfMemory};
 ghost use Rattle.p3_challenger.specs.Transcripts.{AreNext, steps_on};
-ghost use Rattle.p3_sumcheck.specs.Sumchecks.{IsMemory, IsSumcheckFault, sumcheck_of};
+ghost use Rattle.p3_sumcheck.specs.Sumchecks.{IsMemory, sumcheck_of};
 ghost use Rattle.uses.specs.TwoSums.{AcceptsTwo, AreReduced, IsReduced, ProvesTwo, ReadsSum, ReadsTwo, SendsSum, SendsTwo};
-ghost use Rattle.uses.specs.TwoSums.{steps_of_sum, steps_of_two};
-ghost use Rattle.uses.specs.TwoSums.{with_bytes};
+ghost use Rattle.uses.specs.TwoSums.{IsSumcheckFault, steps_of_sum, steps_of_two, with_bytes};
 
 use p3_challenger::CanObserve;
 use p3_challenger::fs::{

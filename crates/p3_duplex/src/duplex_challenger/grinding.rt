@@ -6,6 +6,7 @@ use p3_grinding::{
     BeforeWitness, GrindingChallenger, TryClone, UniformGrindingChallenger, least_uniform_witness,
     least_witness,
 };
+use p3_lanes::{LanePermutation, PackedField};
 use p3_symmetric::CryptographicPermutation;
 
 impl<
@@ -45,8 +46,8 @@ impl<
 }
 
 impl<
-    F: PrimeField64,
-    P: CryptographicPermutation<[F; WIDTH]>,
+    F: PrimeField64 + PackedField,
+    P: LanePermutation<F, WIDTH>,
     const WIDTH: usize,
     const RATE: usize,
 > GrindingChallenger for DuplexChallenger<F, P, WIDTH, RATE> {
@@ -62,14 +63,19 @@ impl<
 
     ghost number_is = { λ n. refl };
 
+    // A state of so many cells stands in no memory: that branch is for the proof alone, and is compiled into no search.
     fn grind(&mut self, bits: usize) -> Result<F, ChallengerError> {
-        least_witness(self, bits)
+        if WIDTH < 1 << 32 {
+            self.grind_in_lanes(bits)
+        } else {
+            least_witness(self, bits)
+        }
     }
 }
 
 impl<
-    F: UniformSamplingField,
-    P: CryptographicPermutation<[F; WIDTH]>,
+    F: UniformSamplingField + PackedField,
+    P: LanePermutation<F, WIDTH>,
     const WIDTH: usize,
     const RATE: usize,
 > UniformGrindingChallenger for DuplexChallenger<F, P, WIDTH, RATE> {

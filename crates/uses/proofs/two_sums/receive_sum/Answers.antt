@@ -1,4 +1,4 @@
-use Rattle.std.proofs.Common.{◌∙◌, ap, subst}
+use Rattle.std.proofs.Common.{◌∙◌, Err, ap, subst}
 use Rattle.std.proofs.lemmas.Result.{err_from_is_err_and}
 use Rattle.p3_challenger.specs.Algebras.{algebra_of}
 use Rattle.p3_challenger.specs.Drivers.{verifying_of}
@@ -8,7 +8,7 @@ use Rattle.p3_sumcheck.specs.Sumchecks.{sumcheck_of}
 use Rattle.p3_sumcheck.specs.declared.error.SumcheckError.TheVariants.{Transcript}
 use Rattle.p3_sumcheck.specs.Tables.{total}
 use Rattle.uses.specs.TwoSums.{sum_step}
-use Rattle.uses.proofs.ReadSums.{read_sum, sum-passes, sum-read, sum-then}
+use Rattle.uses.proofs.ReadSums.{read_sum, sum-passes, sum-read, sum-then, sumcheck-fault}
 use Rattle.uses.proofs.TwoSums.{rounds-bytes, rounds-left, sum-received, sum-refused}
 use Rattle.uses.proofs.two_sums.receive_sum.Goals as goal
 
@@ -49,9 +49,11 @@ returns-in_err-point-clause-only g c next =
     g.Cdc.Codec.observation g.Cdc.Codec.sampling g.Cdc.Codec.encoding in
     let e = err_from_is_err_and c.from_residual-in_err-point.result c.from_residual-in_err-point.ensures.1 in
     rw (e.1, e.2)
-    (c.in_err-point.ensures.next
+    (sumcheck-fault m _ c.args.rounds (verifying_of g.C.Sponge.state c.next_scalar.new.self)
+    (verifying_of g.C.Sponge.state c.verify.new.verifier) _ c.in_err-point.ensures.refuses
+    (λ f is. c.in_err-point.ensures.next
     (sum-then m c.args.rounds (verifying_of g.C.Sponge.state c.args.verifier.now)
-    (verifying_of g.C.Sponge.state c.next_scalar.new.self) _ next c.in_ok-next_scalar.ensures))
+    (verifying_of g.C.Sponge.state c.next_scalar.new.self) _ next c.in_ok-next_scalar.ensures) f (ap Err is)))
 
 pub returns-clause-complete : goal.returns-clause-complete
 returns-clause-complete g c table p q sent rest size it is_sent start =

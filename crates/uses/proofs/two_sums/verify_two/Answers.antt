@@ -1,10 +1,9 @@
-use Rattle.std.proofs.Common.{sym, ap}
+use Rattle.std.proofs.Common.{inr, sym, ap}
 use Rattle.std.proofs.lemmas.Result.{err_from_is_err_and}
 use Rattle.p3_challenger.specs.Algebras.{algebra_of}
 use Rattle.p3_challenger.specs.Drivers.{verifying_of}
 use Rattle.p3_challenger.specs.Observation.{observed_all}
 use Rattle.p3_challenger.specs.SeparatorSeed.{pattern_of, seed_of_separator}
-use Rattle.p3_sumcheck.specs.ReadingLaws.{own-reading_fault}
 use Rattle.p3_sumcheck.specs.Sumchecks.{sumcheck_of}
 use Rattle.p3_sumcheck.specs.declared.error.SumcheckError.TheVariants.{Transcript}
 use Rattle.uses.specs.TwoSums.{begun, steps_of_two}
@@ -27,7 +26,7 @@ returns-clause-accepts g c =
 pub returns-in_err-verifier-clause-only : goal.returns-in_err-verifier-clause-only
 returns-in_err-verifier-clause-only g c has =
     let p = err_from_is_err_and c.from_residual.result c.from_residual.ensures.1 in
-    rw (p.1, p.2) (own-reading_fault _ (start-own _ _ c.in_err-verifier.ensures.err))
+    rw (p.1, p.2) (inr (start-own _ _ c.in_err-verifier.ensures.err))
 
 pub returns-in_err-read-clause-only : goal.returns-in_err-read-clause-only
 returns-in_err-read-clause-only g c has =

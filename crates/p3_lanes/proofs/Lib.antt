@@ -1,0 +1,2 @@
+pub mod LaneElements
+pub mod Turning

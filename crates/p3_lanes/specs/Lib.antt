@@ -1,0 +1,4 @@
+pub mod LaneSums
+pub mod LaneLaws
+pub mod SmallPrimeLanes
+pub mod GoldilocksLanes

@@ -1,0 +1,73 @@
+//! Permutations of states side by side in lanes.
+ghost use Rattle.std.specs.Prelude.{◌≡◌, ◌<◌, ◌*◌, ◌^◌, ℕ, map};
+ghost use Rattle.std.specs.Mem.{type_size};
+
+use crate::{PackedField, PackedValue};
+use p3_symmetric::CryptographicPermutation;
+
+/// A permutation that also works on states side by side, one in each lane of the cells. What it
+/// makes of a lane is what it makes of that state alone.
+///
+/// A permutation made of additions and products of elements does the same with lanes; for any other
+/// there is [`permute_each_lane`]. The Rust crate asks for a second permutation in its place, of
+/// packed states, which nothing ties to the first.
+pub trait LanePermutation<F: PackedField, const WIDTH: usize>: CryptographicPermutation<
+    [F; WIDTH],
+> {
+    /// Permutes in place the states that stand in the lanes.
+    fn permute_lanes(&self, state: &mut [F::Packing; WIDTH])
+        ensures { (l : ℕ) → l < F.Packing.WIDTH → map (F.Packing.in_lane l) state.new
+            ≡ Self.permutation self.now (map (F.Packing.in_lane l) state.old) };
+}
+
+/// Permutes in place the states that stand in the lanes, one after another: a body for
+/// [`permute_lanes`](LanePermutation::permute_lanes) of a permutation that knows no lanes.
+///
+/// A state takes less than 2^63 bytes. Not in the Rust crate.
+pub fn permute_each_lane<
+    F: PackedField,
+    P: CryptographicPermutation<[F; WIDTH]>,
+    const WIDTH: usize,
+>(permutation: &P, state: &mut [F::Packing; WIDTH])
+    requires room { WIDTH * type_size F.row < 2 ^ 63 }
+    ensures { (l : ℕ) → l < F.Packing.WIDTH → map (F.Packing.in_lane l) state.new
+        ≡ P.permutation permutation.now (map (F.Packing.in_lane l) state.old) }
+{
+    for lane in 0..F::Packing::WIDTH {
+        let permuted = permuted_in_lane(permutation, state, lane);
+        put_in_lane::<F, WIDTH>(state, lane, permuted);
+    }
+}
+
+// What the permutation makes of the state in a lane.
+fn permuted_in_lane<F: PackedField, P: CryptographicPermutation<[F; WIDTH]>, const WIDTH: usize>(
+    permutation: &P,
+    state: &[F::Packing; WIDTH],
+    lane: usize,
+) -> [F; WIDTH]
+    requires { lane < F.Packing.WIDTH }
+    ensures { result ≡ P.permutation permutation.now (map (F.Packing.in_lane lane) state.now) }
+{
+    let mut cells = [F::ZERO; WIDTH];
+    for i in 0..WIDTH {
+        cells[i] = state[i].lane(lane);
+    }
+    permutation.permute_mut(&mut cells);
+    cells
+}
+
+// The states with that of one lane replaced.
+fn put_in_lane<F: PackedField, const WIDTH: usize>(
+    state: &mut [F::Packing; WIDTH],
+    lane: usize,
+    cells: [F; WIDTH],
+)
+    requires { lane < F.Packing.WIDTH }
+    ensures put { map (F.Packing.in_lane lane) state.new ≡ cells }
+    ensures others { (l : ℕ) → l < F.Packing.WIDTH → (l ≡ lane → ⊥)
+        → map (F.Packing.in_lane l) state.new ≡ map (F.Packing.in_lane l) state.old }
+{
+    for i in 0..WIDTH {
+        state[i] = state[i].with_lane(lane, cells[i]);
+    }
+}

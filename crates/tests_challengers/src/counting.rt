@@ -1,0 +1,46 @@
+// A permutation that counts its calls for one state. Those for states in lanes count nothing: so a search that is made of
+// them is told from one that tries its candidates one by one.
+use p3_field::{BabyBear, F257};
+use p3_lanes::{LanePermutation, PackedField};
+use p3_symmetric::{CryptographicPermutation, Turn};
+use std::cell::Cell;
+
+/// `Turn<2>` over three cells.
+#[derive(Clone, Copy)]
+pub struct CountedTurn<'a> {
+    pub calls: &'a Cell<u32>,
+}
+
+fn count(calls: &Cell<u32>) {
+    calls.set(calls.get().saturating_add(1));
+}
+
+impl CryptographicPermutation<[F257; 3]> for CountedTurn<'_> {
+    ghost use Rattle.p3_field.specs.F257Residues.{residues};
+    ghost use Rattle.p3_symmetric.specs.Turn.{turned};
+
+    ghost permutation = { λ _ cells. turned residues 2 3 cells };
+
+    fn permute_mut(&self, state: &mut [F257; 3]) {
+        count(self.calls);
+        Turn::<2>.permute_mut(state);
+    }
+}
+
+impl CryptographicPermutation<[BabyBear; 3]> for CountedTurn<'_> {
+    ghost use Rattle.p3_field.specs.BabyBearResidues.{residues};
+    ghost use Rattle.p3_symmetric.specs.Turn.{turned};
+
+    ghost permutation = { λ _ cells. turned residues 2 3 cells };
+
+    fn permute_mut(&self, state: &mut [BabyBear; 3]) {
+        count(self.calls);
+        Turn::<2>.permute_mut(state);
+    }
+}
+
+impl LanePermutation<F257, 3> for CountedTurn<'_> {
+    fn permute_lanes(&self, state: &mut [<F257 as PackedField>::Packing; 3]) {
+        LanePermutation::<F257, 3>::permute_lanes(&Turn::<2>, state);
+    }
+}
