@@ -60,20 +60,40 @@ pub trait ByteGrindingChallenger<const W: usize, const S: usize>: TryClone
             (in_row Self.CanSample.sampling S) (K.encoded candidates.now) (K.accepted candidates.now))
             (Self.state self.now)) }
     {
-        let mut trial = self.try_clone()?;
-        for candidate in 0..num_candidates {
-            match check_bytes::<Self, K, W, S>(&mut trial, candidates, candidate) {
-                Ok(true) => return Ok(Some(candidate)),
-                Ok(false) => trial.try_clone_from(self)?,
-                Err(ChallengerError::DrawLimit) => trial.try_clone_from(self)?,
-                Err(error) => return Err(error),
-            }
-        }
-        Ok(None)
+        find_witness_plainly(self, num_candidates, candidates)
     }
 
     // What bytes feed tells them apart.
     ghost bytes_prefix_free: { IsPrefixCodeOn IsByte Self.CanObserve.observation.symbols };
+}
+
+/// The least candidate below `num_candidates` that passes, or `None` where none does: each is tried in turn on one copy
+/// of the challenger. It is what [`ByteGrindingChallenger::find_witness`] does where a challenger has nothing faster.
+///
+/// The one error is [`ChallengerError::OutOfMemory`]. Not in the Rust crate.
+pub fn find_witness_plainly<
+    C: CanObserve<u8> + CanSample<u8> + TryClone,
+    K: ByteCandidates<W, S>,
+    const W: usize,
+    const S: usize,
+>(challenger: &C, num_candidates: u64, candidates: &K) -> Result<Option<u64>, ChallengerError>
+    ensures found { IfOk result (Finds (byte_check (in_slice C.observation C.slice_may_leave)
+        (in_row C.sampling S) (K.encoded candidates.now) (K.accepted candidates.now))
+        (C.state challenger.now) num_candidates) }
+    ensures err { IfErr result (λ e. (e ≡ OutOfMemory) × MayRunOut C.clones_may_fail (byte_check
+        (in_slice C.observation C.slice_may_leave) (in_row C.sampling S)
+        (K.encoded candidates.now) (K.accepted candidates.now)) (C.state challenger.now)) }
+{
+    let mut trial = challenger.try_clone()?;
+    for candidate in 0..num_candidates {
+        match check_bytes::<C, K, W, S>(&mut trial, candidates, candidate) {
+            Ok(true) => return Ok(Some(candidate)),
+            Ok(false) => trial.try_clone_from(challenger)?,
+            Err(ChallengerError::DrawLimit) => trial.try_clone_from(challenger)?,
+            Err(error) => return Err(error),
+        }
+    }
+    Ok(None)
 }
 
 // Whether a candidate passes, on the challenger itself.

@@ -1,3 +1,6 @@
+pub mod Batches
+pub mod Messages
+pub mod DigestDraws
 pub mod Calls
 pub mod HashQueries
 pub mod HashOutputs

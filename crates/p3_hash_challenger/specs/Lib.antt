@@ -3,3 +3,4 @@ pub mod HashReadBack
 pub mod HashSegments
 pub mod HashState
 pub mod HashStateLaws
+pub mod WitnessSearch

@@ -28,6 +28,7 @@ ghost use Rattle.p3_challenger_core.specs.declared.error.ChallengerError.{Challe
 mod calls;
 mod digests;
 mod grinding;
+mod witness_search;
 
 use p3_challenger_core::{CanFinalizeDigest, CanObserve, CanSample, ChallengerError, Sponge};
 use p3_symmetric::CryptographicHasher;

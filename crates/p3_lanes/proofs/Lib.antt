@@ -1,2 +1,1 @@
 pub mod LaneElements
-pub mod Turning

@@ -1,10 +1,10 @@
 //! The permutation for tests, in lanes.
-ghost use Rattle.std.specs.Prelude.{◌≡◌, ◌<◌, ◌+◌, ◌%◌, ℕ};
+ghost use Rattle.std.specs.Prelude.{◌≡◌, ◌<◌, ℕ};
 ghost use Rattle.p3_field_core.specs.Residues.{plus};
 
 use crate::{LanePermutation, PackedField, PackedValue};
 use p3_field_core::{PrimeCharacteristicRing, PrimeField64};
-use p3_symmetric::Turn;
+use p3_symmetric::{Turn, turned_index};
 
 impl<F: PrimeField64 + PackedField, const K: usize, const WIDTH: usize> LanePermutation<F, WIDTH>
     for Turn<K> {
@@ -22,15 +22,4 @@ fn plus_number_in_lanes<F: PrimeField64 + PackedField>(x: F::Packing, n: u64) ->
         → F.Packing.in_lane l result ≡ plus F.residues (F.Packing.in_lane l x) n }
 {
     x + F::Packing::broadcast(F::from_u64(n))
-}
-
-// The place that is `k` places on, round a ring of `width` places.
-fn turned_index(i: usize, k: usize, width: usize) -> usize
-    requires { i < width }
-    ensures place { result ≡ (i + k) % width }
-    ensures below { result < width }
-{
-    let shift = k % width;
-    let before = width - shift;
-    if i < before { i + shift } else { i - before }
 }

@@ -1,3 +1,4 @@
+pub mod WitnessSearch
 pub mod Calls
 pub mod GrindingRows
 pub mod Limits

@@ -78,3 +78,7 @@ fits_4 order fits = omega (arith, fits)
 
 pub fits_8 : (order : ℕ) → order < 2 ^ 64 → order ≤ 256 ^ 8
 fits_8 order fits = omega (arith, fits)
+
+-- so many bytes fit in memory
+pub bytes_fit : (n : ℕ) → n ≤ 8 → n < 2 ^ 63
+bytes_fit n short = omega (arith, short)

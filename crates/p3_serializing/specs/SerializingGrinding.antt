@@ -1,9 +1,10 @@
 -- Proof of work on a serializing challenger.
-use Rattle.std.specs.Prelude.{ℕ, Bool, List}
+use Rattle.std.specs.Prelude.{ℕ, ◌==◌, ◌%◌, ◌^◌, Bool, List}
 use Rattle.p3_field_core.specs.Residues.{Residues}
 use Rattle.p3_challenger_core.specs.Observation.{Observation}
 use Rattle.p3_challenger_core.specs.Sampling.{Sampling}
 use Rattle.p3_grinding.specs.Checks.{all_zero, check_of, MayRunOut}
+use Rattle.p3_serializing.specs.Bytes.{bytes_of, number_of}
 use Rattle.p3_serializing.specs.SerializingState.{SerializingState, element_observed, byte_dropped, bits_drawn}
 
 module _ {I Symbol F : Type 0} (o : Observation I Symbol ℕ) (slice_may_leave : I → List ℕ → I → Type 0)
@@ -17,3 +18,11 @@ module _ {I Symbol F : Type 0} (o : Observation I Symbol ℕ) (slice_may_leave :
   -- where a search may be refused for memory: where a copy may be, or a check
   abbrev pub may_run_out_of : Type 0 → SerializingState I → Type 0
   may_run_out_of clones_may_fail s = (bits : ℕ) × MayRunOut clones_may_fail (serializing_check bits) s
+
+-- the bytes of the witness of a number
+abbrev pub witness_bytes : {F : Type 0} → Residues F → ℕ → ℕ → List ℕ
+witness_bytes r n k = bytes_of n (r.number (r.of k))
+
+-- so many low bits of a group are 0
+abbrev pub low_bits_zero : ℕ → List ℕ → Bool
+low_bits_zero bits bytes = number_of bytes % 2 ^ bits == 0

@@ -14,6 +14,7 @@ mod calls;
 mod digests;
 mod draws;
 mod grinding;
+mod witness_search;
 
 use crate::{SerializedIn, SerializingState};
 use p3_challenger_core::{CanObserve, ChallengerError, Sponge};

@@ -17,4 +17,4 @@ pub use hasher::{CryptographicHasher, HashOutput};
 pub use merkle_cap::MerkleCap;
 pub use permutation::CryptographicPermutation;
 pub use sha256::Sha256Hasher;
-pub use turn::Turn;
+pub use turn::{Turn, turned_index};

@@ -11,11 +11,18 @@ use sha2::{Digest, Sha256};
 pub struct Sha256Hasher;
 
 impl CryptographicHasher<u8, [u8; 32]> for Sha256Hasher {
+    ghost use Rattle.std.proofs.Common.{lit<};
     ghost use Rattle.p3_symmetric.specs.DigestLaws.{sha256-is_digest};
+
+    const LANES: usize = 8;
+
+    ghost LANES = { 8 };
 
     ghost hash = { λ _ xs. sha256 xs };
 
     ghost filler = { 0 };
+
+    ghost some_lanes = { lit< tt };
 
     ghost digests = { λ _ message. (sha256-is_digest message).places };
 

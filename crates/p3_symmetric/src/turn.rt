@@ -32,8 +32,10 @@ fn plus_number<F: PrimeCharacteristicRing>(x: F, n: u64) -> F
     x + F::from_u64(n)
 }
 
-// The place that is `k` places on, round a ring of `width` places.
-fn turned_index(i: usize, k: usize, width: usize) -> usize
+/// The place that is `k` places on, round a ring of `width` places: where [`Turn`] takes what it puts at place `i`.
+///
+/// `i` is below `width`. Not in the Rust crate.
+pub fn turned_index(i: usize, k: usize, width: usize) -> usize
     requires { i < width }
     ensures place { result ≡ (i + k) % width }
     ensures below { result < width }

@@ -16,11 +16,18 @@ pub struct SumHasher;
 
 impl CryptographicHasher<u8, [u8; 32]> for LengthHasher {
     ghost use Rattle.std.specs.Prelude.{refl};
+    ghost use Rattle.std.proofs.Common.{lit<};
     ghost use Rattle.p3_test_support.specs.LengthHasher.{length_digest};
+
+    const LANES: usize = 4;
+
+    ghost LANES = { 4 };
 
     ghost hash = { λ _ message. length_digest message };
 
     ghost filler = { 0 };
+
+    ghost some_lanes = { lit< tt };
 
     ghost digests = { λ _ _. refl };
 
@@ -31,11 +38,18 @@ impl CryptographicHasher<u8, [u8; 32]> for LengthHasher {
 
 impl CryptographicHasher<u8, [u8; 32]> for SumHasher {
     ghost use Rattle.std.specs.Prelude.{refl};
+    ghost use Rattle.std.proofs.Common.{lit<};
     ghost use Rattle.p3_test_support.specs.TestHashers.{sum_digest};
+
+    const LANES: usize = 1;
+
+    ghost LANES = { 1 };
 
     ghost hash = { λ _ message. sum_digest message };
 
     ghost filler = { 0 };
+
+    ghost some_lanes = { lit< tt };
 
     ghost digests = { λ _ _. refl };
 
@@ -75,9 +89,17 @@ pub struct FixedHasher {
 }
 
 impl CryptographicHasher<u8, [u8; 24]> for FixedHasher {
+    ghost use Rattle.std.proofs.Common.{lit<};
+
+    const LANES: usize = 1;
+
+    ghost LANES = { 1 };
+
     ghost hash = { λ hasher _. hasher.digest };
 
     ghost filler = { 0 };
+
+    ghost some_lanes = { lit< tt };
 
     ghost digests = { λ hasher _. hasher.full };
 

@@ -14,11 +14,18 @@ pub struct Polynomial;
 
 impl CryptographicHasher<u8, [u8; 32]> for Polynomial {
     ghost use Rattle.std.specs.Prelude.{refl};
+    ghost use Rattle.std.proofs.Common.{lit<};
     ghost use Rattle.uses.specs.OwnHasher.{polynomial_digest};
+
+    const LANES: usize = 1;
+
+    ghost LANES = { 1 };
 
     ghost hash = { λ _ message. polynomial_digest message };
 
     ghost filler = { 0 };
+
+    ghost some_lanes = { lit< tt };
 
     ghost digests = { λ _ _. refl };
 

@@ -1,5 +1,6 @@
 //! The search for a witness, which tries one candidate in each lane: all start from one state, and differ in one cell.
-ghost use Rattle.std.specs.Prelude.{◌≡◌, ◌<◌, ℕ, ◌+◌, ◌*◌, ◌^◌, ◌≤◌, MatchOption, IfOk, IfErr, IsOk, IsTrue, ◌↔◌};
+ghost use Rattle.std.specs.Prelude.{◌≡◌, ◌<◌, ℕ, ◌+◌, ◌-◌, ◌*◌, ◌^◌, ◌≤◌, ◌↔◌, min};
+ghost use Rattle.std.specs.Prelude.{MatchOption, IfOk, IfErr, IsOk, IsTrue};
 ghost use Rattle.std.specs.Mem.{type_size};
 ghost use Rattle.p3_duplex.specs.LaneSearch.{given_by, HasZeros, candidate, IsLeastOf, NoneOfAll};
 ghost use Rattle.p3_challenger_core.specs.Bits.{most_bits_of};
@@ -87,6 +88,7 @@ fn least_in_lanes<F: PrimeField64 + PackedField, P: LanePermutation<F, WIDTH>, c
 // How many candidates stand in the lanes from a first one on.
 fn count_of_next<F: PrimeField64 + PackedField>(first: u64) -> u64
     requires { first < F.residues.order }
+    ensures exact { result ≡ min F.Packing.WIDTH (F.residues.order - first) }
     ensures some { 0 < result }
     ensures within { first + result ≤ F.residues.order }
     ensures lanes { result ≤ F.Packing.WIDTH }

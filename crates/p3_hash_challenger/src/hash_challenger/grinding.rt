@@ -1,7 +1,8 @@
-//! Proof of work on bytes: candidates are tried on a copy, which takes no memory once it has room.
+//! Proof of work on bytes: the messages of candidates are hashed batch by batch, where one digest tests a candidate.
+use super::witness_search::least_in_batches;
 use crate::HashChallenger;
 use p3_challenger_core::ChallengerError;
-use p3_grinding::{ByteGrindingChallenger, TryClone};
+use p3_grinding::{ByteCandidates, ByteGrindingChallenger, TryClone, find_witness_plainly};
 use p3_symmetric::CryptographicHasher;
 
 impl<T: Copy, H: CryptographicHasher<T, [T; OUT_LEN]>, const OUT_LEN: usize> TryClone
@@ -32,6 +33,18 @@ impl<
     const S: usize,
 > ByteGrindingChallenger<W, S> for HashChallenger<u8, H, OUT_LEN> {
     ghost use Rattle.p3_challenger_core.specs.SymbolLaws.{one_symbol_each};
+
+    fn find_witness<K: ByteCandidates<W, S>>(
+        &self,
+        num_candidates: u64,
+        candidates: &K,
+    ) -> Result<Option<u64>, ChallengerError> {
+        // A candidate of no bytes flushes nothing, and more bytes than a digest has take another hash.
+        if W == 0 || S > OUT_LEN {
+            return find_witness_plainly(self, num_candidates, candidates);
+        }
+        least_in_batches(self, num_candidates, candidates)
+    }
 
     ghost bytes_prefix_free = { λ x y a b _ _ same. one_symbol_each x y a b same };
 }

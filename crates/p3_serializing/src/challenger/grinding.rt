@@ -6,7 +6,7 @@ use crate::{SerializedIn, SerializingChallenger};
 use p3_challenger_core::{CanSample, CanSampleBits, ChallengerError};
 use p3_grinding::{
     BeforeWitness, ByteGrindingChallenger, CanSampleUniformBits, GrindingChallenger, TryClone,
-    UniformBitsError, least_witness,
+    UniformBitsError, least_witness_by_own_search,
 };
 use std::marker::PhantomData;
 
@@ -107,6 +107,6 @@ impl<
     ghost number_is = { λ n. refl };
 
     fn grind(&mut self, bits: usize) -> Result<F, ChallengerError> {
-        least_witness(self, bits)
+        least_witness_by_own_search(self, bits)
     }
 }

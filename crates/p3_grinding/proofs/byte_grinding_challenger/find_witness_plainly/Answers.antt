@@ -1,11 +1,11 @@
 use Rattle.std.proofs.Common.{rules}
 use Rattle.p3_challenger_core.specs.Observation.{in_slice}
 use Rattle.p3_grinding.specs.CheckLaws.{byte_check-limit}
-use Rattle.p3_grinding.proofs.byte_grinding_challenger.ByteGrindingChallenger.find_witness.Goals as goal
+use Rattle.p3_grinding.proofs.byte_grinding_challenger.find_witness_plainly.Goals as goal
 
 pub loop-candidate-preserved : goal.loop-candidate-preserved
 loop-candidate-preserved g c =
-    let observation = in_slice g.Self.CanObserve.observation g.Self.CanObserve.slice_may_leave in
-    let limit = byte_check-limit g.Self.Sponge.next observation g.Self.CanSample.sampling g.met.Self.CanSample.samples
+    let observation = in_slice g.C.CanObserve.observation g.C.CanObserve.slice_may_leave in
+    let limit = byte_check-limit g.C.Sponge.next observation g.C.CanSample.sampling g.met.C.CanSample.samples
     g.row.S (g.K.ByteCandidates.encoded c.args.candidates.now) (g.K.ByteCandidates.accepted c.args.candidates.now) in
     search (rules, limit)

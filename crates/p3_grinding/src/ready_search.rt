@@ -1,0 +1,65 @@
+//! Searches for the least witness by challengers that have a search of their own, for when they are ready for a witness.
+ghost use Rattle.std.specs.Prelude.{◌≡◌, ◌≤◌, IfOk, IfErr, IsOk};
+ghost use Rattle.p3_grinding.specs.Checks.{all_zero, draws_nothing, checked, check_of, IsLeast};
+ghost use Rattle.p3_grinding.specs.Checks.{RefusesSearch, MayRunOut};
+
+use crate::search::prepared_clone;
+use crate::{BeforeWitness, TryClone};
+use p3_challenger_core::{CanObserve, CanSampleBits, ChallengerError};
+use p3_field_core::PrimeField64;
+use std::mem;
+
+/// A challenger that has a search of its own for the least witness, once it is ready for one.
+///
+/// Not in the Rust crate.
+pub trait ReadySearch<W: PrimeField64>: CanObserve<W> + CanSampleBits<usize> + TryClone {
+    /// The least witness after which the `bits` bits that are drawn are 0. The challenger is left as it is
+    /// once the witness was observed and these bits were drawn.
+    ///
+    /// The errors are [`ChallengerError::NoWitness`] where none passes, and
+    /// [`ChallengerError::OutOfMemory`]. What the challenger is after one is not promised.
+    ///
+    /// `bits` is at most `max_bits`.
+    fn least_when_ready(&mut self, bits: usize) -> Result<W, ChallengerError>
+        requires { bits ≤ Self.most_bits }
+        ensures least { IfOk result (λ witness. IsLeast W.residues
+            (checked draws_nothing Self.observation (all_zero (Self.bits_sampling bits)))
+            (Self.state self.old) witness) }
+        ensures after { IfOk result (λ witness. Self.state self.new
+            ≡ (checked draws_nothing Self.observation (all_zero (Self.bits_sampling bits)) witness).after
+            (Self.state self.old)) }
+        ensures err { IfErr result (λ e.
+            let check = checked draws_nothing Self.observation (all_zero (Self.bits_sampling bits)) in
+            RefusesSearch W.residues (MayRunOut Self.clones_may_fail check) check e
+            (Self.state self.old) (Self.state self.old)) };
+}
+
+/// The least witness that passes a check of `bits` bits, by the challenger's own search. The challenger is
+/// left as that check leaves it. All else is as for [`least_witness`](crate::least_witness).
+///
+/// `bits` is at most `max_bits`. Not in the Rust crate.
+pub fn least_witness_by_own_search<W: PrimeField64, C: BeforeWitness + ReadySearch<W>>(
+    challenger: &mut C,
+    bits: usize,
+) -> Result<W, ChallengerError>
+    requires { bits ≤ C.most_bits }
+    ensures least { IfOk result (λ witness. IsLeast W.residues
+        (check_of C.before_witness C.observation (all_zero (C.bits_sampling bits)) bits)
+        (C.state challenger.old) witness) }
+    ensures after { IfOk result (λ witness. C.state challenger.new
+        ≡ (check_of C.before_witness C.observation (all_zero (C.bits_sampling bits)) bits witness).after
+        (C.state challenger.old)) }
+    ensures err { IfErr result (λ e.
+        let check = check_of C.before_witness C.observation (all_zero (C.bits_sampling bits)) bits in
+        RefusesSearch W.residues (MayRunOut C.clones_may_fail check) check e
+        (C.state challenger.old) (C.state challenger.new)) }
+    ensures free { bits ≡ 0 → IsOk result }
+{
+    if bits == 0 {
+        return Ok(W::from_canonical(0));
+    }
+    let mut prepared = prepared_clone(challenger)?;
+    let witness = prepared.least_when_ready(bits)?;
+    mem::swap(challenger, &mut prepared);
+    Ok(witness)
+}
