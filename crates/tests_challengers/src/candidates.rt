@@ -1,7 +1,9 @@
+use crate::counting::CountedSum;
 use p3_challenger_core::{CanSample, ChallengerError};
 use p3_grinding::{ByteCandidates, ByteGrindingChallenger};
 use p3_hash_challenger::HashChallenger;
 use p3_test_support::{SumHasher, length_challenger};
+use std::cell::Cell;
 use std::process::Abort;
 use std::test::Fail;
 
@@ -96,5 +98,16 @@ fn assert_output_kept<C: ByteGrindingChallenger<0, 1>>(rt: &impl Abort, challeng
 fn candidates_of_no_byte_keep_the_output(rt: HostRuntime) -> Result<(), Fail> {
     let mut challenger = length_challenger(rt.alloc(), 4)?;
     assert_output_kept(&rt, &mut challenger);
+    Ok(())
+}
+
+#[test]
+fn candidates_are_hashed_four_at_once(rt: HostRuntime) -> Result<(), Fail> {
+    let calls = Cell::new(0u32);
+    let hasher = CountedSum { calls: &calls };
+    let challenger = HashChallenger::new(vec![in rt.alloc(); 0u8, 1, 2, 3]?, hasher);
+    assert_least_found(&rt, &challenger, 11, 47, Some(10));
+    assert!(rt; calls.get() <= 3, "{}", calls.get());
+    assert_least_found(&rt, &challenger, 10, 47, None);
     Ok(())
 }

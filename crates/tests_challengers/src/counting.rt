@@ -1,8 +1,10 @@
-// A permutation that counts its calls for one state. Those for states in lanes count nothing: so a search that is made of
-// them is told from one that tries its candidates one by one.
+// A permutation that counts its calls for one state, and a hasher that counts its calls for one message. Those for states
+// in lanes, or for many messages, count nothing: so a search that is made of them is told from one that tries its
+// candidates one by one.
 use p3_field::{BabyBear, F257};
 use p3_lanes::{LanePermutation, PackedField};
-use p3_symmetric::{CryptographicPermutation, Turn};
+use p3_symmetric::{CryptographicHasher, CryptographicPermutation, Turn};
+use p3_test_support::SumHasher;
 use std::cell::Cell;
 
 /// `Turn<2>` over three cells.
@@ -42,5 +44,38 @@ impl CryptographicPermutation<[BabyBear; 3]> for CountedTurn<'_> {
 impl LanePermutation<F257, 3> for CountedTurn<'_> {
     fn permute_lanes(&self, state: &mut [<F257 as PackedField>::Packing; 3]) {
         LanePermutation::<F257, 3>::permute_lanes(&Turn::<2>, state);
+    }
+}
+
+/// `SumHasher`, four messages at once.
+#[derive(Clone, Copy)]
+pub struct CountedSum<'a> {
+    pub calls: &'a Cell<u32>,
+}
+
+impl CryptographicHasher<u8, [u8; 32]> for CountedSum<'_> {
+    ghost use Rattle.std.specs.Prelude.{refl};
+    ghost use Rattle.std.proofs.Common.{lit<};
+    ghost use Rattle.p3_test_support.specs.TestHashers.{sum_digest};
+
+    const LANES: usize = 4;
+
+    ghost LANES = { 4 };
+
+    ghost hash = { λ _ message. sum_digest message };
+
+    ghost filler = { 0 };
+
+    ghost some_lanes = { lit< tt };
+
+    ghost digests = { λ _ _. refl };
+
+    fn hash_slice(&self, input: &[u8]) -> [u8; 32] {
+        count(self.calls);
+        SumHasher.hash_slice(input)
+    }
+
+    fn hash_many(&self, messages: &[u8], digests: &mut [[u8; 32]]) {
+        SumHasher.hash_many(messages, digests);
     }
 }
