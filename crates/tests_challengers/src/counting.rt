@@ -47,13 +47,26 @@ impl LanePermutation<F257, 3> for CountedTurn<'_> {
     }
 }
 
-/// `SumHasher`, four messages at once.
-#[derive(Clone, Copy)]
-pub struct CountedSum<'a> {
-    pub calls: &'a Cell<u32>,
+/// What counts calls.
+pub trait Counter: Copy {
+    /// Counts one more.
+    fn count(&self);
 }
 
-impl CryptographicHasher<u8, [u8; 32]> for CountedSum<'_> {
+impl Counter for &Cell<u32> {
+    fn count(&self) {
+        count(self);
+    }
+}
+
+/// `SumHasher`, four messages at once.
+#[derive(Clone, Copy)]
+pub struct CountedSum<C> {
+    pub calls: C,
+}
+
+// (the toolchain has no contract for a constant of a type with a lifetime, so the counter is a type)
+impl<C: Counter> CryptographicHasher<u8, [u8; 32]> for CountedSum<C> {
     ghost use Rattle.std.specs.Prelude.{refl};
     ghost use Rattle.std.proofs.Common.{lit<};
     ghost use Rattle.p3_test_support.specs.TestHashers.{sum_digest};
@@ -71,7 +84,7 @@ impl CryptographicHasher<u8, [u8; 32]> for CountedSum<'_> {
     ghost digests = { λ _ _. refl };
 
     fn hash_slice(&self, input: &[u8]) -> [u8; 32] {
-        count(self.calls);
+        self.calls.count();
         SumHasher.hash_slice(input)
     }
 
