@@ -18,7 +18,8 @@ USAGE = f"""
 The repository's test command. It runs, at the top of the repository,
 
   rt ci                           every crate proved from nothing, its tests, and its programs as two compilers build them
-  tools/memory                    each request of the program for memory refused in turn
+  tools/memory                    each request of four programs for memory refused in turn
+  tools/explained                 the program tealmuze on what the Rust crate answered, on hostile proofs and on bad files
   tools/misuse                    wrong programs that must not compile: they let go of what must be spent
   tools/links                     that each relative link of each page leads somewhere
   tools/words                     that no text has a word that the table of words says not to use
@@ -47,6 +48,7 @@ def main(words):
             run_marked(proofs)
             others = [
                 Part("tools/memory", [f"{ROOT}/tools/memory"]),
+                Part("tools/explained", [f"{ROOT}/tools/explained"]),
                 Part("tools/misuse", [f"{ROOT}/tools/misuse"]),
                 Part("tools/links", [f"{ROOT}/tools/links"]),
                 Part("tools/words", [f"{ROOT}/tools/words"]),

@@ -34,7 +34,6 @@
 //! it prints how many of the changed proofs came to what.
 #![tactic(auto)]
 
-mod alone;
 mod answer;
 mod encoding;
 mod hostile;

@@ -1,9 +1,9 @@
 // A script step by step on a prover.
-use crate::alone::{given, is_admitted, only};
 use crate::whole::Written;
 use anyhow::{Result, bail};
 use p3_challenger::fs::script::{Drawn, Fault, Played, Proved, Step, Suite, prover_step};
 use p3_challenger::fs::{PatternError, ProverState, TranscriptError};
+use script_lines::alone::{given, is_admitted, only};
 use script_lines::script::Steps;
 use script_lines::world::{SeparatorOf, World};
 use std::alloc::Global;

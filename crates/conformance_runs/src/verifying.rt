@@ -1,5 +1,4 @@
 // A script step by step on a verifier.
-use crate::alone::{is_admitted, is_carried, only};
 use crate::told::{Told, refused};
 use crate::whole::accepted;
 use anyhow::{Result, bail};
@@ -7,6 +6,7 @@ use p3_challenger::fs::script::{
     Answer, Drawn, Fault, Received, Step, Suite, Verified, verifier_step,
 };
 use p3_challenger::fs::{PatternError, TranscriptError, VerifierState};
+use script_lines::alone::{is_admitted, is_carried, only};
 use script_lines::world::{SeparatorOf, World};
 use std::alloc::Global;
 

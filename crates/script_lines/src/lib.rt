@@ -3,6 +3,7 @@
 //! The program `conformance_runs`, which plays them, says at its head what a line is.
 #![tactic(auto)]
 
+pub mod alone;
 pub mod change;
 pub mod line;
 pub mod recording;

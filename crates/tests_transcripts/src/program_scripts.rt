@@ -19,6 +19,88 @@ const PROOF_OF_VERSION_1: [u8; 14] = [
     0x00, 0x11, 0x22, 0x33, 0x44, 0x55, 0x66, 0x77, 0, 0, 0, 1, 0x6e, 0,
 ];
 
+const SALT: &str = "0011223344556677";
+
+// What the arguments of `prove` write, with the public list for `verify`, and what that then tells.
+const PROVED: [(&[&str], &str, &str, &str); 5] = [
+    (
+        &["prove", "9", "0011223344556677", ""],
+        "9",
+        "001122334455667700000003fb00",
+        "accepted\nvalues\nalpha 43369364\nnote\nindices 15 3\n",
+    ),
+    (
+        &[
+            "prove",
+            "0009",
+            "00AAbbCCddEEff77",
+            "a note of 16 byt",
+            "1",
+            "002013265920",
+        ],
+        "09",
+        "00aabbccddeeff77020000000178000000000001101061206e6f7465206f6620313620627974",
+        "accepted\nvalues 1 2013265920\nalpha 1823214600\nnote 61206e6f7465206f6620313620627974\nindices 9 0\n",
+    ),
+    (
+        &[
+            "prove",
+            "5,6,7,8",
+            "FFFFFFFFFFFFFFFF",
+            "é",
+            "1",
+            "2",
+            "3",
+            "4",
+        ],
+        "5,006,7,8",
+        "ffffffffffffffff04000000010000000200000003000000040000006d02c3a9",
+        "accepted\nvalues 1 2 3 4\nalpha 1237305149\nnote c3a9\nindices 13 14\n",
+    ),
+    (
+        &["prove", "-", "0011223344556677", ""],
+        "-",
+        "001122334455667700000000b900",
+        "accepted\nvalues\nalpha 1466500772\nnote\nindices 4 7\n",
+    ),
+    (
+        &["prove", "9,2013265920", "0011223344556677", "", "1"],
+        "9,2013265920",
+        "001122334455667701000000010000008b00",
+        "accepted\nvalues 1\nalpha 715632418\nnote\nindices 1 10\n",
+    ),
+];
+
+// Arguments that ask for nothing.
+const NOT_ASKED: [&[&str]; 26] = [
+    &["prove"],
+    &["prove", "9", SALT],
+    &["prove", "9", SALT, "", "1", "2", "3", "4", "5"],
+    &["prove", "9", SALT, "", "2013265921"],
+    &["prove", "9", SALT, "", ""],
+    &["prove", "2013265921", SALT, ""],
+    &["prove", "9", "001122334455667", ""],
+    &["prove", "9", "00112233445566778", ""],
+    &["prove", "9", "001122334455667788", ""],
+    &["prove", "9", "+011223344556677", ""],
+    &["prove", "9", SALT, "a note of 17 byte"],
+    &["verify"],
+    &["verify", "+9"],
+    &["verify", "2013265921"],
+    &["verify", "9", "9"],
+    &["verify", ""],
+    &["verify", "1,"],
+    &["verify", ",1"],
+    &["verify", "1,,2"],
+    &["verify", "1, 2"],
+    &["verify", "--"],
+    &["verify", "-,1"],
+    &["verify", "1,2013265921"],
+    &["verify", "1,2,3,4,5"],
+    &["prove", "1,2,3,4,5", SALT, ""],
+    &["prove", "", SALT, ""],
+];
+
 // A reader that gives so many bytes, one in each read, and then ends or fails. It counts its reads.
 #[derive(Drop)]
 struct Trickle {
@@ -66,55 +148,7 @@ fn written<R: Read>(alloc: Global, words: &[&str], reader: &mut R) -> (u8, Vec<u
 #[test]
 fn a_proof_is_written_and_verified(rt: HostRuntime) -> Result<(), Fail> {
     let alloc = rt.alloc();
-    let rows: [(&[&str], &str, &str, &str); 5] = [
-        (
-            &["prove", "9", "0011223344556677", ""],
-            "9",
-            "001122334455667700000003fb00",
-            "accepted\nvalues\nalpha 43369364\nnote\nindices 15 3\n",
-        ),
-        (
-            &[
-                "prove",
-                "0009",
-                "00AAbbCCddEEff77",
-                "a note of 16 byt",
-                "1",
-                "002013265920",
-            ],
-            "09",
-            "00aabbccddeeff77020000000178000000000001101061206e6f7465206f6620313620627974",
-            "accepted\nvalues 1 2013265920\nalpha 1823214600\nnote 61206e6f7465206f6620313620627974\nindices 9 0\n",
-        ),
-        (
-            &[
-                "prove",
-                "5,6,7,8",
-                "FFFFFFFFFFFFFFFF",
-                "é",
-                "1",
-                "2",
-                "3",
-                "4",
-            ],
-            "5,006,7,8",
-            "ffffffffffffffff04000000010000000200000003000000040000006d02c3a9",
-            "accepted\nvalues 1 2 3 4\nalpha 1237305149\nnote c3a9\nindices 13 14\n",
-        ),
-        (
-            &["prove", "-", "0011223344556677", ""],
-            "-",
-            "001122334455667700000000b900",
-            "accepted\nvalues\nalpha 1466500772\nnote\nindices 4 7\n",
-        ),
-        (
-            &["prove", "9,2013265920", "0011223344556677", "", "1"],
-            "9,2013265920",
-            "001122334455667701000000010000008b00",
-            "accepted\nvalues 1\nalpha 715632418\nnote\nindices 1 10\n",
-        ),
-    ];
-    for (words, public, wire, told) in rows {
+    for (words, public, wire, told) in PROVED {
         let mut unread = Trickle {
             left: 0,
             fails_with: Some(ErrorKind::Other),
@@ -190,38 +224,9 @@ fn other_bytes_are_refused(rt: HostRuntime) -> Result<(), Fail> {
 }
 
 #[test]
-fn other_words_are_told_before_anything_is_read(rt: HostRuntime) -> Result<(), Fail> {
+fn other_arguments_are_told_before_anything_is_read(rt: HostRuntime) -> Result<(), Fail> {
     let alloc = rt.alloc();
-    let salt = "0011223344556677";
-    let rows: [&[&str]; 26] = [
-        &["prove"],
-        &["prove", "9", salt],
-        &["prove", "9", salt, "", "1", "2", "3", "4", "5"],
-        &["prove", "9", salt, "", "2013265921"],
-        &["prove", "9", salt, "", ""],
-        &["prove", "2013265921", salt, ""],
-        &["prove", "9", "001122334455667", ""],
-        &["prove", "9", "00112233445566778", ""],
-        &["prove", "9", "001122334455667788", ""],
-        &["prove", "9", "+011223344556677", ""],
-        &["prove", "9", salt, "a note of 17 byte"],
-        &["verify"],
-        &["verify", "+9"],
-        &["verify", "2013265921"],
-        &["verify", "9", "9"],
-        &["verify", ""],
-        &["verify", "1,"],
-        &["verify", ",1"],
-        &["verify", "1,,2"],
-        &["verify", "1, 2"],
-        &["verify", "--"],
-        &["verify", "-,1"],
-        &["verify", "1,2013265921"],
-        &["verify", "1,2,3,4,5"],
-        &["prove", "1,2,3,4,5", salt, ""],
-        &["prove", "", salt, ""],
-    ];
-    for words in rows {
+    for words in NOT_ASKED {
         let mut unread = Trickle {
             left: 0,
             fails_with: Some(ErrorKind::Other),

@@ -1,0 +1,47 @@
+//! The program `tealmuze`: plays the transcript of a protocol that stands in a file. `docs/TEALMUZE.md` is its manual, and
+//! [`tealmuze_program`] what it answers.
+#![tactic(auto)]
+
+use anyhow::{Context, Result};
+use std::io::Write;
+use std::process::ExitCode;
+use std::{env, fs, io};
+
+// The exit status where the input is bad.
+const BAD_INPUT: u8 = 2;
+
+fn main(rt: HostRuntime) -> Result<ExitCode> {
+    match run(&rt) {
+        Ok(status) => Ok(ExitCode::from(status)),
+        Err(error) => {
+            eprintln!(rt; "tealmuze: {error:#}")?;
+            Ok(ExitCode::from(BAD_INPUT))
+        }
+    }
+}
+
+// Reads the arguments and the files that they name, and writes the answer.
+fn run(rt: &HostRuntime) -> Result<u8> {
+    let alloc = rt.alloc();
+    let arguments: Vec<String> = env::args(rt)?.collect(alloc)?;
+    let words: Vec<&str> = arguments
+        .iter()
+        .map(|argument| argument.as_str())
+        .collect(alloc)?;
+    let matches = match tealmuze_program::parse(alloc, words.as_slice()) {
+        Ok(matches) => matches,
+        Err(error) => {
+            error.print(rt)?;
+            return Ok(error.exit_code() as u8);
+        }
+    };
+    let request = tealmuze_program::request_of(alloc, &matches)?;
+    let file = fs::read_to_string(rt, request.file).context(request.file)?;
+    let second = match request.second {
+        Some(path) => fs::read(rt, path).context(path)?,
+        None => Vec::new(alloc),
+    };
+    let answer = tealmuze_program::respond(alloc, &request, file.as_str(), second.as_slice())?;
+    io::writer(rt).write_all(answer.output.as_slice())?;
+    Ok(answer.status)
+}

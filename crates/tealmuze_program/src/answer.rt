@@ -1,0 +1,500 @@
+// What the program answers to a command.
+use crate::command::{Command, Request};
+use crate::entry::{Entry, parse_table};
+use crate::explaining::{Explained, Row, copied, explain};
+use crate::playing::{prove_steps, verify_steps};
+use crate::protocol::{Name, Protocol};
+use crate::shown::{Shown, drawn, received, scalars};
+use crate::suites::{GoldilocksBytes, HashesBytes};
+use crate::table::{Line, layout};
+use crate::values::parse_values;
+use anyhow::{Context, Error, Result, bail};
+use conformance_tokens::symbol::element;
+use p3_challenger::ChallengerError;
+use p3_challenger::fs::TranscriptError;
+use p3_challenger::fs::script::{Fault, Proved, Sent, Step, Verified, carried_len};
+use p3_symmetric::Sha256Hasher;
+use serde::Serialize;
+use std::alloc::Global;
+use test_suites::{HashSuite, Serializing32Suite, Serializing64Suite};
+
+/// What is written, and the exit status.
+#[derive(Drop)]
+pub struct Answer {
+    /// The bytes for standard output.
+    pub output: Vec<u8>,
+    /// 0, or 1 where values or a proof are refused.
+    pub status: u8,
+}
+
+/// Answers a command: `file` is the text of the protocol's file, and `second` what the second file has, the values or the
+/// proof.
+///
+/// The error is bad input, with the place in the file that it was found in, or that memory ran out.
+pub fn respond(alloc: Global, request: &Request<'_>, file: &str, second: &[u8]) -> Result<Answer> {
+    let table = parse_table(alloc, file).context(request.file)?;
+    let entry = Entry::new(&table);
+    match entry.text("suite").context(request.file)? {
+        "baby-bear-bytes" => answer_in::<HashSuite>(alloc, request, entry, second),
+        "baby-bear-elements" => answer_in::<Serializing32Suite>(alloc, request, entry, second),
+        "goldilocks-bytes" => answer_in::<GoldilocksBytes>(alloc, request, entry, second),
+        "goldilocks-elements" => answer_in::<Serializing64Suite>(alloc, request, entry, second),
+        name => Err(Error::msg(format_args!("suite: unknown suite `{name}`")).context(
+            request.file,
+        )),
+    }
+}
+
+fn answer_in<S: HashesBytes>(
+    alloc: Global,
+    request: &Request<'_>,
+    file: Entry<'_>,
+    second: &[u8],
+) -> Result<Answer> {
+    let protocol = Protocol::<S>::parse(alloc, file).context(request.file)?;
+    match request.command {
+        Command::Pattern => answer_pattern(alloc, request, &protocol),
+        Command::Prove => answer_prove(alloc, request, &protocol, second),
+        Command::Verify => answer_verify(alloc, request, &protocol, second),
+        Command::Explain => answer_explain(alloc, request, &protocol, second),
+    }
+}
+
+// What is written: as JSON where that is asked for, and else as this text.
+fn written<T: Serialize>(
+    alloc: Global,
+    request: &Request<'_>,
+    shown: &T,
+    text: String,
+    status: u8,
+) -> Result<Answer> {
+    let mut output = text;
+    if request.json {
+        output = serde_json::to_string_pretty(alloc, shown)?;
+        output.push('\n')?;
+    }
+    Ok(Answer {
+        output: output.into_bytes(),
+        status,
+    })
+}
+
+// A pattern, its digest, and the bytes that the separator feeds.
+#[derive(Drop, Serialize)]
+struct PatternShown {
+    pattern: String,
+    digest: String,
+    seed: String,
+}
+
+fn answer_pattern<S: HashesBytes>(
+    alloc: Global,
+    request: &Request<'_>,
+    protocol: &Protocol<'_, S>,
+) -> Result<Answer> {
+    let pattern = protocol.separator.pattern();
+    let mut challenger = S::fresh(alloc)?;
+    protocol.separator.seed(&mut challenger)?;
+    let shown = PatternShown {
+        pattern: pattern.alternate()?,
+        digest: hex::encode(alloc, pattern.pattern_hash::<Sha256Hasher>()?)?,
+        seed: hex::encode(alloc, S::pending(&challenger))?,
+    };
+    let PatternShown {
+        pattern,
+        digest,
+        seed,
+    } = &shown;
+    let text = format!(in alloc; "{pattern}digest {digest}\nseed {seed}\n")?;
+    written(alloc, request, &shown, text, 0)
+}
+
+// A proof, and what its prover found and drew.
+#[derive(Drop, Serialize)]
+struct ProofShown {
+    proof: String,
+    witnesses: Vec<u64>,
+    carried: Vec<u64>,
+    challenges: Vec<Shown>,
+}
+
+fn answer_prove<S: HashesBytes>(
+    alloc: Global,
+    request: &Request<'_>,
+    protocol: &Protocol<'_, S>,
+    second: &[u8],
+) -> Result<Answer> {
+    let steps = protocol.steps.as_slice();
+    let sent = sent_of(alloc, steps, second).context(request.second.unwrap_or("values"))?;
+    let challenger = S::fresh(alloc)?;
+    let answer = prove_steps::<S>(
+        alloc,
+        challenger,
+        &protocol.separator,
+        steps,
+        sent.as_slice(),
+    )?;
+    match answer {
+        Ok(proved) => answer_proved(alloc, request, &proved),
+        Err(fault) => {
+            let refused = refusal(alloc, protocol, &fault, None)?;
+            let text = refused.line(alloc)?;
+            written(alloc, request, &UnprovedShown { refused }, text, 1)
+        }
+    }
+}
+
+// Values of which there is no proof.
+#[derive(Drop, Serialize)]
+struct UnprovedShown {
+    refused: RefusalShown,
+}
+
+// The values of a file.
+fn sent_of<S: HashesBytes>(
+    alloc: Global,
+    steps: &[Step<S>],
+    second: &[u8],
+) -> Result<Vec<Sent<S>>> {
+    let text = std::str::from_utf8(second).context("expected a text")?;
+    let table = parse_table(alloc, text)?;
+    let file = Entry::new(&table);
+    file.only(&["values"])?;
+    parse_values(alloc, steps, file.list("values")?)
+}
+
+fn answer_proved<S: HashesBytes>(
+    alloc: Global,
+    request: &Request<'_>,
+    proved: &Proved<S>,
+) -> Result<Answer> {
+    let narg = proved.narg.as_slice();
+    if !request.json && !request.hex {
+        return Ok(Answer {
+            output: copied(alloc, narg)?,
+            status: 0,
+        });
+    }
+    let mut challenges = Vec::new(alloc);
+    for values in &proved.challenges {
+        challenges.push(drawn::<S>(alloc, values)?)?;
+    }
+    let shown = ProofShown {
+        proof: hex::encode(alloc, narg)?,
+        witnesses: scalars::<S>(alloc, proved.witnesses.as_slice())?,
+        carried: scalars::<S>(alloc, proved.carried.as_slice())?,
+        challenges,
+    };
+    let proof = &shown.proof;
+    let text = format!(in alloc; "{proof}\n")?;
+    written(alloc, request, &shown, text, 0)
+}
+
+// Where values or a proof are refused, and why.
+#[derive(Drop, Serialize)]
+struct RefusalShown {
+    step: usize,
+    #[serde(rename = "type")]
+    kind: Option<String>,
+    label: Option<String>,
+    byte: Option<usize>,
+    reason: String,
+}
+
+impl RefusalShown {
+    fn line(&self, alloc: Global) -> Result<String> {
+        let mut line = String::from_str(alloc, "refused at ")?;
+        match (&self.kind, &self.label) {
+            (Some(kind), Some(label)) => {
+                let step = self.step;
+                write!(line, "step {step} ({kind} `{label}`)")?;
+            }
+            _ => line.push_str("the end")?,
+        }
+        if let Some(byte) = self.byte {
+            write!(line, ", byte {byte}")?;
+        }
+        let reason = &self.reason;
+        writeln!(line, ": {reason}")?;
+        Ok(line)
+    }
+}
+
+fn refusal<S: HashesBytes>(
+    alloc: Global,
+    protocol: &Protocol<'_, S>,
+    fault: &Fault,
+    byte: Option<usize>,
+) -> Result<RefusalShown> {
+    let error = &fault.error;
+    let mut refused = RefusalShown {
+        step: fault.position,
+        kind: None,
+        label: None,
+        byte,
+        reason: format!(in alloc; "{error}")?,
+    };
+    if let Some(Name { kind, label }) = protocol.names.get(fault.position) {
+        refused.kind = Some(String::from_str(alloc, kind)?);
+        refused.label = Some(String::from_str(alloc, label)?);
+    }
+    Ok(refused)
+}
+
+// What a verifier answers.
+#[derive(Drop, Serialize)]
+struct VerdictShown {
+    accepted: bool,
+    received: Vec<Shown>,
+    challenges: Vec<Shown>,
+    refused: Option<RefusalShown>,
+}
+
+fn answer_verify<S: HashesBytes>(
+    alloc: Global,
+    request: &Request<'_>,
+    protocol: &Protocol<'_, S>,
+    second: &[u8],
+) -> Result<Answer> {
+    let proof = proof_of(alloc, request, second)?;
+    let mut shown = VerdictShown {
+        accepted: false,
+        received: Vec::new(alloc),
+        challenges: Vec::new(alloc),
+        refused: None,
+    };
+    let mut text = String::new(alloc);
+    match verdict(alloc, request, protocol, proof.as_slice())? {
+        Ok(verified) => {
+            shown.accepted = true;
+            text.push_str("accepted\n")?;
+            for value in &verified.received {
+                let value = received::<S>(alloc, value)?;
+                writeln!(text, "received {value}")?;
+                shown.received.push(value)?;
+            }
+            for values in &verified.challenges {
+                let values = drawn::<S>(alloc, values)?;
+                writeln!(text, "challenge {values}")?;
+                shown.challenges.push(values)?;
+            }
+        }
+        Err(fault) => {
+            let refused = refusal(alloc, protocol, &fault, None)?;
+            text = refused.line(alloc)?;
+            shown.refused = Some(refused);
+        }
+    }
+    let status = u8::from(!shown.accepted);
+    written(alloc, request, &shown, text, status)
+}
+
+fn verdict<'n, S: HashesBytes>(
+    alloc: Global,
+    request: &Request<'_>,
+    protocol: &Protocol<'_, S>,
+    proof: &'n [u8],
+) -> Result<Result<Verified<'n, S>, Fault>> {
+    let steps = protocol.steps.as_slice();
+    let carried = witnesses::<S>(alloc, request, steps)?;
+    let challenger = S::fresh(alloc)?;
+    verify_steps::<S>(
+        alloc,
+        challenger,
+        &protocol.separator,
+        steps,
+        carried.as_slice(),
+        proof,
+    )
+}
+
+// The witnesses that are carried beside the proof: as many as the steps have.
+fn witnesses<S: HashesBytes>(
+    alloc: Global,
+    request: &Request<'_>,
+    steps: &[Step<S>],
+) -> Result<Vec<S::Field>> {
+    let (expected, found) = (carried_len(steps), request.carried.len());
+    if expected != found {
+        bail!("--carried: expected {expected} witnesses, found {found}");
+    }
+    let mut carried = Vec::new(alloc);
+    for number in &request.carried {
+        carried.push(element(*number).context("--carried")?)?;
+    }
+    Ok(carried)
+}
+
+// The bytes of a proof in a file, which may be in hexadecimal.
+fn proof_of(alloc: Global, request: &Request<'_>, second: &[u8]) -> Result<Vec<u8>> {
+    if !request.hex {
+        return copied(alloc, second);
+    }
+    digits_of(alloc, second).context(request.second.unwrap_or("proof"))
+}
+
+// The bytes of hexadecimal digits, between which there may be blanks and line ends.
+fn digits_of(alloc: Global, text: &[u8]) -> Result<Vec<u8>> {
+    let text = std::str::from_utf8(text).context("expected hexadecimal digits")?;
+    let mut digits = String::new(alloc);
+    for part in text.split_whitespace() {
+        digits.push_str(part)?;
+    }
+    hex::decode(alloc, digits.as_str()).context("expected hexadecimal digits")
+}
+
+// What a step did.
+#[derive(Drop, Serialize)]
+struct StepShown<'a> {
+    step: usize,
+    #[serde(rename = "type")]
+    kind: &'a str,
+    label: &'a str,
+    offset: usize,
+    read: String,
+    value: Option<Shown>,
+    fed: String,
+    challenge: Option<Shown>,
+}
+
+// What became of a proof.
+#[derive(Drop, Serialize)]
+struct ExplainedShown<'a> {
+    accepted: bool,
+    seed: String,
+    steps: Vec<StepShown<'a>>,
+    refused: Option<RefusalShown>,
+}
+
+fn answer_explain<S: HashesBytes>(
+    alloc: Global,
+    request: &Request<'_>,
+    protocol: &Protocol<'_, S>,
+    second: &[u8],
+) -> Result<Answer> {
+    let proof = proof_of(alloc, request, second)?;
+    let carried = witnesses::<S>(alloc, request, protocol.steps.as_slice())?;
+    let explained = explain::<S>(
+        alloc,
+        &protocol.separator,
+        protocol.steps.as_slice(),
+        carried.as_slice(),
+        proof.as_slice(),
+    )?;
+    check_told(
+        &explained,
+        verdict(alloc, request, protocol, proof.as_slice())?.err(),
+    )?;
+    let len = proof.len();
+    let shown = explanation(alloc, protocol, explained)?;
+    let seed = &shown.seed;
+    let mut text = format!(in alloc; "seed {seed}\n")?;
+    text.push_str(table_of(alloc, &shown)?.as_str())?;
+    match &shown.refused {
+        Some(refused) => text.push_str(refused.line(alloc)?.as_str())?,
+        None => writeln!(text, "accepted: {len} bytes")?,
+    }
+    let status = u8::from(!shown.accepted);
+    written(alloc, request, &shown, text, status)
+}
+
+// Refuses to tell of the steps what the verifier of the whole proof does not.
+fn check_told(explained: &Explained<'_>, fault: Option<Fault>) -> Result<()> {
+    match (&explained.refused, &fault) {
+        (None, None) => Ok(()),
+        (Some((told, _)), Some(fault)) if *told == *fault => Ok(()),
+        (Some((told, _)), _) if is_memory(told) => bail!("out of memory"),
+        (_, Some(fault)) if is_memory(fault) => bail!("out of memory"),
+        _ => bail!("the verifier of the whole proof answers otherwise than its steps"),
+    }
+}
+
+// Whether the reason is a refused allocation, which can end one verifier and not another.
+fn is_memory(fault: &Fault) -> bool {
+    match &fault.error {
+        TranscriptError::OutOfMemory | TranscriptError::Challenger(ChallengerError::OutOfMemory) =>
+            true,
+        _ => false,
+    }
+}
+
+fn explanation<'a, S: HashesBytes>(
+    alloc: Global,
+    protocol: &Protocol<'a, S>,
+    explained: Explained<'_>,
+) -> Result<ExplainedShown<'a>> {
+    let refused = match &explained.refused {
+        Some((fault, byte)) => Some(refusal(alloc, protocol, fault, Some(*byte))?),
+        None => None,
+    };
+    let mut steps = Vec::new(alloc);
+    let mut names = protocol.names.iter();
+    for row in explained.rows {
+        let name = names.next().context("a step without a name")?;
+        steps.push(step_shown(alloc, steps.len(), *name, row)?)?;
+    }
+    Ok(ExplainedShown {
+        accepted: refused.is_none(),
+        seed: hex::encode(alloc, explained.seed.as_slice())?,
+        steps,
+        refused,
+    })
+}
+
+fn step_shown<'a>(
+    alloc: Global,
+    step: usize,
+    name: Name<'a>,
+    row: Row<'_>,
+) -> Result<StepShown<'a>> {
+    Ok(StepShown {
+        step,
+        kind: name.kind,
+        label: name.label,
+        offset: row.offset,
+        read: hex::encode(alloc, row.read)?,
+        value: row.value,
+        fed: hex::encode(alloc, row.fed.as_slice())?,
+        challenge: row.drawn,
+    })
+}
+
+fn table_of(alloc: Global, shown: &ExplainedShown<'_>) -> Result<String> {
+    let head = [
+        "step",
+        "type",
+        "label",
+        "byte",
+        "read",
+        "value",
+        "fed",
+        "challenge",
+    ];
+    let mut lines: Vec<Line> = Vec::new(alloc);
+    lines.push(head.try_map(|text| String::from_str(alloc, text))?)?;
+    for row in &shown.steps {
+        lines.push(line_of(alloc, row)?)?;
+    }
+    layout(alloc, lines.as_slice())
+}
+
+fn line_of(alloc: Global, row: &StepShown<'_>) -> Result<Line> {
+    let StepShown { step, offset, .. } = row;
+    Ok([
+        format!(in alloc; "{step}")?,
+        String::from_str(alloc, row.kind)?,
+        String::from_str(alloc, row.label)?,
+        format!(in alloc; "{offset}")?,
+        String::from_str(alloc, row.read.as_str())?,
+        text_or_none(alloc, &row.value)?,
+        String::from_str(alloc, row.fed.as_str())?,
+        text_or_none(alloc, &row.challenge)?,
+    ])
+}
+
+fn text_or_none(alloc: Global, shown: &Option<Shown>) -> Result<String> {
+    match shown {
+        Some(shown) => Ok(format!(in alloc; "{shown}")?),
+        None => Ok(String::new(alloc)),
+    }
+}

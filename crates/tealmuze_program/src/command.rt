@@ -1,0 +1,128 @@
+// What the command line asks for.
+use anyhow::{Context, Result};
+use clap::{Arg, ArgAction, ArgMatches, Error};
+use conformance_tokens::tokens::look_up;
+use std::alloc::Global;
+
+/// What is to be done with a protocol.
+#[derive(Clone, Copy, Debug, PartialEq, Eq)]
+pub enum Command {
+    /// Its pattern is shown, with the digest and the seed.
+    Pattern,
+    /// A proof is made of values.
+    Prove,
+    /// A proof is verified.
+    Verify,
+    /// A proof is verified, and what each of its steps did is shown.
+    Explain,
+}
+
+/// What the command line asks for.
+#[derive(Debug, Drop)]
+pub struct Request<'a> {
+    /// What is to be done.
+    pub command: Command,
+    /// The path of the protocol's file.
+    pub file: &'a str,
+    /// The path of the file of values or of the proof, if the command has one.
+    pub second: Option<&'a str>,
+    /// Whether the answer is JSON.
+    pub json: bool,
+    /// Whether proofs are in hexadecimal.
+    pub hex: bool,
+    /// The witnesses that are carried beside the proof.
+    pub carried: Vec<u64>,
+}
+
+/// The commands, by name.
+const COMMANDS: [(&str, Command); 4] = [
+    ("pattern", Command::Pattern),
+    ("prove", Command::Prove),
+    ("verify", Command::Verify),
+    ("explain", Command::Explain),
+];
+
+/// Reads a command line, with the name of the program first. The error is a usage line, or the help that was request for.
+pub fn parse<'a>(alloc: Global, words: &'a [&'a str]) -> Result<ArgMatches<'a>, Error> {
+    grammar(alloc)?.try_get_matches_from(words)
+}
+
+fn grammar<'a>(alloc: Global) -> Result<clap::Command<'a>, Error> {
+    let file = "the protocol, in TOML";
+    let proof = "the proof";
+    let pattern = clap::Command::new(alloc, "pattern")
+        .about("Shows the pattern, its digest and the seed")
+        .arg(path(alloc, "FILE", file))?;
+    let prove = clap::Command::new(alloc, "prove")
+        .about("Makes a proof")
+        .arg(path(alloc, "FILE", file))?
+        .arg(path(alloc, "VALUES", "what the steps send, in TOML"))?;
+    let verify = clap::Command::new(alloc, "verify")
+        .about("Verifies a proof")
+        .arg(path(alloc, "FILE", file))?
+        .arg(path(alloc, "PROOF", proof))?
+        .arg(carried(alloc))?;
+    let explain = clap::Command::new(alloc, "explain")
+        .about("Shows what each step of a proof read, fed and drew")
+        .arg(path(alloc, "FILE", file))?
+        .arg(path(alloc, "PROOF", proof))?
+        .arg(carried(alloc))?;
+    let commands = clap::Command::new(alloc, "tealmuze")
+        .about("Plays the transcript of a protocol that stands in a file")
+        .subcommand_required(true)
+        .arg(flag(alloc, "json", "Answers in JSON"))?
+        .arg(flag(alloc, "hex", "Reads and writes proofs in hexadecimal"))?
+        .subcommand(pattern)?
+        .subcommand(prove)?
+        .subcommand(verify)?
+        .subcommand(explain)?;
+    Ok(commands)
+}
+
+// A file that a command needs.
+fn path<'a>(alloc: Global, name: &'a str, help: &'a str) -> Arg<'a> {
+    Arg::new(alloc, name)
+        .required(true)
+        .action(ArgAction::Set)
+        .help(help)
+}
+
+fn flag<'a>(alloc: Global, name: &'a str, help: &'a str) -> Arg<'a> {
+    Arg::new(alloc, name)
+        .long(name)
+        .global(true)
+        .action(ArgAction::SetTrue)
+        .help(help)
+}
+
+fn carried<'a>(alloc: Global) -> Arg<'a> {
+    Arg::new(alloc, "carried")
+        .long("carried")
+        .action(ArgAction::Append)
+        .value_parser(clap::value_parser!(u64))
+        .help("A witness that is carried beside the proof, once for each `observe_pow`")
+}
+
+/// What a command line asks for that was read.
+pub fn request_of<'a>(alloc: Global, matches: &ArgMatches<'a>) -> Result<Request<'a>> {
+    let (name, matches) = matches.subcommand().context("no command")?;
+    let mut carried = Vec::new(alloc);
+    if let Some(numbers) = matches.get_many::<u64>("carried") {
+        for number in numbers {
+            carried.push(number?)?;
+        }
+    }
+    let second = match name {
+        "pattern" => None,
+        "prove" => matches.get_str("VALUES"),
+        _ => matches.get_str("PROOF"),
+    };
+    Ok(Request {
+        command: look_up(&COMMANDS, name)?,
+        file: matches.get_str("FILE").context("no file")?,
+        second,
+        json: matches.get_flag("json"),
+        hex: matches.get_flag("hex"),
+        carried,
+    })
+}

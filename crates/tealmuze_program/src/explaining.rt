@@ -1,0 +1,229 @@
+// What each step of a proof read, fed and drew.
+ghost use Rattle.std.specs.Prelude.{◌≡◌, ◌++◌, IfOk, flat_map};
+
+use crate::fault::fault_byte;
+use crate::shown::{Shown, drawn, known, received};
+use crate::suites::HashesBytes;
+use anyhow::{Result, bail};
+use p3_challenger::fs::script::{Answer, Fault, Received, Step, Suite, verifier_step};
+use p3_challenger::fs::{TranscriptError, VerifierState};
+use p3_field::PrimeField64;
+use script_lines::alone::{is_admitted, is_carried, only};
+use script_lines::world::SeparatorOf;
+use std::alloc::Global;
+
+type VerifierOf<'n, S> = VerifierState<
+    'n,
+    <S as Suite>::Challenger,
+    <S as Suite>::Unit,
+    <S as Suite>::Digest,
+>;
+
+/// What a step did that was played.
+#[derive(Drop)]
+pub struct Row<'n> {
+    /// At which byte of the proof it began to read.
+    pub offset: usize,
+    /// The bytes of the proof that it read.
+    pub read: &'n [u8],
+    /// The value that it received, or that both sides know.
+    pub value: Option<Shown>,
+    /// The bytes that it fed the challenger.
+    pub fed: Vec<u8>,
+    /// What it drew.
+    pub drawn: Option<Shown>,
+}
+
+/// What became of a proof.
+#[derive(Drop)]
+pub struct Explained<'n> {
+    /// The bytes that the separator fed the challenger.
+    pub seed: Vec<u8>,
+    /// What the steps did, in order, up to the one that was refused.
+    pub rows: Vec<Row<'n>>,
+    /// The bytes that they left.
+    pub unread: &'n [u8],
+    /// Where the proof was refused, with the byte.
+    pub refused: Option<(Fault, usize)>,
+}
+
+/// Plays a proof step by step on a verifier. The error is that the steps cannot be played, or that memory ran out.
+pub fn explain<'n, S: HashesBytes>(
+    alloc: Global,
+    separator: &SeparatorOf<S>,
+    steps: &[Step<S>],
+    carried: &[S::Field],
+    proof: &'n [u8],
+) -> Result<Explained<'n>>
+    ensures { IfOk result (λ e. flat_map (λ row. row.read.now) e.rows.items ++ e.unread.now ≡ proof.now) }
+{
+    let mut explained = Explained {
+        seed: Vec::new(alloc),
+        rows: Vec::new(alloc),
+        unread: proof,
+        refused: None,
+    };
+    let mut verifier = match VerifierState::new(alloc, S::fresh(alloc)?, separator, proof) {
+        Ok(verifier) => verifier,
+        Err(error) => {
+            explained.refused = Some((Fault { position: 0, error }, 0));
+            return Ok(explained);
+        }
+    };
+    let played = play::<S>(alloc, &mut verifier, steps, carried, proof, &mut explained);
+    let end = verifier.finish();
+    played?;
+    explained.keep_end(proof.len(), steps.len(), end.err());
+    Ok(explained)
+}
+
+// Plays the steps up to the first that is refused.
+fn play<'n, S: HashesBytes>(
+    alloc: Global,
+    verifier: &mut VerifierOf<'n, S>,
+    steps: &[Step<S>],
+    carried: &[S::Field],
+    proof: &'n [u8],
+    explained: &mut Explained<'n>,
+) -> Result<()>
+    requires { flat_map (λ row. row.read.now) explained.old.rows.items ++ explained.old.unread.now ≡ proof.now }
+    ensures { flat_map (λ row. row.read.now) explained.new.rows.items ++ explained.new.unread.now ≡ proof.now }
+{
+    explained.seed = copied(alloc, S::pending(verifier.challenger_mut()))?;
+    let mut carried = carried.iter();
+    for position in 0..steps.len() {
+        let witness = match &steps[position] {
+            Step::ObservePow { .. } => carried.next().copied(),
+            _ => None,
+        };
+        let pending = S::pending(verifier.challenger_mut()).len();
+        let offset = proof.len().saturating_sub(explained.unread.len());
+        match play_step(alloc, verifier, &steps[position..=position], witness)? {
+            Ok(answer) => {
+                let fed = fed::<S>(alloc, verifier, &steps[position], witness, &answer, pending)?;
+                let left = verifier.remaining_narg();
+                let value = value_of::<S>(alloc, &steps[position], &answer, witness)?;
+                explained.keep::<S>(alloc, answer, value, fed, offset, left)?;
+            }
+            Err(error) => {
+                let byte = fault_byte(&steps[position], &error, proof, offset);
+                explained.refused = Some((Fault { position, error }, byte));
+                break;
+            }
+        }
+    }
+    Ok(())
+}
+
+impl<'n> Explained<'n> {
+    // Keeps why the end is refused, where no step was. A proof has so many bytes.
+    fn keep_end(&mut self, len: usize, position: usize, error: Option<TranscriptError>)
+        ensures { (self.new.rows ≡ self.old.rows) × (self.new.unread ≡ self.old.unread) }
+    {
+        if let (None, Some(error)) = (&self.refused, error) {
+            let byte = len.saturating_sub(self.unread.len());
+            self.refused = Some((Fault { position, error }, byte));
+        }
+    }
+
+    // Keeps what a step answered, which began to read at `offset` and left so many bytes.
+    fn keep<S: HashesBytes>(
+        &mut self,
+        alloc: Global,
+        answer: Answer<'n, S>,
+        value: Option<Shown>,
+        fed: Vec<u8>,
+        offset: usize,
+        left: usize,
+    ) -> Result<()>
+        ensures { flat_map (λ row. row.read.now) self.new.rows.items ++ self.new.unread.now
+            ≡ flat_map (λ row. row.read.now) self.old.rows.items ++ self.old.unread.now }
+    {
+        let drawn = match &answer.1 {
+            Some(values) => Some(drawn::<S>(alloc, values)?),
+            None => None,
+        };
+        let (read, unread) = self.unread.split_at(self.unread.len().saturating_sub(left));
+        self.rows.push(Row {
+            offset,
+            read,
+            value,
+            fed,
+            drawn,
+        })?;
+        self.unread = unread;
+        Ok(())
+    }
+}
+
+// The value of a step: what it received, the witness that the caller carried to it, or what both sides know.
+fn value_of<S: HashesBytes>(
+    alloc: Global,
+    step: &Step<S>,
+    answer: &Answer<'_, S>,
+    carried: Option<S::Field>,
+) -> Result<Option<Shown>> {
+    match (&answer.0, carried) {
+        (Some(value), _) => Ok(Some(received::<S>(alloc, value)?)),
+        (None, Some(witness)) => Ok(Some(Shown::Number(witness.as_canonical_u64()))),
+        (None, None) => known::<S>(alloc, step),
+    }
+}
+
+// Plays one step, which stands alone, with the witness that the caller carries to it, if it does.
+fn play_step<'n, S: Suite>(
+    alloc: Global,
+    verifier: &mut VerifierOf<'n, S>,
+    alone: &[Step<S>],
+    witness: Option<S::Field>,
+) -> Result<Result<Answer<'n, S>, TranscriptError>> {
+    match only(alone) {
+        Some(step) if is_admitted(alone, step) && is_carried(step, witness) => {
+            Ok(verifier_step(alloc, verifier, step, witness))
+        }
+        _ => bail!("a step that is not played here, or not with this witness"),
+    }
+}
+
+// The bytes that a step fed the challenger, of which so many were pending before it.
+fn fed<S: HashesBytes>(
+    alloc: Global,
+    verifier: &mut VerifierOf<'_, S>,
+    step: &Step<S>,
+    carried: Option<S::Field>,
+    answer: &Answer<'_, S>,
+    pending: usize,
+) -> Result<Vec<u8>> {
+    // Without bits nothing is checked, and nothing observed.
+    let is_checked = match step {
+        Step::Pow { bits, .. } | Step::ObservePow { bits, .. } => *bits > 0,
+        _ => false,
+    };
+    if is_checked {
+        if let Some(Received::Witness(witness)) = &answer.0 {
+            return fed_by_witness::<S>(alloc, witness);
+        }
+        if let Some(witness) = carried {
+            return fed_by_witness::<S>(alloc, &witness);
+        }
+    }
+    if answer.1.is_some() {
+        return Ok(Vec::new(alloc));
+    }
+    let after = S::pending(verifier.challenger_mut());
+    copied(alloc, after.get(pending..).unwrap_or(&[]))
+}
+
+// The bytes that a witness feeds. The draw after it hashes them, so they are read off another challenger.
+fn fed_by_witness<S: HashesBytes>(alloc: Global, witness: &S::Field) -> Result<Vec<u8>> {
+    let mut challenger = S::fresh(alloc)?;
+    S::observe_witness(&mut challenger, witness)?;
+    copied(alloc, S::pending(&challenger))
+}
+
+/// A copy of bytes.
+pub fn copied(alloc: Global, bytes: &[u8]) -> Result<Vec<u8>> {
+    let mut copy = Vec::with_capacity(alloc, bytes.len())?;
+    copy.extend_from_slice(bytes)?;
+    Ok(copy)
+}

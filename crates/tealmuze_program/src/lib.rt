@@ -1,0 +1,24 @@
+//! What the program `tealmuze` answers: a protocol that stands in a file, its pattern, and proofs of it that are made,
+//! verified and explained.
+//!
+//! The file is TOML: the `suite` by its name, the `name` and the `version` of the protocol, the chunks of its
+//! `instance` in hexadecimal, and its `steps` in order. `docs/TEALMUZE.md` says what a step has.
+#![tactic(auto)]
+
+mod answer;
+mod command;
+mod entry;
+mod explaining;
+mod fault;
+mod labels;
+mod numbers;
+mod playing;
+mod protocol;
+mod shown;
+mod steps;
+mod suites;
+mod table;
+mod values;
+
+pub use answer::{Answer, respond};
+pub use command::{Command, Request, parse, request_of};

@@ -1,0 +1,97 @@
+// A protocol, as its file has it.
+use crate::entry::Entry;
+use crate::numbers::bytes;
+use crate::steps::parse_step;
+use anyhow::{Context, Result, bail};
+use p3_challenger::fs::DomainSeparator;
+use p3_challenger::fs::script::{Step, Suite};
+use script_lines::alone::{is_admitted, only};
+use script_lines::recording::record;
+use script_lines::world::{SeparatorOf, World};
+use std::alloc::Global;
+
+/// What a file calls a step.
+#[derive(Clone, Copy, Debug)]
+pub struct Name<'a> {
+    /// Which kind of step it is.
+    pub kind: &'a str,
+    /// Its label.
+    pub label: &'a str,
+}
+
+/// A protocol that a suite plays.
+#[derive(Drop)]
+pub struct Protocol<'a, S: World> {
+    /// What binds a transcript to the protocol.
+    pub separator: SeparatorOf<S>,
+    /// The steps, in order.
+    pub steps: Vec<Step<S>>,
+    /// What the file calls each of them.
+    pub names: Vec<Name<'a>>,
+}
+
+impl<'a, S: World> Protocol<'a, S> {
+    /// Reads a protocol. The error says what is wrong and where, or that memory ran out.
+    pub fn parse(alloc: Global, file: Entry<'a>) -> Result<Protocol<'a, S>> {
+        file.only(&["suite", "name", "version", "instance", "steps"])?;
+        let mut steps = Vec::new(alloc);
+        let mut names = Vec::new(alloc);
+        for (place, value) in file.list("steps")?.iter().enumerate() {
+            let (step, name) = parse_named(alloc, value).context(format_args!("steps[{place}]"))?;
+            steps.push(step)?;
+            names.push(name)?;
+        }
+        check_admitted(steps.as_slice())?;
+        let separator = parse_separator::<S>(alloc, file, steps.as_slice())?;
+        Ok(Protocol {
+            separator,
+            steps,
+            names,
+        })
+    }
+}
+
+fn parse_named<'a, S: World>(alloc: Global, value: &'a toml::Value) -> Result<(Step<S>, Name<'a>)> {
+    let entry = Entry::of(value)?;
+    let step = parse_step(alloc, entry)?;
+    let name = Name {
+        kind: entry.text("type")?,
+        label: entry.text("label")?,
+    };
+    Ok((step, name))
+}
+
+// Refuses steps of which the suite does not play one.
+fn check_admitted<S: Suite>(steps: &[Step<S>]) -> Result<()> {
+    for place in 0..steps.len() {
+        let alone = &steps[place..=place];
+        match only(alone) {
+            Some(step) if is_admitted(alone, step) => {}
+            _ => bail!(
+                "steps[{place}]: the suite does not play this step, or not with so many bits"
+            ),
+        }
+    }
+    Ok(())
+}
+
+fn parse_separator<S: World>(
+    alloc: Global,
+    file: Entry<'_>,
+    steps: &[Step<S>],
+) -> Result<SeparatorOf<S>> {
+    let Ok(version) = u8::try_from(file.number("version")?) else {
+        bail!("version: expected a number below 256");
+    };
+    let name = file.text("name")?.as_bytes();
+    if name.is_empty() || name.len() > 62 {
+        bail!("name: expected 1 to 62 bytes");
+    }
+    let pattern = record::<S>(alloc, steps)?;
+    let mut separator = DomainSeparator::new(alloc, version, name, pattern)?;
+    for (place, value) in file.list_or_none("instance")?.iter().enumerate() {
+        let chunk = bytes(alloc, value).context(format_args!("instance[{place}]"))?;
+        separator.instance(chunk.as_slice()).context("instance")?;
+    }
+    Ok(separator)
+}

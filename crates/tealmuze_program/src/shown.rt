@@ -1,0 +1,126 @@
+// Values as they are shown, in a table and in JSON.
+use anyhow::Result;
+use p3_challenger::fs::script::{Drawn, Received, Step, Suite};
+use p3_field::{BasedVectorSpace, PrimeField64};
+use serde::Serialize;
+use std::alloc::Global;
+use std::fmt;
+
+/// A value that is sent, observed or drawn.
+#[derive(Debug, Drop, Serialize)]
+#[serde(untagged)]
+pub enum Shown {
+    /// Bytes, in hexadecimal.
+    Bytes(String),
+    /// A scalar by its canonical number.
+    Number(u64),
+    /// Scalars, or the numbers of bits that were drawn.
+    Numbers(Vec<u64>),
+    /// Elements of the extension, each by the numbers of its coefficients.
+    Elements(Vec<Vec<u64>>),
+}
+
+impl fmt::Display for Shown {
+    fn fmt<W: fmt::Write>(&self, f: &mut fmt::Formatter<W>) -> fmt::Result {
+        match self {
+            Shown::Bytes(digits) => f.write_str(digits.as_str()),
+            Shown::Number(number) => write!(f, "{number}"),
+            Shown::Numbers(numbers) => write_numbers(f, ' ', numbers.as_slice()),
+            Shown::Elements(elements) => {
+                for (at, element) in elements.iter().enumerate() {
+                    if at > 0 {
+                        f.write_str(" ")?;
+                    }
+                    write_numbers(f, ',', element.as_slice())?;
+                }
+                Ok(())
+            }
+        }
+    }
+}
+
+// Numbers with this letter between.
+fn write_numbers<W: fmt::Write>(
+    f: &mut fmt::Formatter<W>,
+    between: char,
+    numbers: &[u64],
+) -> fmt::Result {
+    for (at, number) in numbers.iter().enumerate() {
+        if at > 0 {
+            f.write_char(between)?;
+        }
+        write!(f, "{number}")?;
+    }
+    Ok(())
+}
+
+fn numbers<S: Suite>(alloc: Global, scalars: &[S::Field]) -> Result<Vec<u64>> {
+    let mut numbers = Vec::new(alloc);
+    for scalar in scalars {
+        numbers.push(scalar.as_canonical_u64())?;
+    }
+    Ok(numbers)
+}
+
+fn elements<S: Suite>(alloc: Global, extensions: &[S::Extension]) -> Result<Vec<Vec<u64>>> {
+    let mut elements = Vec::new(alloc);
+    for extension in extensions {
+        elements.push(numbers::<S>(alloc, extension.as_basis_coefficients_slice())?)?;
+    }
+    Ok(elements)
+}
+
+/// Shows what a verifier received.
+pub fn received<S: Suite>(alloc: Global, value: &Received<'_, S>) -> Result<Shown> {
+    match value {
+        Received::Bytes(bytes) => Ok(Shown::Bytes(hex::encode(alloc, *bytes)?)),
+        Received::Scalar(scalar) | Received::Witness(scalar) => {
+            Ok(Shown::Number(scalar.as_canonical_u64()))
+        }
+        Received::Scalars(scalars) => Ok(Shown::Numbers(numbers::<S>(alloc, scalars.as_slice())?)),
+        Received::Extension(element) => {
+            let coefficients = element.as_basis_coefficients_slice();
+            Ok(Shown::Numbers(numbers::<S>(alloc, coefficients)?))
+        }
+    }
+}
+
+/// Shows what both sides know at a step, if it has a value of that kind.
+pub fn known<S: Suite>(alloc: Global, step: &Step<S>) -> Result<Option<Shown>> {
+    match step {
+        Step::PublicScalar { value, .. } => Ok(Some(Shown::Number(value.as_canonical_u64()))),
+        Step::PublicScalars { values, .. } | Step::PublicScalarsBounded { values, .. } => {
+            Ok(Some(Shown::Numbers(numbers::<S>(alloc, values.as_slice())?)))
+        }
+        Step::ObserveExtension { value, .. } => {
+            let coefficients = value.as_basis_coefficients_slice();
+            Ok(Some(Shown::Numbers(numbers::<S>(alloc, coefficients)?)))
+        }
+        Step::ObserveExtensions { values, .. } | Step::ObserveExtensionsBounded { values, .. } => {
+            Ok(Some(Shown::Elements(elements::<S>(alloc, values.as_slice())?)))
+        }
+        _ => Ok(None),
+    }
+}
+
+/// Shows what was drawn.
+pub fn drawn<S: Suite>(alloc: Global, drawn: &Drawn<S>) -> Result<Shown> {
+    match drawn {
+        Drawn::Scalars(scalars) => Ok(Shown::Numbers(numbers::<S>(alloc, scalars.as_slice())?)),
+        Drawn::Extensions(extensions) => {
+            Ok(Shown::Elements(elements::<S>(alloc, extensions.as_slice())?))
+        }
+        Drawn::Bits(bits) => {
+            let mut numbers = Vec::new(alloc);
+            for number in bits {
+                numbers.push(*number as u64)?;
+            }
+            Ok(Shown::Numbers(numbers))
+        }
+    }
+}
+
+/// The numbers of scalars.
+pub fn scalars<S: Suite>(alloc: Global, values: &[S::Field]) -> Result<Vec<u64>> {
+    numbers::<S>(alloc, values)
+}

@@ -1,0 +1,66 @@
+// What a prover is handed, as a file has it.
+use crate::numbers::{bytes, extension, items, scalar, scalars};
+use anyhow::{Context, Result, bail};
+use p3_challenger::fs::script::{Sent, Step, Suite};
+use p3_script::{Standing, standing_of};
+use std::alloc::Global;
+use toml::Value;
+
+/// Reads the values of the steps that send one, in order. The error says what is wrong and where, or that memory ran
+/// out.
+pub fn parse_values<S: Suite>(
+    alloc: Global,
+    steps: &[Step<S>],
+    list: &[Value],
+) -> Result<Vec<Sent<S>>> {
+    let mut sent = Vec::new(alloc);
+    let mut values = list.iter();
+    for (place, step) in steps.iter().enumerate() {
+        if matches!(standing_of(step), Standing::Sent) {
+            let number = sent.len();
+            let value = parse_next(alloc, step, values.next()).context(format_args!(
+                "values[{number}], of steps[{place}]"
+            ))?;
+            sent.push(value)?;
+        }
+    }
+    if values.next().is_some() {
+        let number = sent.len();
+        bail!("values[{number}]: no step is left that sends it");
+    }
+    Ok(sent)
+}
+
+fn parse_next<S: Suite>(alloc: Global, step: &Step<S>, value: Option<&Value>) -> Result<Sent<S>> {
+    parse_value(alloc, step, value.context("missing")?)
+}
+
+fn parse_value<S: Suite>(alloc: Global, step: &Step<S>, value: &Value) -> Result<Sent<S>> {
+    match step {
+        Step::Scalar { .. } => Ok(Sent::Scalar(scalar::<S>(value)?)),
+        Step::Scalars { .. } | Step::ScalarsBounded { .. } => {
+            let values = scalars::<S>(alloc, items(value)?)?;
+            check_len(step, values.len())?;
+            Ok(Sent::Scalars(values))
+        }
+        Step::Extension { .. } => Ok(Sent::Extension(extension::<S>(alloc, value)?)),
+        _ => {
+            let values = bytes(alloc, value)?;
+            check_len(step, values.len())?;
+            Ok(Sent::Bytes(values))
+        }
+    }
+}
+
+// Refuses another length than the step has. What is longer than the step lets it be, the prover itself refuses.
+fn check_len<S: Suite>(step: &Step<S>, found: usize) -> Result<()> {
+    let expected = match step {
+        Step::Salt { len, .. } | Step::Bytes { len, .. } | Step::Hint { len, .. } => *len,
+        Step::Scalars { n, .. } => *n,
+        _ => found,
+    };
+    if found != expected {
+        bail!("length {found}, and the step has {expected}");
+    }
+    Ok(())
+}
