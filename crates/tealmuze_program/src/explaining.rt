@@ -1,5 +1,5 @@
 // What each step of a proof read, fed and drew.
-ghost use Rattle.std.specs.Prelude.{◌≡◌, ◌++◌, IfOk, flat_map};
+ghost use Rattle.std.specs.Prelude.{◌≡◌, ◌+◌, ◌++◌, IfOk, IfSome, OnOk, None, [], flat_map, length};
 
 use crate::fault::fault_byte;
 use crate::shown::{Shown, drawn, known, received};
@@ -55,7 +55,9 @@ pub fn explain<'n, S: HashesBytes>(
     carried: &[S::Field],
     proof: &'n [u8],
 ) -> Result<Explained<'n>>
-    ensures { IfOk result (λ e. flat_map (λ row. row.read.now) e.rows.items ++ e.unread.now ≡ proof.now) }
+    ensures read { IfOk result (λ e. flat_map (λ row. row.read.now) e.rows.items ++ e.unread.now ≡ proof.now) }
+    ensures played { IfOk result (λ e. e.refused ≡ None → length e.rows.items ≡ length steps.now) }
+    ensures stopped { IfOk result (λ e. IfSome e.refused (λ refused. refused.0.position ≡ length e.rows.items)) }
 {
     let mut explained = Explained {
         seed: Vec::new(alloc),
@@ -86,8 +88,12 @@ fn play<'n, S: HashesBytes>(
     proof: &'n [u8],
     explained: &mut Explained<'n>,
 ) -> Result<()>
-    requires { flat_map (λ row. row.read.now) explained.old.rows.items ++ explained.old.unread.now ≡ proof.now }
-    ensures { flat_map (λ row. row.read.now) explained.new.rows.items ++ explained.new.unread.now ≡ proof.now }
+    requires unread { explained.old.unread.now ≡ proof.now }
+    requires fresh { (explained.old.rows.items ≡ []) × (explained.old.refused ≡ None) }
+    ensures read { flat_map (λ row. row.read.now) explained.new.rows.items ++ explained.new.unread.now ≡ proof.now }
+    ensures played { OnOk result (explained.new.refused ≡ None → length explained.new.rows.items ≡ length steps.now) }
+    ensures stopped { OnOk result
+        (IfSome explained.new.refused (λ refused. refused.0.position ≡ length explained.new.rows.items)) }
 {
     explained.seed = copied(alloc, S::pending(verifier.challenger_mut()))?;
     let mut carried = carried.iter();
@@ -118,7 +124,11 @@ fn play<'n, S: HashesBytes>(
 impl<'n> Explained<'n> {
     // Keeps why the end is refused, where no step was. A proof has so many bytes.
     fn keep_end(&mut self, len: usize, position: usize, error: Option<TranscriptError>)
-        ensures { (self.new.rows ≡ self.old.rows) × (self.new.unread ≡ self.old.unread) }
+        requires played { self.old.refused ≡ None → length self.old.rows.items ≡ position }
+        requires stopped { IfSome self.old.refused (λ refused. refused.0.position ≡ length self.old.rows.items) }
+        ensures rest { (self.new.rows ≡ self.old.rows) × (self.new.unread ≡ self.old.unread) }
+        ensures played { self.new.refused ≡ None → self.old.refused ≡ None }
+        ensures stopped { IfSome self.new.refused (λ refused. refused.0.position ≡ length self.new.rows.items) }
     {
         if let (None, Some(error)) = (&self.refused, error) {
             let byte = len.saturating_sub(self.unread.len());
@@ -136,8 +146,10 @@ impl<'n> Explained<'n> {
         offset: usize,
         left: usize,
     ) -> Result<()>
-        ensures { flat_map (λ row. row.read.now) self.new.rows.items ++ self.new.unread.now
+        ensures read { flat_map (λ row. row.read.now) self.new.rows.items ++ self.new.unread.now
             ≡ flat_map (λ row. row.read.now) self.old.rows.items ++ self.old.unread.now }
+        ensures one { OnOk result (length self.new.rows.items ≡ length self.old.rows.items + 1) }
+        ensures rest { self.new.refused ≡ self.old.refused }
     {
         let drawn = match &answer.1 {
             Some(values) => Some(drawn::<S>(alloc, values)?),
