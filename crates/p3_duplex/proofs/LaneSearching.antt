@@ -10,8 +10,10 @@ use Rattle.std.proofs.Math.Seq.{set-append_seam}
 use Rattle.p3_field_core.specs.Residues.{Residues, plus}
 use Rattle.p3_grinding.specs.Checks.{IsLeast, NonePasses}
 use Rattle.p3_duplex.specs.LaneSearch.{given_by, HasZeros, IsLeastOf, NoneOfAll, PassesAt, PassesCheck, check}
-use Rattle.p3_duplex.specs.DuplexCalls as calls
-use Rattle.p3_duplex.specs.DuplexCalls.{DuplexSponge, cell, overwritten, permutation_input}
+use Rattle.p3_sponge.specs.Cells.{cell, overwritten}
+use Rattle.p3_sponge.specs.SpongeCalls as calls
+use Rattle.p3_sponge.specs.SpongeCalls.{permutation_input, emptied}
+use Rattle.p3_duplex.specs.DuplexCalls.{DuplexSponge, duplex}
 use Rattle.p3_duplex.specs.DuplexState.{DuplexState, observed, sampled}
 
 module _ {F : Type 0} (r : Residues F) (rate : ℕ) (cells : List F) where
