@@ -16,12 +16,12 @@ loop-init g c =
       room = c.in_ok-bounds.ensures.exact;
     }
 
-pub returns-in_err-draw_uniform-clause-err : goal.returns-in_err-draw_uniform-clause-err
-returns-in_err-draw_uniform-clause-err g c =
+pub returns-in_err-draw-clause-err : goal.returns-in_err-draw-clause-err
+returns-in_err-draw-clause-err g c =
     let d = (g.C.CanSampleUniformBits.uniform true c.args.width).draw in
     let stops = drew-stops d c.args.n (g.C.Sponge.state c.args.challenger.now) (map bound_value c.loop.bounds.items)
     c.loop.counter (g.C.Sponge.state c.loop.challenger) c.loop-test.true c.loop.invariant.drew
-    c.in_err-draw_uniform.field-0.0 (g.C.Sponge.state c.draw_uniform.new.challenger) c.in_err-draw_uniform.ensures.err
+    c.in_err-draw.field-0.0 (g.C.Sponge.state c.draw.new.challenger) c.in_err-draw.ensures.err
     in
     search (rules, stops, inr)
 
@@ -34,8 +34,8 @@ loop-preserved g c =
     record {
       drew = drew-bound d c.args.n (g.C.Sponge.state c.args.challenger.now) c.loop.bounds.items
           c.push_reserved.new.self.items c.loop.counter (g.C.Sponge.state c.loop.challenger)
-          (g.C.Sponge.state c.draw_uniform.new.challenger) c.bind.result c.in_ok-draw_uniform.field-0 c.loop-test.true
-          c.in_ok-draw_uniform.ensures.drawn c.in_ok-draw_uniform.ensures.after c.bind.ensures
+          (g.C.Sponge.state c.draw.new.challenger) c.bind.result c.in_ok-draw.field-0 c.loop-test.true
+          c.in_ok-draw.ensures.drawn c.in_ok-draw.ensures.after c.bind.ensures
           c.push_reserved.ensures.items
           c.loop.invariant.drew;
       count = c.push_reserved.ensures.len ∙ ap (λ k. k + 1) c.loop.invariant.count;
