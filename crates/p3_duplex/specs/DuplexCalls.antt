@@ -1,5 +1,5 @@
 -- A duplex challenger call by call: a sponge whose blocks are written over the rate of its cells.
-use Rattle.std.specs.Prelude.{ℕ, List, length, take, replicate}
+use Rattle.std.specs.Prelude.{ℕ, List, take, replicate}
 use Rattle.p3_field_core.specs.Residues.{Residues}
 use Rattle.p3_challenger_core.specs.Segments.{ByCalls}
 use Rattle.p3_sponge.specs.Cells.{cell, overwritten}

@@ -16,13 +16,10 @@ ghost use Rattle.std.specs.Prelude.{◌≡◌, ◌<◌, ◌≤◌, ◌+◌, ℕ,
 ghost use Rattle.std.specs.List.{All};
 ghost use Rattle.p3_challenger_core.specs.Segments.{Call, segments, run_calls, run_calls_to_digest};
 ghost use Rattle.p3_challenger_core.specs.Segments.{run_segments, run_segments_to_digest};
-ghost use Rattle.p3_challenger_core.specs.Observation.{LeavesInCalls, RefusesObserve};
-ghost use Rattle.p3_challenger_core.specs.Sampling.{RefusesDraws};
 ghost use Rattle.p3_duplex.specs.DuplexSegments.{duplex_by_segments};
 ghost use Rattle.p3_duplex.specs.DuplexReadBack.{ReadsBack, ReadsBackToDigest, ReadsBackOrCollides};
 ghost use Rattle.p3_sponge.specs.SpongeCalls.{permutation_input};
 ghost use Rattle.p3_duplex.specs.DuplexCalls.{duplex, fresh, outputs, duplex_by_calls};
-ghost use Rattle.p3_challenger_core.specs.declared.error.ChallengerError.{ChallengerError};
 
 mod bits;
 mod calls;
@@ -173,41 +170,6 @@ impl<
             let run = run_calls_to_digest (duplex_by_calls F.residues permute RATE) self.now.sponge calls in
             All (λ state. other state ≡ permute state) run.queries
             → run_calls_to_digest (duplex_by_calls F.residues other RATE) self.now.sponge calls ≡ run }
-    {
-        let _ = &self.outputs_left;
-    }
-
-    /// Draws are never refused, whatever is drawn: no number of them leaves any challenger with an
-    /// error.
-    ///
-    /// A law: the body does nothing, and a caller cites the clause.
-    pub fn draws_are_not_refused<A: BasedVectorSpace<F>>(&self)
-        ensures { (n : ℕ) (e : ChallengerError) (s t : duplex_state.DuplexState F P) →
-            ¬ (RefusesDraws ⟦<DuplexChallenger<F, P, WIDTH, RATE> as CanSample<A>>⟧.sampling n e s t) }
-    {
-        let _ = &self.outputs_left;
-    }
-
-    /// Nor are draws of bits.
-    ///
-    /// A law: the body does nothing, and a caller cites the clause.
-    pub fn bit_draws_are_not_refused(&self)
-        ensures { (bits n : ℕ) (e : ChallengerError) (s t : duplex_state.DuplexState F P) →
-            ¬ (RefusesDraws (⟦<DuplexChallenger<F, P, WIDTH, RATE> as CanSampleBits<usize>>⟧.bits_sampling bits)
-            n e s t) }
-    {
-        let _ = &self.outputs_left;
-    }
-
-    /// Observations of single values are never refused: no list of them leaves any challenger with an
-    /// error.
-    ///
-    /// A law: the body does nothing, and a caller cites the clause.
-    pub fn observes_are_not_refused(&self)
-        ensures { (values : List F) (e : ChallengerError) (s t : duplex_state.DuplexState F P) →
-            ¬ (RefusesObserve (LeavesInCalls
-            ⟦<DuplexChallenger<F, P, WIDTH, RATE> as CanObserve<F>>⟧.observation.observed
-            ⟦<DuplexChallenger<F, P, WIDTH, RATE> as CanObserve<F>>⟧.observation.may_leave s values) e t) }
     {
         let _ = &self.outputs_left;
     }

@@ -31,7 +31,8 @@ impl<
 
     ghost number_tells = { λ _ _ same. same };
 
-    ghost samples_bits = { λ bits. bits-sampled F.residues P.permutation RATE bits };
+    ghost samples_bits = { λ bits. value-sampled (duplex_state.sampled F.residues P.permutation RATE)
+        (duplex_state.after_sampled F.residues P.permutation RATE) (λ x. F.residues.number x % 2 ^ bits) };
 
     ghost bits_below = { λ bits s x _ drawn. low_bits-below
         (F.residues.number (duplex_state.sampled F.residues P.permutation RATE s)) bits x drawn };
