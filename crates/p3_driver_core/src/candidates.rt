@@ -1,6 +1,7 @@
-//! Candidates of any kind, drawn until a rule has taken so many.
+//! Candidates of any kind, drawn one after another, and until a rule has taken so many.
 ghost use Rattle.std.specs.Prelude.{◌≡◌, Some, OnOk, IfOk, IfErr, vec_len};
 ghost use Rattle.p3_challenger_core.specs.Sampling.{Sampling, RefusesDraw};
+ghost use Rattle.p3_challenger_core.specs.Sampling.{draws, after_draws, RefusesDrawVec};
 ghost use Rattle.p3_driver_core.specs.Bound.{bound_values};
 ghost use Rattle.p3_driver_core.specs.Rejecting.{Rule, Computes, Takes, TakesAll};
 
@@ -24,6 +25,29 @@ pub(crate) trait Candidates<C: Sponge, T> {
             C.state challenger.new ≡ (sampling self.now).after (C.state challenger.old)) }
         ensures err { IfErr result (λ e.
             RefusesDraw (sampling self.now) e (C.state challenger.old) (C.state challenger.new)) };
+}
+
+// Draws so many candidates one after another. Their memory is asked for first.
+pub(crate) fn draw_all<T: Copy, C: Sponge, D: Candidates<C, T>>(
+    candidates: &D,
+    challenger: &mut C,
+    alloc: Global,
+    n: usize,
+) -> Result<Vec<TranscriptBound<T>>, ChallengerError>
+    requires { D.may_draw candidates.now }
+    ensures drawn { IfOk result (λ bounds.
+        draws (D.sampling candidates.now) n (C.state challenger.old) ≡ Some (bound_values bounds)) }
+    ensures after { OnOk result (C.state challenger.new
+        ≡ after_draws (D.sampling candidates.now) n (C.state challenger.old)) }
+    ensures err { IfErr result (λ e. RefusesDrawVec (D.sampling candidates.now) n e
+        (C.state challenger.old) (C.state challenger.new)) }
+    ensures count { IfOk result (λ bounds. vec_len bounds ≡ n) }
+{
+    let mut bounds = Vec::with_capacity(alloc, n)?;
+    for _ in 0..n {
+        bounds.push_reserved(bind(candidates.draw(challenger)?));
+    }
+    Ok(bounds)
 }
 
 // Draws until the rule takes a candidate, beside those kept before. The limit is met where it refuses so many.

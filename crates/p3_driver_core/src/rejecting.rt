@@ -5,25 +5,12 @@ ghost use Rattle.p3_driver_core.specs.Rejecting.{Rule, Computes, TakesAll};
 ghost use Rattle.p3_driver_core.specs.Rejecting.{given, keeps, KeepsFirst};
 
 use crate::TranscriptBound;
-use crate::candidates::{Candidates, draw_accepted_candidates};
+use crate::candidates::draw_accepted_candidates;
+use crate::lists::Values;
 use p3_challenger_core::{ChallengerError, Sponge};
 use p3_codecs::Codec;
 use std::alloc::Global;
 use std::marker::PhantomData;
-
-// The values that a codec draws.
-#[derive(Drop)]
-struct Values<Cdc>(PhantomData<Cdc>);
-
-impl<T, C: Sponge, Cdc: Codec<C, T>> Candidates<C, T> for Values<Cdc> {
-    ghost may_draw = { λ _. 128 ≤ Cdc.SECURITY_BITS };
-
-    ghost sampling = { λ _. Cdc.sampling };
-
-    fn draw(&self, challenger: &mut C) -> Result<T, ChallengerError> {
-        Cdc::sample(challenger)
-    }
-}
 
 /// Draws values until the rule `accept` has taken `n`, and answers these in order. Their memory is asked for first.
 ///

@@ -5,8 +5,8 @@ ghost use Rattle.p3_driver_core.specs.Bound.{bound_values};
 ghost use Rattle.p3_driver_core.specs.Rejecting.{Rule, ComputesOfValues, TakesAll};
 ghost use Rattle.p3_driver_core.specs.Rejecting.{given, keeps, KeepsFirst};
 
-use crate::candidates::{Candidates, draw_accepted_candidates};
-use crate::{TranscriptBound, bind};
+use crate::TranscriptBound;
+use crate::candidates::{Candidates, draw_accepted_candidates, draw_all};
 use p3_challenger_core::ChallengerError;
 use p3_grinding::{CanSampleUniformBits, UniformBitsError};
 use std::alloc::Global;
@@ -53,11 +53,7 @@ pub fn draw_uniform_numbers<F, C: CanSampleUniformBits<F>>(
     ensures count { IfOk result (λ bounds. vec_len bounds ≡ n) }
 {
     let numbers = UniformNumbers::<F>(width, PhantomData);
-    let mut bounds = Vec::with_capacity(alloc, n)?;
-    for _ in 0..n {
-        bounds.push_reserved(bind(numbers.draw(challenger)?));
-    }
-    Ok(bounds)
+    draw_all(&numbers, challenger, alloc, n)
 }
 
 /// Draws numbers of `width` uniform bits until the rule `accept` has taken `n`, and answers these in order.

@@ -7,8 +7,9 @@ use Rattle.p3_driver_core.proofs.candidates.draw_accepted_candidates.Goals as go
 pub returns-in_err-value-clause-kept : goal.returns-in_err-value-clause-kept
 returns-in_err-value-clause-kept g c =
     λ rule computes.
-    let stops = keeps-refused (g.D.Candidates.sampling c.args.candidates.now) rule c.args.limit c.args.n (g.C.Sponge.state c.args.challenger.now)
-    c.loop.counter c.loop.kept.items c.deref.result.now (g.C.Sponge.state c.loop.challenger) c.loop-test.true
+    let stops = keeps-refused (g.D.Candidates.sampling c.args.candidates.now) rule c.args.limit c.args.n
+    (g.C.Sponge.state c.args.challenger.now) c.loop.counter c.loop.kept.items c.deref.result.now
+    (g.C.Sponge.state c.loop.challenger) c.loop-test.true
     c.deref.ensures.value (c.loop.invariant.keeps rule computes) c.in_err-value.field-0.0
     (g.C.Sponge.state c.draw_taken.new.challenger) (c.in_err-value.ensures rule computes) in
     search (rules, stops, inr)

@@ -9,8 +9,8 @@ abbrev pub invariant-loop : goal.invariant-loop
 invariant-loop g l =
     record {
       keeps : (rule : Rule _) → Computes g.R.Fn l.accept rule →
-          Keeps (g.D.Candidates.sampling l.candidates) rule l.limit l.n (g.C.Sponge.state l.initial.challenger) (l.n - l.counter)
-          l.kept.items (g.C.Sponge.state l.challenger);
+          Keeps (g.D.Candidates.sampling l.candidates) rule l.limit l.n (g.C.Sponge.state l.initial.challenger)
+          (l.n - l.counter) l.kept.items (g.C.Sponge.state l.challenger);
       bound : map bound_value l.bounds.items ≡ l.kept.items;
       count : vec_len l.bounds ≡ l.counter;
       room : vec_capacity l.bounds ≡ l.n;
