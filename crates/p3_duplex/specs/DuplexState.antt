@@ -4,7 +4,7 @@ use Rattle.p3_field_core.specs.Residues.{Residues}
 use Rattle.p3_challenger_core.specs.Observation.{observed_all}
 use Rattle.p3_challenger_core.specs.Segments.{Call, run_calls}
 use Rattle.p3_challenger_core.specs.Sponge.{after_steps}
-use Rattle.p3_sponge.specs.Drawn as drawing
+use Rattle.p3_sponge.specs.Drawing as drawing
 use Rattle.p3_sponge.specs.SpongeCalls as calls
 use Rattle.p3_sponge.specs.SpongeCalls.{SpongeRule}
 use Rattle.p3_duplex.specs.DuplexCalls.{DuplexSponge, DuplexRun, duplex, duplex_by_calls}

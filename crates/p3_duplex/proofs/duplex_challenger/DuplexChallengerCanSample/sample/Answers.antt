@@ -1,6 +1,6 @@
 use Rattle.std.proofs.Common.{◌<◌, ◌≤◌, Some, take, ap, ◌∙◌, arith}
 use Rattle.p3_duplex.specs.DuplexState.{sampled, after_sampled}
-use Rattle.p3_sponge.specs.DrawnLaws.{has_drawn-none, has_drawn-next, has_drawn-values, has_drawn-state}
+use Rattle.p3_sponge.specs.DrawingLaws.{has_drawn-none, has_drawn-next, has_drawn-values, has_drawn-state}
 use Rattle.p3_duplex.proofs.duplex_challenger.DuplexChallengerCanSample.sample.Goals as goal
 
 pub loop-i-init : goal.loop-i-init

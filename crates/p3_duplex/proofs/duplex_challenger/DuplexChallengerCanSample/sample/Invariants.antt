@@ -1,6 +1,6 @@
 use Rattle.std.proofs.Common.{◌-◌, take}
 use Rattle.p3_duplex.specs.DuplexState.{sampled, after_sampled}
-use Rattle.p3_sponge.specs.DrawnLaws.{HasDrawn}
+use Rattle.p3_sponge.specs.DrawingLaws.{HasDrawn}
 use Rattle.p3_duplex.proofs.duplex_challenger.DuplexChallengerCanSample.sample.Given as goal
 
 -- the coefficients so far are drawn

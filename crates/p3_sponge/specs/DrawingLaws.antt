@@ -6,7 +6,7 @@ use Rattle.std.proofs.lemmas.List.{take_more_set, take_all}
 use Rattle.p3_challenger_core.specs.Sponge.{after_steps}
 use Rattle.p3_challenger_core.specs.Sampling.{IsSampling, unrefused_draw}
 use Rattle.p3_challenger_core.specs.SamplingLaws.{one_step, unrefused_draw-is_sampling}
-use Rattle.p3_sponge.specs.Drawn.{drawn}
+use Rattle.p3_sponge.specs.Drawing.{drawn}
 
 module _ {S T : Type 0} (sampled : S → T) (next : S → S) where
   -- what is made of values drawn in order is drawn
