@@ -33,7 +33,7 @@ use p3_challenger_core::{
     CanFinalizeDigest, CanObserve, CanSample, CanSampleBits, ChallengerError, Sponge,
 };
 use p3_field_core::{BasedVectorSpace, PrimeCharacteristicRing, PrimeField64};
-use p3_sponge::{overwrite, zero};
+use p3_sponge::{overwrite, write_after, zero};
 use p3_symmetric::CryptographicPermutation;
 use std::fmt;
 use std::marker::Model;
@@ -270,8 +270,7 @@ impl<
         if values.is_empty() {
             return;
         }
-        let buffer = &mut self.input_buffer[..];
-        buffer[self.inputs..end].copy_from_slice(values);
+        write_after(&mut self.input_buffer[..], self.inputs, values);
         if end == RATE {
             absorb::<F, P, WIDTH, RATE>(
                 &mut self.sponge_state,
