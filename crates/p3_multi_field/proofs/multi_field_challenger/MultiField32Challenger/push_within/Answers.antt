@@ -3,7 +3,8 @@ use Rattle.std.proofs.lemmas.Bool.Decides.{nat_tests}
 use Rattle.std.proofs.lemmas.List.{length-take-le}
 use Rattle.std.proofs.lemmas.Slice.{take-put_mid}
 use borrow.Rule.Slice.PartMut.{put_mid}
-use Rattle.p3_multi_field.specs.MultiFieldCalls.{pair_of, permutation_input, batch_of, row_of}
+use Rattle.p3_sponge.specs.SpongeCalls.{permutation_input}
+use Rattle.p3_multi_field.specs.MultiFieldCalls.{pair_of, batch_of, row_of, scalars_rule}
 use Rattle.p3_multi_field.specs.MultiFieldState.{MultiFieldState, scalars_observed}
 use Rattle.p3_multi_field.proofs.Batches.{observed-pending, observed-absorbed}
 use Rattle.p3_multi_field.proofs.multi_field_challenger.MultiField32Challenger.push_within.Goals as goal
@@ -35,8 +36,9 @@ returns-then-end-batch_len-clause-fed g c =
     let some : 0 < n = grind (arith, nat_tests, c.if-is_empty.ensures) in
     let full : length pending + n ≡ batch_of pair rate =
     omega (arith, long, c.if-end-batch_len.true, c.batch_len-batch_len.ensures) in
+    let rule = scalars_rule pair (permutation inside.permutation) rate in
     let cells = c.absorb.ensures
-    ∙ ap (λ p. permutation inside.permutation (permutation_input pair rate inside.sponge_state p)) now_pending in
+    ∙ ap (λ p. permutation inside.permutation (permutation_input rule inside.sponge_state p)) now_pending in
     let row : c.row_len-row_len.result ≡ row_of pair rate = c.row_len-row_len.ensures in
     (λ i. record {
       sponge = record { cells = cells i; pending = []; outputs_left = row i };
