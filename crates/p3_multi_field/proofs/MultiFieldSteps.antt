@@ -83,47 +83,42 @@ module _ {F PF : Type 0} (pair : FieldPair F PF) (permute : List PF → List PF)
   permuting-blocks cells [] = refl
   permuting-blocks cells (block ∷ others) = permuting-blocks (overwritten pair.outer rate (permute cells) block) others
 
-  abbrev block_over : List PF → List PF → List PF
-  block_over cells words = overwritten pair.outer rate cells (take rate words)
+  -- what the first n blocks of words do, and what blocks do one after another
+  abbrev words_run : ℕ → List PF → List PF → Run F (List PF) (List PF)
+  words_run n cells words =
+      record {
+        answers = [];
+        queries = word_queries pair permute rate n cells words;
+        after = absorbed_words pair permute rate n cells words;
+      }
+
+  abbrev blocks_run : List PF → List (List PF) → Run F (List PF) (List PF)
+  blocks_run cells others =
+      record {
+        answers = [];
+        queries = queries_by_words pair permute rate cells others;
+        after = after_blocks cells others;
+      }
 
   -- the blocks of words, one after another, are as many as their number says
-  words-cells : (n : ℕ) (cells words : List PF) → length words ≤ n
-      → absorbed_words pair permute rate (block_count rate (length words)) cells words
-      ≡ after_blocks cells (blocks_within rate n words)
-  unfolding absorbed_words
-  words-cells zero cells [] enough = ap (λ k. absorbed_words pair permute rate k cells []) (no-blocks rate positive)
-  words-cells zero cells (w ∷ ws) enough = absurd (omega (arith, enough))
-  words-cells (suc n) cells [] enough =
-      ap (λ k. absorbed_words pair permute rate k cells []) (no-blocks rate positive)
-  words-cells (suc n) cells (w ∷ ws) enough =
+  words-blocks : (n : ℕ) (cells words : List PF) → length words ≤ n
+      → words_run (block_count rate (length words)) cells words ≡ blocks_run cells (blocks_within rate n words)
+  unfolding absorbed_words word_queries
+  words-blocks zero cells [] enough = ap (λ k. words_run k cells []) (no-blocks rate positive)
+  words-blocks zero cells (w ∷ ws) enough = absurd (omega (arith, enough))
+  words-blocks (suc n) cells [] enough = ap (λ k. words_run k cells []) (no-blocks rate positive)
+  words-blocks (suc n) cells (w ∷ ws) enough =
       let words = w ∷ ws in
       let some : 0 < length words = omega arith in
       let rest = drop rate words in
       let left : length rest ≡ length words - rate = length-drop rate words in
       let fewer : length rest ≤ n = omega (arith, left, enough, positive) in
-      ap (λ k. absorbed_words pair permute rate k cells words) (count-next rate (length words) positive some)
-      ∙ ap (λ k. absorbed_words pair permute rate (block_count rate k) (permute (block_over cells words)) rest)
-      (sym left)
-      ∙ words-cells n (permute (block_over cells words)) rest fewer
-
-  words-queries : (n : ℕ) (cells words : List PF) → length words ≤ n
-      → word_queries pair permute rate (block_count rate (length words)) cells words
-      ≡ queries_by_words pair permute rate cells (blocks_within rate n words)
-  unfolding word_queries
-  words-queries zero cells [] enough = ap (λ k. word_queries pair permute rate k cells []) (no-blocks rate positive)
-  words-queries zero cells (w ∷ ws) enough = absurd (omega (arith, enough))
-  words-queries (suc n) cells [] enough =
-      ap (λ k. word_queries pair permute rate k cells []) (no-blocks rate positive)
-  words-queries (suc n) cells (w ∷ ws) enough =
-      let words = w ∷ ws in
-      let some : 0 < length words = omega arith in
-      let rest = drop rate words in
-      let left : length rest ≡ length words - rate = length-drop rate words in
-      let fewer : length rest ≤ n = omega (arith, left, enough, positive) in
-      ap (λ k. word_queries pair permute rate k cells words) (count-next rate (length words) positive some)
-      ∙ ap (λ k. block_over cells words ∷ word_queries pair permute rate (block_count rate k)
-      (permute (block_over cells words)) rest) (sym left)
-      ∙ ap (λ states. block_over cells words ∷ states) (words-queries n (permute (block_over cells words)) rest fewer)
+      let state = overwritten pair.outer rate cells (take rate words) in
+      let before : Run F (List PF) (List PF) → Run F (List PF) (List PF) =
+      λ run. record run { queries = state ∷ run.queries } in
+      ap (λ k. words_run k cells words) (count-next rate (length words) positive some)
+      ∙ ap (λ k. before (words_run (block_count rate k) (permute state) rest)) (sym left)
+      ∙ ap before (words-blocks n (permute state) rest fewer)
 
   -- words where nothing is pending
   words-agree : (s : MultiFieldSponge F PF) (words : List PF)
@@ -135,14 +130,10 @@ module _ {F PF : Type 0} (pair : FieldPair F PF) (permute : List PF → List PF)
   words-agree s [] = refl
   words-agree s (w ∷ ws) =
       let words = w ∷ ws in
-      let all : length words ≤ length words = omega arith in
       let first = overwritten pair.outer rate s.cells (take rate words) in
       let others = blocks_within rate (length ws) (drop rate words) in
-      (λ i. record {
-        answers = [];
-        queries = words-queries (length words) s.cells words all i;
-        after = emptied (words-cells (length words) s.cells words all i) rule.row_len;
-      })
+      ap (λ run. record { answers = []; queries = run.queries; after = emptied run.after rule.row_len })
+      (words-blocks (length words) s.cells words (omega arith))
       ∙ ap (λ t. record {
         answers = [];
         queries = queries_by_words pair permute rate s.cells (blocks rate words);

@@ -27,10 +27,9 @@ impl<
     // A draw takes no memory and has no limit: it is never refused.
     ghost bits_sampling = { λ bits. unrefused_draw
         (λ s. Some (F.residues.number
-        (multi_state.sampled
-        ⟦<PF as HasFieldPair<F>>⟧.field_pair P.permutation RATE s) % 2 ^ bits))
-        (λ s. multi_state.after_sampled
-        ⟦<PF as HasFieldPair<F>>⟧.field_pair P.permutation RATE s) };
+        (multi_state.sampled ⟦<PF as HasFieldPair<F>>⟧.field_pair P.permutation RATE s)
+        % 2 ^ bits))
+        (multi_state.after_sampled ⟦<PF as HasFieldPair<F>>⟧.field_pair P.permutation RATE) };
 
     ghost number = { λ n. n };
 

@@ -158,8 +158,7 @@ impl<
 
     // An observation takes no memory: it is never refused.
     ghost observation = { unrefused_observe (λ xs. map scalar xs)
-        (λ s xs. multi_state.scalars_observed
-        ⟦<PF as HasFieldPair<F>>⟧.field_pair P.permutation RATE s xs) };
+        (multi_state.scalars_observed ⟦<PF as HasFieldPair<F>>⟧.field_pair P.permutation RATE) };
 
     ghost slice_may_leave = { λ _ _ _. ⊥ };
 
@@ -275,8 +274,7 @@ impl<
 
     // An observation takes no memory: it is never refused.
     ghost observation = { unrefused_observe (λ cap. map digest cap)
-        (λ s cap. multi_state.digests_observed
-        ⟦<PF as HasFieldPair<F>>⟧.field_pair P.permutation RATE s cap) };
+        (multi_state.digests_observed ⟦<PF as HasFieldPair<F>>⟧.field_pair P.permutation RATE) };
 
     ghost slice_may_leave = { λ _ _ _. ⊥ };
 

@@ -22,11 +22,9 @@ impl<
 
     ghost state = { λ c. c };
 
-    ghost fed = { λ s symbols. multi_state.fed
-        ⟦<PF as HasFieldPair<F>>⟧.field_pair P.permutation RATE s symbols };
+    ghost fed = { multi_state.fed ⟦<PF as HasFieldPair<F>>⟧.field_pair P.permutation RATE };
 
-    ghost next = { λ s. multi_state.after_sampled
-        ⟦<PF as HasFieldPair<F>>⟧.field_pair P.permutation RATE s };
+    ghost next = { multi_state.after_sampled ⟦<PF as HasFieldPair<F>>⟧.field_pair P.permutation RATE };
 
     ghost fed_nothing = { λ _. refl };
 
@@ -48,8 +46,7 @@ impl<
 
     // An observation takes no memory: it is never refused.
     ghost observation = { unrefused_observe (λ x. scalar x ∷ [])
-        (λ s x. multi_state.scalar_observed
-        ⟦<PF as HasFieldPair<F>>⟧.field_pair P.permutation RATE s x) };
+        (multi_state.scalar_observed ⟦<PF as HasFieldPair<F>>⟧.field_pair P.permutation RATE) };
 
     ghost slice_may_leave = { λ _ _ _. ⊥ };
 
@@ -87,8 +84,7 @@ impl<
     ghost sampling = { unrefused_draw
         (λ s. Some (A.element (multi_state.drawn
         ⟦<PF as HasFieldPair<F>>⟧.field_pair P.permutation RATE A.DIMENSION s)))
-        (λ s. multi_state.after_drawn
-        ⟦<PF as HasFieldPair<F>>⟧.field_pair P.permutation RATE A.DIMENSION s) };
+        (multi_state.after_drawn ⟦<PF as HasFieldPair<F>>⟧.field_pair P.permutation RATE A.DIMENSION) };
 
     ghost samples = { elements-sampled _ _ A.DIMENSION A.element };
 
@@ -113,8 +109,7 @@ impl<
     type Digest = [PF; RATE];
 
     // The rate after one more permutation, of what is pending where something is.
-    ghost digest_of = { λ s. multi_state.finalized
-        ⟦<PF as HasFieldPair<F>>⟧.field_pair P.permutation RATE s };
+    ghost digest_of = { multi_state.finalized ⟦<PF as HasFieldPair<F>>⟧.field_pair P.permutation RATE };
 
     fn finalize(self) -> [PF; RATE] {
         let mut challenger = self;

@@ -43,7 +43,8 @@ returns-clause-drawn g c =
     let xs = space.coefficients element in
     let long = laws.length_coefficients element in
     let all : space.DIMENSION ≤ c.loop-i.i = omega (arith, c.loop-i-test.false, c.DIMENSION-i-end.ensures) in
-    let values = has_drawn-values (sampled pair permute g.row.RATE) (after_sampled pair permute g.row.RATE) space.DIMENSION c.args.self.now xs c.loop-i.i c.loop-i.self all long c.loop-i.invariant in
+    let values = has_drawn-values (sampled pair permute g.row.RATE) (after_sampled pair permute g.row.RATE)
+    space.DIMENSION c.args.self.now xs c.loop-i.i c.loop-i.self all long c.loop-i.invariant in
     ap Some (ap space.element values
     ∙ laws.same_coefficients (space.element xs) element (laws.coefficients_element xs long))
 
