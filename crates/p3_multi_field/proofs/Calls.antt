@@ -1,19 +1,20 @@
 -- What methods do is what calls do, and what place a draw has.
-use Rattle.std.proofs.Common.{◌≡◌, ◌<◌, ℕ, zero, suc, ◌+◌, ◌-◌, List, [], ◌∷◌, ◌++◌, map, replicate, refl, sym, ap, ◌∙◌}
-use Rattle.std.proofs.Common.{add-one, append-nil, arith, subst}
-use Rattle.std.specs.List.{range_with_len}
+use Rattle.std.proofs.Common.{◌≡◌, ◌<◌, ℕ, zero, suc, List, [], ◌∷◌, ◌++◌, map, replicate, refl, sym, ap, ◌∙◌}
+use Rattle.std.proofs.Common.{append-nil, subst}
 use Rattle.p3_challenger_core.specs.Sponge.{after_steps}
-use Rattle.p3_challenger_core.specs.Segments.{observe, draw, Segment, Run, run_calls, run_segments}
-use Rattle.p3_challenger_core.specs.Segments.{run_before}
+use Rattle.p3_challenger_core.specs.Segments.{observe, draw, Segment, run_calls, run_segments, run_before}
 use Rattle.p3_challenger_core.specs.SegmentLaws.{cut-only, run_calls-segments}
+use Rattle.p3_sponge.specs.SpongeCalls.{SpongeRule, SpongeRun}
+use Rattle.p3_sponge.specs.SpongeSegments.{run_values, run_draws, opened_cells}
+use Rattle.p3_sponge.specs.SpongePlaceLaws.{first_outputs, opened-places}
+use Rattle.p3_sponge.specs.SpongeStepLaws.{Fits}
 use Rattle.p3_multi_field.specs.MultiFieldCalls.{FieldPair, Symbol, scalar, digest, MultiFieldSponge, batch_of, row_of}
-use Rattle.p3_multi_field.specs.MultiFieldCalls.{scalars_over, multi_field_by_calls}
-use Rattle.p3_multi_field.specs.MultiFieldSegments.{Stretches, stretches, outputs_after, run_scalars, opened}
-use Rattle.p3_multi_field.specs.MultiFieldSegments.{run_stretches, run_symbols, output_at, outputs_from, run_draws}
-use Rattle.p3_multi_field.specs.MultiFieldSegments.{absorbed_cells, multi_field_by_segments}
-use Rattle.p3_multi_field.specs.MultiFieldState.{MultiFieldState, fed, observed, sampled, after_sampled, drawn}
-use Rattle.p3_multi_field.specs.MultiFieldState.{after_drawn, run, after_calls}
-use Rattle.p3_multi_field.proofs.MultiFieldSteps.{Fits, multi_field_steps}
+use Rattle.p3_multi_field.specs.MultiFieldCalls.{scalars_rule, multi_field_by_calls}
+use Rattle.p3_multi_field.specs.MultiFieldSegments.{Stretches, stretches, run_stretches, run_symbols, absorbed_cells}
+use Rattle.p3_multi_field.specs.MultiFieldSegments.{multi_field_by_segments}
+use Rattle.p3_multi_field.specs.MultiFieldState.{MultiFieldState, fed, observed, sampled, after_sampled, drawn, run}
+use Rattle.p3_multi_field.specs.MultiFieldState.{after_calls}
+use Rattle.p3_multi_field.proofs.MultiFieldSteps.{multi_field_steps}
 
 module _ {F PF P : Type 0} (pair : FieldPair F PF) (permute : P → List PF → List PF) (rate : ℕ) where
   pub fed-is_calls : (c : MultiFieldState F PF P) (symbols : List (Symbol F PF))
@@ -28,11 +29,6 @@ module _ {F PF P : Type 0} (pair : FieldPair F PF) (permute : P → List PF → 
   drawn-are_answers (suc n) c =
       ap (λ xs. sampled pair permute rate c ∷ xs) (drawn-are_answers n (after_sampled pair permute rate c))
 
-  pub after_drawn-is_calls : (n : ℕ) (c : MultiFieldState F PF P)
-      → after_drawn pair permute rate n c ≡ after_calls pair permute rate c (replicate n draw)
-  after_drawn-is_calls zero c = refl
-  after_drawn-is_calls (suc n) c = after_drawn-is_calls n (after_sampled pair permute rate c)
-
   pub steps-are_calls : (n : ℕ) (c : MultiFieldState F PF P)
       → after_steps (after_sampled pair permute rate) n c ≡ after_calls pair permute rate c (replicate n draw)
   steps-are_calls zero c = refl
@@ -46,52 +42,24 @@ stretches-scalars (x ∷ xs) =
     ap (λ cut. record { scalars = x ∷ cut.scalars; digests = cut.digests }) (stretches-scalars xs)
 
 module _ {F PF : Type 0} (pair : FieldPair F PF) (permute : List PF → List PF) (rate : ℕ) where
-  -- the outputs from a place on are those at the places from there on
-  outputs-places : (cells : List PF) (place n : ℕ)
-      → outputs_from pair permute rate cells place n
-      ≡ map (λ k. output_at pair permute rate cells k) (range_with_len place n)
-  unfolding outputs_from
-  outputs-places cells place zero = refl
-  outputs-places cells place (suc n) =
-      ap (λ xs. output_at pair permute rate cells place ∷ xs)
-      (ap (λ p. outputs_from pair permute rate cells p n) (sym (add-one place)) ∙ outputs-places cells (place + 1) n)
-
-  -- so are those where all of them are left
-  all-places : (cells : List PF) (n : ℕ)
-      → outputs_from pair permute rate cells (row_of pair rate - row_of pair rate) n
-      ≡ map (λ k. output_at pair permute rate cells k) (range_with_len 0 n)
-  all-places cells n =
-      let none : row_of pair rate - row_of pair rate ≡ 0 = omega arith in
-      ap (λ p. outputs_from pair permute rate cells p n) none ∙ outputs-places cells 0 n
+  abbrev rule : SpongeRule (List PF) F
+  rule = scalars_rule pair permute rate
 
   -- draws from a sponge take the places of the cells with all that is pending absorbed
   abbrev FromFirst : MultiFieldSponge F PF → ℕ → Type 0
-  FromFirst s n =
-      (run_draws pair permute rate s n).answers
-      ≡ map (λ k. output_at pair permute rate (opened pair permute rate s.cells s.pending s.outputs_left).after.cells k)
-      (range_with_len 0 n)
-
-  opened-places : (cells : List PF) (pending : List F) (n : ℕ)
-      → FromFirst (record {
-        cells = cells;
-        pending = pending;
-        outputs_left = outputs_after pair permute rate pending;
-      }) n
-  opened-places cells pending zero = refl
-  opened-places cells [] (suc n) = all-places cells (suc n)
-  opened-places cells (x ∷ xs) (suc n) = all-places (permute (scalars_over pair rate cells (x ∷ xs))) (suc n)
+  FromFirst s n = (run_draws rule s n).answers ≡ first_outputs rule (opened_cells rule s) n
 
   -- what symbols of one stretch do
-  abbrev stretched : MultiFieldSponge F PF → Stretches F PF → Run F (List PF) (MultiFieldSponge F PF)
+  abbrev stretched : MultiFieldSponge F PF → Stretches F PF → SpongeRun (List PF) F
   stretched s cut =
-      let first = run_scalars pair permute rate s cut.scalars in
+      let first = run_values rule s cut.scalars in
       run_before first (run_stretches pair permute rate first.after cut.digests)
 
   scalars-after : (s : MultiFieldSponge F PF) (x : F) (xs : List F) (n : ℕ)
       → FromFirst (run_symbols pair permute rate s (map scalar (x ∷ xs))).after n
   scalars-after s x xs n =
       subst (λ cut. FromFirst (stretched s cut).after n) (sym (stretches-scalars (x ∷ xs)))
-      (let end = (run_scalars pair permute rate s (x ∷ xs)).after in opened-places end.cells end.pending n)
+      (let end = (run_values rule s (x ∷ xs)).after in opened-places rule end.cells end.pending n)
 
   scalars-silent : (s : MultiFieldSponge F PF) (x : F) (xs : List F)
       → (run_symbols pair permute rate s (map scalar (x ∷ xs))).answers ≡ []
@@ -104,20 +72,20 @@ module _ {F PF : Type 0} (pair : FieldPair F PF) (permute : List PF → List PF)
   digest-silent cells (x ∷ xs) left w ws = refl
 
   module _ (positive : 0 < rate) (some_batch : 0 < batch_of pair rate) (some_row : 0 < row_of pair rate)
-      (s : MultiFieldSponge F PF) (fits : Fits pair rate s) where
+      (s : MultiFieldSponge F PF) (fits : Fits rule s) where
     -- draws after symbols that answer nothing
     draws-after : (symbols : List (Symbol F PF)) (n : ℕ)
         → (run_symbols pair permute rate s symbols).answers ≡ []
         → FromFirst (run_symbols pair permute rate s symbols).after n
         → (run_calls (multi_field_by_calls pair permute rate) s (map observe symbols ++ replicate n draw)).answers
-        ≡ map (λ k. output_at pair permute rate (absorbed_cells pair permute rate s symbols) k) (range_with_len 0 n)
+        ≡ first_outputs rule (absorbed_cells pair permute rate s symbols) n
     draws-after symbols n silent places =
         let calls = map observe symbols ++ replicate n draw in
         let first : Segment (Symbol F PF) = record { values = symbols; draws = n } in
         let by_segments = multi_field_by_segments pair permute rate in
-        let draws = (run_draws pair permute rate (run_symbols pair permute rate s symbols).after n).answers in
+        let draws = (run_draws rule (run_symbols pair permute rate s symbols).after n).answers in
         ap (λ run. run.answers)
-        (run_calls-segments (Fits pair rate) (multi_field_by_calls pair permute rate) by_segments
+        (run_calls-segments (Fits rule) (multi_field_by_calls pair permute rate) by_segments
         (multi_field_steps pair permute rate positive some_batch some_row) s fits calls)
         ∙ sym (ap (λ cut. (run_segments by_segments s cut).answers) (cut-only calls first [] refl))
         ∙ append-nil ((run_symbols pair permute rate s symbols).answers ++ draws)
@@ -127,17 +95,15 @@ module _ {F PF : Type 0} (pair : FieldPair F PF) (permute : List PF → List PF)
     pub scalars-places : (x : F) (xs : List F) (n : ℕ)
         → (run_calls (multi_field_by_calls pair permute rate) s
         (map observe (map scalar (x ∷ xs)) ++ replicate n draw)).answers
-        ≡ map (λ k. output_at pair permute rate (absorbed_cells pair permute rate s (map scalar (x ∷ xs))) k)
-        (range_with_len 0 n)
+        ≡ first_outputs rule (absorbed_cells pair permute rate s (map scalar (x ∷ xs))) n
     scalars-places x xs n =
         draws-after (map scalar (x ∷ xs)) n (scalars-silent s x xs) (scalars-after s x xs n)
 
     pub digest-places : (w : PF) (ws : List PF) (n : ℕ)
         → (run_calls (multi_field_by_calls pair permute rate) s
         (map observe (digest (w ∷ ws) ∷ []) ++ replicate n draw)).answers
-        ≡ map (λ k. output_at pair permute rate (absorbed_cells pair permute rate s (digest (w ∷ ws) ∷ [])) k)
-        (range_with_len 0 n)
+        ≡ first_outputs rule (absorbed_cells pair permute rate s (digest (w ∷ ws) ∷ [])) n
     digest-places w ws n =
         let end = (run_symbols pair permute rate s (digest (w ∷ ws) ∷ [])).after in
         draws-after (digest (w ∷ ws) ∷ []) n (digest-silent s.cells s.pending s.outputs_left w ws)
-        (opened-places end.cells [] n)
+        (opened-places rule end.cells [] n)

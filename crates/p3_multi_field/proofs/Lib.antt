@@ -1,11 +1,9 @@
 pub mod Batches
 pub mod Calls
-pub mod Drawing
 pub mod ErrorEquality
 pub mod MultiFieldQueries
 pub mod MultiFieldSteps
 pub mod Numbers
-pub mod Overwriting
 pub mod Packing
 pub mod ReadBack
 pub mod WordBlocks

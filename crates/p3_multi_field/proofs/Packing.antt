@@ -1,10 +1,16 @@
 -- Scalars packed into cells one cell after another.
-use Rattle.std.proofs.Common.{◌≡◌, ℕ, suc, ◌+◌, ◌-◌, ◌<◌, ◌≤◌, List, [], ◌∷◌, ◌++◌, length, take, drop, refl, sym, ap}
+use Rattle.std.proofs.Common.{◌≡◌, ℕ, zero, suc, ◌+◌, ◌-◌, ◌<◌, ◌≤◌, List, [], ◌∷◌, ◌++◌, length, take, drop, refl, sym, ap}
 use Rattle.std.proofs.Common.{◌∙◌, subst, append_assoc, append-nil, arith}
 use Rattle.std.proofs.Math.ListN.{set}
 use Rattle.std.proofs.lemmas.List.{take_more_set, take_all}
 use Rattle.p3_field_bridge.specs.Bridges.{packed}
 use Rattle.p3_multi_field.specs.MultiFieldCalls.{FieldPair, packed_cells}
+
+-- as many cells pack scalars as are asked for
+pub length-packed_cells : {F PF : Type 0} (pair : FieldPair F PF) (n : ℕ) (scalars : List F)
+    → length (packed_cells pair n scalars) ≡ n
+length-packed_cells pair zero scalars = refl
+length-packed_cells pair (suc n) scalars = ap suc (length-packed_cells pair n (drop pair.absorb scalars))
 
 module _ {F PF : Type 0} (pair : FieldPair F PF) (n : ℕ) (scalars : List F) where
   -- of n cells the front ones are packed, and the rest of the scalars is for those that are left

@@ -2,15 +2,16 @@
 use Rattle.std.proofs.Common.{◌≡◌, ℕ, zero, suc, ◌<◌, ◌≤◌, List, [], ◌∷◌, length, take, drop, refl, ap}
 use Rattle.std.proofs.Common.{arith}
 use Rattle.std.proofs.lemmas.List.{length-drop}
-use Rattle.p3_multi_field.specs.MultiFieldCalls.{FieldPair, permutation_input, blocks_within}
-use Rattle.p3_multi_field.specs.MultiFieldCalls.{blocks, permuting, emptied}
+use Rattle.p3_sponge.specs.SpongeCalls.{permutation_input, permuting}
+use Rattle.p3_multi_field.specs.MultiFieldCalls.{FieldPair, scalars_rule, blocks_within, blocks, absorbed_pending}
 
 -- where something is pending it is absorbed
-pub emptied-some : {F PF : Type 0} (pair : FieldPair F PF) (permute : List PF → List PF) (rate : ℕ) (cells : List PF)
+pub absorbed-some : {F PF : Type 0} (pair : FieldPair F PF) (permute : List PF → List PF) (rate : ℕ) (cells : List PF)
     (pending : List F) → 0 < length pending
-    → permuting pair permute rate (permutation_input pair rate cells pending) ≡ emptied pair permute rate cells pending
-emptied-some pair permute rate cells [] some = absurd (omega (arith, some))
-emptied-some pair permute rate cells (x ∷ xs) some = refl
+    → (let rule = scalars_rule pair permute rate in permuting rule (permutation_input rule cells pending))
+    ≡ absorbed_pending pair permute rate cells pending
+absorbed-some pair permute rate cells [] some = absurd (omega (arith, some))
+absorbed-some pair permute rate cells (x ∷ xs) some = refl
 
 module _ {T : Type 0} (size : ℕ) (positive : 0 < size) where
   fewer : (x : T) (xs : List T) (n : ℕ) → length (x ∷ xs) ≤ suc n → length (drop size (x ∷ xs)) ≤ n

@@ -8,11 +8,11 @@ use Rattle.p3_small_primes.specs.F257Residues.{F257, residues as f257}
 use Rattle.p3_symmetric.specs.Turn.{turned}
 use Rattle.p3_challenger_core.specs.Segments.{Call, observe, draw, ByCalls, BySegments, segments}
 use Rattle.p3_challenger_core.specs.Segments.{run_calls, run_calls_to_digest, run_segments, run_segments_to_digest}
+use Rattle.p3_sponge.specs.Outputs.{stepped, step_queries, outputs_from}
+use Rattle.p3_sponge.specs.SpongeSegments.{absorbed_blocks, block_queries}
 use Rattle.p3_multi_field.specs.MultiFieldCalls.{FieldPair, pair_of, Symbol, scalar, digest, MultiFieldSponge, fresh}
 use Rattle.p3_multi_field.specs.MultiFieldCalls.{packed_cells, multi_field_by_calls}
-use Rattle.p3_multi_field.specs.MultiFieldSegments.{multi_field_by_segments, absorbed_batches, queries_batches}
-use Rattle.p3_multi_field.specs.MultiFieldSegments.{absorbed_words, queries_words, permuted, queries_in_order}
-use Rattle.p3_multi_field.specs.MultiFieldSegments.{outputs_from}
+use Rattle.p3_multi_field.specs.MultiFieldSegments.{multi_field_by_segments, absorbed_words, word_queries}
 
 abbrev pair : FieldPair F257 BabyBear
 pair = pair_of f257 baby_bear 9 3 2
@@ -74,7 +74,7 @@ three_scalars : drawn (one_two_three six_draws) ≡ 237 ∷ 11 ∷ 0 ∷ 4 ∷ 0
 three_scalars = refl
 
 three_scalars_by_segments : drawn_by_segments (one_two_three six_draws) ≡ 237 ∷ 11 ∷ 0 ∷ 4 ∷ 0 ∷ 6 ∷ []
-unfolding absorbed_batches queries_batches permuted queries_in_order outputs_from
+unfolding absorbed_blocks block_queries stepped step_queries outputs_from
 three_scalars_by_segments = refl
 
 three_scalars_queries : queries (one_two_three six_draws) ≡ state 787457 0 3 ∷ state 4 787459 3 ∷ []
@@ -82,14 +82,14 @@ three_scalars_queries = refl
 
 three_scalars_queries_by_segments :
     queries_by_segments (one_two_three six_draws) ≡ state 787457 0 3 ∷ state 4 787459 3 ∷ []
-unfolding absorbed_batches queries_batches permuted queries_in_order outputs_from
+unfolding absorbed_blocks block_queries stepped step_queries outputs_from
 three_scalars_queries_by_segments = refl
 
 three_scalars_to_digest : digest_after (one_two_three []) ≡ 4 ∷ 787459 ∷ []
 three_scalars_to_digest = refl
 
 three_scalars_to_digest_by_segments : digest_after_segments (one_two_three []) ≡ 4 ∷ 787459 ∷ []
-unfolding absorbed_batches queries_batches permuted queries_in_order outputs_from
+unfolding absorbed_blocks block_queries stepped step_queries outputs_from
 three_scalars_to_digest_by_segments = refl
 
 -- a scalar, and a digest of one word of the same number, are not told apart
@@ -103,7 +103,7 @@ one_word : drawn (digest_observed (5 ∷ []) ∷ four_draws) ≡ 0 ∷ 7 ∷ 0 �
 one_word = refl
 
 one_word_by_segments : drawn_by_segments (digest_observed (5 ∷ []) ∷ four_draws) ≡ 0 ∷ 7 ∷ 0 ∷ 2 ∷ []
-unfolding absorbed_words queries_words absorbed_batches queries_batches permuted queries_in_order outputs_from
+unfolding absorbed_words word_queries absorbed_blocks block_queries stepped step_queries outputs_from
 one_word_by_segments = refl
 
 -- nor are they by what is permuted

@@ -1,10 +1,13 @@
 -- A multi-field challenger call by call: scalars of one field are packed into cells of a greater one, and
 -- drawn from them as digits.
-use Rattle.std.specs.Prelude.{ℕ, zero, suc, ◌==◌, ◌+◌, ◌-◌, ◌*◌, ◌/◌, ◌%◌, List, [], ◌∷◌, ◌++◌, length, take, drop}
-use Rattle.std.specs.Prelude.{replicate, slice_index_or, if◌then◌else◌, Option, Some, None}
-use Rattle.p3_field_core.specs.Residues.{Residues, plus}
+use Rattle.std.specs.Prelude.{ℕ, zero, suc, ◌==◌, ◌*◌, ◌/◌, ◌%◌, List, [], ◌∷◌, ◌++◌, length, take, drop, replicate}
+use Rattle.std.specs.Prelude.{if◌then◌else◌, Option, Some, None}
+use Rattle.p3_field_core.specs.Residues.{Residues}
 use Rattle.p3_field_bridge.specs.Bridges.{packed, digit_of}
-use Rattle.p3_challenger_core.specs.Segments.{Call, observe, observe_empty_array, draw, Run, stays, ByCalls}
+use Rattle.p3_challenger_core.specs.Segments.{Call, observe, observe_empty_array, draw, stays, ByCalls}
+use Rattle.p3_sponge.specs.Cells.{cell, counted_over, overwritten}
+use Rattle.p3_sponge.specs.SpongeCalls as sponge
+use Rattle.p3_sponge.specs.SpongeCalls.{SpongeRule, CellSponge, SpongeRun, emptied, permuting, run_value, run_draw, run_end}
 
 -- Two fields: that of the scalars, which are observed and drawn, and that of the cells; in how many bits a
 -- scalar is packed, how many scalars a cell packs, and how many digits are drawn from a cell.
@@ -29,14 +32,11 @@ abbrev pub symbol_of : {F PF : Type 0} → Option F → List PF → Symbol F PF
 symbol_of None words = digest words
 symbol_of (Some x) words = scalar x
 
--- What a sponge has: its cells, whose front is the rate; the scalars that are pending, fewer than the rate
--- packs; and how many outputs are left. The digits of the rate stand in a row, from its first cell to its
--- last and in each cell from the lowest up, and the outputs left are the first ones of that row. None is
--- left where a scalar is pending.
-pub record MultiFieldSponge (F PF : Type 0) : Type 0 where
-  pub cells : List PF
-  pub pending : List F
-  pub outputs_left : ℕ
+-- A sponge of cells, whose front is the rate; fewer scalars are pending than the rate packs. The digits of the rate
+-- stand in a row, from its first cell to its last and in each cell from the lowest up, and the outputs left are the
+-- first ones of that row.
+abbrev pub MultiFieldSponge : Type 0 → Type 0 → Type 0
+MultiFieldSponge F PF = CellSponge (List PF) F
 
 -- how many scalars the rate packs
 abbrev pub batch_of : {F PF : Type 0} → FieldPair F PF → ℕ → ℕ
@@ -48,17 +48,9 @@ row_of pair rate = rate * pair.squeeze
 
 -- a sponge of zeros, with nothing pending and no output
 abbrev pub fresh : {F PF : Type 0} → FieldPair F PF → ℕ → MultiFieldSponge F PF
-fresh pair width = record { cells = replicate width (pair.outer.of 0); pending = []; outputs_left = 0 }
-
--- a cell; past the last one, the element 0
-abbrev pub cell : {PF : Type 0} → Residues PF → List PF → ℕ → PF
-cell r cells i = slice_index_or cells i (r.of 0)
+fresh pair width = emptied (replicate width (pair.outer.of 0)) 0
 
 -- ---- what is absorbed
-
--- the rate and then the rest: a tag is added to the cell after the rate, and the other cells are as they are
-abbrev pub with_rate : {PF : Type 0} → Residues PF → ℕ → List PF → List PF → ℕ → List PF
-with_rate r rate cells front tag = front ++ (plus r (cell r cells rate) tag ∷ drop (rate + 1) cells)
 
 -- so many cells that pack scalars, each as many as it can, the first ones first; where none are left a cell
 -- packs none, and is 0
@@ -70,12 +62,7 @@ packed_cells pair (suc n) scalars =
 -- the cells with scalars packed over the rate: their number is the tag
 abbrev pub scalars_over : {F PF : Type 0} → FieldPair F PF → ℕ → List PF → List F → List PF
 scalars_over pair rate cells scalars =
-    with_rate pair.outer rate cells (packed_cells pair rate scalars) (length scalars)
-
--- the cells with words written over the rate, and zeros after them: the number of words is the tag
-abbrev pub words_over : {PF : Type 0} → Residues PF → ℕ → List PF → List PF → List PF
-words_over r rate cells words =
-    with_rate r rate cells (words ++ replicate (rate - length words) (r.of 0)) (length words)
+    counted_over pair.outer rate cells (packed_cells pair rate scalars) (length scalars)
 
 -- a list in blocks of so many values, of which only the last may be shorter: at most so many blocks
 abbrev pub blocks_within : {T : Type 0} → ℕ → ℕ → List T → List (List T)
@@ -87,15 +74,6 @@ blocks_within size (suc n) (x ∷ xs) = take size (x ∷ xs) ∷ blocks_within s
 abbrev pub blocks : {T : Type 0} → ℕ → List T → List (List T)
 blocks size xs = blocks_within size (length xs) xs
 
--- what is permuted: where nothing is pending, the cells as they are
-abbrev pub permutation_input : {F PF : Type 0} → FieldPair F PF → ℕ → List PF → List F → List PF
-permutation_input pair rate cells [] = cells
-permutation_input pair rate cells (x ∷ xs) = scalars_over pair rate cells (x ∷ xs)
-
--- one more scalar is pending, and the outputs are dropped
-abbrev pub appended : {F PF : Type 0} → MultiFieldSponge F PF → F → MultiFieldSponge F PF
-appended s x = record { cells = s.cells; pending = s.pending ++ x ∷ []; outputs_left = 0 }
-
 -- ---- outputs
 
 -- the digit at a place of the row
@@ -103,13 +81,16 @@ abbrev pub digit_in_row : {F PF : Type 0} → FieldPair F PF → List PF → ℕ
 digit_in_row pair cells place =
     digit_of pair.inner pair.outer (cell pair.outer cells (place / pair.squeeze)) (place % pair.squeeze)
 
--- what a draw gives: the last output left
-abbrev pub last_output : {F PF : Type 0} → FieldPair F PF → MultiFieldSponge F PF → F
-last_output pair s = digit_in_row pair s.cells (s.outputs_left - 1)
-
--- without that output
-abbrev pub one_taken : {F PF : Type 0} → MultiFieldSponge F PF → MultiFieldSponge F PF
-one_taken s = record s { outputs_left = s.outputs_left - 1 }
+-- how scalars are absorbed and digits drawn
+abbrev pub scalars_rule : {F PF : Type 0} → FieldPair F PF → (List PF → List PF) → ℕ → SpongeRule (List PF) F
+scalars_rule pair permute rate =
+    record {
+      over = scalars_over pair rate;
+      permute = permute;
+      block_len = batch_of pair rate;
+      row_len = row_of pair rate;
+      output = digit_in_row pair;
+    }
 
 -- how many digits a draw has queued, which were neither drawn nor dropped: none where all outputs are left, since
 -- then no draw has come to them
@@ -117,104 +98,56 @@ abbrev pub queued : {F PF : Type 0} → FieldPair F PF → ℕ → MultiFieldSpo
 queued pair rate s = if s.outputs_left == row_of pair rate then 0 else s.outputs_left
 
 module _ {F PF : Type 0} (pair : FieldPair F PF) (permute : List PF → List PF) (rate : ℕ) where
-  -- after cells are permuted: all outputs are left
-  abbrev pub permuting : List PF → MultiFieldSponge F PF
-  permuting cells = record { cells = permute cells; pending = []; outputs_left = row_of pair rate }
-
-  -- after a permutation of what is pending
-  abbrev pub duplexed : MultiFieldSponge F PF → MultiFieldSponge F PF
-  duplexed s = permuting (permutation_input pair rate s.cells s.pending)
-
-  -- ---- a scalar
-
-  -- after a scalar: as many scalars as the rate packs are absorbed at once
-  abbrev pub absorbed_full : MultiFieldSponge F PF → MultiFieldSponge F PF
-  absorbed_full s = if length s.pending == batch_of pair rate then duplexed s else s
-
-  abbrev pub scalar_observed : MultiFieldSponge F PF → F → MultiFieldSponge F PF
-  scalar_observed s x = absorbed_full (appended s x)
+  abbrev rule : SpongeRule (List PF) F
+  rule = scalars_rule pair permute rate
 
   -- ---- a digest
 
   -- what is pending is absorbed; where nothing is, the outputs are dropped
-  abbrev pub emptied : List PF → List F → MultiFieldSponge F PF
-  emptied cells [] = record { cells = cells; pending = []; outputs_left = 0 }
-  emptied cells (x ∷ xs) = permuting (scalars_over pair rate cells (x ∷ xs))
+  abbrev pub absorbed_pending : List PF → List F → MultiFieldSponge F PF
+  absorbed_pending cells [] = emptied cells 0
+  absorbed_pending cells (x ∷ xs) = permuting rule (scalars_over pair rate cells (x ∷ xs))
 
-  -- blocks of words are absorbed one after another
+  -- blocks of words are absorbed one after another, each with its own count
   abbrev pub words_absorbed : MultiFieldSponge F PF → List (List PF) → MultiFieldSponge F PF
   words_absorbed s [] = s
-  words_absorbed s (block ∷ others) = words_absorbed (permuting (words_over pair.outer rate s.cells block)) others
+  words_absorbed s (block ∷ others) =
+      words_absorbed (permuting rule (overwritten pair.outer rate s.cells block)) others
 
   abbrev pub digest_observed : MultiFieldSponge F PF → List PF → MultiFieldSponge F PF
-  digest_observed s words = words_absorbed (emptied s.cells s.pending) (blocks rate words)
-
-  abbrev pub observed : MultiFieldSponge F PF → Symbol F PF → MultiFieldSponge F PF
-  observed s (scalar x) = scalar_observed s x
-  observed s (digest words) = digest_observed s words
-
-  -- ---- a draw, and the end
-
-  -- where a draw takes its output from: with none left it absorbs or permutes first
-  abbrev pub ready : MultiFieldSponge F PF → MultiFieldSponge F PF
-  ready s = if s.outputs_left == 0 then duplexed s else s
-
-  abbrev pub sampled : MultiFieldSponge F PF → F
-  sampled s = last_output pair (ready s)
-
-  abbrev pub after_sampled : MultiFieldSponge F PF → MultiFieldSponge F PF
-  after_sampled s = one_taken (ready s)
-
-  -- the digest that calls end in: the rate after one more step, whether scalars are pending or not
-  abbrev pub finalized : MultiFieldSponge F PF → List PF
-  finalized s = take rate (duplexed s).cells
-
-  -- ---- the queries to the permutation
-
-  -- a scalar queries the cells with the scalars that fill the rate
-  abbrev pub queries_by_scalar : MultiFieldSponge F PF → F → List (List PF)
-  queries_by_scalar s x =
-      let scalars = s.pending ++ x ∷ [] in
-      if length scalars == batch_of pair rate then scalars_over pair rate s.cells scalars ∷ [] else []
+  digest_observed s words = words_absorbed (absorbed_pending s.cells s.pending) (blocks rate words)
 
   -- what is pending is queried where something is
-  abbrev pub queries_by_emptying : List PF → List F → List (List PF)
-  queries_by_emptying cells [] = []
-  queries_by_emptying cells (x ∷ xs) = scalars_over pair rate cells (x ∷ xs) ∷ []
+  abbrev pub queries_by_pending : List PF → List F → List (List PF)
+  queries_by_pending cells [] = []
+  queries_by_pending cells (x ∷ xs) = scalars_over pair rate cells (x ∷ xs) ∷ []
 
   -- and then each block of words, written over the cells that the ones before it left
   abbrev pub queries_by_words : List PF → List (List PF) → List (List PF)
   queries_by_words cells [] = []
   queries_by_words cells (block ∷ others) =
-      let over = words_over pair.outer rate cells block in over ∷ queries_by_words (permute over) others
+      let block_over = overwritten pair.outer rate cells block in
+      block_over ∷ queries_by_words (permute block_over) others
 
   abbrev pub queries_by_digest : MultiFieldSponge F PF → List PF → List (List PF)
   queries_by_digest s words =
-      queries_by_emptying s.cells s.pending
-      ++ queries_by_words (emptied s.cells s.pending).cells (blocks rate words)
-
-  -- a draw that finds no output queries the cells with what is pending, or as they are
-  abbrev pub queries_by_draw : MultiFieldSponge F PF → List (List PF)
-  queries_by_draw s = if s.outputs_left == 0 then permutation_input pair rate s.cells s.pending ∷ [] else []
-
-  -- so does an end, whatever outputs are left
-  abbrev pub queries_by_end : MultiFieldSponge F PF → List (List PF)
-  queries_by_end s = permutation_input pair rate s.cells s.pending ∷ []
+      queries_by_pending s.cells s.pending
+      ++ queries_by_words (absorbed_pending s.cells s.pending).cells (blocks rate words)
 
   -- ---- what a call does
 
+  abbrev pub observed : MultiFieldSponge F PF → Symbol F PF → MultiFieldSponge F PF
+  observed s (scalar x) = sponge.observed rule s x
+  observed s (digest words) = digest_observed s words
+
   -- an array of no places does nothing
-  abbrev pub run_call : MultiFieldSponge F PF → Call (Symbol F PF) → Run F (List PF) (MultiFieldSponge F PF)
-  run_call s (observe (scalar x)) =
-      record { answers = []; queries = queries_by_scalar s x; after = scalar_observed s x }
+  abbrev pub run_call : MultiFieldSponge F PF → Call (Symbol F PF) → SpongeRun (List PF) F
+  run_call s (observe (scalar x)) = run_value rule s x
   run_call s (observe (digest words)) =
       record { answers = []; queries = queries_by_digest s words; after = digest_observed s words }
   run_call s observe_empty_array = stays s
-  run_call s draw = record { answers = sampled s ∷ []; queries = queries_by_draw s; after = after_sampled s }
+  run_call s draw = run_draw rule s
 
-  abbrev pub run_end : MultiFieldSponge F PF → Run F (List PF) (List PF)
-  run_end s = record { answers = []; queries = queries_by_end s; after = finalized s }
-
-  -- a multi-field challenger call by call
+  -- a multi-field challenger call by call: the digest that calls end in is the rate after one more step
   abbrev pub multi_field_by_calls : ByCalls (Symbol F PF) F (List PF) (List PF) (MultiFieldSponge F PF)
-  multi_field_by_calls = record { call = run_call; digest = run_end }
+  multi_field_by_calls = record { call = run_call; digest = run_end rule (take rate) }

@@ -1,9 +1,13 @@
 -- A multi-field challenger as contracts see it.
-use Rattle.std.specs.Prelude.{◌≡◌, ℕ, zero, suc, ◌<◌, ◌≤◌, ◌*◌, List, [], ◌∷◌}
+use Rattle.std.specs.Prelude.{◌≡◌, ℕ, ◌<◌, ◌≤◌, ◌*◌, List, take}
 use Rattle.p3_challenger_core.specs.Observation.{observed_all}
-use Rattle.p3_multi_field.specs.MultiFieldCalls as calls
 use Rattle.p3_challenger_core.specs.Segments.{Call, Run, run_calls}
-use Rattle.p3_multi_field.specs.MultiFieldCalls.{FieldPair, Symbol, MultiFieldSponge, multi_field_by_calls}
+use Rattle.p3_challenger_core.specs.Sponge.{after_steps}
+use Rattle.p3_sponge.specs.Drawn as in_order
+use Rattle.p3_sponge.specs.SpongeCalls as sponge
+use Rattle.p3_sponge.specs.SpongeCalls.{SpongeRule}
+use Rattle.p3_multi_field.specs.MultiFieldCalls as calls
+use Rattle.p3_multi_field.specs.MultiFieldCalls.{FieldPair, Symbol, MultiFieldSponge, scalars_rule, multi_field_by_calls}
 
 -- What a challenger keeps of its numbers: the rate is some cells but not all of them; the order of the scalars is
 -- below that of the cells; a cell packs some scalars and gives some digits; the rate packs at most 255 scalars, and
@@ -25,12 +29,16 @@ pub record MultiFieldState (F PF P : Type 0) : Type 0 where
   pub permutation : P
 
 module _ {F PF P : Type 0} (pair : FieldPair F PF) (permute : P → List PF → List PF) (rate : ℕ) where
-  -- each step, under the function that each permutation is
+  -- how scalars are absorbed and digits drawn, under the function that each permutation is
+  abbrev rule : MultiFieldState F PF P → SpongeRule (List PF) F
+  rule c = scalars_rule pair (permute c.permutation) rate
+
+  -- each step
   abbrev pub duplexed : MultiFieldState F PF P → MultiFieldState F PF P
-  duplexed c = record c { sponge = calls.duplexed pair (permute c.permutation) rate c.sponge }
+  duplexed c = record c { sponge = sponge.duplexed (rule c) c.sponge }
 
   abbrev pub scalar_observed : MultiFieldState F PF P → F → MultiFieldState F PF P
-  scalar_observed c x = record c { sponge = calls.scalar_observed pair (permute c.permutation) rate c.sponge x }
+  scalar_observed c x = record c { sponge = sponge.observed (rule c) c.sponge x }
 
   abbrev pub digest_observed : MultiFieldState F PF P → List PF → MultiFieldState F PF P
   digest_observed c words =
@@ -52,24 +60,22 @@ module _ {F PF P : Type 0} (pair : FieldPair F PF) (permute : P → List PF → 
   digests_observed c digests = observed_all digest_observed c digests
 
   abbrev pub sampled : MultiFieldState F PF P → F
-  sampled c = calls.sampled pair (permute c.permutation) rate c.sponge
+  sampled c = sponge.sampled (rule c) c.sponge
 
   abbrev pub after_sampled : MultiFieldState F PF P → MultiFieldState F PF P
-  after_sampled c = record c { sponge = calls.after_sampled pair (permute c.permutation) rate c.sponge }
+  after_sampled c = record c { sponge = sponge.after_sampled (rule c) c.sponge }
 
   -- what n draws give, in order
   abbrev pub drawn : ℕ → MultiFieldState F PF P → List F
-  drawn zero c = []
-  drawn (suc n) c = sampled c ∷ drawn n (after_sampled c)
+  drawn n c = in_order.drawn sampled after_sampled n c
 
   -- the challenger after n draws
   abbrev pub after_drawn : ℕ → MultiFieldState F PF P → MultiFieldState F PF P
-  after_drawn zero c = c
-  after_drawn (suc n) c = after_drawn n (after_sampled c)
+  after_drawn n c = after_steps after_sampled n c
 
   -- the digest that it ends in
   abbrev pub finalized : MultiFieldState F PF P → List PF
-  finalized c = calls.finalized pair (permute c.permutation) rate c.sponge
+  finalized c = take rate (sponge.duplexed (rule c) c.sponge).cells
 
   -- what calls do from a challenger on
   abbrev pub run : MultiFieldState F PF P → List (Call (Symbol F PF)) → Run F (List PF) (MultiFieldSponge F PF)

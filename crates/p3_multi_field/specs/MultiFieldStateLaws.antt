@@ -1,22 +1,13 @@
 -- Laws of a multi-field challenger call by call.
-use Rattle.std.proofs.Common.{◌≡◌, ℕ, zero, suc, ◌%◌, ◌^◌, List, [], ◌∷◌, ◌++◌, Some, ◌∙◌, refl, map}
+use Rattle.std.proofs.Common.{◌≡◌, ℕ, List, [], ◌∷◌, ◌++◌, ◌∙◌, refl, map}
 use Rattle.std.specs.List.{flat_map}
-use Rattle.p3_challenger_core.specs.Sponge.{IsStepsOn}
 use Rattle.p3_challenger_core.specs.Observation as observation
 use Rattle.p3_challenger_core.specs.Observation.{IsObservation, observed_all}
 use Rattle.p3_challenger_core.specs.ObservationLaws.{unrefused_observe-is_observation}
-use Rattle.p3_challenger_core.specs.Sampling as sampling
-use Rattle.p3_challenger_core.specs.Sampling.{IsSampling}
-use Rattle.p3_challenger_core.specs.SamplingLaws.{no_steps, one_step, steps-then, unrefused_draw-is_sampling}
+use Rattle.p3_sponge.specs.SpongeListLaws.{observed_all-append}
 use Rattle.p3_multi_field.specs.MultiFieldCalls.{FieldPair, Symbol, scalar, digest}
 use Rattle.p3_multi_field.specs.MultiFieldState.{MultiFieldState, fed, observed, scalar_observed, scalars_observed}
-use Rattle.p3_multi_field.specs.MultiFieldState.{digests_observed, sampled, after_sampled, drawn, after_drawn}
-
--- observing a list and then another is observing both
-pub observed_all-append : {S T : Type 0} (step : S → T → S) (s : S) (xs ys : List T)
-    → observed_all step (observed_all step s xs) ys ≡ observed_all step s (xs ++ ys)
-observed_all-append step s [] ys = refl
-observed_all-append step s (x ∷ xs) ys = observed_all-append step (step s x) xs ys
+use Rattle.p3_multi_field.specs.MultiFieldState.{digests_observed}
 
 module _ {F PF P : Type 0} (pair : FieldPair F PF) (permute : P → List PF → List PF) (rate : ℕ) where
   pub fed-append : (c : MultiFieldState F PF P) (xs ys : List (Symbol F PF))
@@ -57,31 +48,3 @@ module _ {F PF P : Type 0} (pair : FieldPair F PF) (permute : P → List PF → 
       → IsObservation (fed pair permute rate) (observation.unrefused_observe symbols observed_value)
   is_observation symbols observed_value feeds =
       unrefused_observe-is_observation (fed pair permute rate) (λ _. refl) fed-append symbols observed_value feeds
-
-  -- n draws are n of the smallest ones
-  drawn-steps : (n : ℕ) (c : MultiFieldState F PF P)
-      → IsStepsOn (after_sampled pair permute rate) c (after_drawn pair permute rate n c)
-  drawn-steps zero c = no_steps (after_sampled pair permute rate) c
-  drawn-steps (suc n) c =
-      let there = after_sampled pair permute rate c in
-      steps-then (after_sampled pair permute rate) c there (after_drawn pair permute rate n there)
-      (one_step (after_sampled pair permute rate) c) (drawn-steps n there)
-
-  pub elements-sampled : {A : Type 0} (dimension : ℕ) (element : List F → A)
-      → IsSampling (after_sampled pair permute rate)
-      (sampling.unrefused_draw (λ c. Some (element (drawn pair permute rate dimension c)))
-      (λ c. after_drawn pair permute rate dimension c))
-  elements-sampled dimension element =
-      unrefused_draw-is_sampling (after_sampled pair permute rate)
-      (λ c. Some (element (drawn pair permute rate dimension c)))
-      (λ c. after_drawn pair permute rate dimension c) (drawn-steps dimension)
-
-  pub bits-sampled : (bits : ℕ)
-      → IsSampling (after_sampled pair permute rate)
-      (sampling.unrefused_draw (λ c. Some (pair.inner.number (sampled pair permute rate c) % 2 ^ bits))
-      (λ c. after_sampled pair permute rate c))
-  bits-sampled bits =
-      unrefused_draw-is_sampling (after_sampled pair permute rate)
-      (λ c. Some (pair.inner.number (sampled pair permute rate c) % 2 ^ bits))
-      (λ c. after_sampled pair permute rate c)
-      (one_step (after_sampled pair permute rate))

@@ -11,11 +11,9 @@
 //! ```
 //!
 //! A digest of cells is absorbed at once: its words are written over the rate, and their number is added.
-ghost use Rattle.std.specs.Prelude.{◌≡◌, ◌*◌, ◌/◌, ◌<◌, ◌≤◌, ◌+◌, ℕ, List, [], Some, IfOk, IfErr, length, take};
+ghost use Rattle.std.specs.Prelude.{◌≡◌, ◌*◌, ◌<◌, ◌≤◌, ◌+◌, ℕ, List, [], IfOk, IfErr, length, take};
 ghost use Rattle.std.specs.List.{All};
-ghost use Rattle.p3_field_core.specs.Residues.{plus};
-ghost use Rattle.p3_multi_field.specs.MultiFieldCalls.{fresh, packed_cells, scalars_over, permutation_input, queued};
-ghost use Rattle.p3_multi_field.specs.MultiFieldCalls.{digit_in_row};
+ghost use Rattle.p3_multi_field.specs.MultiFieldCalls.{fresh, queued};
 ghost use Rattle.p3_challenger_core.specs.Segments.{Call, segments, run_calls, run_calls_to_digest};
 ghost use Rattle.p3_challenger_core.specs.Segments.{run_segments, run_segments_to_digest};
 ghost use Rattle.p3_challenger_core.specs.Observation.{LeavesInCalls, RefusesObserve};
@@ -30,14 +28,16 @@ mod bits;
 mod calls;
 mod digests;
 mod grinding;
+mod packing;
 mod refusals;
+mod values;
 
-use crate::{HasFieldPair, MultiField32ChallengerError, MultiFieldSymbol};
-use p3_challenger_core::{
-    CanFinalizeDigest, CanObserve, CanSample, CanSampleBits, ChallengerError, Sponge,
-};
+use self::packing::{absorb, digit_at, pack_over};
+use crate::{HasFieldPair, MultiField32ChallengerError};
+use p3_challenger_core::{CanObserve, CanSample, CanSampleBits};
 use p3_field_bridge::FieldBridge;
 use p3_field_core::{BasedVectorSpace, Named, PrimeField32, PrimeField64};
+use p3_sponge::zero;
 use p3_symmetric::CryptographicPermutation;
 use std::fmt;
 use std::marker::Model;
@@ -106,8 +106,8 @@ impl<
       permutation = c.permutation;
     } };
 
-    ghost invariant = { λ c. KeepsNumbers WIDTH RATE F.residues.order PF.residues.order PF.ABSORB_COUNT
-        PF.SQUEEZE_COUNT c.scalars c.outputs_left };
+    ghost invariant = { λ c. KeepsNumbers WIDTH RATE F.residues.order PF.residues.order
+        PF.ABSORB_COUNT PF.SQUEEZE_COUNT c.scalars c.outputs_left };
 }
 
 // By hand: the places that mean nothing hold scalars that were absorbed long ago.
@@ -155,8 +155,10 @@ impl<
           permutation = permutation;
         }) }
         ensures reads_back { PF.ABSORB_COUNT * RATE < PF.residues.order → IfOk result (λ c.
-            ReadsBack ⟦<PF as HasFieldPair<F>>⟧.field_pair (P.permutation permutation) RATE c.sponge) }
-        ensures refused { IfErr result (λ e. Refuses F.residues.order PF.residues.order (PF.ABSORB_COUNT * RATE)
+            ReadsBack ⟦<PF as HasFieldPair<F>>⟧.field_pair (P.permutation permutation) RATE
+            c.sponge) }
+        ensures refused { IfErr result (λ e.
+            Refuses F.residues.order PF.residues.order (PF.ABSORB_COUNT * RATE)
             F.name_bytes PF.name_bytes e) }
     {
         if F::ORDER_U64 >= PF::ORDER_U64 {
@@ -202,24 +204,29 @@ impl<
             let pair = ⟦<PF as HasFieldPair<F>>⟧.field_pair in
             let permute = P.permutation self.now.permutation in
             run_calls (multi_field_by_calls pair permute RATE) self.now.sponge calls
-            ≡ run_segments (multi_field_by_segments pair permute RATE) self.now.sponge (segments calls) }
+            ≡ run_segments (multi_field_by_segments pair permute RATE) self.now.sponge
+            (segments calls) }
         ensures digest { (calls : List (Call (Symbol F PF))) →
             let pair = ⟦<PF as HasFieldPair<F>>⟧.field_pair in
             let permute = P.permutation self.now.permutation in
             run_calls_to_digest (multi_field_by_calls pair permute RATE) self.now.sponge calls
-            ≡ run_segments_to_digest (multi_field_by_segments pair permute RATE) self.now.sponge (segments calls) }
+            ≡ run_segments_to_digest (multi_field_by_segments pair permute RATE) self.now.sponge
+            (segments calls) }
         ensures queries { (calls : List (Call (Symbol F PF))) (other : List PF → List PF) →
             let pair = ⟦<PF as HasFieldPair<F>>⟧.field_pair in
             let permute = P.permutation self.now.permutation in
             let run = run_calls (multi_field_by_calls pair permute RATE) self.now.sponge calls in
             All (λ state. other state ≡ permute state) run.queries
             → run_calls (multi_field_by_calls pair other RATE) self.now.sponge calls ≡ run }
-        ensures queries_to_digest { (calls : List (Call (Symbol F PF))) (other : List PF → List PF) →
+        ensures queries_to_digest { (calls : List (Call (Symbol F PF)))
+            (other : List PF → List PF) →
             let pair = ⟦<PF as HasFieldPair<F>>⟧.field_pair in
             let permute = P.permutation self.now.permutation in
-            let run = run_calls_to_digest (multi_field_by_calls pair permute RATE) self.now.sponge calls in
+            let by_calls = multi_field_by_calls pair permute RATE in
+            let run = run_calls_to_digest by_calls self.now.sponge calls in
             All (λ state. other state ≡ permute state) run.queries
-            → run_calls_to_digest (multi_field_by_calls pair other RATE) self.now.sponge calls ≡ run }
+            → run_calls_to_digest (multi_field_by_calls pair other RATE) self.now.sponge calls
+            ≡ run }
     {
         let _ = &self.outputs_left;
     }
@@ -250,7 +257,8 @@ impl<
     ///
     /// A law: the body does nothing, and a caller cites the clause.
     pub fn observes_are_not_refused(&self)
-        ensures { (values : List F) (e : ChallengerError) (s t : multi_state.MultiFieldState F PF P) →
+        ensures { (values : List F) (e : ChallengerError)
+            (s t : multi_state.MultiFieldState F PF P) →
             ¬ (RefusesObserve (LeavesInCalls
             ⟦<Self as CanObserve<F>>⟧.observation.observed
             ⟦<Self as CanObserve<F>>⟧.observation.may_leave s values) e t) }
@@ -341,7 +349,8 @@ impl<
 
     // Absorbs what is pending, or only permutes where nothing is. All outputs are left.
     fn duplex(&mut self)
-        ensures { self.new ≡ multi_state.duplexed ⟦<PF as HasFieldPair<F>>⟧.field_pair P.permutation RATE self.old }
+        ensures { self.new ≡ multi_state.duplexed
+            ⟦<PF as HasFieldPair<F>>⟧.field_pair P.permutation RATE self.old }
     {
         let row_len = self.row_len();
         absorb::<F, PF, P, WIDTH, RATE>(
@@ -355,8 +364,10 @@ impl<
 
     // Draws a scalar: the last output left, after a permutation where none is.
     fn draw(&mut self) -> F
-        ensures value { result ≡ multi_state.sampled ⟦<PF as HasFieldPair<F>>⟧.field_pair P.permutation RATE self.old }
-        ensures after { self.new ≡ multi_state.after_sampled ⟦<PF as HasFieldPair<F>>⟧.field_pair P.permutation RATE self.old }
+        ensures value { result ≡ multi_state.sampled
+            ⟦<PF as HasFieldPair<F>>⟧.field_pair P.permutation RATE self.old }
+        ensures after { self.new ≡ multi_state.after_sampled
+            ⟦<PF as HasFieldPair<F>>⟧.field_pair P.permutation RATE self.old }
     {
         if self.outputs_left == 0 {
             self.duplex();
@@ -377,7 +388,8 @@ impl<
     fn push_within(&mut self, values: &[F])
         requires { length self.old.sponge.pending + length values.now ≤ PF.ABSORB_COUNT * RATE }
         ensures fed { self.new
-            ≡ multi_state.scalars_observed ⟦<PF as HasFieldPair<F>>⟧.field_pair P.permutation RATE self.old values.now }
+            ≡ multi_state.scalars_observed
+            ⟦<PF as HasFieldPair<F>>⟧.field_pair P.permutation RATE self.old values.now }
         ensures full { length self.old.sponge.pending + length values.now ≡ PF.ABSORB_COUNT * RATE
             → self.new.sponge.pending ≡ [] }
     {
@@ -405,7 +417,8 @@ impl<
 
     // Makes a scalar pending, and absorbs what is pending if the rate packs no more.
     fn push(&mut self, value: F)
-        ensures { self.new ≡ multi_state.scalar_observed ⟦<PF as HasFieldPair<F>>⟧.field_pair P.permutation RATE self.old value }
+        ensures { self.new ≡ multi_state.scalar_observed
+            ⟦<PF as HasFieldPair<F>>⟧.field_pair P.permutation RATE self.old value }
     {
         prove!(self.room() > 0);
         self.push_within(&[value]);
@@ -416,7 +429,8 @@ impl<
         requires none { self.old.sponge.pending ≡ [] }
         requires whole { length batch.now ≡ PF.ABSORB_COUNT * RATE }
         ensures fed { self.new
-            ≡ multi_state.scalars_observed ⟦<PF as HasFieldPair<F>>⟧.field_pair P.permutation RATE self.old batch.now }
+            ≡ multi_state.scalars_observed
+            ⟦<PF as HasFieldPair<F>>⟧.field_pair P.permutation RATE self.old batch.now }
         ensures none_left { self.new.sponge.pending ≡ [] }
     {
         let row_len = self.row_len();
@@ -429,7 +443,8 @@ impl<
     // pending, and the batches after them are not copied into it.
     pub(crate) fn push_all(&mut self, values: &[F])
         ensures { self.new
-            ≡ multi_state.scalars_observed ⟦<PF as HasFieldPair<F>>⟧.field_pair P.permutation RATE self.old values.now }
+            ≡ multi_state.scalars_observed
+            ⟦<PF as HasFieldPair<F>>⟧.field_pair P.permutation RATE self.old values.now }
     {
         let batch_len = self.batch_len();
         let (front, mut rest) = values.split_at(self.room().min(values.len()));
@@ -443,184 +458,4 @@ impl<
             self.push_within(rest);
         }
     }
-}
-
-impl<
-    F: PrimeField32,
-    PF: PrimeField64 + FieldBridge<F, PF>,
-    P: CryptographicPermutation<[PF; WIDTH]>,
-    const WIDTH: usize,
-    const RATE: usize,
-> Sponge for MultiField32Challenger<F, PF, P, WIDTH, RATE> {
-    ghost use Rattle.std.specs.Prelude.{refl};
-    ghost use Rattle.p3_multi_field.specs.MultiFieldState as multi_state;
-    ghost use Rattle.p3_multi_field.specs.MultiFieldStateLaws.{fed-append};
-
-    type State = Self;
-
-    type Symbol = MultiFieldSymbol<F, PF>;
-
-    ghost state = { λ c. c };
-
-    ghost fed = { λ s symbols. multi_state.fed ⟦<PF as HasFieldPair<F>>⟧.field_pair P.permutation RATE s symbols };
-
-    ghost next = { λ s. multi_state.after_sampled ⟦<PF as HasFieldPair<F>>⟧.field_pair P.permutation RATE s };
-
-    ghost fed_nothing = { λ _. refl };
-
-    ghost fed_more = { fed-append ⟦<PF as HasFieldPair<F>>⟧.field_pair P.permutation RATE };
-}
-
-impl<
-    F: PrimeField32,
-    PF: PrimeField64 + FieldBridge<F, PF>,
-    P: CryptographicPermutation<[PF; WIDTH]>,
-    const WIDTH: usize,
-    const RATE: usize,
-> CanObserve<F> for MultiField32Challenger<F, PF, P, WIDTH, RATE> {
-    ghost use Rattle.p3_challenger_core.specs.Observation.{unrefused_observe};
-    ghost use Rattle.p3_multi_field.specs.MultiFieldCalls.{scalar};
-    ghost use Rattle.p3_multi_field.specs.MultiFieldStateLaws.{is_observation};
-    ghost use Rattle.std.specs.Prelude.{[], ◌∷◌, refl};
-    ghost use Rattle.p3_multi_field.specs.MultiFieldState as multi_state;
-
-    // An observation takes no memory: it is never refused.
-    ghost observation = { unrefused_observe (λ x. scalar x ∷ [])
-        (λ s x. multi_state.scalar_observed ⟦<PF as HasFieldPair<F>>⟧.field_pair P.permutation RATE s x) };
-
-    ghost slice_may_leave = { λ _ _ _. ⊥ };
-
-    ghost observes = { is_observation ⟦<PF as HasFieldPair<F>>⟧.field_pair P.permutation RATE (λ x. scalar x ∷ [])
-        (λ s x. multi_state.scalar_observed ⟦<PF as HasFieldPair<F>>⟧.field_pair P.permutation RATE s x) (λ _ _. refl) };
-
-    ghost slice_leaves = { λ _ _ _ h. absurd h };
-
-    fn observe(&mut self, value: F) -> Result<(), ChallengerError> {
-        self.push(value);
-        Ok(())
-    }
-
-    fn observe_slice(&mut self, values: &[F]) -> Result<(), ChallengerError> {
-        self.push_all(values);
-        Ok(())
-    }
-}
-
-impl<
-    F: PrimeField32,
-    A: BasedVectorSpace<F>,
-    PF: PrimeField64 + FieldBridge<F, PF>,
-    P: CryptographicPermutation<[PF; WIDTH]>,
-    const WIDTH: usize,
-    const RATE: usize,
-> CanSample<A> for MultiField32Challenger<F, PF, P, WIDTH, RATE> {
-    ghost use Rattle.std.specs.Prelude.{Some};
-    ghost use Rattle.p3_challenger_core.specs.Sampling.{unrefused_draw};
-    ghost use Rattle.p3_multi_field.specs.MultiFieldState as multi_state;
-    ghost use Rattle.p3_multi_field.specs.MultiFieldStateLaws.{elements-sampled};
-
-    // The element whose coefficients are the next digits, coefficient 0 first. A draw takes no memory and has no
-    // limit: it is never refused.
-    ghost sampling = { unrefused_draw
-        (λ s. Some (A.element (multi_state.drawn ⟦<PF as HasFieldPair<F>>⟧.field_pair P.permutation RATE A.DIMENSION s)))
-        (λ s. multi_state.after_drawn ⟦<PF as HasFieldPair<F>>⟧.field_pair P.permutation RATE A.DIMENSION s) };
-
-    ghost samples = { elements-sampled ⟦<PF as HasFieldPair<F>>⟧.field_pair P.permutation RATE A.DIMENSION A.element };
-
-    fn sample(&mut self) -> Result<A, ChallengerError> {
-        let mut element = A::zero();
-        for i in 0..A::DIMENSION {
-            element = element.with_coefficient(i, self.draw());
-        }
-        Ok(element)
-    }
-}
-
-impl<
-    F: PrimeField32,
-    PF: PrimeField64 + FieldBridge<F, PF>,
-    P: CryptographicPermutation<[PF; WIDTH]>,
-    const WIDTH: usize,
-    const RATE: usize,
-> CanFinalizeDigest for MultiField32Challenger<F, PF, P, WIDTH, RATE> {
-    ghost use Rattle.p3_multi_field.specs.MultiFieldState as multi_state;
-
-    type Digest = [PF; RATE];
-
-    // The rate after one more permutation, of what is pending where something is.
-    ghost digest_of = { λ s. multi_state.finalized ⟦<PF as HasFieldPair<F>>⟧.field_pair P.permutation RATE s };
-
-    fn finalize(self) -> [PF; RATE] {
-        let mut challenger = self;
-        challenger.duplex();
-        challenger.rate()
-    }
-}
-
-// The element 0.
-fn zero<F: PrimeField64>() -> F
-    ensures { result ≡ F.residues.of 0 }
-{
-    F::ZERO
-}
-
-// The element that is a number more.
-fn plus_number<F: PrimeField64>(x: F, n: u64) -> F
-    ensures { result ≡ plus F.residues x n }
-{
-    x + F::from_u64(n)
-}
-
-// The digit at a place of the row that cells give.
-fn digit_at<F: PrimeField32, PF: PrimeField64 + FieldBridge<F, PF>>(cells: &[PF], place: usize) -> F
-    requires some { 0 < PF.SQUEEZE_COUNT }
-    requires inside { place / PF.SQUEEZE_COUNT < length cells.now }
-    ensures { result ≡ digit_in_row ⟦<PF as HasFieldPair<F>>⟧.field_pair cells.now place }
-{
-    PF::digit(cells[place / PF::SQUEEZE_COUNT], place % PF::SQUEEZE_COUNT)
-}
-
-// Packs scalars into cells, as many into each as it can: the first ones into the first cell. Where none are left a
-// cell is zero.
-fn pack_all<F: PrimeField32, PF: PrimeField64 + FieldBridge<F, PF>>(cells: &mut [PF], scalars: &[F])
-    ensures { cells.new ≡ packed_cells ⟦<PF as HasFieldPair<F>>⟧.field_pair (length cells.old) scalars.now }
-{
-    let mut rest = scalars;
-    for i in 0..cells.len() {
-        let (packed, after) = rest.split_at(PF::ABSORB_COUNT.min(rest.len()));
-        cells[i] = PF::pack(packed);
-        rest = after;
-    }
-}
-
-// Packs scalars over the rate, and adds their number to the cell after it.
-fn pack_over<F: PrimeField32, PF: PrimeField64 + FieldBridge<F, PF>>(
-    cells: &mut [PF],
-    scalars: &[F],
-    rate: usize,
-)
-    requires capacity { rate < length cells.old }
-    ensures { cells.new ≡ scalars_over ⟦<PF as HasFieldPair<F>>⟧.field_pair rate cells.old scalars.now }
-{
-    let counted = plus_number(cells[rate], scalars.len() as u64);
-    pack_all::<F, PF>(&mut cells[..rate], scalars);
-    cells[rate] = counted;
-}
-
-// Absorbs scalars; without one it only permutes.
-fn absorb<
-    F: PrimeField32,
-    PF: PrimeField64 + FieldBridge<F, PF>,
-    P: CryptographicPermutation<[PF; WIDTH]>,
-    const WIDTH: usize,
-    const RATE: usize,
->(cells: &mut [PF; WIDTH], scalars: &[F], permutation: &P)
-    requires capacity { RATE < WIDTH }
-    ensures { cells.new
-        ≡ P.permutation permutation.now (permutation_input ⟦<PF as HasFieldPair<F>>⟧.field_pair RATE cells.old scalars.now) }
-{
-    if !scalars.is_empty() {
-        pack_over::<F, PF>(&mut cells[..], scalars, RATE);
-    }
-    permutation.permute_mut(cells);
 }

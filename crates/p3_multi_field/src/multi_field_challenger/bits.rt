@@ -19,24 +19,25 @@ impl<
     ghost use Rattle.p3_challenger_core.specs.Bits.{most_bits_of};
     ghost use Rattle.p3_challenger_core.specs.BitLaws.{low_bits-below, most_bits-short};
     ghost use Rattle.p3_challenger_core.specs.Sampling.{unrefused_draw};
-    ghost use Rattle.p3_multi_field.specs.MultiFieldStateLaws.{bits-sampled};
+    ghost use Rattle.p3_sponge.specs.DrawnLaws.{value-sampled};
 
     // The greatest number of bits, below 64, whose power of two is below the order of the scalars.
     ghost most_bits = { most_bits_of F.residues.order };
 
     // A draw takes no memory and has no limit: it is never refused.
     ghost bits_sampling = { λ bits. unrefused_draw
-        (λ s. Some (F.residues.number (multi_state.sampled ⟦<PF as HasFieldPair<F>>⟧.field_pair P.permutation RATE s) % 2 ^ bits))
-        (λ s. multi_state.after_sampled ⟦<PF as HasFieldPair<F>>⟧.field_pair P.permutation RATE s) };
+        (λ s. Some (F.residues.number
+        (multi_state.sampled ⟦<PF as HasFieldPair<F>>⟧.field_pair P.permutation RATE s)
+        % 2 ^ bits))
+        (multi_state.after_sampled ⟦<PF as HasFieldPair<F>>⟧.field_pair P.permutation RATE) };
 
     ghost number = { λ n. n };
 
     ghost number_tells = { λ _ _ same. same };
 
-    ghost samples_bits = { λ bits. bits-sampled ⟦<PF as HasFieldPair<F>>⟧.field_pair P.permutation RATE bits };
+    ghost samples_bits = { λ bits. value-sampled _ _ (λ x. F.residues.number x % 2 ^ bits) };
 
-    ghost bits_below = { λ bits s x _ drawn. low_bits-below
-        (F.residues.number (multi_state.sampled ⟦<PF as HasFieldPair<F>>⟧.field_pair P.permutation RATE s)) bits x drawn };
+    ghost bits_below = { λ bits s x _ drawn. low_bits-below _ bits x drawn };
 
     ghost most_bits_short = { most_bits-short F.residues.order };
 

@@ -5,8 +5,11 @@ ghost use Rattle.p3_symmetric.specs.HashValues.{values_of};
 ghost use Rattle.p3_challenger_core.specs.Sponge.{after_steps};
 ghost use Rattle.p3_challenger_core.specs.Segments.{observe, draw, run_calls_to_digest};
 ghost use Rattle.p3_grinding.specs.Checks.{all_zero, check_of};
-ghost use Rattle.p3_multi_field.specs.MultiFieldCalls.{Symbol, scalar, digest, multi_field_by_calls};
-ghost use Rattle.p3_multi_field.specs.MultiFieldSegments.{absorbed_cells, output_at};
+ghost use Rattle.p3_sponge.specs.Outputs.{output_at};
+ghost use Rattle.p3_sponge.specs.SpongeSegments.{outputs_of};
+ghost use Rattle.p3_multi_field.specs.MultiFieldCalls.{Symbol, scalar, digest, scalars_rule};
+ghost use Rattle.p3_multi_field.specs.MultiFieldCalls.{multi_field_by_calls};
+ghost use Rattle.p3_multi_field.specs.MultiFieldSegments.{absorbed_cells};
 ghost use Rattle.p3_multi_field.specs.MultiFieldState.{MultiFieldState, run, after_calls};
 
 use crate::{HasFieldPair, MultiField32Challenger};
@@ -30,20 +33,24 @@ impl<
     pub fn observes_are_calls<const N: usize>()
         ensures value { (c : MultiFieldState F PF P) (x : F) →
             ⟦<Self as CanObserve<F>>⟧.observation.observed c x
-            ≡ after_calls ⟦<PF as HasFieldPair<F>>⟧.field_pair P.permutation RATE c (observe (scalar x) ∷ []) }
+            ≡ after_calls ⟦<PF as HasFieldPair<F>>⟧.field_pair P.permutation RATE c
+            (observe (scalar x) ∷ []) }
         ensures array { (c : MultiFieldState F PF P) (xs : List F) →
             ⟦<Self as CanObserve<[F; N]>>⟧.observation.observed c xs
-            ≡ after_calls ⟦<PF as HasFieldPair<F>>⟧.field_pair P.permutation RATE c (map observe (map scalar xs)) }
+            ≡ after_calls ⟦<PF as HasFieldPair<F>>⟧.field_pair P.permutation RATE c
+            (map observe (map scalar xs)) }
         ensures lists { (c : MultiFieldState F PF P) (lists : _) →
             ⟦<Self as CanObserve<Vec<Vec<F>>>>⟧.observation.observed c lists
             ≡ after_calls ⟦<PF as HasFieldPair<F>>⟧.field_pair P.permutation RATE c
             (map observe (flat_map (λ list. map scalar list.items) lists.items)) }
         ensures digest { (c : MultiFieldState F PF P) (words : _) →
             ⟦<Self as CanObserve<Hash<F, PF, N>>>⟧.observation.observed c words
-            ≡ after_calls ⟦<PF as HasFieldPair<F>>⟧.field_pair P.permutation RATE c (observe (digest (values_of words)) ∷ []) }
+            ≡ after_calls ⟦<PF as HasFieldPair<F>>⟧.field_pair P.permutation RATE c
+            (observe (digest (values_of words)) ∷ []) }
         ensures cap { (c : MultiFieldState F PF P) (cap : List (List PF)) →
             ⟦<Self as CanObserve<MerkleCap<F, [PF; N]>>>⟧.observation.observed c cap
-            ≡ after_calls ⟦<PF as HasFieldPair<F>>⟧.field_pair P.permutation RATE c (map observe (map digest cap)) }
+            ≡ after_calls ⟦<PF as HasFieldPair<F>>⟧.field_pair P.permutation RATE c
+            (map observe (map digest cap)) }
     {}
 
     /// Symbols that are fed, as values and steps of a transcript feed them, are observed one after another; and the
@@ -53,10 +60,12 @@ impl<
     pub fn symbols_are_calls()
         ensures fed { (c : MultiFieldState F PF P) (symbols : List (Symbol F PF)) →
             ⟦<Self as Sponge>⟧.fed c symbols
-            ≡ after_calls ⟦<PF as HasFieldPair<F>>⟧.field_pair P.permutation RATE c (map observe symbols) }
+            ≡ after_calls ⟦<PF as HasFieldPair<F>>⟧.field_pair P.permutation RATE c
+            (map observe symbols) }
         ensures drawn { (n : ℕ) (c : MultiFieldState F PF P) →
             after_steps ⟦<Self as Sponge>⟧.next n c
-            ≡ after_calls ⟦<PF as HasFieldPair<F>>⟧.field_pair P.permutation RATE c (replicate n draw) }
+            ≡ after_calls ⟦<PF as HasFieldPair<F>>⟧.field_pair P.permutation RATE c
+            (replicate n draw) }
     {}
 
     /// An element of a space of some dimension is as many draws, whose answers are its coefficients, coefficient 0
@@ -67,12 +76,15 @@ impl<
         ensures element { (c : MultiFieldState F PF P) →
             ⟦<Self as CanSample<A>>⟧.sampling.sampled c
             ≡ Some (A.element
-            (run ⟦<PF as HasFieldPair<F>>⟧.field_pair P.permutation RATE c (replicate A.DIMENSION draw)).answers) }
+            (run ⟦<PF as HasFieldPair<F>>⟧.field_pair P.permutation RATE c
+            (replicate A.DIMENSION draw)).answers) }
         ensures after { (c : MultiFieldState F PF P) →
             ⟦<Self as CanSample<A>>⟧.sampling.after c
-            ≡ after_calls ⟦<PF as HasFieldPair<F>>⟧.field_pair P.permutation RATE c (replicate A.DIMENSION draw) }
+            ≡ after_calls ⟦<PF as HasFieldPair<F>>⟧.field_pair P.permutation RATE c
+            (replicate A.DIMENSION draw) }
         ensures bits { (bits : ℕ) (c : MultiFieldState F PF P) (x : F) →
-            (run ⟦<PF as HasFieldPair<F>>⟧.field_pair P.permutation RATE c (draw ∷ [])).answers ≡ x ∷ [] →
+            (run ⟦<PF as HasFieldPair<F>>⟧.field_pair P.permutation RATE c (draw ∷ [])).answers
+            ≡ x ∷ [] →
             (⟦<Self as CanSampleBits<usize>>⟧.bits_sampling bits).sampled c
             ≡ Some (F.residues.number x % 2 ^ bits) }
         ensures after_bits { (bits : ℕ) (c : MultiFieldState F PF P) →
@@ -80,7 +92,9 @@ impl<
             ≡ after_calls ⟦<PF as HasFieldPair<F>>⟧.field_pair P.permutation RATE c (draw ∷ []) }
         ensures digest { (c : MultiFieldState F PF P) →
             ⟦<Self as CanFinalizeDigest>⟧.digest_of c
-            ≡ (run_calls_to_digest (multi_field_by_calls ⟦<PF as HasFieldPair<F>>⟧.field_pair (P.permutation c.permutation) RATE)
+            ≡ (run_calls_to_digest
+            (multi_field_by_calls ⟦<PF as HasFieldPair<F>>⟧.field_pair
+            (P.permutation c.permutation) RATE)
             c.sponge []).after }
     {}
 
@@ -93,15 +107,17 @@ impl<
             let pair = ⟦<PF as HasFieldPair<F>>⟧.field_pair in
             let permute = P.permutation self.now.permutation in
             let symbols = map scalar (x ∷ xs) in
+            let outputs = outputs_of (scalars_rule pair permute RATE) in
             (run pair P.permutation RATE self.now (map observe symbols ++ replicate n draw)).answers
-            ≡ map (λ k. output_at pair permute RATE (absorbed_cells pair permute RATE self.now.sponge symbols) k)
+            ≡ map (output_at outputs (absorbed_cells pair permute RATE self.now.sponge symbols))
             (range_with_len 0 n) }
         ensures digest { (word : PF) (words : List PF) (n : ℕ) →
             let pair = ⟦<PF as HasFieldPair<F>>⟧.field_pair in
             let permute = P.permutation self.now.permutation in
             let symbols = digest (word ∷ words) ∷ [] in
+            let outputs = outputs_of (scalars_rule pair permute RATE) in
             (run pair P.permutation RATE self.now (map observe symbols ++ replicate n draw)).answers
-            ≡ map (λ k. output_at pair permute RATE (absorbed_cells pair permute RATE self.now.sponge symbols) k)
+            ≡ map (output_at outputs (absorbed_cells pair permute RATE self.now.sponge symbols))
             (range_with_len 0 n) }
     {
         let _ = &self.outputs_left;
@@ -114,16 +130,20 @@ impl<
     pub fn checks_are_calls()
         ensures none { (witness : F) (c : MultiFieldState F PF P) →
             (check_of ⟦<Self as BeforeWitness>⟧.before_witness ⟦<Self as CanObserve<F>>⟧.observation
-            (all_zero (⟦<Self as CanSampleBits<usize>>⟧.bits_sampling 0)) 0 witness).sampled c ≡ Some Bool.true }
+            (all_zero (⟦<Self as CanSampleBits<usize>>⟧.bits_sampling 0)) 0 witness).sampled c
+            ≡ Some Bool.true }
         ensures sampled { (more : ℕ) (witness x : F) (c : MultiFieldState F PF P) →
-            (run ⟦<PF as HasFieldPair<F>>⟧.field_pair P.permutation RATE c (observe (scalar witness) ∷ draw ∷ [])).answers
-            ≡ x ∷ [] →
+            (run ⟦<PF as HasFieldPair<F>>⟧.field_pair P.permutation RATE c
+            (observe (scalar witness) ∷ draw ∷ [])).answers ≡ x ∷ [] →
             (check_of ⟦<Self as BeforeWitness>⟧.before_witness ⟦<Self as CanObserve<F>>⟧.observation
-            (all_zero (⟦<Self as CanSampleBits<usize>>⟧.bits_sampling (suc more))) (suc more) witness).sampled c
+            (all_zero (⟦<Self as CanSampleBits<usize>>⟧.bits_sampling (suc more)))
+            (suc more) witness).sampled c
             ≡ Some (F.residues.number x % 2 ^ suc more == 0) }
         ensures after { (more : ℕ) (witness : F) (c : MultiFieldState F PF P) →
             (check_of ⟦<Self as BeforeWitness>⟧.before_witness ⟦<Self as CanObserve<F>>⟧.observation
-            (all_zero (⟦<Self as CanSampleBits<usize>>⟧.bits_sampling (suc more))) (suc more) witness).after c
-            ≡ after_calls ⟦<PF as HasFieldPair<F>>⟧.field_pair P.permutation RATE c (observe (scalar witness) ∷ draw ∷ []) }
+            (all_zero (⟦<Self as CanSampleBits<usize>>⟧.bits_sampling (suc more)))
+            (suc more) witness).after c
+            ≡ after_calls ⟦<PF as HasFieldPair<F>>⟧.field_pair P.permutation RATE c
+            (observe (scalar witness) ∷ draw ∷ []) }
     {}
 }

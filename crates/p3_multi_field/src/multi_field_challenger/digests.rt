@@ -1,14 +1,16 @@
 //! What a multi-field challenger observes beside single scalars: arrays and lists of lists of scalars, digests and
 //! caps. None of it is ever refused.
-ghost use Rattle.std.specs.Prelude.{◌≡◌, ◌↔◌, ◌<◌, ◌≤◌, [], length, replicate};
+ghost use Rattle.std.specs.Prelude.{◌≡◌, ◌↔◌, ◌≤◌, [], length};
 ghost use Rattle.p3_challenger_core.specs.Observation.{observed_all};
-ghost use Rattle.p3_multi_field.specs.MultiFieldCalls.{words_over, emptied, permuting};
+ghost use Rattle.p3_sponge.specs.Cells.{overwritten};
+ghost use Rattle.p3_sponge.specs.SpongeCalls.{permuting};
+ghost use Rattle.p3_multi_field.specs.MultiFieldCalls.{absorbed_pending, scalars_rule};
 
-use super::{plus_number, zero};
 use crate::{HasFieldPair, MultiField32Challenger};
 use p3_challenger_core::{CanObserve, ChallengerError};
 use p3_field_bridge::FieldBridge;
 use p3_field_core::{PrimeField32, PrimeField64};
+use p3_sponge::overwrite;
 use p3_symmetric::{CryptographicPermutation, Hash, MerkleCap};
 use std::convert::AsSlice;
 
@@ -32,16 +34,18 @@ impl<
         ensures observed { (s : multi_state.MultiFieldState F PF P) (cap : _) →
             ⟦<Self as CanObserve<&'a MerkleCap<F, [PF; N]>>>⟧.observation.observed s cap
             ≡ ⟦<Self as CanObserve<MerkleCap<F, [PF; N]>>>⟧.observation.observed s cap.now }
-        ensures left { (s : multi_state.MultiFieldState F PF P) (cap : _) (t : multi_state.MultiFieldState F PF P) →
+        ensures left { (s : multi_state.MultiFieldState F PF P) (cap : _)
+            (t : multi_state.MultiFieldState F PF P) →
             ⟦<Self as CanObserve<&'a MerkleCap<F, [PF; N]>>>⟧.observation.may_leave s cap t
             ↔ ⟦<Self as CanObserve<MerkleCap<F, [PF; N]>>>⟧.observation.may_leave s cap.now t }
     {}
 
     // Absorbs what is pending. Where nothing is, the outputs left are dropped.
     fn empty(&mut self)
-        ensures emptied { self.new ≡ record self.old {
-          sponge = emptied ⟦<PF as HasFieldPair<F>>⟧.field_pair
-              (P.permutation self.old.permutation) RATE self.old.sponge.cells self.old.sponge.pending;
+        ensures absorbed { self.new ≡ record self.old {
+          sponge = absorbed_pending ⟦<PF as HasFieldPair<F>>⟧.field_pair
+              (P.permutation self.old.permutation) RATE
+              self.old.sponge.cells self.old.sponge.pending;
         } }
         ensures none_pending { self.new.sponge.pending ≡ [] }
     {
@@ -57,12 +61,14 @@ impl<
         requires none { self.old.sponge.pending ≡ [] }
         requires fits { length block.now ≤ RATE }
         ensures { self.new ≡ record self.old {
-          sponge = permuting ⟦<PF as HasFieldPair<F>>⟧.field_pair
-              (P.permutation self.old.permutation) RATE (words_over PF.residues RATE self.old.sponge.cells block.now);
+          sponge = permuting
+              (scalars_rule ⟦<PF as HasFieldPair<F>>⟧.field_pair
+              (P.permutation self.old.permutation) RATE)
+              (overwritten PF.residues RATE self.old.sponge.cells block.now);
         } }
     {
         let row_len = self.row_len();
-        write_over(&mut self.sponge_state[..], block, RATE);
+        overwrite(&mut self.sponge_state[..], block, RATE);
         self.permutation.permute_mut(&mut self.sponge_state);
         self.outputs_left = row_len;
     }
@@ -70,7 +76,8 @@ impl<
     // Observes a digest of words: they are absorbed in blocks, after what is pending.
     fn push_digest(&mut self, words: &[PF])
         ensures { self.new
-            ≡ multi_state.digest_observed ⟦<PF as HasFieldPair<F>>⟧.field_pair P.permutation RATE self.old words.now }
+            ≡ multi_state.digest_observed
+            ⟦<PF as HasFieldPair<F>>⟧.field_pair P.permutation RATE self.old words.now }
     {
         let _ = &self.sponge_state;
         self.empty();
@@ -85,7 +92,8 @@ impl<
     // Makes the scalars of parts pending, part by part.
     fn push_parts<Part: AsSlice<F>>(&mut self, parts: &[Part])
         ensures { self.new ≡ observed_all
-            (λ s part. multi_state.scalars_observed ⟦<PF as HasFieldPair<F>>⟧.field_pair P.permutation RATE s (Part.items part))
+            (λ s part. multi_state.scalars_observed
+            ⟦<PF as HasFieldPair<F>>⟧.field_pair P.permutation RATE s (Part.items part))
             self.old parts.now }
     {
         for i in 0..parts.len() {
@@ -97,7 +105,8 @@ impl<
     fn push_lists<Part: AsSlice<F>, V: AsSlice<Part>>(&mut self, values: &[V])
         ensures { self.new ≡ observed_all
             (λ s value. observed_all
-            (λ u part. multi_state.scalars_observed ⟦<PF as HasFieldPair<F>>⟧.field_pair P.permutation RATE u (Part.items part))
+            (λ u part. multi_state.scalars_observed
+            ⟦<PF as HasFieldPair<F>>⟧.field_pair P.permutation RATE u (Part.items part))
             s (V.items value))
             self.old values.now }
     {
@@ -109,7 +118,8 @@ impl<
     // Observes digests one after another.
     fn push_digests<D: AsSlice<PF>>(&mut self, digests: &[D])
         ensures { self.new ≡ observed_all
-            (λ s words. multi_state.digest_observed ⟦<PF as HasFieldPair<F>>⟧.field_pair P.permutation RATE s (D.items words))
+            (λ s words. multi_state.digest_observed
+            ⟦<PF as HasFieldPair<F>>⟧.field_pair P.permutation RATE s (D.items words))
             self.old digests.now }
     {
         for i in 0..digests.len() {
@@ -121,34 +131,14 @@ impl<
     fn push_caps<D: AsSlice<PF>, V: AsSlice<D>>(&mut self, caps: &[V])
         ensures { self.new ≡ observed_all
             (λ s cap. observed_all
-            (λ u words. multi_state.digest_observed ⟦<PF as HasFieldPair<F>>⟧.field_pair P.permutation RATE u (D.items words))
+            (λ u words. multi_state.digest_observed
+            ⟦<PF as HasFieldPair<F>>⟧.field_pair P.permutation RATE u (D.items words))
             s (V.items cap))
             self.old caps.now }
     {
         for i in 0..caps.len() {
             self.push_digests(caps[i].as_slice());
         }
-    }
-}
-
-// Writes words over the rate, with zeros after them, and adds their number to the cell after it.
-fn write_over<PF: PrimeField64>(cells: &mut [PF], words: &[PF], rate: usize)
-    requires fits { length words.now ≤ rate }
-    requires capacity { rate < length cells.old }
-    ensures { cells.new ≡ words_over PF.residues rate cells.old words.now }
-{
-    let counted = plus_number(cells[rate], words.len() as u64);
-    cells[..words.len()].copy_from_slice(words);
-    fill_zeros(&mut cells[words.len()..rate]);
-    cells[rate] = counted;
-}
-
-// Makes each cell zero.
-fn fill_zeros<PF: PrimeField64>(cells: &mut [PF])
-    ensures { cells.new ≡ replicate (length cells.old) (PF.residues.of 0) }
-{
-    for i in 0..cells.len() {
-        cells[i] = zero();
     }
 }
 
@@ -168,13 +158,12 @@ impl<
 
     // An observation takes no memory: it is never refused.
     ghost observation = { unrefused_observe (λ xs. map scalar xs)
-        (λ s xs. multi_state.scalars_observed ⟦<PF as HasFieldPair<F>>⟧.field_pair P.permutation RATE s xs) };
+        (multi_state.scalars_observed ⟦<PF as HasFieldPair<F>>⟧.field_pair P.permutation RATE) };
 
     ghost slice_may_leave = { λ _ _ _. ⊥ };
 
-    ghost observes = { is_observation ⟦<PF as HasFieldPair<F>>⟧.field_pair P.permutation RATE (λ xs. map scalar xs)
-        (λ s xs. multi_state.scalars_observed ⟦<PF as HasFieldPair<F>>⟧.field_pair P.permutation RATE s xs)
-        (λ s xs. scalars-fed ⟦<PF as HasFieldPair<F>>⟧.field_pair P.permutation RATE s xs) };
+    ghost observes = { is_observation ⟦<PF as HasFieldPair<F>>⟧.field_pair P.permutation RATE _ _
+        (scalars-fed ⟦<PF as HasFieldPair<F>>⟧.field_pair P.permutation RATE) };
 
     ghost slice_leaves = { λ _ _ _ h. absurd h };
 
@@ -205,18 +194,18 @@ impl<
     ghost use Rattle.p3_multi_field.specs.MultiFieldState as multi_state;
 
     // An observation takes no memory: it is never refused.
-    ghost observation = { unrefused_observe (λ lists. flat_map (λ list. map scalar list.items) lists.items)
+    ghost observation = { unrefused_observe
+        (λ lists. flat_map (λ list. map scalar list.items) lists.items)
         (λ s lists. observed_all
-        (λ u list. multi_state.scalars_observed ⟦<PF as HasFieldPair<F>>⟧.field_pair P.permutation RATE u list.items)
+        (λ u list. multi_state.scalars_observed
+        ⟦<PF as HasFieldPair<F>>⟧.field_pair P.permutation RATE u list.items)
         s lists.items) };
 
     ghost slice_may_leave = { λ _ _ _. ⊥ };
 
-    ghost observes = { is_observation ⟦<PF as HasFieldPair<F>>⟧.field_pair P.permutation RATE
-        (λ lists. flat_map (λ list. map scalar list.items) lists.items)
-        (λ s lists. observed_all
-        (λ u list. multi_state.scalars_observed ⟦<PF as HasFieldPair<F>>⟧.field_pair P.permutation RATE u list.items) s lists.items)
-        (λ s lists. lists-fed ⟦<PF as HasFieldPair<F>>⟧.field_pair P.permutation RATE (λ list. list.items) s lists.items) };
+    ghost observes = { is_observation ⟦<PF as HasFieldPair<F>>⟧.field_pair P.permutation RATE _ _
+        (λ s lists. lists-fed ⟦<PF as HasFieldPair<F>>⟧.field_pair P.permutation RATE
+        (λ list. list.items) s lists.items) };
 
     ghost slice_leaves = { λ _ _ _ h. absurd h };
 
@@ -248,13 +237,12 @@ impl<
 
     // An observation takes no memory: it is never refused.
     ghost observation = { unrefused_observe (λ words. digest (values_of words) ∷ [])
-        (λ s words. multi_state.digest_observed ⟦<PF as HasFieldPair<F>>⟧.field_pair P.permutation RATE s (values_of words)) };
+        (λ s words. multi_state.digest_observed
+        ⟦<PF as HasFieldPair<F>>⟧.field_pair P.permutation RATE s (values_of words)) };
 
     ghost slice_may_leave = { λ _ _ _. ⊥ };
 
-    ghost observes = { is_observation ⟦<PF as HasFieldPair<F>>⟧.field_pair P.permutation RATE
-        (λ words. digest (values_of words) ∷ [])
-        (λ s words. multi_state.digest_observed ⟦<PF as HasFieldPair<F>>⟧.field_pair P.permutation RATE s (values_of words))
+    ghost observes = { is_observation ⟦<PF as HasFieldPair<F>>⟧.field_pair P.permutation RATE _ _
         (λ _ _. refl) };
 
     ghost slice_leaves = { λ _ _ _ h. absurd h };
@@ -286,13 +274,12 @@ impl<
 
     // An observation takes no memory: it is never refused.
     ghost observation = { unrefused_observe (λ cap. map digest cap)
-        (λ s cap. multi_state.digests_observed ⟦<PF as HasFieldPair<F>>⟧.field_pair P.permutation RATE s cap) };
+        (multi_state.digests_observed ⟦<PF as HasFieldPair<F>>⟧.field_pair P.permutation RATE) };
 
     ghost slice_may_leave = { λ _ _ _. ⊥ };
 
-    ghost observes = { is_observation ⟦<PF as HasFieldPair<F>>⟧.field_pair P.permutation RATE (λ cap. map digest cap)
-        (λ s cap. multi_state.digests_observed ⟦<PF as HasFieldPair<F>>⟧.field_pair P.permutation RATE s cap)
-        (λ s cap. digests-fed ⟦<PF as HasFieldPair<F>>⟧.field_pair P.permutation RATE s cap) };
+    ghost observes = { is_observation ⟦<PF as HasFieldPair<F>>⟧.field_pair P.permutation RATE _ _
+        (digests-fed ⟦<PF as HasFieldPair<F>>⟧.field_pair P.permutation RATE) };
 
     ghost slice_leaves = { λ _ _ _ h. absurd h };
 
@@ -323,12 +310,12 @@ impl<
 
     // An observation takes no memory: it is never refused.
     ghost observation = { unrefused_observe (λ cap. map digest cap.now)
-        (λ s cap. multi_state.digests_observed ⟦<PF as HasFieldPair<F>>⟧.field_pair P.permutation RATE s cap.now) };
+        (λ s cap. multi_state.digests_observed
+        ⟦<PF as HasFieldPair<F>>⟧.field_pair P.permutation RATE s cap.now) };
 
     ghost slice_may_leave = { λ _ _ _. ⊥ };
 
-    ghost observes = { is_observation ⟦<PF as HasFieldPair<F>>⟧.field_pair P.permutation RATE (λ cap. map digest cap.now)
-        (λ s cap. multi_state.digests_observed ⟦<PF as HasFieldPair<F>>⟧.field_pair P.permutation RATE s cap.now)
+    ghost observes = { is_observation ⟦<PF as HasFieldPair<F>>⟧.field_pair P.permutation RATE _ _
         (λ s cap. digests-fed ⟦<PF as HasFieldPair<F>>⟧.field_pair P.permutation RATE s cap.now) };
 
     ghost slice_leaves = { λ _ _ _ h. absurd h };

@@ -30,13 +30,16 @@ impl<
             ¬ (RefusesObserve (LeavesInCalls ⟦<Self as CanObserve<[F; N]>>⟧.observation.observed
             ⟦<Self as CanObserve<[F; N]>>⟧.observation.may_leave s values) e t) }
         ensures digests { (values : _) (e : ChallengerError) (s t : MultiFieldState F PF P) →
-            ¬ (RefusesObserve (LeavesInCalls ⟦<Self as CanObserve<Hash<F, PF, N>>>⟧.observation.observed
+            ¬ (RefusesObserve (LeavesInCalls
+            ⟦<Self as CanObserve<Hash<F, PF, N>>>⟧.observation.observed
             ⟦<Self as CanObserve<Hash<F, PF, N>>>⟧.observation.may_leave s values) e t) }
         ensures caps { (values : _) (e : ChallengerError) (s t : MultiFieldState F PF P) →
-            ¬ (RefusesObserve (LeavesInCalls ⟦<Self as CanObserve<MerkleCap<F, [PF; N]>>>⟧.observation.observed
+            ¬ (RefusesObserve (LeavesInCalls
+            ⟦<Self as CanObserve<MerkleCap<F, [PF; N]>>>⟧.observation.observed
             ⟦<Self as CanObserve<MerkleCap<F, [PF; N]>>>⟧.observation.may_leave s values) e t) }
         ensures lists { (values : _) (e : ChallengerError) (s t : MultiFieldState F PF P) →
-            ¬ (RefusesObserve (LeavesInCalls ⟦<Self as CanObserve<Vec<Vec<F>>>>⟧.observation.observed
+            ¬ (RefusesObserve (LeavesInCalls
+            ⟦<Self as CanObserve<Vec<Vec<F>>>>⟧.observation.observed
             ⟦<Self as CanObserve<Vec<Vec<F>>>>⟧.observation.may_leave s values) e t) }
     {}
 

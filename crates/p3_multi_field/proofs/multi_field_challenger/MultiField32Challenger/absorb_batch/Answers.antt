@@ -1,8 +1,10 @@
 use Rattle.std.proofs.Common.{rules, ◌≡◌, ◌<◌, ◌≤◌, ◌+◌, [], ◌++◌, length, take, sym, ap, ◌∙◌, arith}
 use Rattle.std.proofs.lemmas.List.{length-take-le}
-use Rattle.p3_multi_field.specs.MultiFieldCalls.{pair_of, permutation_input, batch_of, row_of}
+use Rattle.p3_sponge.specs.SpongeCalls.{permutation_input}
+use Rattle.p3_sponge.specs.SpongeStepLaws.{permutation_input-some}
+use Rattle.p3_multi_field.specs.MultiFieldCalls.{pair_of, batch_of, row_of, scalars_rule}
 use Rattle.p3_multi_field.specs.MultiFieldState.{MultiFieldState, scalars_observed}
-use Rattle.p3_multi_field.proofs.Batches.{permutation_input-some, observed-absorbed}
+use Rattle.p3_multi_field.proofs.Batches.{observed-absorbed}
 use Rattle.p3_multi_field.proofs.Numbers.{some_product, keeps_all}
 use Rattle.p3_multi_field.proofs.multi_field_challenger.MultiField32Challenger.absorb_batch.Goals as goal
 
@@ -28,6 +30,7 @@ returns-clause-fed g c =
     let permutation = g.P.CryptographicPermutation.permutation in
     let rate = g.row.RATE in
     let inside = c.self.inside in
+    let rule = scalars_rule pair (permutation inside.permutation) rate in
     let batch = c.args.batch.now in
     let pending = take inside.scalars inside.pending in
     let none : pending ≡ [] =
@@ -42,8 +45,8 @@ returns-clause-fed g c =
     let some : 0 < length batch = omega (arith, c.requires.whole, product) in
     let cells = c.permute_mut.ensures
     ∙ ap (permutation inside.permutation)
-    (c.pack_over.ensures ∙ permutation_input-some pair rate inside.sponge_state batch some)
-    ∙ ap (λ p. permutation inside.permutation (permutation_input pair rate inside.sponge_state (p ++ batch))) (sym none) in
+    (c.pack_over.ensures ∙ permutation_input-some rule inside.sponge_state batch some)
+    ∙ ap (λ p. permutation inside.permutation (permutation_input rule inside.sponge_state (p ++ batch))) (sym none) in
     let row : c.row_len-row_len.result ≡ row_of pair rate = c.row_len-row_len.ensures in
     (λ i. record {
       sponge = record { cells = cells i; pending = none i; outputs_left = row i };

@@ -1,6 +1,6 @@
 use Rattle.std.proofs.Common.{Some, ap}
 use Rattle.p3_multi_field.specs.MultiFieldCalls.{pair_of}
-use Rattle.p3_multi_field.proofs.Calls.{drawn-are_answers, after_drawn-is_calls}
+use Rattle.p3_multi_field.proofs.Calls.{drawn-are_answers, steps-are_calls}
 use Rattle.p3_multi_field.proofs.multi_field_challenger.MultiField32Challenger.draws_are_calls.Goals as goal
 
 pub returns-clause-element : goal.returns-clause-element
@@ -17,4 +17,4 @@ returns-clause-after g c state =
     let bridge = g.PF.FieldBridge in
     let pair = pair_of g.F.PrimeCharacteristicRing.residues g.PF.PrimeCharacteristicRing.residues bridge.RADIX_BITS
     bridge.ABSORB_COUNT bridge.SQUEEZE_COUNT in
-    after_drawn-is_calls pair g.P.CryptographicPermutation.permutation g.row.RATE g.A.BasedVectorSpace.DIMENSION state
+    steps-are_calls pair g.P.CryptographicPermutation.permutation g.row.RATE g.A.BasedVectorSpace.DIMENSION state

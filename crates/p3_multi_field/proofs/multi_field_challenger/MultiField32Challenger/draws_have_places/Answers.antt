@@ -1,9 +1,10 @@
 use Rattle.std.proofs.Common.{subst}
-use Rattle.p3_multi_field.specs.MultiFieldCalls.{pair_of}
+use Rattle.p3_multi_field.specs.MultiFieldCalls.{pair_of, scalars_rule}
 use Rattle.p3_multi_field.specs.MultiFieldState.{MultiFieldState}
 use Rattle.p3_multi_field.proofs.Calls.{scalars-places, digest-places}
 use Rattle.p3_multi_field.proofs.Numbers.{some_product}
-use Rattle.p3_multi_field.proofs.MultiFieldSteps.{Fits, kept-fits}
+use Rattle.p3_sponge.specs.SpongeStepLaws.{Fits}
+use Rattle.p3_multi_field.proofs.MultiFieldSteps.{kept-fits}
 use Rattle.p3_multi_field.proofs.multi_field_challenger.MultiField32Challenger.draws_have_places.Goals as goal
 
 pub returns : goal.returns
@@ -15,12 +16,13 @@ returns g c =
     let inside = c.self.inside in
     let keeps = c.self.invariant in
     let state = c.args.self.now in
-    let fits : Fits pair rate state.sponge =
-    subst (λ (d : MultiFieldState g.row.F.Denot g.row.PF.Denot g.row.P.Denot). Fits pair rate d.sponge) c.self.view_is
-    (kept-fits pair g.row.WIDTH rate g.F.PrimeCharacteristicRing.residues.order
+    let permute = g.P.CryptographicPermutation.permutation state.permutation in
+    let rule = scalars_rule pair permute rate in
+    let fits : Fits rule state.sponge =
+    subst (λ (d : MultiFieldState g.row.F.Denot g.row.PF.Denot g.row.P.Denot). Fits rule d.sponge) c.self.view_is
+    (kept-fits pair permute g.row.WIDTH rate g.F.PrimeCharacteristicRing.residues.order
     g.PF.PrimeCharacteristicRing.residues.order inside.scalars inside.outputs_left inside.sponge_state inside.pending
     keeps) in
-    let permute = g.P.CryptographicPermutation.permutation state.permutation in
     let some_batch = some_product bridge.ABSORB_COUNT rate keeps.some_packed keeps.positive in
     let some_row = some_product rate bridge.SQUEEZE_COUNT keeps.positive keeps.some_digits in
     record {

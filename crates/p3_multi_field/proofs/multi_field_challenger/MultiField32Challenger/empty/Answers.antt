@@ -2,12 +2,12 @@ use Rattle.std.proofs.Common.{rules, ◌≡◌, ◌<◌, ◌≤◌, length, take
 use Rattle.std.proofs.lemmas.List.{length-take-le}
 use Rattle.p3_multi_field.specs.MultiFieldCalls.{pair_of}
 use Rattle.p3_multi_field.specs.MultiFieldState.{MultiFieldState}
-use Rattle.p3_multi_field.proofs.WordBlocks.{emptied-some}
+use Rattle.p3_multi_field.proofs.WordBlocks.{absorbed-some}
 use Rattle.p3_multi_field.proofs.multi_field_challenger.MultiField32Challenger.empty.Goals as goal
 
 -- something is pending, and it is absorbed
-pub returns-else-self-eq0-clause-emptied : goal.returns-else-self-eq0-clause-emptied
-returns-else-self-eq0-clause-emptied g c =
+pub returns-else-self-eq0-clause-absorbed : goal.returns-else-self-eq0-clause-absorbed
+returns-else-self-eq0-clause-absorbed g c =
     let bridge = g.PF.FieldBridge in
     let pair = pair_of g.F.PrimeCharacteristicRing.residues g.PF.PrimeCharacteristicRing.residues bridge.RADIX_BITS
     bridge.ABSORB_COUNT bridge.SQUEEZE_COUNT in
@@ -21,5 +21,5 @@ returns-else-self-eq0-clause-emptied g c =
     let some : 0 < length before.sponge.pending = omega (arith, long, same, c.if-self-eq0.false) in
     c.duplex.ensures
     ∙ ap (λ s. record before { sponge = s })
-    (emptied-some pair (g.P.CryptographicPermutation.permutation before.permutation) g.row.RATE before.sponge.cells
+    (absorbed-some pair (g.P.CryptographicPermutation.permutation before.permutation) g.row.RATE before.sponge.cells
     before.sponge.pending some)

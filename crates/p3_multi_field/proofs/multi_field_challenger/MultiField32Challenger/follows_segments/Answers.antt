@@ -1,12 +1,14 @@
-use Rattle.std.proofs.Common.{subst}
+use Rattle.std.proofs.Common.{subst, take}
 use Rattle.p3_challenger_core.specs.SegmentLaws.{run_calls-segments, run_calls-segments_to_digest, run_calls-same}
 use Rattle.p3_challenger_core.specs.SegmentLaws.{run_calls_to_digest-same}
-use Rattle.p3_multi_field.specs.MultiFieldCalls.{pair_of, multi_field_by_calls}
+use Rattle.p3_multi_field.specs.MultiFieldCalls.{pair_of, scalars_rule, multi_field_by_calls}
 use Rattle.p3_multi_field.specs.MultiFieldSegments.{multi_field_by_segments}
 use Rattle.p3_multi_field.specs.MultiFieldState.{MultiFieldState}
 use Rattle.p3_multi_field.proofs.Numbers.{some_product}
-use Rattle.p3_multi_field.proofs.MultiFieldSteps.{Fits, kept-fits, multi_field_steps}
-use Rattle.p3_multi_field.proofs.MultiFieldQueries.{Agree, same_call, same_end}
+use Rattle.p3_sponge.specs.SpongeQueryLaws.{Agree, same_end}
+use Rattle.p3_sponge.specs.SpongeStepLaws.{Fits}
+use Rattle.p3_multi_field.proofs.MultiFieldSteps.{kept-fits, multi_field_steps}
+use Rattle.p3_multi_field.proofs.MultiFieldQueries.{same_call}
 use Rattle.p3_multi_field.proofs.multi_field_challenger.MultiField32Challenger.follows_segments.Goals as goal
 
 -- a challenger keeps what the calls ask of its sponge
@@ -18,24 +20,25 @@ returns g c =
     let rate = g.row.RATE in
     let inside = c.self.inside in
     let keeps = c.self.invariant in
-    let fits : Fits pair rate c.args.self.now.sponge =
-    subst (λ (d : MultiFieldState g.row.F.Denot g.row.PF.Denot g.row.P.Denot). Fits pair rate d.sponge) c.self.view_is
-    (kept-fits pair g.row.WIDTH rate g.F.PrimeCharacteristicRing.residues.order
+    let permute = g.P.CryptographicPermutation.permutation c.args.self.now.permutation in
+    let rule = scalars_rule pair permute rate in
+    let fits : Fits rule c.args.self.now.sponge =
+    subst (λ (d : MultiFieldState g.row.F.Denot g.row.PF.Denot g.row.P.Denot). Fits rule d.sponge) c.self.view_is
+    (kept-fits pair permute g.row.WIDTH rate g.F.PrimeCharacteristicRing.residues.order
     g.PF.PrimeCharacteristicRing.residues.order inside.scalars inside.outputs_left inside.sponge_state inside.pending
     keeps) in
-    let permute = g.P.CryptographicPermutation.permutation c.args.self.now.permutation in
     let by_calls = multi_field_by_calls pair permute rate in
     let by_segments = multi_field_by_segments pair permute rate in
     let steps = multi_field_steps pair permute rate keeps.positive
     (some_product bridge.ABSORB_COUNT rate keeps.some_packed keeps.positive)
     (some_product rate bridge.SQUEEZE_COUNT keeps.positive keeps.some_digits) in
     record {
-      calls = run_calls-segments (Fits pair rate) by_calls by_segments steps c.args.self.now.sponge fits;
-      digest = run_calls-segments_to_digest (Fits pair rate) by_calls by_segments steps c.args.self.now.sponge fits;
-      queries = λ calls other same. run_calls-same (Agree pair permute other rate) by_calls
+      calls = run_calls-segments (Fits rule) by_calls by_segments steps c.args.self.now.sponge fits;
+      digest = run_calls-segments_to_digest (Fits rule) by_calls by_segments steps c.args.self.now.sponge fits;
+      queries = λ calls other same. run_calls-same (Agree rule other) by_calls
           (multi_field_by_calls pair other rate) (same_call pair permute other rate)
-          (same_end pair permute other rate) c.args.self.now.sponge calls same;
-      queries_to_digest = λ calls other same. run_calls_to_digest-same (Agree pair permute other rate) by_calls
+          (same_end rule other (take rate)) c.args.self.now.sponge calls same;
+      queries_to_digest = λ calls other same. run_calls_to_digest-same (Agree rule other) by_calls
           (multi_field_by_calls pair other rate) (same_call pair permute other rate)
-          (same_end pair permute other rate) c.args.self.now.sponge calls same;
+          (same_end rule other (take rate)) c.args.self.now.sponge calls same;
     }

@@ -1,7 +1,9 @@
 use Rattle.std.proofs.Common.{rules, ◌≡◌, ◌<◌, ◌≤◌, ℕ, min, replicate, arith}
-use Rattle.p3_multi_field.specs.MultiFieldCalls.{pair_of}
+use Rattle.p3_sponge.specs.SpongeCalls.{emptied}
+use Rattle.p3_sponge.specs.SpongeStepLaws.{emptied-fits}
+use Rattle.p3_multi_field.specs.MultiFieldCalls.{pair_of, scalars_rule}
 use Rattle.p3_multi_field.proofs.Numbers.{keeps_none, some_product}
-use Rattle.p3_multi_field.proofs.ReadBack.{reads_back, started, started-fits}
+use Rattle.p3_multi_field.proofs.ReadBack.{reads_back}
 use Rattle.p3_multi_field.proofs.multi_field_challenger.MultiField32Challenger.new.Goals as goal
 
 least_counted : (product batch count : ℕ) → batch ≡ min product 18446744073709551615 → product ≡ count
@@ -29,8 +31,8 @@ returns-clause-reads_back g c below =
     let pair = pair_of inner outer bridge.RADIX_BITS bridge.ABSORB_COUNT bridge.SQUEEZE_COUNT in
     let some_batch = some_product bridge.ABSORB_COUNT g.row.RATE (counts.absorb_one increasing) c.requires.rate in
     let some_row = some_product g.row.RATE bridge.SQUEEZE_COUNT c.requires.rate (counts.squeeze_one increasing) in
+    let permute = g.P.CryptographicPermutation.permutation c.args.permutation in
     let cells = replicate g.row.WIDTH c.zero.result in
     reads_back pair g.met.F.PrimeCharacteristicRing.are_residues g.met.PF.PrimeCharacteristicRing.are_residues
-    g.met.PF.FieldBridge.are_radix_bits counts increasing g.row.RATE below
-    (g.P.CryptographicPermutation.permutation c.args.permutation) c.requires.rate some_batch some_row (started cells)
-    (started-fits pair g.row.RATE cells some_batch)
+    g.met.PF.FieldBridge.are_radix_bits counts increasing permute g.row.RATE below some_batch some_row (emptied cells 0)
+    (emptied-fits (scalars_rule pair permute g.row.RATE) some_batch some_row cells 0 (omega arith))

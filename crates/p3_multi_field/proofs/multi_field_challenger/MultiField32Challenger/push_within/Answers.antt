@@ -1,11 +1,10 @@
-use Rattle.std.proofs.Common.{rules, ◌≡◌, ◌<◌, ◌≤◌, ◌+◌, ◌-◌, [], ◌++◌, length, take, sym, ap, ◌∙◌, arith}
+use Rattle.std.proofs.Common.{rules, ◌≡◌, ◌<◌, ◌≤◌, ◌+◌, [], length, take, sym, ap, ◌∙◌, arith}
 use Rattle.std.proofs.lemmas.Bool.Decides.{nat_tests}
 use Rattle.std.proofs.lemmas.List.{length-take-le}
-use Rattle.std.proofs.lemmas.Slice.{take-put_mid}
-use borrow.Rule.Slice.PartMut.{put_mid}
-use Rattle.p3_multi_field.specs.MultiFieldCalls.{pair_of, permutation_input, batch_of, row_of}
+use Rattle.p3_sponge.specs.SpongeCalls.{permutation_input}
+use Rattle.p3_multi_field.specs.MultiFieldCalls.{pair_of, batch_of, row_of, scalars_rule}
 use Rattle.p3_multi_field.specs.MultiFieldState.{MultiFieldState, scalars_observed}
-use Rattle.p3_multi_field.proofs.Batches.{observed-pending, observed-absorbed}
+use Rattle.p3_multi_field.proofs.Batches.{pending-written, observed-pending, observed-absorbed}
 use Rattle.p3_multi_field.proofs.multi_field_challenger.MultiField32Challenger.push_within.Goals as goal
 
 -- the scalars fill the rate, so all that is pending is absorbed
@@ -26,17 +25,14 @@ returns-then-end-batch_len-clause-fed g c =
     } in
     let within : inside.scalars ≤ length inside.pending = search rules in
     let long : length pending ≡ inside.scalars = length-take-le inside.scalars inside.pending within in
-    let written : length c.copy_from_slice.new.self ≡ n = ap length c.copy_from_slice.ensures.after in
-    let now_pending : take (inside.scalars + n) (put_mid inside.scalars (inside.scalars + n - inside.scalars)
-    inside.pending c.copy_from_slice.new.self) ≡ pending ++ values =
-    take-put_mid inside.scalars (inside.scalars + n - inside.scalars) inside.pending c.copy_from_slice.new.self
-    (inside.scalars + n) (ap (λ k. inside.scalars + k) (sym written)) within
-    ∙ ap (λ ys. pending ++ ys) c.copy_from_slice.ensures.after in
+    let now_pending = pending-written inside.pending values c.copy_from_slice.new.self inside.scalars within
+    c.copy_from_slice.ensures.after in
     let some : 0 < n = grind (arith, nat_tests, c.if-is_empty.ensures) in
     let full : length pending + n ≡ batch_of pair rate =
     omega (arith, long, c.if-end-batch_len.true, c.batch_len-batch_len.ensures) in
+    let rule = scalars_rule pair (permutation inside.permutation) rate in
     let cells = c.absorb.ensures
-    ∙ ap (λ p. permutation inside.permutation (permutation_input pair rate inside.sponge_state p)) now_pending in
+    ∙ ap (λ p. permutation inside.permutation (permutation_input rule inside.sponge_state p)) now_pending in
     let row : c.row_len-row_len.result ≡ row_of pair rate = c.row_len-row_len.ensures in
     (λ i. record {
       sponge = record { cells = cells i; pending = []; outputs_left = row i };
@@ -63,12 +59,8 @@ returns-else-end-batch_len-clause-fed g c =
     } in
     let within : inside.scalars ≤ length inside.pending = search rules in
     let long : length pending ≡ inside.scalars = length-take-le inside.scalars inside.pending within in
-    let written : length c.copy_from_slice.new.self ≡ n = ap length c.copy_from_slice.ensures.after in
-    let now_pending : take (inside.scalars + n) (put_mid inside.scalars (inside.scalars + n - inside.scalars)
-    inside.pending c.copy_from_slice.new.self) ≡ pending ++ values =
-    take-put_mid inside.scalars (inside.scalars + n - inside.scalars) inside.pending c.copy_from_slice.new.self
-    (inside.scalars + n) (ap (λ k. inside.scalars + k) (sym written)) within
-    ∙ ap (λ ys. pending ++ ys) c.copy_from_slice.ensures.after in
+    let now_pending = pending-written inside.pending values c.copy_from_slice.new.self inside.scalars within
+    c.copy_from_slice.ensures.after in
     let some : 0 < n = grind (arith, nat_tests, c.if-is_empty.ensures) in
     let fits : length pending + n ≤ batch_of pair rate =
     omega (

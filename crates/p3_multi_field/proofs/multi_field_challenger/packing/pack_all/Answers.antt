@@ -3,7 +3,7 @@ use Rattle.std.proofs.lemmas.List.{take_min, drop_min}
 use Rattle.p3_field_bridge.specs.Bridges.{packed}
 use Rattle.p3_multi_field.specs.MultiFieldCalls.{pair_of}
 use Rattle.p3_multi_field.proofs.Packing.{has_packed-none, has_packed-next, has_packed-all}
-use Rattle.p3_multi_field.proofs.multi_field_challenger.pack_all.Goals as goal
+use Rattle.p3_multi_field.proofs.multi_field_challenger.packing.pack_all.Goals as goal
 
 pub loop-i-init : goal.loop-i-init
 loop-i-init g c =

@@ -1,7 +1,7 @@
 use Rattle.std.proofs.Common.{◌-◌, length, take}
 use Rattle.p3_multi_field.specs.MultiFieldCalls.{pair_of}
 use Rattle.p3_multi_field.proofs.Packing.{HasPacked}
-use Rattle.p3_multi_field.proofs.multi_field_challenger.pack_all.Given as goal
+use Rattle.p3_multi_field.proofs.multi_field_challenger.packing.pack_all.Given as goal
 
 -- the cells so far are packed
 abbrev pub invariant-loop-i : goal.invariant-loop-i

@@ -1,0 +1,16 @@
+use Rattle.std.proofs.Common.{◌-◌, take}
+use Rattle.p3_multi_field.specs.MultiFieldCalls.{pair_of}
+use Rattle.p3_sponge.specs.DrawnLaws.{HasDrawn}
+use Rattle.p3_multi_field.specs.MultiFieldState.{sampled, after_sampled}
+use Rattle.p3_multi_field.proofs.multi_field_challenger.values.MultiField32ChallengerCanSample.sample.Given as goal
+
+-- the coefficients so far are drawn
+abbrev pub invariant-loop-i : goal.invariant-loop-i
+invariant-loop-i g l =
+    let bridge = g.PF.FieldBridge in
+    let pair = pair_of g.F.PrimeCharacteristicRing.residues g.PF.PrimeCharacteristicRing.residues bridge.RADIX_BITS
+    bridge.ABSORB_COUNT bridge.SQUEEZE_COUNT in
+    let space = g.A.BasedVectorSpace in
+    let permute = g.P.CryptographicPermutation.permutation in
+    HasDrawn (sampled pair permute g.row.RATE) (after_sampled pair permute g.row.RATE) space.DIMENSION l.initial.self
+    (take l.i (space.coefficients l.element)) (space.DIMENSION - l.i) l.self
