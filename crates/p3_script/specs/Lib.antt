@@ -4,3 +4,4 @@ pub mod GroupLaws
 pub mod ScriptLaws
 pub mod Scripts
 pub mod Standings
+pub mod SuiteRules
