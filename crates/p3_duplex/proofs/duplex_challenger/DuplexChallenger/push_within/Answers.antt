@@ -3,7 +3,8 @@ use Rattle.std.proofs.lemmas.Bool.Decides.{nat_tests}
 use Rattle.std.proofs.lemmas.List.{length-take-le}
 use Rattle.std.proofs.lemmas.Slice.{take-put_mid}
 use borrow.Rule.Slice.PartMut.{put_mid}
-use Rattle.p3_duplex.specs.DuplexCalls.{permutation_input}
+use Rattle.p3_sponge.specs.SpongeCalls.{permutation_input}
+use Rattle.p3_duplex.specs.DuplexCalls.{duplex}
 use Rattle.p3_duplex.specs.DuplexState.{DuplexState, fed}
 use Rattle.p3_duplex.proofs.Blocks.{fed-pending, fed-absorbed}
 use Rattle.p3_duplex.proofs.duplex_challenger.DuplexChallenger.push_within.Goals as goal
@@ -34,7 +35,7 @@ returns-then-end-clause-fed g c =
     let some : 0 < n = grind (arith, nat_tests, c.if-is_empty.ensures) in
     let full : length pending + n ≡ rate = omega (arith, long, c.if-end.true) in
     let cells = c.absorb.ensures
-    ∙ ap (λ p. permutation inside.permutation (permutation_input r rate inside.sponge_state p)) now_pending in
+    ∙ ap (λ p. permutation inside.permutation (permutation_input (duplex r (permutation inside.permutation) rate) inside.sponge_state p)) now_pending in
     (λ i. record {
       sponge = record { cells = cells i; pending = []; outputs_left = rate };
       permutation = inside.permutation;

@@ -1,0 +1,13 @@
+pub mod Cells
+pub mod CellsLaws
+pub mod Drawn
+pub mod DrawnLaws
+pub mod Outputs
+pub mod OutputsLaws
+pub mod SpongeCalls
+pub mod SpongeListLaws
+pub mod SpongePlaceLaws
+pub mod SpongeQueryLaws
+pub mod SpongeReadBackLaws
+pub mod SpongeSegments
+pub mod SpongeStepLaws

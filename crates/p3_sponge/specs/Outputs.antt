@@ -1,0 +1,51 @@
+-- Outputs in a row: those that one state gives, then those of the next state, and so on without end.
+use Rattle.std.specs.Prelude.{ℕ, zero, suc, ◌+◌, ◌-◌, ◌/◌, ◌%◌, List, [], ◌∷◌}
+use Rattle.p3_challenger_core.specs.Segments.{Run, stays}
+
+-- What gives outputs: the step from a state to the next, a permutation or a hash function; how many outputs a state has;
+-- and its output at a place.
+pub record Outputs (C T : Type 0) : Type 0 where
+  pub next : C → C
+  pub row_len : ℕ
+  pub output : C → ℕ → T
+
+module _ {C T : Type 0} (o : Outputs C T) where
+  -- a state, n steps on
+  unfoldable pub stepped : ℕ → C → C
+  stepped zero state = state
+  stepped (suc n) state = stepped n (o.next state)
+
+  -- the queries of those steps: the state, the state one step on, and so on, n of them
+  unfoldable pub step_queries : ℕ → C → List C
+  step_queries zero state = []
+  step_queries (suc n) state = state ∷ step_queries n (o.next state)
+
+  -- The outputs of a state stand in a row: its own from the last place to the first, then those of the next state, and
+  -- so on.
+  abbrev pub output_at : C → ℕ → T
+  output_at state place = o.output (stepped (place / o.row_len) state) (o.row_len - 1 - place % o.row_len)
+
+  -- the outputs of n draws from a place on
+  unfoldable pub outputs_from : C → ℕ → ℕ → List T
+  outputs_from state place zero = []
+  outputs_from state place (suc n) = output_at state place ∷ outputs_from state (suc place) n
+
+  -- what keeps a state and how many outputs of it are left
+  module _ {S : Type 0} (holding : C → ℕ → S) where
+    -- once the output at a place is drawn, those before it in its own state are left
+    abbrev pub left_after : C → ℕ → S
+    left_after state place = holding (stepped (place / o.row_len) state) (o.row_len - 1 - place % o.row_len)
+
+    -- a draw and n more, from a place on: as many steps are taken as the last of them asks
+    abbrev pub draws_from : C → ℕ → ℕ → Run T C S
+    draws_from state place n =
+        record {
+          answers = outputs_from state place (suc n);
+          queries = step_queries ((place + n) / o.row_len) state;
+          after = left_after state (place + n);
+        }
+
+    -- with outputs left draws begin at the last of them, and with none at the last output of the next state
+    abbrev pub run_draws : C → ℕ → ℕ → Run T C S
+    run_draws state outputs_left zero = stays (holding state outputs_left)
+    run_draws state outputs_left (suc n) = draws_from state (o.row_len - outputs_left) n

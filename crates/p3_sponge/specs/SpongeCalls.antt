@@ -1,0 +1,106 @@
+-- A sponge of cells call by call: values are absorbed a block at a time, and outputs are drawn from the cells.
+use Rattle.std.specs.Prelude.{ℕ, ◌==◌, ◌-◌, List, [], ◌∷◌, ◌++◌, length, if◌then◌else◌}
+use Rattle.p3_challenger_core.specs.Segments.{Call, observe, observe_empty_array, draw, Run, stays, ByCalls}
+
+-- How a sponge works: the cells with a block of values absorbed into them, before they are permuted; the permutation;
+-- how many values fill a block; how many outputs permuted cells have; and the output at a place.
+pub record SpongeRule (C T : Type 0) : Type 0 where
+  pub over : C → List T → C
+  pub permute : C → C
+  pub block_len : ℕ
+  pub row_len : ℕ
+  pub output : C → ℕ → T
+
+-- What a sponge has: its cells; the values that are pending, fewer than fill a block; and how many outputs are left,
+-- which are the first ones of the cells. None is left where a value is pending.
+pub record CellSponge (C T : Type 0) : Type 0 where
+  pub cells : C
+  pub pending : List T
+  pub outputs_left : ℕ
+
+abbrev pub SpongeRun : Type 0 → Type 0 → Type 0
+SpongeRun C T = Run T C (CellSponge C T)
+
+-- cells with nothing pending, and so many outputs left
+abbrev pub emptied : {C T : Type 0} → C → ℕ → CellSponge C T
+emptied cells outputs_left = record { cells = cells; pending = []; outputs_left = outputs_left }
+
+-- one more value is pending, and the outputs are dropped
+abbrev pub appended : {C T : Type 0} → CellSponge C T → T → CellSponge C T
+appended s x = record { cells = s.cells; pending = s.pending ++ x ∷ []; outputs_left = 0 }
+
+-- without the last output left
+abbrev pub one_taken : {C T : Type 0} → CellSponge C T → CellSponge C T
+one_taken s = record s { outputs_left = s.outputs_left - 1 }
+
+module _ {C T : Type 0} (rule : SpongeRule C T) where
+  -- what is permuted: where nothing is pending, the cells as they are
+  abbrev pub permutation_input : C → List T → C
+  permutation_input cells [] = cells
+  permutation_input cells (x ∷ xs) = rule.over cells (x ∷ xs)
+
+  -- after cells are permuted: all outputs are left
+  abbrev pub permuting : C → CellSponge C T
+  permuting cells = emptied (rule.permute cells) rule.row_len
+
+  -- after a permutation of what is pending
+  abbrev pub duplexed : CellSponge C T → CellSponge C T
+  duplexed s = permuting (permutation_input s.cells s.pending)
+
+  -- after a value: as many values as fill a block are absorbed at once
+  abbrev pub absorbed_full : CellSponge C T → CellSponge C T
+  absorbed_full s = if length s.pending == rule.block_len then duplexed s else s
+
+  abbrev pub observed : CellSponge C T → T → CellSponge C T
+  observed s x = absorbed_full (appended s x)
+
+  -- where a draw takes its output from: with none left it absorbs or permutes first
+  abbrev pub ready : CellSponge C T → CellSponge C T
+  ready s = if s.outputs_left == 0 then duplexed s else s
+
+  -- what a draw gives: the last output left
+  abbrev pub last_output : CellSponge C T → T
+  last_output s = rule.output s.cells (s.outputs_left - 1)
+
+  abbrev pub sampled : CellSponge C T → T
+  sampled s = last_output (ready s)
+
+  abbrev pub after_sampled : CellSponge C T → CellSponge C T
+  after_sampled s = one_taken (ready s)
+
+  -- ---- the queries to the permutation
+
+  -- a value queries the cells with the block that it fills
+  abbrev pub queries_by_value : CellSponge C T → T → List C
+  queries_by_value s x =
+      let block = s.pending ++ x ∷ [] in if length block == rule.block_len then rule.over s.cells block ∷ [] else []
+
+  -- a draw that finds no output queries the cells with what is pending, or as they are
+  abbrev pub queries_by_draw : CellSponge C T → List C
+  queries_by_draw s = if s.outputs_left == 0 then permutation_input s.cells s.pending ∷ [] else []
+
+  -- so does the end, whatever outputs are left
+  abbrev pub queries_by_end : CellSponge C T → List C
+  queries_by_end s = permutation_input s.cells s.pending ∷ []
+
+  -- ---- what a call does
+
+  abbrev pub run_value : CellSponge C T → T → SpongeRun C T
+  run_value s x = record { answers = []; queries = queries_by_value s x; after = observed s x }
+
+  abbrev pub run_draw : CellSponge C T → SpongeRun C T
+  run_draw s = record { answers = sampled s ∷ []; queries = queries_by_draw s; after = after_sampled s }
+
+  -- an array of no places does nothing
+  abbrev pub run_call : CellSponge C T → Call T → SpongeRun C T
+  run_call s (observe x) = run_value s x
+  run_call s observe_empty_array = stays s
+  run_call s draw = run_draw s
+
+  -- the end: a digest of the cells after one more step, whether values are pending or not
+  abbrev pub run_end : {D : Type 0} → (C → D) → CellSponge C T → Run T C D
+  run_end digest s = record { answers = []; queries = queries_by_end s; after = digest (duplexed s).cells }
+
+  -- a sponge call by call
+  abbrev pub sponge_by_calls : {D : Type 0} → (C → D) → ByCalls T T C D (CellSponge C T)
+  sponge_by_calls digest = record { call = run_call; digest = run_end digest }
