@@ -155,11 +155,13 @@ impl<
         ensures calls { (calls : List (Call F)) →
             let permute = P.permutation self.now.permutation in
             run_calls (duplex_by_calls F.residues permute RATE) self.now.sponge calls
-            ≡ run_segments (duplex_by_segments F.residues permute RATE) self.now.sponge (segments calls) }
+            ≡ run_segments (duplex_by_segments F.residues permute RATE) self.now.sponge
+            (segments calls) }
         ensures digest { (calls : List (Call F)) →
             let permute = P.permutation self.now.permutation in
             run_calls_to_digest (duplex_by_calls F.residues permute RATE) self.now.sponge calls
-            ≡ run_segments_to_digest (duplex_by_segments F.residues permute RATE) self.now.sponge (segments calls) }
+            ≡ run_segments_to_digest (duplex_by_segments F.residues permute RATE) self.now.sponge
+            (segments calls) }
         ensures queries { (calls : List (Call F)) (other : List F → List F) →
             let permute = P.permutation self.now.permutation in
             let run = run_calls (duplex_by_calls F.residues permute RATE) self.now.sponge calls in
@@ -167,9 +169,11 @@ impl<
             → run_calls (duplex_by_calls F.residues other RATE) self.now.sponge calls ≡ run }
         ensures queries_to_digest { (calls : List (Call F)) (other : List F → List F) →
             let permute = P.permutation self.now.permutation in
-            let run = run_calls_to_digest (duplex_by_calls F.residues permute RATE) self.now.sponge calls in
+            let run = run_calls_to_digest
+            (duplex_by_calls F.residues permute RATE) self.now.sponge calls in
             All (λ state. other state ≡ permute state) run.queries
-            → run_calls_to_digest (duplex_by_calls F.residues other RATE) self.now.sponge calls ≡ run }
+            → run_calls_to_digest (duplex_by_calls F.residues other RATE) self.now.sponge calls
+            ≡ run }
     {
         let _ = &self.outputs_left;
     }
@@ -243,7 +247,8 @@ impl<
     // Draws a value: the last output left, after a permutation where none is.
     fn draw(&mut self) -> F
         ensures value { result ≡ duplex_state.sampled F.residues P.permutation RATE self.old }
-        ensures after { self.new ≡ duplex_state.after_sampled F.residues P.permutation RATE self.old }
+        ensures after { self.new
+            ≡ duplex_state.after_sampled F.residues P.permutation RATE self.old }
     {
         if self.outputs_left == 0 {
             self.duplex();
@@ -263,8 +268,10 @@ impl<
     // Makes values pending that at most fill the rate, and absorbs what is pending if they do.
     fn push_within(&mut self, values: &[F])
         requires { length self.old.sponge.pending + length values.now ≤ RATE }
-        ensures fed { self.new ≡ duplex_state.fed F.residues P.permutation RATE self.old values.now }
-        ensures full { length self.old.sponge.pending + length values.now ≡ RATE → self.new.sponge.pending ≡ [] }
+        ensures fed { self.new
+            ≡ duplex_state.fed F.residues P.permutation RATE self.old values.now }
+        ensures full { length self.old.sponge.pending + length values.now ≡ RATE →
+            self.new.sponge.pending ≡ [] }
     {
         let end = self.inputs + values.len();
         if values.is_empty() {

@@ -19,7 +19,8 @@ pub fn duplex_elements_are_prefix_code<
     const WIDTH: usize,
     const RATE: usize,
 >()
-    ensures { IsPrefixCode ⟦<DuplexChallenger<F, P, WIDTH, RATE> as CanObserve<F>>⟧.observation.symbols }
+    ensures { IsPrefixCode
+        ⟦<DuplexChallenger<F, P, WIDTH, RATE> as CanObserve<F>>⟧.observation.symbols }
 {}
 
 /// Arrays of `N` elements and digests of `N` elements feed symbols that are a prefix code, each among themselves and
@@ -39,7 +40,9 @@ pub fn duplex_arrays_are_prefix_code<
     ensures digests { IsPrefixCode
         ⟦<DuplexChallenger<F, P, WIDTH, RATE> as CanObserve<Hash<M, F, N>>>⟧.observation.symbols }
     ensures both { (digest : Hash M F N) (values a b : List F) → length values ≡ N →
-        ⟦<DuplexChallenger<F, P, WIDTH, RATE> as CanObserve<Hash<M, F, N>>>⟧.observation.symbols digest ++ a
-        ≡ ⟦<DuplexChallenger<F, P, WIDTH, RATE> as CanObserve<[F; N]>>⟧.observation.symbols values ++ b
+        ⟦<DuplexChallenger<F, P, WIDTH, RATE> as CanObserve<Hash<M, F, N>>>⟧.observation.symbols
+        digest ++ a
+        ≡ ⟦<DuplexChallenger<F, P, WIDTH, RATE> as CanObserve<[F; N]>>⟧.observation.symbols
+        values ++ b
         → (values_of digest ≡ values) × (a ≡ b) }
 {}

@@ -67,7 +67,11 @@ impl<T, H, const OUT_LEN: usize> Model for HashChallenger<T, H, OUT_LEN> {
     ghost Value = { HashState T H };
 
     ghost view = { λ c. record {
-      sponge = record { pending = pending_of c.digest c.input_buffer.items; outputs_left = c.outputs_left };
+      sponge = record {
+        pending = pending_of c.digest c.input_buffer.items;
+        outputs_left =
+            c.outputs_left;
+      };
       hasher = c.hasher;
     } };
 
@@ -90,9 +94,11 @@ impl<T: Copy, H: CryptographicHasher<T, [T; OUT_LEN]>, const OUT_LEN: usize> Has
     /// not, as bytes and the elements of a field are.
     pub fn new(initial_state: Vec<T>, hasher: H) -> Self
         requires { 0 < OUT_LEN }
-        ensures value { result ≡ record { sponge = with_pending initial_state.items; hasher = hasher } }
+        ensures value { result
+            ≡ record { sponge = with_pending initial_state.items; hasher = hasher } }
         ensures reads_back { ReadsBack (function_of H.hash OUT_LEN H.filler hasher) result.sponge }
-        ensures to_digest { ReadsBackToDigest (function_of H.hash OUT_LEN H.filler hasher) result.sponge }
+        ensures to_digest { ReadsBackToDigest
+            (function_of H.hash OUT_LEN H.filler hasher) result.sponge }
         ensures or_collides { Decides T →
             ReadsBackOrCollides (function_of H.hash OUT_LEN H.filler hasher) result.sponge }
     {
@@ -148,7 +154,8 @@ impl<T: Copy, H: CryptographicHasher<T, [T; OUT_LEN]>, const OUT_LEN: usize> Has
             let h = function_of H.hash OUT_LEN H.filler self.now.hasher in
             let run = run_calls_to_digest (hash_by_calls h) self.now.sponge calls in
             All (λ message. other message ≡ h.digest message) run.queries
-            → run_calls_to_digest (hash_by_calls (record h { digest = other })) self.now.sponge calls ≡ run }
+            → run_calls_to_digest
+            (hash_by_calls (record h { digest = other })) self.now.sponge calls ≡ run }
     {
         let _ = &self.outputs_left;
     }
@@ -218,7 +225,8 @@ impl<T: Copy, H: CryptographicHasher<T, [T; OUT_LEN]>, const OUT_LEN: usize> Has
     // Feeds the values: as `absorb`, but nothing changes where there are none, and that is not refused.
     fn feed(&mut self, values: &[T]) -> Result<(), ChallengerError>
         ensures ok { OnOk result (self.new ≡ hash_state.fed self.old values.now) }
-        ensures err { IfErr result (λ e. RefusesObserve (λ t. IsNonEmpty values.now × (t ≡ self.old)) e self.new) }
+        ensures err { IfErr result (λ e. RefusesObserve (λ t. IsNonEmpty values.now
+            × (t ≡ self.old)) e self.new) }
     {
         if values.is_empty() {
             return Ok(());
@@ -241,7 +249,8 @@ fn copy_digest<T: Copy, const OUT_LEN: usize>(
     buffer: &mut Vec<T>,
 ) -> Result<(), AllocError>
     ensures ok { OnOk result (buffer.new.items ≡ pending_of digest.now buffer.old.items) }
-    ensures err { OnErr result (pending_of digest.now buffer.new.items ≡ pending_of digest.now buffer.old.items) }
+    ensures err { OnErr result (pending_of digest.now buffer.new.items
+        ≡ pending_of digest.now buffer.old.items) }
 {
     if let Some(digest) = digest {
         buffer.clear();
@@ -264,7 +273,8 @@ impl<T: Copy, H: CryptographicHasher<T, [T; OUT_LEN]>, const OUT_LEN: usize> Spo
 
     ghost fed = { λ s xs. hash_state.fed s xs };
 
-    ghost next = { λ s. hash_state.after_sampled (hash_state.function_of H.hash OUT_LEN H.filler) s };
+    ghost next = { λ s. hash_state.after_sampled
+        (hash_state.function_of H.hash OUT_LEN H.filler) s };
 
     ghost fed_nothing = { λ _. refl };
 

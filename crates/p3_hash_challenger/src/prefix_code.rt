@@ -36,7 +36,8 @@ pub fn hash_arrays_are_prefix_code<
     ensures digests { IsPrefixCode
         ⟦<HashChallenger<T, H, OUT_LEN> as CanObserve<Hash<F, T, N>>>⟧.observation.symbols }
     ensures both { (digest : Hash F T N) (values a b : List T) → length values ≡ N →
-        ⟦<HashChallenger<T, H, OUT_LEN> as CanObserve<Hash<F, T, N>>>⟧.observation.symbols digest ++ a
+        ⟦<HashChallenger<T, H, OUT_LEN> as CanObserve<Hash<F, T, N>>>⟧.observation.symbols digest ++
+        a
         ≡ ⟦<HashChallenger<T, H, OUT_LEN> as CanObserve<[T; N]>>⟧.observation.symbols values ++ b
         → (values_of digest ≡ values) × (a ≡ b) }
 {}

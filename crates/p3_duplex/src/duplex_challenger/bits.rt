@@ -24,15 +24,18 @@ impl<
 
     // A draw takes no memory and has no limit: it is never refused.
     ghost bits_sampling = { λ bits. unrefused_draw
-        (λ s. Some (F.residues.number (duplex_state.sampled F.residues P.permutation RATE s) % 2 ^ bits))
+        (λ s. Some
+        (F.residues.number (duplex_state.sampled F.residues P.permutation RATE s) % 2 ^ bits))
         (λ s. duplex_state.after_sampled F.residues P.permutation RATE s) };
 
     ghost number = { λ n. n };
 
     ghost number_tells = { λ _ _ same. same };
 
-    ghost samples_bits = { λ bits. value-sampled (duplex_state.sampled F.residues P.permutation RATE)
-        (duplex_state.after_sampled F.residues P.permutation RATE) (λ x. F.residues.number x % 2 ^ bits) };
+    ghost samples_bits = { λ bits. value-sampled
+        (duplex_state.sampled F.residues P.permutation RATE)
+        (duplex_state.after_sampled F.residues P.permutation RATE)
+        (λ x. F.residues.number x % 2 ^ bits) };
 
     ghost bits_below = { λ bits s x _ drawn. low_bits-below
         (F.residues.number (duplex_state.sampled F.residues P.permutation RATE s)) bits x drawn };

@@ -38,10 +38,12 @@ impl<
             ≡ after_calls F.residues P.permutation RATE c (map observe (values_of digest)) }
         ensures cap { (c : DuplexState F P) (cap : List (List F)) →
             ⟦<Self as CanObserve<MerkleCap<M, [F; N]>>>⟧.observation.observed c cap
-            ≡ after_calls F.residues P.permutation RATE c (map observe (flat_map (λ root. root) cap)) }
+            ≡ after_calls F.residues P.permutation RATE c
+            (map observe (flat_map (λ root. root) cap)) }
         ensures lists { (c : DuplexState F P) (lists : _) →
             ⟦<Self as CanObserve<Vec<Vec<F>>>>⟧.observation.observed c lists
-            ≡ after_calls F.residues P.permutation RATE c (map observe (flat_map (λ list. list.items) lists.items)) }
+            ≡ after_calls F.residues P.permutation RATE c
+            (map observe (flat_map (λ list. list.items) lists.items)) }
     {}
 
     /// Symbols that are fed, as values and steps of a transcript feed them, are observed one after another; and the
@@ -50,7 +52,8 @@ impl<
     /// A law: the body is empty, and a caller cites the clauses.
     pub fn symbols_are_calls()
         ensures fed { (c : DuplexState F P) (symbols : List F) →
-            ⟦<Self as Sponge>⟧.fed c symbols ≡ after_calls F.residues P.permutation RATE c (map observe symbols) }
+            ⟦<Self as Sponge>⟧.fed c symbols
+            ≡ after_calls F.residues P.permutation RATE c (map observe symbols) }
         ensures drawn { (n : ℕ) (c : DuplexState F P) →
             after_steps ⟦<Self as Sponge>⟧.next n c
             ≡ after_calls F.residues P.permutation RATE c (replicate n draw) }
@@ -63,7 +66,8 @@ impl<
     pub fn draws_are_calls<A: BasedVectorSpace<F>>()
         ensures element { (c : DuplexState F P) →
             ⟦<Self as CanSample<A>>⟧.sampling.sampled c
-            ≡ Some (A.element (run F.residues P.permutation RATE c (replicate A.DIMENSION draw)).answers) }
+            ≡ Some (A.element
+            (run F.residues P.permutation RATE c (replicate A.DIMENSION draw)).answers) }
         ensures after { (c : DuplexState F P) →
             ⟦<Self as CanSample<A>>⟧.sampling.after c
             ≡ after_calls F.residues P.permutation RATE c (replicate A.DIMENSION draw) }
@@ -76,7 +80,8 @@ impl<
             ≡ after_calls F.residues P.permutation RATE c (draw ∷ []) }
         ensures digest { (c : DuplexState F P) →
             ⟦<Self as CanFinalizeDigest>⟧.digest_of c
-            ≡ (run_calls_to_digest (duplex_by_calls F.residues (P.permutation c.permutation) RATE) c.sponge []).after }
+            ≡ (run_calls_to_digest
+            (duplex_by_calls F.residues (P.permutation c.permutation) RATE) c.sponge []).after }
     {}
 
     /// After a value that is observed, and more values, draw `k` answers output `k` of the cells that they leave when
@@ -85,9 +90,12 @@ impl<
     /// A law: the body does nothing, and a caller cites the clause.
     pub fn draws_have_places(&self)
         ensures { (x : F) (xs : List F) (n : ℕ) →
-            let cells = absorbed_cells F.residues (P.permutation self.now.permutation) RATE self.now.sponge (x ∷ xs) in
-            (run F.residues P.permutation RATE self.now (map observe (x ∷ xs) ++ replicate n draw)).answers
-            ≡ map (λ k. output_at F.residues (P.permutation self.now.permutation) RATE cells k) (range_with_len 0 n) }
+            let cells = absorbed_cells F.residues
+            (P.permutation self.now.permutation) RATE self.now.sponge (x ∷ xs) in
+            (run F.residues P.permutation RATE self.now
+            (map observe (x ∷ xs) ++ replicate n draw)).answers
+            ≡ map (λ k. output_at F.residues (P.permutation self.now.permutation) RATE cells k)
+            (range_with_len 0 n) }
     {
         let _ = &self.outputs_left;
     }
@@ -99,15 +107,18 @@ impl<
     pub fn checks_are_calls()
         ensures none { (witness : F) (c : DuplexState F P) →
             (check_of ⟦<Self as BeforeWitness>⟧.before_witness ⟦<Self as CanObserve<F>>⟧.observation
-            (all_zero (⟦<Self as CanSampleBits<usize>>⟧.bits_sampling 0)) 0 witness).sampled c ≡ Some Bool.true }
+            (all_zero (⟦<Self as CanSampleBits<usize>>⟧.bits_sampling 0)) 0 witness).sampled c
+            ≡ Some Bool.true }
         ensures sampled { (more : ℕ) (witness x : F) (c : DuplexState F P) →
             (run F.residues P.permutation RATE c (observe witness ∷ draw ∷ [])).answers ≡ x ∷ [] →
             (check_of ⟦<Self as BeforeWitness>⟧.before_witness ⟦<Self as CanObserve<F>>⟧.observation
-            (all_zero (⟦<Self as CanSampleBits<usize>>⟧.bits_sampling (suc more))) (suc more) witness).sampled c
+            (all_zero (⟦<Self as CanSampleBits<usize>>⟧.bits_sampling (suc more)))
+            (suc more) witness).sampled c
             ≡ Some (F.residues.number x % 2 ^ suc more == 0) }
         ensures after { (more : ℕ) (witness : F) (c : DuplexState F P) →
             (check_of ⟦<Self as BeforeWitness>⟧.before_witness ⟦<Self as CanObserve<F>>⟧.observation
-            (all_zero (⟦<Self as CanSampleBits<usize>>⟧.bits_sampling (suc more))) (suc more) witness).after c
+            (all_zero (⟦<Self as CanSampleBits<usize>>⟧.bits_sampling (suc more)))
+            (suc more) witness).after c
             ≡ after_calls F.residues P.permutation RATE c (observe witness ∷ draw ∷ []) }
     {}
 }

@@ -30,7 +30,8 @@ impl<
             s cap
             ≡ ⟦<DuplexChallenger<F, P, WIDTH, RATE> as CanObserve<MerkleCap<M, [F; N]>>>⟧.observation.observed
             s cap.now }
-        ensures left { (s : duplex_state.DuplexState F P) (cap : _) (t : duplex_state.DuplexState F P) →
+        ensures left { (s : duplex_state.DuplexState F P) (cap : _)
+            (t : duplex_state.DuplexState F P) →
             ⟦<DuplexChallenger<F, P, WIDTH, RATE> as CanObserve<&'a MerkleCap<M, [F; N]>>>⟧.observation.may_leave
             s cap t
             ↔ ⟦<DuplexChallenger<F, P, WIDTH, RATE> as CanObserve<MerkleCap<M, [F; N]>>>⟧.observation.may_leave
@@ -40,7 +41,8 @@ impl<
     // Makes the values of parts pending, part by part.
     pub(crate) fn push_parts<Part: AsSlice<F>>(&mut self, parts: &[Part])
         ensures { self.new ≡ observed_all
-            (λ s part. duplex_state.fed F.residues P.permutation RATE s (Part.items part)) self.old parts.now }
+            (λ s part. duplex_state.fed F.residues P.permutation RATE s
+            (Part.items part)) self.old parts.now }
     {
         for i in 0..parts.len() {
             self.push_all(parts[i].as_slice());
@@ -51,7 +53,8 @@ impl<
     fn push_values<Part: AsSlice<F>, V: AsSlice<Part>>(&mut self, values: &[V])
         ensures { self.new ≡ observed_all
             (λ s value. observed_all
-            (λ u part. duplex_state.fed F.residues P.permutation RATE u (Part.items part)) s (V.items value))
+            (λ u part. duplex_state.fed F.residues P.permutation RATE u (Part.items part)) s
+            (V.items value))
             self.old values.now }
     {
         for i in 0..values.len() {
@@ -81,7 +84,8 @@ impl<
     ghost slice_may_leave = { λ _ _ _. ⊥ };
 
     ghost observes = { is_observation F.residues P.permutation RATE values_of
-        (λ s digest. duplex_state.fed F.residues P.permutation RATE s (values_of digest)) (λ _ _. refl) };
+        (λ s digest. duplex_state.fed F.residues P.permutation RATE s (values_of digest))
+        (λ _ _. refl) };
 
     ghost slice_leaves = { λ _ _ _ h. absurd h };
 
@@ -112,12 +116,15 @@ impl<
 
     // An observation takes no memory: it is never refused.
     ghost observation = { unrefused_observe (λ cap. flat_map (λ root. root) cap)
-        (λ s cap. observed_all (λ u root. duplex_state.fed F.residues P.permutation RATE u root) s cap) };
+        (λ s cap. observed_all
+        (λ u root. duplex_state.fed F.residues P.permutation RATE u root) s cap) };
 
     ghost slice_may_leave = { λ _ _ _. ⊥ };
 
-    ghost observes = { is_observation F.residues P.permutation RATE (λ cap. flat_map (λ root. root) cap)
-        (λ s cap. observed_all (λ u root. duplex_state.fed F.residues P.permutation RATE u root) s cap)
+    ghost observes = { is_observation F.residues P.permutation RATE
+        (λ cap. flat_map (λ root. root) cap)
+        (λ s cap. observed_all
+        (λ u root. duplex_state.fed F.residues P.permutation RATE u root) s cap)
         (λ s cap. fed-flat_map F.residues P.permutation RATE (λ root. root) s cap) };
 
     ghost slice_leaves = { λ _ _ _ h. absurd h };
@@ -149,12 +156,15 @@ impl<
 
     // An observation takes no memory: it is never refused.
     ghost observation = { unrefused_observe (λ cap. flat_map (λ root. root) cap.now)
-        (λ s cap. observed_all (λ u root. duplex_state.fed F.residues P.permutation RATE u root) s cap.now) };
+        (λ s cap. observed_all
+        (λ u root. duplex_state.fed F.residues P.permutation RATE u root) s cap.now) };
 
     ghost slice_may_leave = { λ _ _ _. ⊥ };
 
-    ghost observes = { is_observation F.residues P.permutation RATE (λ cap. flat_map (λ root. root) cap.now)
-        (λ s cap. observed_all (λ u root. duplex_state.fed F.residues P.permutation RATE u root) s cap.now)
+    ghost observes = { is_observation F.residues P.permutation RATE
+        (λ cap. flat_map (λ root. root) cap.now)
+        (λ s cap. observed_all
+        (λ u root. duplex_state.fed F.residues P.permutation RATE u root) s cap.now)
         (λ s cap. fed-flat_map F.residues P.permutation RATE (λ root. root) s cap.now) };
 
     ghost slice_leaves = { λ _ _ _ h. absurd h };
@@ -184,14 +194,18 @@ impl<
 
     // An observation takes no memory: it is never refused.
     ghost observation = { unrefused_observe (λ lists. flat_map (λ list. list.items) lists.items)
-        (λ s lists. observed_all (λ u list. duplex_state.fed F.residues P.permutation RATE u list.items)
+        (λ s lists. observed_all
+        (λ u list. duplex_state.fed F.residues P.permutation RATE u list.items)
         s lists.items) };
 
     ghost slice_may_leave = { λ _ _ _. ⊥ };
 
-    ghost observes = { is_observation F.residues P.permutation RATE (λ lists. flat_map (λ list. list.items) lists.items)
-        (λ s lists. observed_all (λ u list. duplex_state.fed F.residues P.permutation RATE u list.items) s lists.items)
-        (λ s lists. fed-flat_map F.residues P.permutation RATE (λ list. list.items) s lists.items) };
+    ghost observes = { is_observation F.residues P.permutation RATE
+        (λ lists. flat_map (λ list. list.items) lists.items)
+        (λ s lists. observed_all
+        (λ u list. duplex_state.fed F.residues P.permutation RATE u list.items) s lists.items)
+        (λ s lists. fed-flat_map F.residues P.permutation RATE
+        (λ list. list.items) s lists.items) };
 
     ghost slice_leaves = { λ _ _ _ h. absurd h };
 

@@ -70,8 +70,10 @@ fn least_in_lanes<F: PrimeField64 + PackedField, P: LanePermutation<F, WIDTH>, c
     requires room { WIDTH * type_size F.Packing.row < 2 ^ 63 }
     requires bits { bits < 64 }
     ensures { MatchOption result
-        (NoneOfAll F.residues (PassesAt F.residues (P.permutation permutation.now) cells.now place output bits))
-        (IsLeastOf F.residues (PassesAt F.residues (P.permutation permutation.now) cells.now place output bits)) }
+        (NoneOfAll F.residues
+        (PassesAt F.residues (P.permutation permutation.now) cells.now place output bits))
+        (IsLeastOf F.residues
+        (PassesAt F.residues (P.permutation permutation.now) cells.now place output bits)) }
 {
     let mut first = 0;
     'batches: while first < F::ORDER_U64 {

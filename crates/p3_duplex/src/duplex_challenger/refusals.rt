@@ -53,13 +53,16 @@ impl<
             ¬ (RefusesObserve (LeavesInCalls ⟦<Self as CanObserve<[F; N]>>⟧.observation.observed
             ⟦<Self as CanObserve<[F; N]>>⟧.observation.may_leave s values) e t) }
         ensures digests { (values : _) (e : ChallengerError) (s t : DuplexState F P) →
-            ¬ (RefusesObserve (LeavesInCalls ⟦<Self as CanObserve<Hash<M, F, N>>>⟧.observation.observed
+            ¬ (RefusesObserve
+            (LeavesInCalls ⟦<Self as CanObserve<Hash<M, F, N>>>⟧.observation.observed
             ⟦<Self as CanObserve<Hash<M, F, N>>>⟧.observation.may_leave s values) e t) }
         ensures caps { (values : _) (e : ChallengerError) (s t : DuplexState F P) →
-            ¬ (RefusesObserve (LeavesInCalls ⟦<Self as CanObserve<MerkleCap<M, [F; N]>>>⟧.observation.observed
+            ¬ (RefusesObserve
+            (LeavesInCalls ⟦<Self as CanObserve<MerkleCap<M, [F; N]>>>⟧.observation.observed
             ⟦<Self as CanObserve<MerkleCap<M, [F; N]>>>⟧.observation.may_leave s values) e t) }
         ensures lists { (values : _) (e : ChallengerError) (s t : DuplexState F P) →
-            ¬ (RefusesObserve (LeavesInCalls ⟦<Self as CanObserve<Vec<Vec<F>>>>⟧.observation.observed
+            ¬ (RefusesObserve
+            (LeavesInCalls ⟦<Self as CanObserve<Vec<Vec<F>>>>⟧.observation.observed
             ⟦<Self as CanObserve<Vec<Vec<F>>>>⟧.observation.may_leave s values) e t) }
     {}
 
@@ -87,12 +90,15 @@ impl<
     /// A law: the body is empty, and a caller cites the clauses.
     pub fn uniform_checks_take_no_memory()
         ensures memory { (resample : Bool) (bits : ℕ) (witness : F) (c d : DuplexState F P) →
-            ¬ ((check_of ⟦<Self as BeforeWitness>⟧.before_witness ⟦<Self as CanObserve<F>>⟧.observation
-            (zero_and_uniform (⟦<Self as CanSampleUniformBits<F>>⟧.uniform resample bits)) bits witness).may_leave
+            ¬ ((check_of ⟦<Self as BeforeWitness>⟧.before_witness
+            ⟦<Self as CanObserve<F>>⟧.observation
+            (zero_and_uniform (⟦<Self as CanSampleUniformBits<F>>⟧.uniform resample bits)) bits
+            witness).may_leave
             c d) }
         ensures unrefused { (bits : ℕ) (witness : F) (e : ChallengerError) (c d : DuplexState F P) →
             ¬ (RefusesDraw (check_of ⟦<Self as BeforeWitness>⟧.before_witness
             ⟦<Self as CanObserve<F>>⟧.observation
-            (zero_and_uniform (⟦<Self as CanSampleUniformBits<F>>⟧.uniform false bits)) bits witness) e c d) }
+            (zero_and_uniform (⟦<Self as CanSampleUniformBits<F>>⟧.uniform false bits)) bits
+            witness) e c d) }
     {}
 }

@@ -74,9 +74,11 @@ impl<
     fn first_below(&mut self, bound: u64) -> Result<F, ChallengerError>
         ensures drawn { IfOk result (λ x. (accepted_within (base_draw F.residues P.permutation RATE)
             (is_below F.residues bound) draws_allowed).sampled self.old ≡ Some x) }
-        ensures after { OnOk result (self.new ≡ (accepted_within (base_draw F.residues P.permutation RATE)
+        ensures after { OnOk result (self.new
+            ≡ (accepted_within (base_draw F.residues P.permutation RATE)
             (is_below F.residues bound) draws_allowed).after self.old) }
-        ensures err { IfErr result (λ e. RefusesDraw (accepted_within (base_draw F.residues P.permutation RATE)
+        ensures err { IfErr result
+            (λ e. RefusesDraw (accepted_within (base_draw F.residues P.permutation RATE)
             (is_below F.residues bound) draws_allowed) e self.old self.new) }
     {
         let others = self.draw_limit - 1;
@@ -93,9 +95,11 @@ impl<
     fn first_below_of(&mut self, bound: u64, count: u64) -> Result<F, ChallengerError>
         ensures drawn { IfOk result (λ x. (accepted_of (base_draw F.residues P.permutation RATE)
             (is_below F.residues bound) count).sampled self.old ≡ Some x) }
-        ensures after { OnOk result (self.new ≡ (accepted_of (base_draw F.residues P.permutation RATE)
+        ensures after { OnOk result (self.new
+            ≡ (accepted_of (base_draw F.residues P.permutation RATE)
             (is_below F.residues bound) count).after self.old) }
-        ensures err { IfErr result (λ e. RefusesDraw (accepted_of (base_draw F.residues P.permutation RATE)
+        ensures err { IfErr result
+            (λ e. RefusesDraw (accepted_of (base_draw F.residues P.permutation RATE)
             (is_below F.residues bound) count) e self.old self.new) }
     {
         for _ in 0..count {
@@ -134,7 +138,8 @@ impl<
     fn single_bits(&mut self, bits: usize, resample: bool) -> Result<usize, UniformBitsError>
         requires { bits < 64 }
         ensures drawn { IfOk result
-            (λ x. (single F.residues P.permutation RATE resample bits).draw.sampled self.old ≡ Some x) }
+            (λ x. (single F.residues P.permutation RATE resample bits).draw.sampled self.old
+            ≡ Some x) }
         ensures after { OnOk result
             (self.new ≡ (single F.residues P.permutation RATE resample bits).draw.after self.old) }
         ensures err { IfErr result (λ e.
@@ -149,7 +154,8 @@ impl<
     fn halved_bits(&mut self, bits: usize, resample: bool) -> Result<usize, UniformBitsError>
         requires { bits < 64 }
         ensures drawn { IfOk result
-            (λ x. (halved F.residues P.permutation RATE resample bits).draw.sampled self.old ≡ Some x) }
+            (λ x. (halved F.residues P.permutation RATE resample bits).draw.sampled self.old
+            ≡ Some x) }
         ensures after { OnOk result
             (self.new ≡ (halved F.residues P.permutation RATE resample bits).draw.after self.old) }
         ensures err { IfErr result (λ e.
@@ -180,7 +186,8 @@ impl<
         uniform_bits-is_uniform F.residues P.permutation RATE resample F.MAX_SINGLE_SAMPLE_BITS bits };
 
     ghost uniform_below = { λ resample bits c x _ drawn.
-        uniform_bits-below F.residues P.permutation RATE resample F.MAX_SINGLE_SAMPLE_BITS bits c x drawn };
+        uniform_bits-below F.residues P.permutation RATE resample F.MAX_SINGLE_SAMPLE_BITS bits c x
+        drawn };
 
     fn sample_uniform_bits(
         &mut self,

@@ -33,7 +33,8 @@ impl<T: Copy, H: CryptographicHasher<T, [T; OUT_LEN]>, const OUT_LEN: usize> Has
             ≡ after_calls (function_of H.hash OUT_LEN H.filler) s (map observe (values_of digest)) }
         ensures cap { (s : HashState T H) (cap : List (List T)) →
             ⟦<Self as CanObserve<MerkleCap<F, [T; N]>>>⟧.observation.observed s cap
-            ≡ after_calls (function_of H.hash OUT_LEN H.filler) s (map observe (flat_map (λ root. root) cap)) }
+            ≡ after_calls (function_of H.hash OUT_LEN H.filler) s
+            (map observe (flat_map (λ root. root) cap)) }
         ensures lists { (s : HashState T H) (lists : _) →
             ⟦<Self as CanObserve<Vec<Vec<T>>>>⟧.observation.observed s lists
             ≡ after_calls (function_of H.hash OUT_LEN H.filler) s
@@ -65,7 +66,8 @@ impl<T: Copy, H: CryptographicHasher<T, [T; OUT_LEN]>, const OUT_LEN: usize> Has
             ≡ after_calls (function_of H.hash OUT_LEN H.filler) s (draw ∷ []) }
         ensures digest { (s : HashState T H) →
             ⟦<Self as CanFinalizeDigest>⟧.digest_of s
-            ≡ (run_calls_to_digest (hash_by_calls (function_of H.hash OUT_LEN H.filler s.hasher)) s.sponge []).after }
+            ≡ (run_calls_to_digest
+            (hash_by_calls (function_of H.hash OUT_LEN H.filler s.hasher)) s.sponge []).after }
     {}
 
     /// After a value that is observed, and more values, draw `k` answers output `OUT_LEN + k` of the chain, which is
@@ -75,11 +77,14 @@ impl<T: Copy, H: CryptographicHasher<T, [T; OUT_LEN]>, const OUT_LEN: usize> Has
     pub fn draws_have_places(&self)
         ensures values { (x : T) (xs : List T) (n : ℕ) →
             let h = function_of H.hash OUT_LEN H.filler self.now.hasher in
-            (run (function_of H.hash OUT_LEN H.filler) self.now (map observe (x ∷ xs) ++ replicate n draw)).answers
-            ≡ map (λ k. output_at h (self.now.sponge.pending ++ x ∷ xs) (OUT_LEN + k)) (range_with_len 0 n) }
+            (run (function_of H.hash OUT_LEN H.filler) self.now
+            (map observe (x ∷ xs) ++ replicate n draw)).answers
+            ≡ map (λ k. output_at h (self.now.sponge.pending ++ x ∷ xs) (OUT_LEN + k))
+            (range_with_len 0 n) }
         ensures array { (n : ℕ) →
             let h = function_of H.hash OUT_LEN H.filler self.now.hasher in
-            (run (function_of H.hash OUT_LEN H.filler) self.now (observe_empty_array ∷ replicate n draw)).answers
+            (run (function_of H.hash OUT_LEN H.filler) self.now
+            (observe_empty_array ∷ replicate n draw)).answers
             ≡ map (λ k. output_at h self.now.sponge.pending (OUT_LEN + k)) (range_with_len 0 n) }
     {
         let _ = &self.outputs_left;

@@ -35,10 +35,13 @@ impl<T: Copy, H: CryptographicHasher<T, [T; OUT_LEN]>, const OUT_LEN: usize> Has
     // Feeds parts in order, each by one call. A refused call has fed the parts before the refused one.
     fn feed_parts<Part: AsSlice<T>>(&mut self, parts: &[Part]) -> Result<(), ChallengerError>
         ensures each { OnOk result (
-            self.new ≡ observed_all (λ s part. hash_state.fed s (Part.items part)) self.old parts.now) }
-        ensures whole { OnOk result (self.new ≡ hash_state.fed self.old (flat_map Part.items parts.now)) }
+            self.new ≡ observed_all
+            (λ s part. hash_state.fed s (Part.items part)) self.old parts.now) }
+        ensures whole { OnOk result (self.new
+            ≡ hash_state.fed self.old (flat_map Part.items parts.now)) }
         ensures err { IfErr result (λ e.
-            RefusesObserve (LeavesBeginning (λ s part. hash_state.fed s (Part.items part)) self.old parts.now) e
+            RefusesObserve
+            (LeavesBeginning (λ s part. hash_state.fed s (Part.items part)) self.old parts.now) e
             self.new) }
     {
         for part in parts {
@@ -53,7 +56,8 @@ impl<T: Copy, H: CryptographicHasher<T, [T; OUT_LEN]>, const OUT_LEN: usize> Has
         values: &[V],
     ) -> Result<(), ChallengerError>
         ensures ok { OnOk result (self.new
-            ≡ observed_all (λ s value. hash_state.fed s (flat_map Part.items (V.items value))) self.old values.now) }
+            ≡ observed_all
+            (λ s value. hash_state.fed s (flat_map Part.items (V.items value))) self.old values.now) }
         ensures err { IfErr result (λ e.
             RefusesObserve (LeavesBeginning (λ s part. hash_state.fed s (Part.items part)) self.old
             (flat_map V.items values.now)) e self.new) }
@@ -121,7 +125,8 @@ impl<
       may_leave = λ s cap t. LeavesBeginning hash_state.fed s cap t;
     } };
 
-    ghost slice_may_leave = { λ s caps t. LeavesBeginning hash_state.fed s (flat_map (λ cap. cap) caps) t };
+    ghost slice_may_leave = { λ s caps t. LeavesBeginning hash_state.fed s
+        (flat_map (λ cap. cap) caps) t };
 
     ghost observes = { parts-observed (λ cap. cap) (λ root. root) };
 
@@ -155,7 +160,8 @@ impl<
       may_leave = λ s cap t. LeavesBeginning hash_state.fed s cap.now t;
     } };
 
-    ghost slice_may_leave = { λ s caps t. LeavesBeginning hash_state.fed s (flat_map (λ cap. cap.now) caps) t };
+    ghost slice_may_leave = { λ s caps t. LeavesBeginning hash_state.fed s
+        (flat_map (λ cap. cap.now) caps) t };
 
     ghost observes = { parts-observed (λ cap. cap.now) (λ root. root) };
 
@@ -181,11 +187,13 @@ impl<T: Copy, H: CryptographicHasher<T, [T; OUT_LEN]>, const OUT_LEN: usize> Can
     ghost observation = { record {
       symbols = λ lists. flat_map (λ list. list.items) lists.items;
       observed = λ s lists. hash_state.fed s (flat_map (λ list. list.items) lists.items);
-      may_leave = λ s lists t. LeavesBeginning (λ u list. hash_state.fed u list.items) s lists.items t;
+      may_leave = λ s lists t. LeavesBeginning
+          (λ u list. hash_state.fed u list.items) s lists.items t;
     } };
 
     ghost slice_may_leave = { λ s groups t.
-        LeavesBeginning (λ u list. hash_state.fed u list.items) s (flat_map (λ lists. lists.items) groups) t };
+        LeavesBeginning (λ u list. hash_state.fed u list.items) s
+        (flat_map (λ lists. lists.items) groups) t };
 
     ghost observes = { parts-observed (λ lists. lists.items) (λ list. list.items) };
 

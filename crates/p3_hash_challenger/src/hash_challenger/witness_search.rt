@@ -135,7 +135,8 @@ fn hash_candidates<
     ensures same_room { length messages.new ≡ length messages.old }
     ensures same_count { length digests.new ≡ length digests.old }
     ensures each_digest { (j : ℕ) → j < length digests.old →
-        IsDigestOf (H.hash hasher.now) pending.now (K.encoded candidates.now) W first digests.new j }
+        IsDigestOf (H.hash hasher.now) pending.now
+        (K.encoded candidates.now) W first digests.new j }
 {
     let count = digests.len();
     write_candidates::<K, W, S>(pending, candidates, first, count, messages);
