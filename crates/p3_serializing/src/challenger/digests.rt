@@ -9,69 +9,47 @@ use p3_challenger_core::{CanObserve, ChallengerError, Sponge};
 use p3_symmetric::{Hash, MerkleCap};
 use std::convert::AsSlice;
 
-impl<F, Inner: CanObserve<u8>, const BYTES: usize> SerializingChallenger<F, Inner, BYTES> {
-    ghost use Rattle.p3_serializing.specs.SerializingState.{SerializingState, state_of, number_observed};
+impl<F: SerializedIn<BYTES>, Inner: CanObserve<u8>, const BYTES: usize> SerializingChallenger<
+    F,
+    Inner,
+    BYTES,
+> {
+    ghost use Rattle.p3_serializing.specs.SerializingState.{SerializingState};
 
     /// A cap that is lent is observed as its contents are, the cap itself: it feeds the same symbols, and leaves the
     /// same state.
     ///
     /// A law: the body is empty, and a caller cites the clauses.
     pub fn lent_caps_are_caps<'a, const N: usize>()
-    where
-        F: SerializedIn<BYTES>,
         ensures byte_symbols { (cap : _) →
-            ⟦<SerializingChallenger<F, Inner, BYTES> as CanObserve<&'a MerkleCap<F, [u8; N]>>>⟧.observation.symbols
-            cap
-            ≡ ⟦<SerializingChallenger<F, Inner, BYTES> as CanObserve<MerkleCap<F, [u8; N]>>>⟧.observation.symbols
-            cap.now }
+            ⟦<Self as CanObserve<&'a MerkleCap<F, [u8; N]>>>⟧.observation.symbols cap
+            ≡ ⟦<Self as CanObserve<MerkleCap<F, [u8; N]>>>⟧.observation.symbols cap.now }
         ensures bytes_observed { (s : SerializingState Inner.State) (cap : _) →
-            ⟦<SerializingChallenger<F, Inner, BYTES> as CanObserve<&'a MerkleCap<F, [u8; N]>>>⟧.observation.observed
-            s cap
-            ≡ ⟦<SerializingChallenger<F, Inner, BYTES> as CanObserve<MerkleCap<F, [u8; N]>>>⟧.observation.observed
-            s cap.now }
+            ⟦<Self as CanObserve<&'a MerkleCap<F, [u8; N]>>>⟧.observation.observed s cap
+            ≡ ⟦<Self as CanObserve<MerkleCap<F, [u8; N]>>>⟧.observation.observed s cap.now }
         ensures bytes_left { (s : SerializingState Inner.State) (cap : _) (t : SerializingState Inner.State) →
-            ⟦<SerializingChallenger<F, Inner, BYTES> as CanObserve<&'a MerkleCap<F, [u8; N]>>>⟧.observation.may_leave
-            s cap t
-            ↔ ⟦<SerializingChallenger<F, Inner, BYTES> as CanObserve<MerkleCap<F, [u8; N]>>>⟧.observation.may_leave
-            s cap.now t }
+            ⟦<Self as CanObserve<&'a MerkleCap<F, [u8; N]>>>⟧.observation.may_leave s cap t
+            ↔ ⟦<Self as CanObserve<MerkleCap<F, [u8; N]>>>⟧.observation.may_leave s cap.now t }
         ensures word_symbols { (cap : _) →
-            ⟦<SerializingChallenger<F, Inner, BYTES> as CanObserve<&'a MerkleCap<F, [u64; N]>>>⟧.observation.symbols
-            cap
-            ≡ ⟦<SerializingChallenger<F, Inner, BYTES> as CanObserve<MerkleCap<F, [u64; N]>>>⟧.observation.symbols
-            cap.now }
+            ⟦<Self as CanObserve<&'a MerkleCap<F, [u64; N]>>>⟧.observation.symbols cap
+            ≡ ⟦<Self as CanObserve<MerkleCap<F, [u64; N]>>>⟧.observation.symbols cap.now }
         ensures words_observed { (s : SerializingState Inner.State) (cap : _) →
-            ⟦<SerializingChallenger<F, Inner, BYTES> as CanObserve<&'a MerkleCap<F, [u64; N]>>>⟧.observation.observed
-            s cap
-            ≡ ⟦<SerializingChallenger<F, Inner, BYTES> as CanObserve<MerkleCap<F, [u64; N]>>>⟧.observation.observed
-            s cap.now }
+            ⟦<Self as CanObserve<&'a MerkleCap<F, [u64; N]>>>⟧.observation.observed s cap
+            ≡ ⟦<Self as CanObserve<MerkleCap<F, [u64; N]>>>⟧.observation.observed s cap.now }
         ensures words_left { (s : SerializingState Inner.State) (cap : _) (t : SerializingState Inner.State) →
-            ⟦<SerializingChallenger<F, Inner, BYTES> as CanObserve<&'a MerkleCap<F, [u64; N]>>>⟧.observation.may_leave
-            s cap t
-            ↔ ⟦<SerializingChallenger<F, Inner, BYTES> as CanObserve<MerkleCap<F, [u64; N]>>>⟧.observation.may_leave
-            s cap.now t }
+            ⟦<Self as CanObserve<&'a MerkleCap<F, [u64; N]>>>⟧.observation.may_leave s cap t
+            ↔ ⟦<Self as CanObserve<MerkleCap<F, [u64; N]>>>⟧.observation.may_leave s cap.now t }
     {}
-
-    // Passes a word on as its 8 bytes.
-    fn feed_word(&mut self, word: u64) -> Result<(), ChallengerError>
-        ensures ok { OnOk result (state_of Inner.state self.new
-            ≡ (number_observed Inner.observation Inner.slice_may_leave 8).observed
-            (state_of Inner.state self.old) word) }
-        ensures err { IfErr result (λ e. RefusesObserve
-            ((number_observed Inner.observation Inner.slice_may_leave 8).may_leave
-            (state_of Inner.state self.old) word) e (state_of Inner.state self.new)) }
-    {
-        self.feed(&word.to_le_bytes())
-    }
 }
 
-/// What the digests consist of that a challenger observes: bytes, or words of 64 bits.
-pub trait DigestPart<C: Sponge>: Copy {
+// What the digests consist of that a challenger observes: bytes, or words of 64 bits.
+trait DigestPart<C: Sponge>: Copy {
     ghost use Rattle.p3_challenger_core.specs.Observation.{Observation, IsObservation};
 
     // What the parts of a digest do to the challenger.
     ghost parts_observed: { Observation C.State C.Symbol (List Self) };
 
-    /// Passes them on in order.
+    // Passes them on in order.
     fn feed_parts(challenger: &mut C, parts: &[Self]) -> Result<(), ChallengerError>
         ensures ok { OnOk result
             (C.state challenger.new ≡ parts_observed.observed (C.state challenger.old) parts.now) }
@@ -118,7 +96,7 @@ impl<F, Inner: CanObserve<u8>, const BYTES: usize> DigestPart<
         parts: &[u64],
     ) -> Result<(), ChallengerError> {
         for i in 0..parts.len() {
-            challenger.feed_word(parts[i])?;
+            challenger.feed(&parts[i].to_le_bytes())?;
         }
         Ok(())
     }
