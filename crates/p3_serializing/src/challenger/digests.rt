@@ -27,7 +27,8 @@ impl<F: SerializedIn<BYTES>, Inner: CanObserve<u8>, const BYTES: usize> Serializ
         ensures bytes_observed { (s : SerializingState Inner.State) (cap : _) →
             ⟦<Self as CanObserve<&'a MerkleCap<F, [u8; N]>>>⟧.observation.observed s cap
             ≡ ⟦<Self as CanObserve<MerkleCap<F, [u8; N]>>>⟧.observation.observed s cap.now }
-        ensures bytes_left { (s : SerializingState Inner.State) (cap : _) (t : SerializingState Inner.State) →
+        ensures bytes_left { (s : SerializingState Inner.State) (cap : _)
+            (t : SerializingState Inner.State) →
             ⟦<Self as CanObserve<&'a MerkleCap<F, [u8; N]>>>⟧.observation.may_leave s cap t
             ↔ ⟦<Self as CanObserve<MerkleCap<F, [u8; N]>>>⟧.observation.may_leave s cap.now t }
         ensures word_symbols { (cap : _) →
@@ -36,7 +37,8 @@ impl<F: SerializedIn<BYTES>, Inner: CanObserve<u8>, const BYTES: usize> Serializ
         ensures words_observed { (s : SerializingState Inner.State) (cap : _) →
             ⟦<Self as CanObserve<&'a MerkleCap<F, [u64; N]>>>⟧.observation.observed s cap
             ≡ ⟦<Self as CanObserve<MerkleCap<F, [u64; N]>>>⟧.observation.observed s cap.now }
-        ensures words_left { (s : SerializingState Inner.State) (cap : _) (t : SerializingState Inner.State) →
+        ensures words_left { (s : SerializingState Inner.State) (cap : _)
+            (t : SerializingState Inner.State) →
             ⟦<Self as CanObserve<&'a MerkleCap<F, [u64; N]>>>⟧.observation.may_leave s cap t
             ↔ ⟦<Self as CanObserve<MerkleCap<F, [u64; N]>>>⟧.observation.may_leave s cap.now t }
     {}
@@ -54,7 +56,8 @@ trait DigestPart<C: Sponge>: Copy {
         ensures ok { OnOk result
             (C.state challenger.new ≡ parts_observed.observed (C.state challenger.old) parts.now) }
         ensures err { IfErr result (λ e. RefusesObserve
-            (parts_observed.may_leave (C.state challenger.old) parts.now) e (C.state challenger.new)) };
+            (parts_observed.may_leave (C.state challenger.old) parts.now) e
+            (C.state challenger.new)) };
 
     ghost observes: { IsObservation C.fed parts_observed };
 }
@@ -108,10 +111,11 @@ fn feed_digests<C: Sponge, Part: DigestPart<C>, Digest: AsSlice<Part>>(
     digests: &[Digest],
 ) -> Result<(), ChallengerError>
     ensures ok { OnOk result (C.state challenger.new
-        ≡ (each_as Digest.items Part.parts_observed).observed (C.state challenger.old) digests.now) }
+        ≡ (each_as Digest.items Part.parts_observed).observed
+        (C.state challenger.old) digests.now) }
     ensures err { IfErr result (λ e. RefusesObserve
-        ((each_as Digest.items Part.parts_observed).may_leave (C.state challenger.old) digests.now) e
-        (C.state challenger.new)) }
+        ((each_as Digest.items Part.parts_observed).may_leave
+        (C.state challenger.old) digests.now) e (C.state challenger.new)) }
 {
     for i in 0..digests.len() {
         Part::feed_parts(challenger, digests[i].as_slice())?;
@@ -152,8 +156,8 @@ impl<
 
     ghost slice_may_leave = { (each_as values_of Part.parts_observed).may_leave };
 
-    ghost observes = { as-observed Inner.fed Inner.fed_nothing Inner.fed_more values_of Part.parts_observed
-        Part.observes };
+    ghost observes = { as-observed Inner.fed Inner.fed_nothing Inner.fed_more
+        values_of Part.parts_observed Part.observes };
 
     ghost slice_leaves = { λ _ _ _ h. h };
 
@@ -181,8 +185,8 @@ impl<
 
     ghost slice_may_leave = { (each_as (λ cap. cap) (in_row Part.parts_observed)).may_leave };
 
-    ghost observes = { rows-observed_as Inner.fed Inner.fed_nothing Inner.fed_more (λ cap. cap) Part.parts_observed
-        Part.observes };
+    ghost observes = { rows-observed_as Inner.fed Inner.fed_nothing Inner.fed_more
+        (λ cap. cap) Part.parts_observed Part.observes };
 
     ghost slice_leaves = { λ _ _ _ h. h };
 
@@ -210,8 +214,8 @@ impl<
 
     ghost slice_may_leave = { (each_as (λ cap. cap.now) (in_row Part.parts_observed)).may_leave };
 
-    ghost observes = { rows-observed_as Inner.fed Inner.fed_nothing Inner.fed_more (λ cap. cap.now) Part.parts_observed
-        Part.observes };
+    ghost observes = { rows-observed_as Inner.fed Inner.fed_nothing Inner.fed_more
+        (λ cap. cap.now) Part.parts_observed Part.observes };
 
     ghost slice_leaves = { λ _ _ _ h. h };
 
