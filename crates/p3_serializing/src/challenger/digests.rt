@@ -194,8 +194,8 @@ impl<
         feed_digests(self, value.roots())
     }
 
-    fn observe_slice(&mut self, values: &[MerkleCap<F, [Part; N]>]) -> Result<(), ChallengerError> {
-        feed_caps(self, values)
+    fn observe_slice(&mut self, caps: &[MerkleCap<F, [Part; N]>]) -> Result<(), ChallengerError> {
+        feed_caps(self, caps)
     }
 }
 
@@ -223,10 +223,7 @@ impl<
         feed_digests(self, value.roots())
     }
 
-    fn observe_slice(
-        &mut self,
-        values: &[&MerkleCap<F, [Part; N]>],
-    ) -> Result<(), ChallengerError> {
-        feed_caps(self, values)
+    fn observe_slice(&mut self, caps: &[&MerkleCap<F, [Part; N]>]) -> Result<(), ChallengerError> {
+        feed_caps(self, caps)
     }
 }
