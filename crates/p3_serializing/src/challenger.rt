@@ -252,8 +252,7 @@ impl<F: SerializedIn<BYTES>, Inner: CanObserve<u8>, const BYTES: usize, const N:
     ghost use Rattle.p3_serializing.specs.SerializingStateLaws.{elements-observed};
 
     // Its elements in order, each by one call. An array of no places feeds nothing.
-    ghost observation = { in_row
-        (element_observed Inner.observation Inner.slice_may_leave F.residues BYTES) };
+    ghost observation = { in_row (element_observed Inner.observation Inner.slice_may_leave F.residues BYTES) };
 
     ghost slice_may_leave = { (in_row (in_row
         (element_observed Inner.observation Inner.slice_may_leave F.residues BYTES))).may_leave };
