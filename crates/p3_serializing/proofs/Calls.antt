@@ -35,11 +35,8 @@ module _ {I : Type 0} (step : I → ℕ → I) where
   pub rows-bytes : {X : Type 0} (bytes : X → List ℕ) (s : SerializingState I) (rows : List (List X))
       → observed_all (λ u xs. observed_all (λ v x. after_bytes step v (bytes x)) u xs) s rows
       ≡ after_bytes step s (flat_map (λ xs. flat_map bytes xs) rows)
-  rows-bytes bytes s [] = refl
-  rows-bytes bytes s (xs ∷ rows) =
-      rows-bytes bytes (observed_all (λ v x. after_bytes step v (bytes x)) s xs) rows
-      ∙ ap (λ u. after_bytes step u (flat_map (λ ys. flat_map bytes ys) rows)) (row-bytes bytes s xs)
-      ∙ bytes-append s (flat_map bytes xs) (flat_map (λ ys. flat_map bytes ys) rows)
+  rows-bytes bytes s rows =
+      (λ i. observed_all (λ u xs. row-bytes bytes u xs i) s rows) ∙ row-bytes (λ xs. flat_map bytes xs) s rows
 
 -- ---- draws of one coefficient
 

@@ -101,8 +101,7 @@ module _ {I : Type 0} (next : I → I) (d : Sampling I ℕ) (laws : IsSampling n
         → MeetsLimitExactly (bits_drawn d n (bits_of_order r.order)) (λ x. nat_lt x r.order) groups_allowed
         (space_element_drawn d n r 1 (element_of_one nought))
     field_element-limit nought =
-        let one : MeetsLimitExactly (bits_drawn d n (bits_of_order r.order)) (λ x. nat_lt x r.order) groups_allowed
-        (element_drawn d n r) = element-limit in
+        let one = element-limit in
         record {
           gives_none = λ s. (
             λ none. (one.gives_none s).0 (sym (single-sampled (element_drawn d n r) nought s) ∙ none),

@@ -67,6 +67,11 @@ module _ {I Symbol : Type 0} (inner_fed : I → List Symbol → I) where
         → IsObservation (fed inner_fed) o → IsObservation (fed inner_fed) (observed_as f o)
     as-observed f o laws = observed_as-is_observation (fed inner_fed) nothing-fed more-fed o laws f
 
+    -- of what is a list in another way
+    pub rows-observed_as : {T U : Type 0} (f : U → List T) (o : Observation (SerializingState I) Symbol T)
+        → IsObservation (fed inner_fed) o → IsObservation (fed inner_fed) (observed_as f (observation.in_row o))
+    rows-observed_as f o laws = as-observed f (observation.in_row o) (row-observed o laws)
+
     module _ (o : Observation I Symbol ℕ) (slice_may_leave : I → List ℕ → I → Type 0) (laws : IsObservation inner_fed o)
         (slice_leaves : (s : I) (xs : List ℕ) (t : I) → slice_may_leave s xs t →
         LeavesInCalls o.observed o.may_leave s xs t) where
@@ -88,28 +93,6 @@ module _ {I Symbol : Type 0} (inner_fed : I → List Symbol → I) where
 
       pub words-observed : IsObservation (fed inner_fed) (words_observed o slice_may_leave)
       words-observed = row-observed (number_observed o slice_may_leave 8) (number-observed 8)
-
-      -- of what is bytes, or lists of bytes, in another way
-      pub bytes-observed_as : {U : Type 0} (f : U → List ℕ)
-          → IsObservation (fed inner_fed) (observed_as f (bytes_observed o slice_may_leave))
-      bytes-observed_as f = as-observed f (bytes_observed o slice_may_leave) bytes-observed
-
-      pub byte_lists-observed_as : {U : Type 0} (f : U → List (List ℕ))
-          → IsObservation (fed inner_fed) (observed_as f (observation.in_row (bytes_observed o slice_may_leave)))
-      byte_lists-observed_as f =
-          as-observed f (observation.in_row (bytes_observed o slice_may_leave))
-          (row-observed (bytes_observed o slice_may_leave) bytes-observed)
-
-      -- the same of words
-      pub words-observed_as : {U : Type 0} (f : U → List ℕ)
-          → IsObservation (fed inner_fed) (observed_as f (words_observed o slice_may_leave))
-      words-observed_as f = as-observed f (words_observed o slice_may_leave) words-observed
-
-      pub word_lists-observed_as : {U : Type 0} (f : U → List (List ℕ))
-          → IsObservation (fed inner_fed) (observed_as f (observation.in_row (words_observed o slice_may_leave)))
-      word_lists-observed_as f =
-          as-observed f (observation.in_row (words_observed o slice_may_leave))
-          (row-observed (words_observed o slice_may_leave) words-observed)
 
 -- ---- draws
 

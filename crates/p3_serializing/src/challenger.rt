@@ -254,8 +254,8 @@ impl<F: SerializedIn<BYTES>, Inner: CanObserve<u8>, const BYTES: usize, const N:
     // Its elements in order, each by one call. An array of no places feeds nothing.
     ghost observation = { in_row (element_observed Inner.observation Inner.slice_may_leave F.residues BYTES) };
 
-    ghost slice_may_leave = { (in_row (in_row (element_observed Inner.observation Inner.slice_may_leave F.residues
-        BYTES))).may_leave };
+    ghost slice_may_leave = { (in_row (in_row
+        (element_observed Inner.observation Inner.slice_may_leave F.residues BYTES))).may_leave };
 
     ghost observes = { elements-observed Inner.fed Inner.fed_nothing Inner.fed_more Inner.observation
         Inner.slice_may_leave Inner.observes Inner.slice_leaves F.residues BYTES };

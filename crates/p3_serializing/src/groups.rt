@@ -27,13 +27,12 @@ impl<
     pub fn follows_groups()
         ensures { ((i : Inner.State) → IsSome (Inner.CanSample.sampling.sampled i))
             → (calls : List (SerializingCall F)) (s : SerializingState Inner.State) →
-            (words : List ℕ) × AreRead (in_slice Inner.CanObserve.observation Inner.CanObserve.slice_may_leave).observed
-            (group Inner.CanSample.sampling BYTES) Inner.CanSample.sampling.after F.residues BYTES (by_calls
-            ⟦<SerializingChallenger<F, Inner, BYTES> as CanObserve<F>>⟧.observation.observed
-            ⟦<SerializingChallenger<F, Inner, BYTES> as CanSample<F>>⟧.sampling
-            ⟦<SerializingChallenger<F, Inner, BYTES> as CanSampleBits<usize>>⟧.bits_sampling
-            (λ resample bits.
-            (⟦<SerializingChallenger<F, Inner, BYTES> as CanSampleUniformBits<F>>⟧.uniform resample bits).draw)
-            ⟦<SerializingChallenger<F, Inner, BYTES> as BeforeWitness>⟧.before_witness.after) calls s words }
+            (words : List ℕ) × AreRead
+            (in_slice Inner.CanObserve.observation Inner.CanObserve.slice_may_leave).observed
+            (group Inner.CanSample.sampling BYTES) Inner.CanSample.sampling.after F.residues BYTES
+            (by_calls ⟦<Self as CanObserve<F>>⟧.observation.observed
+            ⟦<Self as CanSample<F>>⟧.sampling ⟦<Self as CanSampleBits<usize>>⟧.bits_sampling
+            (λ resample bits. (⟦<Self as CanSampleUniformBits<F>>⟧.uniform resample bits).draw)
+            ⟦<Self as BeforeWitness>⟧.before_witness.after) calls s words }
     {}
 }

@@ -20,8 +20,10 @@ pub fn serialized_elements_are_prefix_code<
     const N: usize,
 >()
     ensures elements { IsPrefixCodeOn IsByte Inner.observation.symbols
-        → IsPrefixFree ⟦<SerializingChallenger<F, Inner, BYTES> as CanObserve<F>>⟧.observation.symbols }
-    ensures arrays { IsPrefixCodeOn IsByte Inner.observation.symbols → IsPrefixCodeOn (λ values. length values ≡ N)
+        → IsPrefixFree
+        ⟦<SerializingChallenger<F, Inner, BYTES> as CanObserve<F>>⟧.observation.symbols }
+    ensures arrays { IsPrefixCodeOn IsByte Inner.observation.symbols
+        → IsPrefixCodeOn (λ values. length values ≡ N)
         ⟦<SerializingChallenger<F, Inner, BYTES> as CanObserve<[F; N]>>⟧.observation.symbols }
 {}
 
@@ -36,7 +38,8 @@ pub fn serialized_digests_are_prefix_code<
     const N: usize,
 >()
     ensures bytes { IsPrefixCode Inner.observation.symbols
-        → IsPrefixCode ⟦<SerializingChallenger<F, Inner, BYTES> as CanObserve<Hash<F, u8, N>>>⟧.observation.symbols }
+        → IsPrefixCode
+        ⟦<SerializingChallenger<F, Inner, BYTES> as CanObserve<Hash<F, u8, N>>>⟧.observation.symbols }
     ensures known_bytes { IsPrefixCodeOn IsByte Inner.observation.symbols
         → IsPrefixCodeOn (λ digest. AreBytes (values_of digest))
         ⟦<SerializingChallenger<F, Inner, BYTES> as CanObserve<Hash<F, u8, N>>>⟧.observation.symbols }

@@ -32,7 +32,8 @@ impl<F: SerializedIn<BYTES>, Inner: CanObserve<u8>, const BYTES: usize> Serializ
             ≡ after_bytes Inner.observation.observed s (bytes_of BYTES (F.residues.number x)) }
         ensures array { (s : SerializingState Inner.State) (xs : List F) →
             ⟦<Self as CanObserve<[F; N]>>⟧.observation.observed s xs
-            ≡ after_bytes Inner.observation.observed s (flat_map (λ x. bytes_of BYTES (F.residues.number x)) xs) }
+            ≡ after_bytes Inner.observation.observed s
+            (flat_map (λ x. bytes_of BYTES (F.residues.number x)) xs) }
         ensures digest { (s : SerializingState Inner.State) (digest : _) →
             ⟦<Self as CanObserve<Hash<F, u8, N>>>⟧.observation.observed s digest
             ≡ after_bytes Inner.observation.observed s (values_of digest) }
@@ -44,7 +45,8 @@ impl<F: SerializedIn<BYTES>, Inner: CanObserve<u8>, const BYTES: usize> Serializ
             ≡ after_bytes Inner.observation.observed s (flat_map (bytes_of 8) (values_of digest)) }
         ensures cap_of_words { (s : SerializingState Inner.State) (cap : List (List ℕ)) →
             ⟦<Self as CanObserve<MerkleCap<F, [u64; N]>>>⟧.observation.observed s cap
-            ≡ after_bytes Inner.observation.observed s (flat_map (λ root. flat_map (bytes_of 8) root) cap) }
+            ≡ after_bytes Inner.observation.observed s
+            (flat_map (λ root. flat_map (bytes_of 8) root) cap) }
     {}
 }
 
@@ -99,7 +101,8 @@ impl<
     pub fn checks_are_calls()
         ensures none { (witness : F) (s : SerializingState Inner.State) →
             (check_of ⟦<Self as BeforeWitness>⟧.before_witness ⟦<Self as CanObserve<F>>⟧.observation
-            (all_zero (⟦<Self as CanSampleBits<usize>>⟧.bits_sampling 0)) 0 witness).sampled s ≡ Some Bool.true }
+            (all_zero (⟦<Self as CanSampleBits<usize>>⟧.bits_sampling 0)) 0 witness).sampled s
+            ≡ Some Bool.true }
         ensures sampled { (more n : ℕ) (witness : F) (s : SerializingState Inner.State) →
             IsSome (Inner.CanSample.sampling.sampled s.inner) →
             answers_by_calls (by_calls ⟦<Self as CanObserve<F>>⟧.observation.observed
@@ -108,12 +111,14 @@ impl<
             ⟦<Self as BeforeWitness>⟧.before_witness.after)
             (drop_byte ∷ observe witness ∷ draw_bits (suc more) ∷ []) s ≡ bits (Some n) ∷ [] →
             (check_of ⟦<Self as BeforeWitness>⟧.before_witness ⟦<Self as CanObserve<F>>⟧.observation
-            (all_zero (⟦<Self as CanSampleBits<usize>>⟧.bits_sampling (suc more))) (suc more) witness).sampled s
+            (all_zero (⟦<Self as CanSampleBits<usize>>⟧.bits_sampling (suc more)))
+            (suc more) witness).sampled s
             ≡ Some (n == 0) }
         ensures after { (more : ℕ) (witness : F) (s : SerializingState Inner.State) →
             IsSome (Inner.CanSample.sampling.sampled s.inner) →
             (check_of ⟦<Self as BeforeWitness>⟧.before_witness ⟦<Self as CanObserve<F>>⟧.observation
-            (all_zero (⟦<Self as CanSampleBits<usize>>⟧.bits_sampling (suc more))) (suc more) witness).after s
+            (all_zero (⟦<Self as CanSampleBits<usize>>⟧.bits_sampling (suc more)))
+            (suc more) witness).after s
             ≡ after_calls (by_calls ⟦<Self as CanObserve<F>>⟧.observation.observed
             ⟦<Self as CanSample<F>>⟧.sampling ⟦<Self as CanSampleBits<usize>>⟧.bits_sampling
             (λ resample count. (⟦<Self as CanSampleUniformBits<F>>⟧.uniform resample count).draw)

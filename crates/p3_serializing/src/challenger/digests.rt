@@ -1,308 +1,229 @@
 //! The digests that a serializing challenger observes, of bytes or of words of 64 bits, and caps of them. A digest of
 //! bytes reaches the inner challenger as one slice, and a digest of words as a slice of 8 bytes for each word.
-ghost use Rattle.std.specs.Prelude.{◌≡◌, ◌↔◌, OnOk, IfErr};
+ghost use Rattle.std.specs.Prelude.{◌≡◌, ◌↔◌, List, OnOk, IfErr};
 ghost use Rattle.p3_challenger_core.specs.Observation.{RefusesObserve};
+ghost use Rattle.p3_serializing.specs.SerializingState.{each_as};
 
 use crate::{SerializedIn, SerializingChallenger};
-use p3_challenger_core::{CanObserve, ChallengerError};
+use p3_challenger_core::{CanObserve, ChallengerError, Sponge};
 use p3_symmetric::{Hash, MerkleCap};
 use std::convert::AsSlice;
 
-impl<F, Inner: CanObserve<u8>, const BYTES: usize> SerializingChallenger<F, Inner, BYTES> {
-    ghost use Rattle.p3_serializing.specs.SerializingState.{state_of, bytes_observed, number_observed, words_observed};
-    ghost use Rattle.p3_serializing.specs.SerializingState.{SerializingState, each_as};
+impl<F: SerializedIn<BYTES>, Inner: CanObserve<u8>, const BYTES: usize> SerializingChallenger<
+    F,
+    Inner,
+    BYTES,
+> {
+    ghost use Rattle.p3_serializing.specs.SerializingState.{SerializingState};
 
     /// A cap that is lent is observed as its contents are, the cap itself: it feeds the same symbols, and leaves the
     /// same state.
     ///
     /// A law: the body is empty, and a caller cites the clauses.
     pub fn lent_caps_are_caps<'a, const N: usize>()
-    where
-        F: SerializedIn<BYTES>,
         ensures byte_symbols { (cap : _) →
-            ⟦<SerializingChallenger<F, Inner, BYTES> as CanObserve<&'a MerkleCap<F, [u8; N]>>>⟧.observation.symbols
-            cap
-            ≡ ⟦<SerializingChallenger<F, Inner, BYTES> as CanObserve<MerkleCap<F, [u8; N]>>>⟧.observation.symbols
-            cap.now }
+            ⟦<Self as CanObserve<&'a MerkleCap<F, [u8; N]>>>⟧.observation.symbols cap
+            ≡ ⟦<Self as CanObserve<MerkleCap<F, [u8; N]>>>⟧.observation.symbols cap.now }
         ensures bytes_observed { (s : SerializingState Inner.State) (cap : _) →
-            ⟦<SerializingChallenger<F, Inner, BYTES> as CanObserve<&'a MerkleCap<F, [u8; N]>>>⟧.observation.observed
-            s cap
-            ≡ ⟦<SerializingChallenger<F, Inner, BYTES> as CanObserve<MerkleCap<F, [u8; N]>>>⟧.observation.observed
-            s cap.now }
-        ensures bytes_left { (s : SerializingState Inner.State) (cap : _) (t : SerializingState Inner.State) →
-            ⟦<SerializingChallenger<F, Inner, BYTES> as CanObserve<&'a MerkleCap<F, [u8; N]>>>⟧.observation.may_leave
-            s cap t
-            ↔ ⟦<SerializingChallenger<F, Inner, BYTES> as CanObserve<MerkleCap<F, [u8; N]>>>⟧.observation.may_leave
-            s cap.now t }
+            ⟦<Self as CanObserve<&'a MerkleCap<F, [u8; N]>>>⟧.observation.observed s cap
+            ≡ ⟦<Self as CanObserve<MerkleCap<F, [u8; N]>>>⟧.observation.observed s cap.now }
+        ensures bytes_left { (s : SerializingState Inner.State) (cap : _)
+            (t : SerializingState Inner.State) →
+            ⟦<Self as CanObserve<&'a MerkleCap<F, [u8; N]>>>⟧.observation.may_leave s cap t
+            ↔ ⟦<Self as CanObserve<MerkleCap<F, [u8; N]>>>⟧.observation.may_leave s cap.now t }
         ensures word_symbols { (cap : _) →
-            ⟦<SerializingChallenger<F, Inner, BYTES> as CanObserve<&'a MerkleCap<F, [u64; N]>>>⟧.observation.symbols
-            cap
-            ≡ ⟦<SerializingChallenger<F, Inner, BYTES> as CanObserve<MerkleCap<F, [u64; N]>>>⟧.observation.symbols
-            cap.now }
+            ⟦<Self as CanObserve<&'a MerkleCap<F, [u64; N]>>>⟧.observation.symbols cap
+            ≡ ⟦<Self as CanObserve<MerkleCap<F, [u64; N]>>>⟧.observation.symbols cap.now }
         ensures words_observed { (s : SerializingState Inner.State) (cap : _) →
-            ⟦<SerializingChallenger<F, Inner, BYTES> as CanObserve<&'a MerkleCap<F, [u64; N]>>>⟧.observation.observed
-            s cap
-            ≡ ⟦<SerializingChallenger<F, Inner, BYTES> as CanObserve<MerkleCap<F, [u64; N]>>>⟧.observation.observed
-            s cap.now }
-        ensures words_left { (s : SerializingState Inner.State) (cap : _) (t : SerializingState Inner.State) →
-            ⟦<SerializingChallenger<F, Inner, BYTES> as CanObserve<&'a MerkleCap<F, [u64; N]>>>⟧.observation.may_leave
-            s cap t
-            ↔ ⟦<SerializingChallenger<F, Inner, BYTES> as CanObserve<MerkleCap<F, [u64; N]>>>⟧.observation.may_leave
-            s cap.now t }
+            ⟦<Self as CanObserve<&'a MerkleCap<F, [u64; N]>>>⟧.observation.observed s cap
+            ≡ ⟦<Self as CanObserve<MerkleCap<F, [u64; N]>>>⟧.observation.observed s cap.now }
+        ensures words_left { (s : SerializingState Inner.State) (cap : _)
+            (t : SerializingState Inner.State) →
+            ⟦<Self as CanObserve<&'a MerkleCap<F, [u64; N]>>>⟧.observation.may_leave s cap t
+            ↔ ⟦<Self as CanObserve<MerkleCap<F, [u64; N]>>>⟧.observation.may_leave s cap.now t }
     {}
+}
 
-    // Passes lists of bytes on in order, each as one slice.
-    fn feed_byte_lists<Part: AsSlice<u8>>(&mut self, lists: &[Part]) -> Result<(), ChallengerError>
-        ensures ok { OnOk result (state_of Inner.state self.new
-            ≡ (each_as Part.items (bytes_observed Inner.observation Inner.slice_may_leave)).observed
-            (state_of Inner.state self.old) lists.now) }
+// What the digests consist of that a challenger observes: bytes, or words of 64 bits.
+trait DigestPart<C: Sponge>: Copy {
+    ghost use Rattle.p3_challenger_core.specs.Observation.{Observation, IsObservation};
+
+    // What the parts of a digest do to the challenger.
+    ghost parts_observed: { Observation C.State C.Symbol (List Self) };
+
+    // Passes them on in order.
+    fn feed_parts(challenger: &mut C, parts: &[Self]) -> Result<(), ChallengerError>
+        ensures ok { OnOk result
+            (C.state challenger.new ≡ parts_observed.observed (C.state challenger.old) parts.now) }
         ensures err { IfErr result (λ e. RefusesObserve
-            ((each_as Part.items (bytes_observed Inner.observation Inner.slice_may_leave)).may_leave
-            (state_of Inner.state self.old) lists.now) e (state_of Inner.state self.new)) }
-    {
-        for i in 0..lists.len() {
-            self.feed(lists[i].as_slice())?;
-        }
-        Ok(())
+            (parts_observed.may_leave (C.state challenger.old) parts.now) e
+            (C.state challenger.new)) };
+
+    ghost observes: { IsObservation C.fed parts_observed };
+}
+
+impl<F, Inner: CanObserve<u8>, const BYTES: usize> DigestPart<
+    SerializingChallenger<F, Inner, BYTES>,
+> for u8 {
+    ghost use Rattle.p3_serializing.specs.SerializingState.{bytes_observed};
+    ghost use Rattle.p3_serializing.specs.SerializingStateLaws.{bytes-observed};
+
+    ghost parts_observed = { bytes_observed Inner.observation Inner.slice_may_leave };
+
+    ghost observes = { bytes-observed Inner.fed Inner.fed_nothing Inner.fed_more Inner.observation
+        Inner.slice_may_leave Inner.observes Inner.slice_leaves };
+
+    // As one slice.
+    fn feed_parts(
+        challenger: &mut SerializingChallenger<F, Inner, BYTES>,
+        parts: &[u8],
+    ) -> Result<(), ChallengerError> {
+        challenger.feed(parts)
     }
+}
 
-    // Passes lists of lists of bytes on in order.
-    fn feed_byte_caps<Part: AsSlice<u8>, Cap: AsSlice<Part>>(
-        &mut self,
-        caps: &[Cap],
-    ) -> Result<(), ChallengerError>
-        ensures ok { OnOk result (state_of Inner.state self.new
-            ≡ (each_as Cap.items (each_as Part.items (bytes_observed Inner.observation Inner.slice_may_leave))).observed
-            (state_of Inner.state self.old) caps.now) }
-        ensures err { IfErr result (λ e. RefusesObserve
-            ((each_as Cap.items (each_as Part.items (bytes_observed Inner.observation Inner.slice_may_leave))).may_leave
-            (state_of Inner.state self.old) caps.now) e (state_of Inner.state self.new)) }
-    {
-        for i in 0..caps.len() {
-            self.feed_byte_lists(caps[i].as_slice())?;
-        }
-        Ok(())
-    }
+impl<F, Inner: CanObserve<u8>, const BYTES: usize> DigestPart<
+    SerializingChallenger<F, Inner, BYTES>,
+> for u64 {
+    ghost use Rattle.p3_serializing.specs.SerializingState.{words_observed};
+    ghost use Rattle.p3_serializing.specs.SerializingStateLaws.{words-observed};
 
-    // Passes a word on as its 8 bytes.
-    fn feed_word(&mut self, word: u64) -> Result<(), ChallengerError>
-        ensures ok { OnOk result (state_of Inner.state self.new
-            ≡ (number_observed Inner.observation Inner.slice_may_leave 8).observed
-            (state_of Inner.state self.old) word) }
-        ensures err { IfErr result (λ e. RefusesObserve
-            ((number_observed Inner.observation Inner.slice_may_leave 8).may_leave
-            (state_of Inner.state self.old) word) e (state_of Inner.state self.new)) }
-    {
-        self.feed(&word.to_le_bytes())
-    }
+    ghost parts_observed = { words_observed Inner.observation Inner.slice_may_leave };
 
-    // Passes words on in order, each by one call.
-    fn feed_words(&mut self, words: &[u64]) -> Result<(), ChallengerError>
-        ensures ok { OnOk result (state_of Inner.state self.new
-            ≡ (words_observed Inner.observation Inner.slice_may_leave).observed
-            (state_of Inner.state self.old) words.now) }
-        ensures err { IfErr result (λ e. RefusesObserve
-            ((words_observed Inner.observation Inner.slice_may_leave).may_leave
-            (state_of Inner.state self.old) words.now) e (state_of Inner.state self.new)) }
-    {
-        for i in 0..words.len() {
-            self.feed_word(words[i])?;
-        }
-        Ok(())
-    }
+    ghost observes = { words-observed Inner.fed Inner.fed_nothing Inner.fed_more Inner.observation
+        Inner.slice_may_leave Inner.observes Inner.slice_leaves };
 
-    // Passes lists of words on in order.
-    fn feed_word_lists<Part: AsSlice<u64>>(&mut self, lists: &[Part]) -> Result<(), ChallengerError>
-        ensures ok { OnOk result (state_of Inner.state self.new
-            ≡ (each_as Part.items (words_observed Inner.observation Inner.slice_may_leave)).observed
-            (state_of Inner.state self.old) lists.now) }
-        ensures err { IfErr result (λ e. RefusesObserve
-            ((each_as Part.items (words_observed Inner.observation Inner.slice_may_leave)).may_leave
-            (state_of Inner.state self.old) lists.now) e (state_of Inner.state self.new)) }
-    {
-        for i in 0..lists.len() {
-            self.feed_words(lists[i].as_slice())?;
-        }
-        Ok(())
-    }
-
-    // Passes lists of lists of words on in order.
-    fn feed_word_caps<Part: AsSlice<u64>, Cap: AsSlice<Part>>(
-        &mut self,
-        caps: &[Cap],
-    ) -> Result<(), ChallengerError>
-        ensures ok { OnOk result (state_of Inner.state self.new
-            ≡ (each_as Cap.items (each_as Part.items (words_observed Inner.observation Inner.slice_may_leave))).observed
-            (state_of Inner.state self.old) caps.now) }
-        ensures err { IfErr result (λ e. RefusesObserve
-            ((each_as Cap.items (each_as Part.items (words_observed Inner.observation Inner.slice_may_leave))).may_leave
-            (state_of Inner.state self.old) caps.now) e (state_of Inner.state self.new)) }
-    {
-        for i in 0..caps.len() {
-            self.feed_word_lists(caps[i].as_slice())?;
+    // Each by one call.
+    fn feed_parts(
+        challenger: &mut SerializingChallenger<F, Inner, BYTES>,
+        parts: &[u64],
+    ) -> Result<(), ChallengerError> {
+        for i in 0..parts.len() {
+            challenger.feed(&parts[i].to_le_bytes())?;
         }
         Ok(())
     }
 }
 
-impl<F: SerializedIn<BYTES>, Inner: CanObserve<u8>, const BYTES: usize, const N: usize> CanObserve<
-    Hash<F, u8, N>,
-> for SerializingChallenger<F, Inner, BYTES> {
-    ghost use Rattle.p3_challenger_core.specs.Observation.{in_row, observed_as};
+// Passes digests on in order.
+fn feed_digests<C: Sponge, Part: DigestPart<C>, Digest: AsSlice<Part>>(
+    challenger: &mut C,
+    digests: &[Digest],
+) -> Result<(), ChallengerError>
+    ensures ok { OnOk result (C.state challenger.new
+        ≡ (each_as Digest.items Part.parts_observed).observed
+        (C.state challenger.old) digests.now) }
+    ensures err { IfErr result (λ e. RefusesObserve
+        ((each_as Digest.items Part.parts_observed).may_leave
+        (C.state challenger.old) digests.now) e (C.state challenger.new)) }
+{
+    for i in 0..digests.len() {
+        Part::feed_parts(challenger, digests[i].as_slice())?;
+    }
+    Ok(())
+}
+
+// Passes caps on in order, each as its roots.
+fn feed_caps<C: Sponge, Part: DigestPart<C>, Digest: AsSlice<Part>, Cap: AsSlice<Digest>>(
+    challenger: &mut C,
+    caps: &[Cap],
+) -> Result<(), ChallengerError>
+    ensures ok { OnOk result (C.state challenger.new
+        ≡ (each_as Cap.items (each_as Digest.items Part.parts_observed)).observed
+        (C.state challenger.old) caps.now) }
+    ensures err { IfErr result (λ e. RefusesObserve
+        ((each_as Cap.items (each_as Digest.items Part.parts_observed)).may_leave
+        (C.state challenger.old) caps.now) e (C.state challenger.new)) }
+{
+    for i in 0..caps.len() {
+        feed_digests(challenger, caps[i].as_slice())?;
+    }
+    Ok(())
+}
+
+impl<
+    F: SerializedIn<BYTES>,
+    Inner: CanObserve<u8>,
+    Part: DigestPart<SerializingChallenger<F, Inner, BYTES>>,
+    const BYTES: usize,
+    const N: usize,
+> CanObserve<Hash<F, Part, N>> for SerializingChallenger<F, Inner, BYTES> {
+    ghost use Rattle.p3_challenger_core.specs.Observation.{observed_as};
     ghost use Rattle.p3_symmetric.specs.HashValues.{values_of};
-    ghost use Rattle.p3_serializing.specs.SerializingState.{bytes_observed, each_as};
-    ghost use Rattle.p3_serializing.specs.SerializingStateLaws.{bytes-observed_as};
+    ghost use Rattle.p3_serializing.specs.SerializingStateLaws.{as-observed};
 
-    ghost observation = { observed_as values_of (bytes_observed Inner.observation Inner.slice_may_leave) };
+    ghost observation = { observed_as values_of Part.parts_observed };
 
-    ghost slice_may_leave = { (each_as values_of (bytes_observed Inner.observation Inner.slice_may_leave)).may_leave };
+    ghost slice_may_leave = { (each_as values_of Part.parts_observed).may_leave };
 
-    ghost observes = { bytes-observed_as Inner.fed Inner.fed_nothing Inner.fed_more Inner.observation
-        Inner.slice_may_leave Inner.observes Inner.slice_leaves values_of };
+    ghost observes = { as-observed Inner.fed Inner.fed_nothing Inner.fed_more
+        values_of Part.parts_observed Part.observes };
 
     ghost slice_leaves = { λ _ _ _ h. h };
 
-    fn observe(&mut self, value: Hash<F, u8, N>) -> Result<(), ChallengerError> {
-        self.feed(value.as_slice())
+    fn observe(&mut self, value: Hash<F, Part, N>) -> Result<(), ChallengerError> {
+        Part::feed_parts(self, value.as_slice())
     }
 
-    fn observe_slice(&mut self, values: &[Hash<F, u8, N>]) -> Result<(), ChallengerError> {
-        self.feed_byte_lists(values)
+    fn observe_slice(&mut self, values: &[Hash<F, Part, N>]) -> Result<(), ChallengerError> {
+        feed_digests(self, values)
     }
 }
 
-impl<F: SerializedIn<BYTES>, Inner: CanObserve<u8>, const BYTES: usize, const N: usize> CanObserve<
-    MerkleCap<F, [u8; N]>,
-> for SerializingChallenger<F, Inner, BYTES> {
+impl<
+    F: SerializedIn<BYTES>,
+    Inner: CanObserve<u8>,
+    Part: DigestPart<SerializingChallenger<F, Inner, BYTES>>,
+    const BYTES: usize,
+    const N: usize,
+> CanObserve<MerkleCap<F, [Part; N]>> for SerializingChallenger<F, Inner, BYTES> {
     ghost use Rattle.p3_challenger_core.specs.Observation.{in_row, observed_as};
-    ghost use Rattle.p3_serializing.specs.SerializingState.{bytes_observed, each_as};
-    ghost use Rattle.p3_serializing.specs.SerializingStateLaws.{byte_lists-observed_as};
+    ghost use Rattle.p3_serializing.specs.SerializingStateLaws.{rows-observed_as};
 
     // Its roots in order.
-    ghost observation = { observed_as (λ cap. cap) (in_row (bytes_observed Inner.observation Inner.slice_may_leave)) };
+    ghost observation = { observed_as (λ cap. cap) (in_row Part.parts_observed) };
 
-    ghost slice_may_leave = { (each_as (λ cap. cap)
-        (in_row (bytes_observed Inner.observation Inner.slice_may_leave))).may_leave };
+    ghost slice_may_leave = { (each_as (λ cap. cap) (in_row Part.parts_observed)).may_leave };
 
-    ghost observes = { byte_lists-observed_as Inner.fed Inner.fed_nothing Inner.fed_more Inner.observation
-        Inner.slice_may_leave Inner.observes Inner.slice_leaves (λ cap. cap) };
+    ghost observes = { rows-observed_as Inner.fed Inner.fed_nothing Inner.fed_more
+        (λ cap. cap) Part.parts_observed Part.observes };
 
     ghost slice_leaves = { λ _ _ _ h. h };
 
-    fn observe(&mut self, value: MerkleCap<F, [u8; N]>) -> Result<(), ChallengerError> {
-        self.feed_byte_lists(value.roots())
+    fn observe(&mut self, value: MerkleCap<F, [Part; N]>) -> Result<(), ChallengerError> {
+        feed_digests(self, value.roots())
     }
 
-    fn observe_slice(&mut self, values: &[MerkleCap<F, [u8; N]>]) -> Result<(), ChallengerError> {
-        self.feed_byte_caps(values)
+    fn observe_slice(&mut self, caps: &[MerkleCap<F, [Part; N]>]) -> Result<(), ChallengerError> {
+        feed_caps(self, caps)
     }
 }
 
-impl<F: SerializedIn<BYTES>, Inner: CanObserve<u8>, const BYTES: usize, const N: usize> CanObserve<
-    &MerkleCap<F, [u8; N]>,
-> for SerializingChallenger<F, Inner, BYTES> {
+impl<
+    F: SerializedIn<BYTES>,
+    Inner: CanObserve<u8>,
+    Part: DigestPart<SerializingChallenger<F, Inner, BYTES>>,
+    const BYTES: usize,
+    const N: usize,
+> CanObserve<&MerkleCap<F, [Part; N]>> for SerializingChallenger<F, Inner, BYTES> {
     ghost use Rattle.p3_challenger_core.specs.Observation.{in_row, observed_as};
-    ghost use Rattle.p3_serializing.specs.SerializingState.{bytes_observed, each_as};
-    ghost use Rattle.p3_serializing.specs.SerializingStateLaws.{byte_lists-observed_as};
+    ghost use Rattle.p3_serializing.specs.SerializingStateLaws.{rows-observed_as};
 
     // Its roots in order.
-    ghost observation = { observed_as (λ cap. cap.now)
-        (in_row (bytes_observed Inner.observation Inner.slice_may_leave)) };
+    ghost observation = { observed_as (λ cap. cap.now) (in_row Part.parts_observed) };
 
-    ghost slice_may_leave = { (each_as (λ cap. cap.now)
-        (in_row (bytes_observed Inner.observation Inner.slice_may_leave))).may_leave };
+    ghost slice_may_leave = { (each_as (λ cap. cap.now) (in_row Part.parts_observed)).may_leave };
 
-    ghost observes = { byte_lists-observed_as Inner.fed Inner.fed_nothing Inner.fed_more Inner.observation
-        Inner.slice_may_leave Inner.observes Inner.slice_leaves (λ cap. cap.now) };
+    ghost observes = { rows-observed_as Inner.fed Inner.fed_nothing Inner.fed_more
+        (λ cap. cap.now) Part.parts_observed Part.observes };
 
     ghost slice_leaves = { λ _ _ _ h. h };
 
-    fn observe(&mut self, value: &MerkleCap<F, [u8; N]>) -> Result<(), ChallengerError> {
-        self.feed_byte_lists(value.roots())
+    fn observe(&mut self, value: &MerkleCap<F, [Part; N]>) -> Result<(), ChallengerError> {
+        feed_digests(self, value.roots())
     }
 
-    fn observe_slice(&mut self, values: &[&MerkleCap<F, [u8; N]>]) -> Result<(), ChallengerError> {
-        self.feed_byte_caps(values)
-    }
-}
-
-impl<F: SerializedIn<BYTES>, Inner: CanObserve<u8>, const BYTES: usize, const N: usize> CanObserve<
-    Hash<F, u64, N>,
-> for SerializingChallenger<F, Inner, BYTES> {
-    ghost use Rattle.p3_challenger_core.specs.Observation.{in_row, observed_as};
-    ghost use Rattle.p3_symmetric.specs.HashValues.{values_of};
-    ghost use Rattle.p3_serializing.specs.SerializingState.{words_observed, each_as};
-    ghost use Rattle.p3_serializing.specs.SerializingStateLaws.{words-observed_as};
-
-    ghost observation = { observed_as values_of (words_observed Inner.observation Inner.slice_may_leave) };
-
-    ghost slice_may_leave = { (each_as values_of (words_observed Inner.observation Inner.slice_may_leave)).may_leave };
-
-    ghost observes = { words-observed_as Inner.fed Inner.fed_nothing Inner.fed_more Inner.observation
-        Inner.slice_may_leave Inner.observes Inner.slice_leaves values_of };
-
-    ghost slice_leaves = { λ _ _ _ h. h };
-
-    fn observe(&mut self, value: Hash<F, u64, N>) -> Result<(), ChallengerError> {
-        self.feed_words(value.as_slice())
-    }
-
-    fn observe_slice(&mut self, values: &[Hash<F, u64, N>]) -> Result<(), ChallengerError> {
-        self.feed_word_lists(values)
-    }
-}
-
-impl<F: SerializedIn<BYTES>, Inner: CanObserve<u8>, const BYTES: usize, const N: usize> CanObserve<
-    MerkleCap<F, [u64; N]>,
-> for SerializingChallenger<F, Inner, BYTES> {
-    ghost use Rattle.p3_challenger_core.specs.Observation.{in_row, observed_as};
-    ghost use Rattle.p3_serializing.specs.SerializingState.{words_observed, each_as};
-    ghost use Rattle.p3_serializing.specs.SerializingStateLaws.{word_lists-observed_as};
-
-    // Its roots in order.
-    ghost observation = { observed_as (λ cap. cap) (in_row (words_observed Inner.observation Inner.slice_may_leave)) };
-
-    ghost slice_may_leave = { (each_as (λ cap. cap)
-        (in_row (words_observed Inner.observation Inner.slice_may_leave))).may_leave };
-
-    ghost observes = { word_lists-observed_as Inner.fed Inner.fed_nothing Inner.fed_more Inner.observation
-        Inner.slice_may_leave Inner.observes Inner.slice_leaves (λ cap. cap) };
-
-    ghost slice_leaves = { λ _ _ _ h. h };
-
-    fn observe(&mut self, value: MerkleCap<F, [u64; N]>) -> Result<(), ChallengerError> {
-        self.feed_word_lists(value.roots())
-    }
-
-    fn observe_slice(&mut self, values: &[MerkleCap<F, [u64; N]>]) -> Result<(), ChallengerError> {
-        self.feed_word_caps(values)
-    }
-}
-
-impl<F: SerializedIn<BYTES>, Inner: CanObserve<u8>, const BYTES: usize, const N: usize> CanObserve<
-    &MerkleCap<F, [u64; N]>,
-> for SerializingChallenger<F, Inner, BYTES> {
-    ghost use Rattle.p3_challenger_core.specs.Observation.{in_row, observed_as};
-    ghost use Rattle.p3_serializing.specs.SerializingState.{words_observed, each_as};
-    ghost use Rattle.p3_serializing.specs.SerializingStateLaws.{word_lists-observed_as};
-
-    // Its roots in order.
-    ghost observation = { observed_as (λ cap. cap.now)
-        (in_row (words_observed Inner.observation Inner.slice_may_leave)) };
-
-    ghost slice_may_leave = { (each_as (λ cap. cap.now)
-        (in_row (words_observed Inner.observation Inner.slice_may_leave))).may_leave };
-
-    ghost observes = { word_lists-observed_as Inner.fed Inner.fed_nothing Inner.fed_more Inner.observation
-        Inner.slice_may_leave Inner.observes Inner.slice_leaves (λ cap. cap.now) };
-
-    ghost slice_leaves = { λ _ _ _ h. h };
-
-    fn observe(&mut self, value: &MerkleCap<F, [u64; N]>) -> Result<(), ChallengerError> {
-        self.feed_word_lists(value.roots())
-    }
-
-    fn observe_slice(&mut self, values: &[&MerkleCap<F, [u64; N]>]) -> Result<(), ChallengerError> {
-        self.feed_word_caps(values)
+    fn observe_slice(&mut self, caps: &[&MerkleCap<F, [Part; N]>]) -> Result<(), ChallengerError> {
+        feed_caps(self, caps)
     }
 }

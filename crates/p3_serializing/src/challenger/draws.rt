@@ -24,7 +24,8 @@ impl<F: SerializedIn<BYTES>, Inner: CanSample<u8>, const BYTES: usize> Serializi
     /// A law: a caller cites the clauses.
     pub fn groups_are_cut_to_least_bits()
         ensures enough { F.residues.order ≤ 2 ^ bits_of_order F.residues.order }
-        ensures least { (bits : ℕ) → F.residues.order ≤ 2 ^ bits → bits_of_order F.residues.order ≤ bits }
+        ensures least { (bits : ℕ) → F.residues.order ≤ 2 ^ bits
+            → bits_of_order F.residues.order ≤ bits }
     {
         let _ = log2_ceil_u64(F::ORDER_U64);
     }
@@ -34,8 +35,10 @@ impl<F: SerializedIn<BYTES>, Inner: CanSample<u8>, const BYTES: usize> Serializi
         ensures drawn { IfOk result (λ x. (element_drawn Inner.sampling BYTES F.residues).sampled
             (state_of Inner.state self.old) ≡ Some x) }
         ensures after { OnOk result (state_of Inner.state self.new
-            ≡ (element_drawn Inner.sampling BYTES F.residues).after (state_of Inner.state self.old)) }
-        ensures err { IfErr result (λ e. RefusesDraw (element_drawn Inner.sampling BYTES F.residues) e
+            ≡ (element_drawn Inner.sampling BYTES F.residues).after
+            (state_of Inner.state self.old)) }
+        ensures err { IfErr result (λ e.
+            RefusesDraw (element_drawn Inner.sampling BYTES F.residues) e
             (state_of Inner.state self.old) (state_of Inner.state self.new)) }
     {
         draw_element::<F, Inner, BYTES>(&mut self.inner, self.draw_limit)
@@ -85,8 +88,8 @@ impl<
     // Each coefficient is drawn by itself, coefficient 0 first, and meets the draw limit by itself.
     ghost sampling = { space_element_drawn Inner.sampling BYTES F.residues A.DIMENSION A.element };
 
-    ghost samples = { space_element-drawn Inner.next Inner.sampling Inner.samples BYTES F.residues A.DIMENSION
-        A.element };
+    ghost samples = { space_element-drawn Inner.next Inner.sampling Inner.samples
+        BYTES F.residues A.DIMENSION A.element };
 
     fn sample(&mut self) -> Result<A, ChallengerError> {
         let mut element = A::zero();
@@ -162,7 +165,8 @@ fn draw_group<F: SerializedIn<BYTES>, Inner: CanSample<u8>, const BYTES: usize>(
     ensures after { OnOk result
         (Inner.state inner.new ≡ (group Inner.sampling BYTES).after (Inner.state inner.old)) }
     ensures err { IfErr result (λ e.
-        RefusesDraw (group Inner.sampling BYTES) e (Inner.state inner.old) (Inner.state inner.new)) }
+        RefusesDraw (group Inner.sampling BYTES) e
+        (Inner.state inner.old) (Inner.state inner.new)) }
 {
     let bytes = sample_array::<u8, Inner, BYTES>(inner)?;
     Ok(F::number_of_bytes(&bytes))
@@ -180,11 +184,14 @@ fn draw_element<F: SerializedIn<BYTES>, Inner: CanSample<u8>, const BYTES: usize
     inner: &mut Inner,
     draw_limit: u64,
 ) -> Result<F, ChallengerError>
-    ensures drawn { IfOk result (λ x. (element_of_groups Inner.sampling BYTES F.residues draw_limit).sampled
+    ensures drawn { IfOk result (λ x.
+        (element_of_groups Inner.sampling BYTES F.residues draw_limit).sampled
         (Inner.state inner.old) ≡ Some x) }
     ensures after { OnOk result (Inner.state inner.new
-        ≡ (element_of_groups Inner.sampling BYTES F.residues draw_limit).after (Inner.state inner.old)) }
-    ensures err { IfErr result (λ e. RefusesDraw (element_of_groups Inner.sampling BYTES F.residues draw_limit) e
+        ≡ (element_of_groups Inner.sampling BYTES F.residues draw_limit).after
+        (Inner.state inner.old)) }
+    ensures err { IfErr result (λ e.
+        RefusesDraw (element_of_groups Inner.sampling BYTES F.residues draw_limit) e
         (Inner.state inner.old) (Inner.state inner.new)) }
 {
     let mask = order_mask::<F>();

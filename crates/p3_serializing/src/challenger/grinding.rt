@@ -73,9 +73,11 @@ impl<F: SerializedIn<BYTES>, Inner: CanSample<u8>, const BYTES: usize> CanSample
     ghost uniform = { λ _ bits. never_rejects (bits_drawn Inner.sampling BYTES bits) };
 
     ghost draws_uniform = { λ resample bits. never_rejects-is_uniform (stepped Inner.next) resample
-        (bits_drawn Inner.sampling BYTES bits) (bits-drawn Inner.next Inner.sampling Inner.samples BYTES bits) };
+        (bits_drawn Inner.sampling BYTES bits)
+        (bits-drawn Inner.next Inner.sampling Inner.samples BYTES bits) };
 
-    ghost uniform_below = { λ _ bits s x _ drawn. bits_drawn-below Inner.sampling BYTES bits s x drawn };
+    ghost uniform_below = { λ _ bits s x _ drawn.
+        bits_drawn-below Inner.sampling BYTES bits s x drawn };
 
     fn sample_uniform_bits(
         &mut self,
@@ -98,11 +100,12 @@ impl<
     type Witness = F;
 
     // Where a copy or a check of some number of bits may be refused for memory.
-    ghost may_run_out = { may_run_out_of Inner.CanObserve.observation Inner.CanObserve.slice_may_leave
-        Inner.CanSample.sampling F.residues BYTES Inner.clones_may_fail };
+    ghost may_run_out = { may_run_out_of Inner.CanObserve.observation
+        Inner.CanObserve.slice_may_leave Inner.CanSample.sampling F.residues BYTES
+        Inner.clones_may_fail };
 
-    ghost witnesses_prefix_free = { elements-tell_apart Inner.CanObserve.observation.symbols Inner.bytes_prefix_free F.residues
-        F.are_residues BYTES F.order_fits };
+    ghost witnesses_prefix_free = { elements-tell_apart Inner.CanObserve.observation.symbols
+        Inner.bytes_prefix_free F.residues F.are_residues BYTES F.order_fits };
 
     ghost number_is = { λ n. refl };
 

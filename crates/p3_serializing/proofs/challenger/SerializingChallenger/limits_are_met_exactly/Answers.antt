@@ -16,10 +16,4 @@ returns-clause-bits g c =
     )
 
 pub returns-clause-uniform : goal.returns-clause-uniform
-returns-clause-uniform g c =
-    λ gives resample bits s. (
-      bits-drawn_always g.Inner.Sponge.next g.Inner.CanSample.sampling g.met.Inner.CanSample.samples gives g.row.BYTES
-          bits s,
-      bits-unlimited g.Inner.Sponge.next g.Inner.CanSample.sampling g.met.Inner.CanSample.samples gives g.row.BYTES bits
-          s,
-    )
+returns-clause-uniform g c = λ gives resample. returns-clause-bits g c gives

@@ -1,7 +1,7 @@
 use Rattle.std.proofs.Common.{◌≡◌, true, Some, sym, ap, subst, ◌∙◌, arith, rules}
 use Rattle.p3_challenger_core.specs.BitLaws.{greatest-le}
 use Rattle.p3_grinding.specs.Checks.{Finds, IsFirst, MayRunOut, RefusesSearch}
-use Rattle.p3_serializing.specs.SerializingState.{SerializingState, state_of}
+use Rattle.p3_serializing.specs.SerializingState.{state_of}
 use Rattle.p3_serializing.proofs.WitnessSearch.{ready_check, inner_check, same-answer}
 use Rattle.p3_serializing.proofs.WitnessSearch.{search-refused_as, observe-refused, draw-refused}
 use Rattle.p3_serializing.proofs.challenger.witness_search.SerializingChallengerReadySearch.least_when_ready.Goals as goal
