@@ -2,17 +2,16 @@ use Rattle.std.proofs.Common.{rules, ◌≡◌, ◌<◌, ◌≤◌, ◌+◌, [],
 use Rattle.std.proofs.lemmas.Bool.Decides.{nat_tests}
 use Rattle.std.proofs.lemmas.List.{length-take-le}
 use Rattle.p3_sponge.specs.SpongeCalls.{permutation_input}
-use Rattle.p3_multi_field.specs.MultiFieldCalls.{pair_of, batch_of, row_of, scalars_rule}
+use Rattle.p3_multi_field.specs.MultiFieldCalls.{batch_of, row_of, scalars_rule}
 use Rattle.p3_multi_field.specs.MultiFieldState.{MultiFieldState, scalars_observed}
+use Rattle.p3_multi_field.proofs.Pairs.{pair_over}
 use Rattle.p3_multi_field.proofs.Batches.{pending-written, observed-pending, observed-absorbed}
 use Rattle.p3_multi_field.proofs.multi_field_challenger.MultiField32Challenger.push_within.Goals as goal
 
 -- the scalars fill the rate, so all that is pending is absorbed
 pub returns-then-end-batch_len-clause-fed : goal.returns-then-end-batch_len-clause-fed
 returns-then-end-batch_len-clause-fed g c =
-    let bridge = g.PF.FieldBridge in
-    let pair = pair_of g.F.PrimeCharacteristicRing.residues g.PF.PrimeCharacteristicRing.residues bridge.RADIX_BITS
-    bridge.ABSORB_COUNT bridge.SQUEEZE_COUNT in
+    let pair = pair_over g.F.PrimeCharacteristicRing.residues g.PF.PrimeCharacteristicRing.residues g.PF.FieldBridge in
     let permutation = g.P.CryptographicPermutation.permutation in
     let rate = g.row.RATE in
     let inside = c.self.inside in
@@ -44,9 +43,7 @@ returns-then-end-batch_len-clause-fed g c =
 -- they do not, and are pending
 pub returns-else-end-batch_len-clause-fed : goal.returns-else-end-batch_len-clause-fed
 returns-else-end-batch_len-clause-fed g c =
-    let bridge = g.PF.FieldBridge in
-    let pair = pair_of g.F.PrimeCharacteristicRing.residues g.PF.PrimeCharacteristicRing.residues bridge.RADIX_BITS
-    bridge.ABSORB_COUNT bridge.SQUEEZE_COUNT in
+    let pair = pair_over g.F.PrimeCharacteristicRing.residues g.PF.PrimeCharacteristicRing.residues g.PF.FieldBridge in
     let permutation = g.P.CryptographicPermutation.permutation in
     let rate = g.row.RATE in
     let inside = c.self.inside in
