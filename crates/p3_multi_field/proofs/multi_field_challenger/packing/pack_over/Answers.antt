@@ -19,6 +19,6 @@ returns g c =
     let front : c.pack_all.new.cells ≡ packed_cells pair rate scalars =
     c.pack_all.ensures ∙ ap (λ n. packed_cells pair n scalars) long in
     c.count.ensures
-    ∙ ap (λ xs. counted_over outer rate (xs ++ drop rate cells) (take rate (xs ++ drop rate cells)) (length scalars)) front
+    ∙ ap (λ xs. let all = xs ++ drop rate cells in counted_over outer rate all (take rate all) (length scalars)) front
     ∙ counted_over-front outer cells (packed_cells pair rate scalars) rate (length scalars)
     (length-packed_cells pair rate scalars) c.requires.capacity
