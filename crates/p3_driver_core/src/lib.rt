@@ -7,6 +7,7 @@
 mod algebras;
 mod bound;
 mod bytes;
+mod candidates;
 mod counts;
 mod feeding;
 mod lists;

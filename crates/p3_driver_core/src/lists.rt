@@ -5,10 +5,40 @@ ghost use Rattle.p3_challenger_core.specs.Observation.{observed_all, LeavesInCal
 ghost use Rattle.p3_challenger_core.specs.Sampling.{draws, after_draws, RefusesDrawVec};
 ghost use Rattle.p3_driver_core.specs.Bound.{bound_values};
 
+use crate::candidates::{Candidates, draw_all};
 use crate::{TranscriptBound, bind};
 use p3_challenger_core::{CanSampleBits, ChallengerError, Sponge};
 use p3_codecs::Codec;
 use std::alloc::{AllocError, Global};
+use std::marker::PhantomData;
+
+// The values that a codec draws.
+#[derive(Drop)]
+pub(crate) struct Values<Cdc>(pub(crate) PhantomData<Cdc>);
+
+impl<T, C: Sponge, Cdc: Codec<C, T>> Candidates<C, T> for Values<Cdc> {
+    ghost may_draw = { λ _. 128 ≤ Cdc.SECURITY_BITS };
+
+    ghost sampling = { λ _. Cdc.sampling };
+
+    fn draw(&self, challenger: &mut C) -> Result<T, ChallengerError> {
+        Cdc::sample(challenger)
+    }
+}
+
+// The numbers of so many bits that a challenger draws.
+#[derive(Drop)]
+struct Numbers(usize);
+
+impl<C: CanSampleBits<usize>> Candidates<C, usize> for Numbers {
+    ghost may_draw = { λ it. it.0 ≤ C.most_bits };
+
+    ghost sampling = { λ it. C.bits_sampling it.0 };
+
+    fn draw(&self, challenger: &mut C) -> Result<usize, ChallengerError> {
+        challenger.sample_bits(self.0)
+    }
+}
 
 /// Observes values one after another.
 ///
@@ -63,11 +93,7 @@ pub fn draw_values<T: Copy, C: Sponge, Cdc: Codec<C, T>>(
         RefusesDrawVec Cdc.sampling n e (C.state challenger.old) (C.state challenger.new)) }
     ensures count { IfOk result (λ bounds. vec_len bounds ≡ n) }
 {
-    let mut bounds = Vec::with_capacity(alloc, n)?;
-    for _ in 0..n {
-        bounds.push_reserved(bind(Cdc::sample(challenger)?));
-    }
-    Ok(bounds)
+    draw_all(&Values::<Cdc>(PhantomData), challenger, alloc, n)
 }
 
 /// Draws so many numbers of so many bits one after another. Their memory is asked for first.
@@ -91,9 +117,5 @@ pub fn draw_numbers<C: CanSampleBits<usize>>(
         (C.state challenger.new)) }
     ensures count { IfOk result (λ bounds. vec_len bounds ≡ n) }
 {
-    let mut bounds = Vec::with_capacity(alloc, n)?;
-    for _ in 0..n {
-        bounds.push_reserved(bind(challenger.sample_bits(width)?));
-    }
-    Ok(bounds)
+    draw_all(&Numbers(width), challenger, alloc, n)
 }

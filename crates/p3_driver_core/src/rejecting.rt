@@ -1,35 +1,16 @@
-//! Draws until a rule has taken so many of the candidates.
+//! Values of a codec, drawn until a rule has taken so many.
 ghost use Rattle.std.specs.Prelude.{◌≡◌, ◌≤◌, ◌↔◌, ℕ, List, [], IfOk, vec_len};
 ghost use Rattle.p3_driver_core.specs.Bound.{bound_values};
-ghost use Rattle.p3_driver_core.specs.Rejecting.{Rule, Computes, Takes, TakesAll};
+ghost use Rattle.p3_driver_core.specs.Rejecting.{Rule, Computes, TakesAll};
 ghost use Rattle.p3_driver_core.specs.Rejecting.{given, keeps, KeepsFirst};
 
-use crate::{TranscriptBound, bind};
+use crate::TranscriptBound;
+use crate::candidates::draw_accepted_candidates;
+use crate::lists::Values;
 use p3_challenger_core::{ChallengerError, Sponge};
 use p3_codecs::Codec;
 use std::alloc::Global;
-
-// Draws until the rule takes a candidate, beside those kept before. The limit is met where it refuses so many.
-fn draw_taken<T: Copy, C: Sponge, Cdc: Codec<C, T>, R: Fn(&T, &[T]) -> bool>(
-    challenger: &mut C,
-    kept: &[T],
-    accept: &R,
-    limit: u64,
-) -> Result<T, ChallengerError>
-    requires secure { 128 ≤ Cdc.SECURITY_BITS }
-    requires callable { R.IsAlwaysCallable accept.now }
-    ensures { (rule : Rule T) → Computes R.Fn accept.now rule →
-        Takes Cdc.sampling rule limit kept.now (C.state challenger.old) result
-        (C.state challenger.new) }
-{
-    for _ in 0..limit {
-        let candidate = Cdc::sample(challenger)?;
-        if accept(&candidate, kept) {
-            return Ok(candidate);
-        }
-    }
-    Err(ChallengerError::DrawLimit)
-}
+use std::marker::PhantomData;
 
 /// Draws values until the rule `accept` has taken `n`, and answers these in order. Their memory is asked for first.
 ///
@@ -55,14 +36,8 @@ pub fn draw_accepted<T: Copy, C: Sponge, Cdc: Codec<C, T>, R: Fn(&T, &[T]) -> bo
         (C.state challenger.new) }
     ensures count { IfOk result (λ bounds. vec_len bounds ≡ n) }
 {
-    let mut bounds = Vec::with_capacity(alloc, n)?;
-    let mut kept = Vec::with_capacity(alloc, n)?;
-    for _ in 0..n {
-        let value = draw_taken::<T, C, Cdc, R>(challenger, &kept, accept, limit)?;
-        kept.push_reserved(value);
-        bounds.push_reserved(bind(value));
-    }
-    Ok(bounds)
+    let values = Values::<Cdc>(PhantomData);
+    draw_accepted_candidates(&values, challenger, alloc, n, accept, limit)
 }
 
 /// A rejecting draw keeps just the first accepted candidates: candidates are drawn in a row, the kept ones are those

@@ -1,33 +1,32 @@
 //! Numbers of uniform bits, drawn one after another, and until a rule has taken so many.
 ghost use Rattle.std.specs.Prelude.{◌≡◌, ◌≤◌, ◌↔◌, ℕ, true, List, [], Some, OnOk, IfOk, IfErr, vec_len};
-ghost use Rattle.p3_challenger_core.specs.Sampling.{draws, after_draws, RefusesDraw, RefusesDrawVec};
+ghost use Rattle.p3_challenger_core.specs.Sampling.{draws, after_draws, RefusesDrawVec};
 ghost use Rattle.p3_driver_core.specs.Bound.{bound_values};
-ghost use Rattle.p3_driver_core.specs.Rejecting.{Rule, ComputesOfValues, Takes, TakesAll};
+ghost use Rattle.p3_driver_core.specs.Rejecting.{Rule, ComputesOfValues, TakesAll};
 ghost use Rattle.p3_driver_core.specs.Rejecting.{given, keeps, KeepsFirst};
 
-use crate::{TranscriptBound, bind};
+use crate::TranscriptBound;
+use crate::candidates::{Candidates, draw_accepted_candidates, draw_all};
 use p3_challenger_core::ChallengerError;
 use p3_grinding::{CanSampleUniformBits, UniformBitsError};
 use std::alloc::Global;
+use std::marker::PhantomData;
 
-// Draws a number of `width` uniform bits. Another value is drawn in the place of one that is rejected.
-fn draw_uniform<F, C: CanSampleUniformBits<F>>(
-    challenger: &mut C,
-    width: usize,
-) -> Result<usize, ChallengerError>
-    requires { width ≤ C.most_bits }
-    ensures drawn { IfOk result (λ x. (C.uniform true width).draw.sampled (C.state challenger.old)
-        ≡ Some x) }
-    ensures after { OnOk result (
-        C.state challenger.new ≡ (C.uniform true width).draw.after (C.state challenger.old)) }
-    ensures err { IfErr result (λ e.
-        RefusesDraw (C.uniform true width).draw e (C.state challenger.old)
-        (C.state challenger.new)) }
-{
-    match challenger.sample_uniform_bits(width, true) {
-        Ok(number) => Ok(number),
-        Err(UniformBitsError::Challenger(error)) => Err(error),
-        Err(UniformBitsError::Resampling(_)) => unreachable!(),
+// Numbers of so many uniform bits. Another value is drawn in the place of one that is rejected.
+#[derive(Drop)]
+struct UniformNumbers<F>(usize, PhantomData<F>);
+
+impl<F, C: CanSampleUniformBits<F>> Candidates<C, usize> for UniformNumbers<F> {
+    ghost may_draw = { λ it. it.0 ≤ C.most_bits };
+
+    ghost sampling = { λ it. (C.uniform true it.0).draw };
+
+    fn draw(&self, challenger: &mut C) -> Result<usize, ChallengerError> {
+        match challenger.sample_uniform_bits(self.0, true) {
+            Ok(number) => Ok(number),
+            Err(UniformBitsError::Challenger(error)) => Err(error),
+            Err(UniformBitsError::Resampling(_)) => unreachable!(),
+        }
     }
 }
 
@@ -53,34 +52,8 @@ pub fn draw_uniform_numbers<F, C: CanSampleUniformBits<F>>(
         (C.state challenger.new)) }
     ensures count { IfOk result (λ bounds. vec_len bounds ≡ n) }
 {
-    let mut bounds = Vec::with_capacity(alloc, n)?;
-    for _ in 0..n {
-        bounds.push_reserved(bind(draw_uniform::<F, C>(challenger, width)?));
-    }
-    Ok(bounds)
-}
-
-// Draws until the rule takes a number, beside those kept before. The limit is met where it refuses so many.
-fn draw_taken_number<F, C: CanSampleUniformBits<F>, R: Fn(usize, &[usize]) -> bool>(
-    challenger: &mut C,
-    width: usize,
-    kept: &[usize],
-    accept: &R,
-    limit: u64,
-) -> Result<usize, ChallengerError>
-    requires within { width ≤ C.most_bits }
-    requires callable { R.IsAlwaysCallable accept.now }
-    ensures { (rule : Rule ℕ) → ComputesOfValues R.Fn accept.now rule →
-        Takes (C.uniform true width).draw rule limit
-        kept.now (C.state challenger.old) result (C.state challenger.new) }
-{
-    for _ in 0..limit {
-        let candidate = draw_uniform::<F, C>(challenger, width)?;
-        if accept(candidate, kept) {
-            return Ok(candidate);
-        }
-    }
-    Err(ChallengerError::DrawLimit)
+    let numbers = UniformNumbers::<F>(width, PhantomData);
+    draw_all(&numbers, challenger, alloc, n)
 }
 
 /// Draws numbers of `width` uniform bits until the rule `accept` has taken `n`, and answers these in order.
@@ -105,14 +78,9 @@ pub fn draw_accepted_numbers<F, C: CanSampleUniformBits<F>, R: Fn(usize, &[usize
         limit n bound_values (C.state challenger.old) result (C.state challenger.new) }
     ensures count { IfOk result (λ bounds. vec_len bounds ≡ n) }
 {
-    let mut bounds = Vec::with_capacity(alloc, n)?;
-    let mut kept = Vec::with_capacity(alloc, n)?;
-    for _ in 0..n {
-        let number = draw_taken_number::<F, C, R>(challenger, width, &kept, accept, limit)?;
-        kept.push_reserved(number);
-        bounds.push_reserved(bind(number));
-    }
-    Ok(bounds)
+    let numbers = UniformNumbers::<F>(width, PhantomData);
+    let accepts = |number: &usize, kept: &[usize]| accept(*number, kept);
+    draw_accepted_candidates(&numbers, challenger, alloc, n, &accepts, limit)
 }
 
 /// A rejecting draw of uniform bits keeps just the first accepted numbers, as

@@ -1,7 +1,7 @@
 -- A prepared state: what an element in its cell gives is what is drawn after its observation.
 use Rattle.std.proofs.Common.{◌≡◌, ℕ, zero, suc, ◌+◌, ◌-◌, ◌*◌, ◌%◌, ◌^◌, ◌<◌, ◌≤◌, ◌∙◌, List, [], ◌∷◌, ◌++◌, length, drop}
-use Rattle.std.proofs.Common.{replicate, set, take, Bool, true, false, Some, if◌then◌else◌, slice_set, slice_index_or}
-use Rattle.std.proofs.Common.{refl, sym, ap, ap₂, subst, arith, rules}
+use Rattle.std.proofs.Common.{replicate, take, Bool, true, false, Some, if◌then◌else◌, slice_set, slice_index_or}
+use Rattle.std.proofs.Common.{refl, sym, ap, ap₂, append_assoc, arith, rules}
 use Rattle.std.specs.Prelude.{◌==◌}
 use Rattle.std.proofs.Math.Nat.{mul-le-mul}
 use Rattle.std.proofs.lemmas.Bool.{ne_eqb, eq-eqb, eqb-true}
@@ -10,39 +10,43 @@ use Rattle.std.proofs.Math.Seq.{set-append_seam}
 use Rattle.p3_field_core.specs.Residues.{Residues, plus}
 use Rattle.p3_grinding.specs.Checks.{IsLeast, NonePasses}
 use Rattle.p3_duplex.specs.LaneSearch.{given_by, HasZeros, IsLeastOf, NoneOfAll, PassesAt, PassesCheck, check}
-use Rattle.p3_duplex.specs.DuplexCalls as calls
-use Rattle.p3_duplex.specs.DuplexCalls.{DuplexSponge, cell, overwritten, permutation_input}
+use Rattle.p3_sponge.specs.Cells.{cell, overwritten}
+use Rattle.p3_sponge.specs.SpongeCalls as calls
+use Rattle.p3_sponge.specs.SpongeCalls.{SpongeRule, CellSponge, permutation_input}
+use Rattle.p3_sponge.specs.SpongeStepLaws.{permutation_input-snoc}
+use Rattle.p3_duplex.specs.DuplexCalls.{duplex}
 use Rattle.p3_duplex.specs.DuplexState.{DuplexState, observed, sampled}
 
 module _ {F : Type 0} (r : Residues F) (rate : ℕ) (cells : List F) where
-  abbrev rest : ℕ → List F
-  rest n = replicate (rate - n) (r.of 0) ++ (plus r (cell r cells rate) n ∷ drop (rate + 1) cells)
+  abbrev zeros : ℕ → List F
+  zeros n = replicate (rate - n) (r.of 0)
+
+  abbrev counted : ℕ → List F
+  counted n = plus r (cell r cells rate) n ∷ drop (rate + 1) cells
 
   -- another last value of the block is one cell replaced
   last_replaced : (pending : List F) (x w : F)
-      → slice_set (overwritten r rate cells (pending ++ x ∷ [])) (length pending) w ≡ overwritten r rate cells (pending ++ w ∷ [])
+      → slice_set (overwritten r rate cells (pending ++ x ∷ [])) (length pending) w
+      ≡ overwritten r rate cells (pending ++ w ∷ [])
   last_replaced pending x w =
-      let long : length (pending ++ x ∷ []) ≡ length (pending ++ w ∷ []) =
+      let n = length (pending ++ x ∷ []) in
+      let long : n ≡ length (pending ++ w ∷ []) =
       length-append pending (x ∷ []) ∙ sym (length-append pending (w ∷ [])) in
-      set-append_left (pending ++ x ∷ []) (rest (length (pending ++ x ∷ []))) (length pending) w
+      ap (λ all. slice_set all (length pending) w) (append_assoc (pending ++ x ∷ []) (zeros n) (counted n))
+      ∙ set-append_left (pending ++ x ∷ []) (zeros n ++ counted n) (length pending) w
       (omega (arith, length-append pending (x ∷ [])))
-      ∙ ap₂ (λ front n. front ++ rest n) (set-append_seam pending x [] w) long
+      ∙ ap₂ (λ front k. front ++ (zeros k ++ counted k)) (set-append_seam pending x [] w) long
+      ∙ sym (append_assoc (pending ++ w ∷ []) (zeros (length (pending ++ w ∷ []))) (counted (length (pending ++ w ∷ []))))
 
-  -- a block that has a value is written over the rate
-  input-some : (pending : List F) (w : F) → permutation_input r rate cells (pending ++ w ∷ []) ≡ overwritten r rate cells (pending ++ w ∷ [])
-  input-some [] w = refl
-  input-some (y ∷ ys) w = refl
-
-module _ {F : Type 0} (r : Residues F) (permute : List F → List F) (rate : ℕ) (positive : (rate == 0) ≡ false) where
-  -- what is drawn where a value was appended: whether it filled the rate or not, the cells are permuted once
-  drawn-appended : (b : Bool) (cells pending : List F)
-      → let a : DuplexSponge F = record { cells = cells; pending = pending; outputs_left = 0 } in
-      calls.sampled r permute rate (if b then calls.duplexed r permute rate a else a)
-      ≡ cell r (permute (permutation_input r rate cells pending)) (rate - 1)
+module _ {C T : Type 0} (rule : SpongeRule C T) (positive : (rule.row_len == 0) ≡ false) where
+  -- what is drawn where a value was appended: whether it filled a block or not, the cells are permuted once
+  drawn-appended : (b : Bool) (cells : C) (pending : List T)
+      → let a : CellSponge C T = record { cells = cells; pending = pending; outputs_left = 0 } in
+      calls.sampled rule (if b then calls.duplexed rule a else a)
+      ≡ rule.output (rule.permute (permutation_input rule cells pending)) (rule.row_len - 1)
   drawn-appended true cells pending =
-      let a : DuplexSponge F = record { cells = cells; pending = pending; outputs_left = 0 } in
-      let d = calls.duplexed r permute rate a in
-      ap (λ b. calls.last_output r (if b then calls.duplexed r permute rate d else d)) positive
+      let d = calls.duplexed rule (record { cells = cells; pending = pending; outputs_left = 0 }) in
+      ap (λ b. calls.last_output rule (if b then calls.duplexed rule d else d)) positive
   drawn-appended false cells pending = refl
 
 module _ {F P : Type 0} (r : Residues F) (permute : P → List F → List F) (rate : ℕ) (some : 0 < rate) (c : DuplexState F P) where
@@ -52,8 +56,10 @@ module _ {F P : Type 0} (r : Residues F) (permute : P → List F → List F) (ra
   given-is_drawn x w =
       let cells = c.sponge.cells in
       let block = c.sponge.pending ++ w ∷ [] in
-      ap (λ xs. cell r (permute c.permutation xs) (rate - 1)) (last_replaced r rate cells c.sponge.pending x w ∙ sym (input-some r rate cells c.sponge.pending w))
-      ∙ sym (drawn-appended r (permute c.permutation) rate (ne_eqb rate 0 (λ e. omega (arith, e, some))) (length block == rate) cells block)
+      let rule = duplex r (permute c.permutation) rate in
+      ap (λ xs. cell r (permute c.permutation xs) (rate - 1))
+      (last_replaced r rate cells c.sponge.pending x w ∙ sym (permutation_input-snoc rule cells c.sponge.pending w))
+      ∙ sym (drawn-appended rule (ne_eqb rate 0 (λ e. omega (arith, e, some))) (length block == rate) cells block)
 
   -- an element passes at its place of the prepared cells exactly where it passes on the challenger
   pub passes-on_challenger : (x : F) (cells : List F) (place bits : ℕ)

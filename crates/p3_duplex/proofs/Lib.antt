@@ -1,10 +1,6 @@
 pub mod Blocks
 pub mod Calls
-pub mod Drawing
-pub mod DuplexQueries
-pub mod DuplexSteps
-pub mod Overwriting
-pub mod Pushing
+pub mod Keeping
 pub mod Uniform
 pub mod ReadBack
 pub mod LaneBatches

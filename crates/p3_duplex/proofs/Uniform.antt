@@ -1,6 +1,6 @@
 -- Elements below a bound, and bits in two halves.
 use Rattle.std.proofs.Common.{◌≡◌, ℕ, ◌<◌, ◌≤◌, ◌+◌, ◌-◌, ◌*◌, ◌/◌, ◌%◌, ◌^◌, true, false, nat_lt, arith, sym, ap}
-use Rattle.std.proofs.Common.{◌∙◌, lit<}
+use Rattle.std.proofs.Common.{◌∙◌, lit<, subst}
 use Rattle.std.proofs.Math.Nat.{mod-eq_of_lt, one-le-pow, mul_comm}
 use Rattle.std.proofs.lemmas.Nat.{pow-add, pow_below}
 use Rattle.std.proofs.lemmas.Bool.Decides.{nat_tests}
@@ -10,7 +10,7 @@ use Rattle.p3_challenger_core.specs.declared.error.ChallengerError.TheVariants.{
 use Rattle.p3_challenger_core.specs.declared.error.ChallengerError.TheVariants.{TooLong}
 use Rattle.p3_challenger_core.specs.Sampling.{Sampling, RefusesDraw}
 use Rattle.p3_grinding.specs.Candidates.{first_accepted, after_first_accepted, accepted_of, accepted_within}
-use Rattle.p3_grinding.specs.CandidateLaws.{Seeks}
+use Rattle.p3_grinding.specs.CandidateLaws.{Seeks, seeks-start, seeks-next, seeks-gives, seeks-reached}
 
 pub below-true : (n m bound : ℕ) → n ≡ m → n < bound → nat_lt m bound ≡ true
 below-true n m bound same below = grind (arith, nat_tests)
@@ -37,30 +37,47 @@ moved_up bits y short below =
     omega (arith, pow_below bits 64 short, whole, small, turned) in
     mod-eq_of_lt under ∙ turned
 
--- What the candidates after some refused ones give is what all of them give.
-module _ {S T : Type 0} (d : Sampling S T) (accepts : T → Bool) (allowed : S → ℕ) (start : S) (left : ℕ)
-    (here : S) (so_far : Seeks d accepts (allowed start) start left here) where
-  pub rest-gives : {E : Type 0} (result : Result T E)
-      → IfOk result (λ x. first_accepted d accepts left here ≡ Some x)
-      → IfOk result (λ x. first_accepted d accepts (allowed start) start ≡ Some x)
-  rest-gives (Ok x) given = so_far.gives ∙ given
-  rest-gives (Err e) _ = tt
+-- A candidate is drawn first. Where it is refused, what the others give is what all of them give.
+module _ {S T : Type 0} (d : Sampling S T) (accepts : T → Bool) (allowed : S → ℕ) (start : S) (some : 0 < allowed start)
+    (here : S) (x : T) (drawn : d.sampled start ≡ Some x) (after : here ≡ d.after start) where
+  pub one-gives : accepts x ≡ true → first_accepted d accepts (allowed start) start ≡ Some x
+  one-gives =
+      seeks-gives d accepts (allowed start) start 0 start here x some drawn after
+      (seeks-start d accepts (allowed start) start)
 
-  pub rest-reached : {E : Type 0} (result : Result T E) (t : S)
-      → OnOk result (t ≡ after_first_accepted d accepts left here)
-      → OnOk result (t ≡ after_first_accepted d accepts (allowed start) start)
-  rest-reached (Ok x) t reached = reached ∙ sym so_far.reached
-  rest-reached (Err e) t _ = tt
+  pub one-reached : accepts x ≡ true → here ≡ after_first_accepted d accepts (allowed start) start
+  one-reached =
+      seeks-reached d accepts (allowed start) start 0 start here x some drawn after
+      (seeks-start d accepts (allowed start) start)
 
-  rest-refuses : (e : ChallengerError) (t : S) → RefusesDraw (accepted_of d accepts left) e here t
-      → RefusesDraw (accepted_within d accepts allowed) e start t
-  rest-refuses OutOfMemory t h = so_far.refused t h
-  rest-refuses DrawLimit t h = (so_far.limited h.0, h.1 ∙ sym so_far.reached)
-  rest-refuses NoWitness t h = absurd h
-  rest-refuses TooLong t h = absurd h
+  module _ (left : ℕ) (same : allowed start - 1 ≡ left) (refused : accepts x ≡ false) where
+    so_far : Seeks d accepts (allowed start) start left here
+    so_far =
+        subst (λ k. Seeks d accepts (allowed start) start k here) same
+        (seeks-next d accepts (allowed start) start 0 start here x some drawn after
+        (seeks-start d accepts (allowed start) start) refused)
 
-  pub rest-refused : (result : Result T ChallengerError) (t : S)
-      → IfErr result (λ e. RefusesDraw (accepted_of d accepts left) e here t)
-      → IfErr result (λ e. RefusesDraw (accepted_within d accepts allowed) e start t)
-  rest-refused (Ok x) t _ = tt
-  rest-refused (Err e) t h = rest-refuses e t h
+    pub rest-gives : {E : Type 0} (result : Result T E)
+        → IfOk result (λ y. first_accepted d accepts left here ≡ Some y)
+        → IfOk result (λ y. first_accepted d accepts (allowed start) start ≡ Some y)
+    rest-gives (Ok y) given = so_far.gives ∙ given
+    rest-gives (Err e) _ = tt
+
+    pub rest-reached : {E : Type 0} (result : Result T E) (t : S)
+        → OnOk result (t ≡ after_first_accepted d accepts left here)
+        → OnOk result (t ≡ after_first_accepted d accepts (allowed start) start)
+    rest-reached (Ok y) t reached = reached ∙ sym so_far.reached
+    rest-reached (Err e) t _ = tt
+
+    rest-refuses : (e : ChallengerError) (t : S) → RefusesDraw (accepted_of d accepts left) e here t
+        → RefusesDraw (accepted_within d accepts allowed) e start t
+    rest-refuses OutOfMemory t h = so_far.refused t h
+    rest-refuses DrawLimit t h = (so_far.limited h.0, h.1 ∙ sym so_far.reached)
+    rest-refuses NoWitness t h = absurd h
+    rest-refuses TooLong t h = absurd h
+
+    pub rest-refused : (result : Result T ChallengerError) (t : S)
+        → IfErr result (λ e. RefusesDraw (accepted_of d accepts left) e here t)
+        → IfErr result (λ e. RefusesDraw (accepted_within d accepts allowed) e start t)
+    rest-refused (Ok x) t _ = tt
+    rest-refused (Err e) t h = rest-refuses e t h

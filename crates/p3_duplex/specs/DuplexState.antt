@@ -1,10 +1,13 @@
 -- A duplex challenger as contracts see it.
-use Rattle.std.specs.Prelude.{◌≡◌, ℕ, zero, suc, ◌<◌, ◌≤◌, List, [], ◌∷◌}
+use Rattle.std.specs.Prelude.{◌≡◌, ℕ, ◌<◌, ◌≤◌, List, take}
 use Rattle.p3_field_core.specs.Residues.{Residues}
-use Rattle.p3_duplex.specs.DuplexCalls as calls
-use Rattle.p3_duplex.specs.DuplexCalls.{DuplexSponge, DuplexRun, duplex_by_calls}
 use Rattle.p3_challenger_core.specs.Observation.{observed_all}
 use Rattle.p3_challenger_core.specs.Segments.{Call, run_calls}
+use Rattle.p3_challenger_core.specs.Sponge.{after_steps}
+use Rattle.p3_sponge.specs.Drawing as drawing
+use Rattle.p3_sponge.specs.SpongeCalls as calls
+use Rattle.p3_sponge.specs.SpongeCalls.{SpongeRule}
+use Rattle.p3_duplex.specs.DuplexCalls.{DuplexSponge, DuplexRun, duplex, duplex_by_calls}
 
 -- what a challenger keeps of its numbers: the rate is some cells but not all of them, and their number
 -- is below 256; fewer values are pending than it has cells, no more outputs are left than that, and
@@ -24,41 +27,44 @@ pub record DuplexState (F P : Type 0) : Type 0 where
   pub permutation : P
   pub draw_limit : ℕ
 
--- each step, under the function that each permutation is
-abbrev pub duplexed : {F P : Type 0} → Residues F → (P → List F → List F) → ℕ → DuplexState F P → DuplexState F P
-duplexed r permute rate c = record c { sponge = calls.duplexed r (permute c.permutation) rate c.sponge }
+-- Each step, under the function that each permutation is.
+module _ {F P : Type 0} (r : Residues F) (permute : P → List F → List F) (rate : ℕ) where
+  -- how its sponge works
+  abbrev pub rule_of : DuplexState F P → SpongeRule (List F) F
+  rule_of c = duplex r (permute c.permutation) rate
 
-abbrev pub observed : {F P : Type 0} → Residues F → (P → List F → List F) → ℕ → DuplexState F P → F → DuplexState F P
-observed r permute rate c x = record c { sponge = calls.observed r (permute c.permutation) rate c.sponge x }
+  abbrev pub duplexed : DuplexState F P → DuplexState F P
+  duplexed c = record c { sponge = calls.duplexed (rule_of c) c.sponge }
 
--- what a list feeds: each value is observed, in order
-abbrev pub fed : {F P : Type 0} → Residues F → (P → List F → List F) → ℕ → DuplexState F P → List F → DuplexState F P
-fed r permute rate c xs = observed_all (observed r permute rate) c xs
+  abbrev pub observed : DuplexState F P → F → DuplexState F P
+  observed c x = record c { sponge = calls.observed (rule_of c) c.sponge x }
 
-abbrev pub sampled : {F P : Type 0} → Residues F → (P → List F → List F) → ℕ → DuplexState F P → F
-sampled r permute rate c = calls.sampled r (permute c.permutation) rate c.sponge
+  -- what a list feeds: each value is observed, in order
+  abbrev pub fed : DuplexState F P → List F → DuplexState F P
+  fed c xs = observed_all observed c xs
 
-abbrev pub after_sampled : {F P : Type 0} → Residues F → (P → List F → List F) → ℕ → DuplexState F P → DuplexState F P
-after_sampled r permute rate c = record c { sponge = calls.after_sampled r (permute c.permutation) rate c.sponge }
+  abbrev pub sampled : DuplexState F P → F
+  sampled c = calls.sampled (rule_of c) c.sponge
 
--- what n draws give, in order
-abbrev pub drawn : {F P : Type 0} → Residues F → (P → List F → List F) → ℕ → ℕ → DuplexState F P → List F
-drawn r permute rate zero c = []
-drawn r permute rate (suc n) c = sampled r permute rate c ∷ drawn r permute rate n (after_sampled r permute rate c)
+  abbrev pub after_sampled : DuplexState F P → DuplexState F P
+  after_sampled c = record c { sponge = calls.after_sampled (rule_of c) c.sponge }
 
--- the challenger after n draws
-abbrev pub after_drawn : {F P : Type 0} → Residues F → (P → List F → List F) → ℕ → ℕ → DuplexState F P → DuplexState F P
-after_drawn r permute rate zero c = c
-after_drawn r permute rate (suc n) c = after_drawn r permute rate n (after_sampled r permute rate c)
+  -- what n draws give, in order
+  abbrev pub drawn : ℕ → DuplexState F P → List F
+  drawn n c = drawing.drawn sampled after_sampled n c
 
-abbrev pub digest : {F P : Type 0} → Residues F → (P → List F → List F) → ℕ → DuplexState F P → List F
-digest r permute rate c = calls.digest r (permute c.permutation) rate c.sponge
+  -- the challenger after n draws
+  abbrev pub after_drawn : ℕ → DuplexState F P → DuplexState F P
+  after_drawn n c = after_steps after_sampled n c
 
--- what calls do from a challenger on
-abbrev pub run : {F P : Type 0} → Residues F → (P → List F → List F) → ℕ → DuplexState F P → List (Call F) → DuplexRun F
-run r permute rate c calls = run_calls (duplex_by_calls r (permute c.permutation) rate) c.sponge calls
+  -- the rate after one step more
+  abbrev pub digest : DuplexState F P → List F
+  digest c = take rate (duplexed c).sponge.cells
 
--- the challenger after calls
-abbrev pub after_calls : {F P : Type 0} → Residues F → (P → List F → List F) → ℕ → DuplexState F P → List (Call F)
-    → DuplexState F P
-after_calls r permute rate c calls = record c { sponge = (run r permute rate c calls).after }
+  -- what calls do from a challenger on
+  abbrev pub run : DuplexState F P → List (Call F) → DuplexRun F
+  run c calls = run_calls (duplex_by_calls r (permute c.permutation) rate) c.sponge calls
+
+  -- the challenger after calls
+  abbrev pub after_calls : DuplexState F P → List (Call F) → DuplexState F P
+  after_calls c calls = record c { sponge = (run c calls).after }

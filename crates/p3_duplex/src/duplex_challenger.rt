@@ -14,15 +14,12 @@
 //! An observe drops the outputs that are left. Where nothing is pending, the cells are permuted as they are.
 ghost use Rattle.std.specs.Prelude.{◌≡◌, ◌<◌, ◌≤◌, ◌+◌, ℕ, List, [], Some, length, replicate, take};
 ghost use Rattle.std.specs.List.{All};
-ghost use Rattle.p3_field_core.specs.Residues.{plus};
 ghost use Rattle.p3_challenger_core.specs.Segments.{Call, segments, run_calls, run_calls_to_digest};
 ghost use Rattle.p3_challenger_core.specs.Segments.{run_segments, run_segments_to_digest};
-ghost use Rattle.p3_challenger_core.specs.Observation.{LeavesInCalls, RefusesObserve};
-ghost use Rattle.p3_challenger_core.specs.Sampling.{RefusesDraws};
 ghost use Rattle.p3_duplex.specs.DuplexSegments.{duplex_by_segments};
 ghost use Rattle.p3_duplex.specs.DuplexReadBack.{ReadsBack, ReadsBackToDigest, ReadsBackOrCollides};
-ghost use Rattle.p3_duplex.specs.DuplexCalls.{permutation_input, overwritten, fresh, outputs, duplex_by_calls};
-ghost use Rattle.p3_challenger_core.specs.declared.error.ChallengerError.{ChallengerError};
+ghost use Rattle.p3_sponge.specs.SpongeCalls.{permutation_input};
+ghost use Rattle.p3_duplex.specs.DuplexCalls.{duplex, fresh, outputs, duplex_by_calls};
 
 mod bits;
 mod calls;
@@ -36,6 +33,7 @@ use p3_challenger_core::{
     CanFinalizeDigest, CanObserve, CanSample, CanSampleBits, ChallengerError, Sponge,
 };
 use p3_field_core::{BasedVectorSpace, PrimeCharacteristicRing, PrimeField64};
+use p3_sponge::{overwrite, write_after, zero};
 use p3_symmetric::CryptographicPermutation;
 use std::fmt;
 use std::marker::Model;
@@ -176,41 +174,6 @@ impl<
         let _ = &self.outputs_left;
     }
 
-    /// Draws are never refused, whatever is drawn: no number of them leaves any challenger with an
-    /// error.
-    ///
-    /// A law: the body does nothing, and a caller cites the clause.
-    pub fn draws_are_not_refused<A: BasedVectorSpace<F>>(&self)
-        ensures { (n : ℕ) (e : ChallengerError) (s t : duplex_state.DuplexState F P) →
-            ¬ (RefusesDraws ⟦<DuplexChallenger<F, P, WIDTH, RATE> as CanSample<A>>⟧.sampling n e s t) }
-    {
-        let _ = &self.outputs_left;
-    }
-
-    /// Nor are draws of bits.
-    ///
-    /// A law: the body does nothing, and a caller cites the clause.
-    pub fn bit_draws_are_not_refused(&self)
-        ensures { (bits n : ℕ) (e : ChallengerError) (s t : duplex_state.DuplexState F P) →
-            ¬ (RefusesDraws (⟦<DuplexChallenger<F, P, WIDTH, RATE> as CanSampleBits<usize>>⟧.bits_sampling bits)
-            n e s t) }
-    {
-        let _ = &self.outputs_left;
-    }
-
-    /// Observations of single values are never refused: no list of them leaves any challenger with an
-    /// error.
-    ///
-    /// A law: the body does nothing, and a caller cites the clause.
-    pub fn observes_are_not_refused(&self)
-        ensures { (values : List F) (e : ChallengerError) (s t : duplex_state.DuplexState F P) →
-            ¬ (RefusesObserve (LeavesInCalls
-            ⟦<DuplexChallenger<F, P, WIDTH, RATE> as CanObserve<F>>⟧.observation.observed
-            ⟦<DuplexChallenger<F, P, WIDTH, RATE> as CanObserve<F>>⟧.observation.may_leave s values) e t) }
-    {
-        let _ = &self.outputs_left;
-    }
-
     /// The cells: the first `RATE` are the rate, and the others the capacity.
     pub fn sponge_state(&self) -> &[F; WIDTH]
         ensures { result.now ≡ self.now.sponge.cells }
@@ -307,8 +270,7 @@ impl<
         if values.is_empty() {
             return;
         }
-        let buffer = &mut self.input_buffer[..];
-        buffer[self.inputs..end].copy_from_slice(values);
+        write_after(&mut self.input_buffer[..], self.inputs, values);
         if end == RATE {
             absorb::<F, P, WIDTH, RATE>(
                 &mut self.sponge_state,
@@ -462,7 +424,7 @@ impl<
     ghost use Rattle.std.specs.Prelude.{Some};
     ghost use Rattle.p3_challenger_core.specs.Sampling.{unrefused_draw};
     ghost use Rattle.p3_duplex.specs.DuplexState as duplex_state;
-    ghost use Rattle.p3_duplex.specs.DuplexStateLaws.{elements-sampled};
+    ghost use Rattle.p3_sponge.specs.DrawingLaws.{elements-sampled};
 
     // The element whose coefficients are the next values, coefficient 0 first. A draw takes no memory and has no
     // limit: it is never refused.
@@ -470,7 +432,8 @@ impl<
         (λ s. Some (A.element (duplex_state.drawn F.residues P.permutation RATE A.DIMENSION s)))
         (λ s. duplex_state.after_drawn F.residues P.permutation RATE A.DIMENSION s) };
 
-    ghost samples = { elements-sampled F.residues P.permutation RATE A.DIMENSION A.element };
+    ghost samples = { elements-sampled (duplex_state.sampled F.residues P.permutation RATE)
+        (duplex_state.after_sampled F.residues P.permutation RATE) A.DIMENSION A.element };
 
     fn sample(&mut self) -> Result<A, ChallengerError> {
         let mut element = A::zero();
@@ -501,43 +464,6 @@ impl<
     }
 }
 
-// The element 0.
-fn zero<F: PrimeField64>() -> F
-    ensures { result ≡ F.residues.of 0 }
-{
-    F::ZERO
-}
-
-// The element that is a number more.
-fn plus_number<F: PrimeField64>(x: F, n: u64) -> F
-    ensures { result ≡ plus F.residues x n }
-{
-    x + F::from_u64(n)
-}
-
-// Writes a block over the rate, and adds how many values it has to the cell after it. It is written out at each call:
-// the length of a whole block is known there.
-#[inline(always)]
-fn overwrite<F: PrimeField64>(cells: &mut [F], block: &[F], rate: usize)
-    requires fits { length block.now ≤ rate }
-    requires capacity { rate < length cells.old }
-    ensures { cells.new ≡ overwritten F.residues rate cells.old block.now }
-{
-    let counted = plus_number(cells[rate], block.len() as u64);
-    cells[..block.len()].copy_from_slice(block);
-    fill_zeros(&mut cells[block.len()..rate]);
-    cells[rate] = counted;
-}
-
-// Makes each cell zero.
-fn fill_zeros<F: PrimeField64>(cells: &mut [F])
-    ensures { cells.new ≡ replicate (length cells.old) (F.residues.of 0) }
-{
-    for i in 0..cells.len() {
-        cells[i] = zero();
-    }
-}
-
 // Absorbs a block; an empty one only permutes.
 fn absorb<
     F: PrimeField64,
@@ -547,7 +473,8 @@ fn absorb<
 >(cells: &mut [F; WIDTH], block: &[F], permutation: &P)
     requires fits { length block.now ≤ RATE }
     requires capacity { RATE < WIDTH }
-    ensures { cells.new ≡ P.permutation permutation.now (permutation_input F.residues RATE cells.old block.now) }
+    ensures { let rule = duplex F.residues (P.permutation permutation.now) RATE in
+        cells.new ≡ rule.permute (permutation_input rule cells.old block.now) }
 {
     if !block.is_empty() {
         overwrite(&mut cells[..], block, RATE);

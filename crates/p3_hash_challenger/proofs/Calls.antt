@@ -7,7 +7,8 @@ use Rattle.p3_challenger_core.specs.Segments.{Call, observe, observe_empty_array
 use Rattle.p3_challenger_core.specs.Segments.{run_calls, run_segments}
 use Rattle.p3_challenger_core.specs.SegmentLaws.{cut-only, run_calls-segments}
 use Rattle.p3_hash_challenger.specs.HashCalls.{HashFunction, HashSponge, with_pending, hash_by_calls}
-use Rattle.p3_hash_challenger.specs.HashSegments.{output_at, outputs_from, run_draws, hash_by_segments}
+use Rattle.p3_sponge.specs.Outputs.{outputs_from}
+use Rattle.p3_hash_challenger.specs.HashSegments.{outputs_of, output_at, run_draws, hash_by_segments}
 use Rattle.p3_hash_challenger.specs.HashState.{HashState, fed, observed, array_observed, after_calls, calls_of_array}
 use Rattle.p3_hash_challenger.specs.HashState.{after_sampled}
 use Rattle.p3_hash_challenger.specs.HashStateLaws.{fed-append}
@@ -31,13 +32,13 @@ module _ {T H : Type 0} (function : H → HashFunction T) where
 module _ {T : Type 0} (h : HashFunction T) where
   -- the outputs from a place on are those at the places from there on
   outputs-places : (chain : List T) (base place n : ℕ)
-      → outputs_from h chain (base + place) n ≡ map (λ k. output_at h chain (base + k)) (range_with_len place n)
+      → outputs_from (outputs_of h) chain (base + place) n ≡ map (λ k. output_at h chain (base + k)) (range_with_len place n)
   unfolding outputs_from
   outputs-places chain base place zero = refl
   outputs-places chain base place (suc n) =
       let next : suc (base + place) ≡ base + (place + 1) = omega arith in
       ap (λ xs. output_at h chain (base + place) ∷ xs)
-      (ap (λ p. outputs_from h chain p n) next ∙ outputs-places chain base (place + 1) n)
+      (ap (λ p. outputs_from (outputs_of h) chain p n) next ∙ outputs-places chain base (place + 1) n)
 
   -- draws that begin anew take the places of the first hash of the chain
   anew-places : (chain : List T) (n : ℕ)
@@ -45,7 +46,7 @@ module _ {T : Type 0} (h : HashFunction T) where
   anew-places chain zero = refl
   anew-places chain (suc n) =
       let first : h.out_len - 0 ≡ h.out_len + 0 = omega arith in
-      ap (λ p. outputs_from h chain p (suc n)) first ∙ outputs-places chain h.out_len 0 (suc n)
+      ap (λ p. outputs_from (outputs_of h) chain p (suc n)) first ∙ outputs-places chain h.out_len 0 (suc n)
 
   module _ (positive : 0 < h.out_len) (s : HashSponge T) (left : s.outputs_left ≤ h.out_len) where
     -- answers segment by segment

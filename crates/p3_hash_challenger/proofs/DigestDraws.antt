@@ -10,7 +10,7 @@ use Rattle.p3_hash_challenger.specs.HashState.{HashState, fed, function_of, samp
 use Rattle.p3_hash_challenger.specs.HashStateLaws.{observed_all-fed}
 use Rattle.p3_hash_challenger.specs.WitnessSearch.{first_outputs, candidate_check, digest_check}
 use Rattle.p3_hash_challenger.specs.WitnessSearch.{IsDigestOf}
-use Rattle.p3_hash_challenger.proofs.HashSteps.{not_zero}
+use Rattle.p3_sponge.specs.SpongeStepLaws.{not_zero}
 
 module _ {H : Type 0} (function : H → HashFunction ℕ) (hasher : H) where
   abbrev h : HashFunction ℕ

@@ -5,7 +5,7 @@ use Rattle.std.proofs.lemmas.List.{get_or_default}
 use Rattle.p3_challenger_core.specs.Segments.{Call, observe, observe_empty_array, draw}
 use Rattle.p3_hash_challenger.specs.HashCalls.{HashFunction, HashSponge, flushed, one_taken}
 use Rattle.p3_hash_challenger.specs.HashCalls.{sampled, queries_by_draw, after_sampled, run_call}
-use Rattle.p3_hash_challenger.proofs.HashSteps.{not_zero}
+use Rattle.p3_sponge.specs.SpongeStepLaws.{not_zero}
 
 -- the outputs left are places of what is pending
 abbrev pub HasOutputs : {T : Type 0} → HashSponge T → Type 0

@@ -1,7 +1,9 @@
 -- A hash challenger over segments of calls: what it draws, and what it queries its hash function with, as a function
 -- of whole segments.
-use Rattle.std.specs.Prelude.{ℕ, zero, suc, ◌+◌, ◌-◌, ◌/◌, ◌%◌, List, [], ◌∷◌, ◌++◌, slice_index_or}
+use Rattle.std.specs.Prelude.{ℕ, List, [], ◌∷◌, ◌++◌, slice_index_or}
 use Rattle.p3_challenger_core.specs.Segments.{stays, BySegments}
+use Rattle.p3_sponge.specs.Outputs as outputs
+use Rattle.p3_sponge.specs.Outputs.{Outputs}
 use Rattle.p3_hash_challenger.specs.HashCalls.{HashFunction, HashSponge, HashRun, with_pending}
 
 -- ---- what is observed
@@ -13,49 +15,24 @@ run_values start (x ∷ xs) = stays (with_pending (start.pending ++ x ∷ xs))
 
 -- ---- what is drawn
 
--- h(n) of a chain: its hash, hashed again and again, n times in all
-unfoldable pub hashed : {T : Type 0} → (List T → List T) → ℕ → List T → List T
-hashed hash zero chain = chain
-hashed hash (suc n) chain = hashed hash n (hash chain)
+-- the outputs of a chain, and of its hash, hashed again and again
+abbrev pub outputs_of : {T : Type 0} → HashFunction T → Outputs (List T) T
+outputs_of h =
+    record { next = h.digest; row_len = h.out_len; output = λ chain i. slice_index_or chain i h.filler }
 
--- the queries of that: the chain, h(1), and so on, n of them
-unfoldable pub queries_in_order : {T : Type 0} → (List T → List T) → ℕ → List T → List (List T)
-queries_in_order hash zero chain = []
-queries_in_order hash (suc n) chain = chain ∷ queries_in_order hash n (hash chain)
-
--- The outputs of a chain stand in a row: those of each h(n), from its last place to its first. The
--- output at a place of that row is in h(place / out_len), and draw k of a segment that begins anew is
--- at the place out_len + k: it is the place out_len - 1 - k % out_len of h(1 + k / out_len).
+-- h(n) of a chain is its hash, hashed again and again, n times in all. The outputs of a chain stand in a row: those of
+-- each h(n), from its last place to its first. Draw k of a segment that begins anew is at the place out_len + k of that
+-- row: it is the place out_len - 1 - k % out_len of h(1 + k / out_len).
 abbrev pub output_at : {T : Type 0} → HashFunction T → List T → ℕ → T
-output_at h chain place =
-    slice_index_or (hashed h.digest (place / h.out_len) chain) (h.out_len - 1 - place % h.out_len) h.filler
+output_at h chain place = outputs.output_at (outputs_of h) chain place
 
--- once that output is drawn: the h that it was in is pending, and its places before it are left
-abbrev pub left_after : {T : Type 0} → HashFunction T → List T → ℕ → HashSponge T
-left_after h chain place =
-    record {
-      pending = hashed h.digest (place / h.out_len) chain;
-      outputs_left = h.out_len - 1 - place % h.out_len;
-    }
-
--- the outputs of n draws from a place on
-unfoldable pub outputs_from : {T : Type 0} → HashFunction T → List T → ℕ → ℕ → List T
-outputs_from h chain place zero = []
-outputs_from h chain place (suc n) = output_at h chain place ∷ outputs_from h chain (suc place) n
-
--- a draw and n more, from a place on: the chain is hashed as often as the last of them asks
-abbrev pub draws_from : {T : Type 0} → HashFunction T → List T → ℕ → ℕ → HashRun T
-draws_from h chain place n =
-    record {
-      answers = outputs_from h chain place (suc n);
-      queries = queries_in_order h.digest ((place + n) / h.out_len) chain;
-      after = left_after h chain (place + n);
-    }
+-- a chain is pending, and so many outputs of it are left
+abbrev pub holding : {T : Type 0} → List T → ℕ → HashSponge T
+holding chain outputs_left = record { pending = chain; outputs_left = outputs_left }
 
 -- with outputs left draws go on where those before them stopped, and else they begin anew
 abbrev pub run_draws : {T : Type 0} → HashFunction T → HashSponge T → ℕ → HashRun T
-run_draws h start zero = stays start
-run_draws h start (suc n) = draws_from h start.pending (h.out_len - start.outputs_left) n
+run_draws h start n = outputs.run_draws (outputs_of h) holding start.pending start.outputs_left n
 
 -- ---- segments
 

@@ -168,13 +168,11 @@ impl<T: Copy, H: CryptographicHasher<T, [T; OUT_LEN]>, const OUT_LEN: usize> Has
 
     /// Draws are never refused: no number of them leaves any challenger with an error.
     ///
-    /// A law: the body does nothing, and a caller cites the clause.
-    pub fn draws_are_not_refused(&self)
+    /// A law: the body is empty, and a caller cites the clause.
+    pub fn draws_are_not_refused()
         ensures { (n : ℕ) (e : ChallengerError) (s t : hash_state.HashState T H) →
-            ¬ (RefusesDraws ⟦<HashChallenger<T, H, OUT_LEN> as CanSample<T>>⟧.sampling n e s t) }
-    {
-        let _ = &self.outputs_left;
-    }
+            ¬ (RefusesDraws ⟦<Self as CanSample<T>>⟧.sampling n e s t) }
+    {}
 
     /// What the next hash takes: the digest of the last one, and what was observed since. Not in the Rust crate.
     pub fn input(&self) -> &[T]

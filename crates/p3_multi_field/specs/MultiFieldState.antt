@@ -3,7 +3,7 @@ use Rattle.std.specs.Prelude.{◌≡◌, ℕ, ◌<◌, ◌≤◌, ◌*◌, List,
 use Rattle.p3_challenger_core.specs.Observation.{observed_all}
 use Rattle.p3_challenger_core.specs.Segments.{Call, Run, run_calls}
 use Rattle.p3_challenger_core.specs.Sponge.{after_steps}
-use Rattle.p3_sponge.specs.Drawn as in_order
+use Rattle.p3_sponge.specs.Drawing as in_order
 use Rattle.p3_sponge.specs.SpongeCalls as sponge
 use Rattle.p3_sponge.specs.SpongeCalls.{SpongeRule}
 use Rattle.p3_multi_field.specs.MultiFieldCalls as calls

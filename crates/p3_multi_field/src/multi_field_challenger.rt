@@ -16,9 +16,6 @@ ghost use Rattle.std.specs.List.{All};
 ghost use Rattle.p3_multi_field.specs.MultiFieldCalls.{fresh, queued};
 ghost use Rattle.p3_challenger_core.specs.Segments.{Call, segments, run_calls, run_calls_to_digest};
 ghost use Rattle.p3_challenger_core.specs.Segments.{run_segments, run_segments_to_digest};
-ghost use Rattle.p3_challenger_core.specs.Observation.{LeavesInCalls, RefusesObserve};
-ghost use Rattle.p3_challenger_core.specs.Sampling.{RefusesDraws};
-ghost use Rattle.p3_challenger_core.specs.declared.error.ChallengerError.{ChallengerError};
 ghost use Rattle.p3_multi_field.specs.MultiFieldCalls.{Symbol, multi_field_by_calls};
 ghost use Rattle.p3_multi_field.specs.MultiFieldReadBack.{ReadsBack};
 ghost use Rattle.p3_multi_field.specs.MultiFieldSegments.{multi_field_by_segments};
@@ -34,9 +31,8 @@ mod values;
 
 use self::packing::{absorb, digit_at, pack_over};
 use crate::{HasFieldPair, MultiField32ChallengerError};
-use p3_challenger_core::{CanObserve, CanSample, CanSampleBits};
 use p3_field_bridge::FieldBridge;
-use p3_field_core::{BasedVectorSpace, Named, PrimeField32, PrimeField64};
+use p3_field_core::{Named, PrimeField32, PrimeField64};
 use p3_sponge::zero;
 use p3_symmetric::CryptographicPermutation;
 use std::fmt;
@@ -227,41 +223,6 @@ impl<
             All (λ state. other state ≡ permute state) run.queries
             → run_calls_to_digest (multi_field_by_calls pair other RATE) self.now.sponge calls
             ≡ run }
-    {
-        let _ = &self.outputs_left;
-    }
-
-    /// Draws are never refused, whatever is drawn: no number of them leaves any challenger with an
-    /// error.
-    ///
-    /// A law: the body does nothing, and a caller cites the clause.
-    pub fn draws_are_not_refused<A: BasedVectorSpace<F>>(&self)
-        ensures { (n : ℕ) (e : ChallengerError) (s t : multi_state.MultiFieldState F PF P) →
-            ¬ (RefusesDraws ⟦<Self as CanSample<A>>⟧.sampling n e s t) }
-    {
-        let _ = &self.outputs_left;
-    }
-
-    /// Nor are draws of bits.
-    ///
-    /// A law: the body does nothing, and a caller cites the clause.
-    pub fn bit_draws_are_not_refused(&self)
-        ensures { (bits n : ℕ) (e : ChallengerError) (s t : multi_state.MultiFieldState F PF P) →
-            ¬ (RefusesDraws (⟦<Self as CanSampleBits<usize>>⟧.bits_sampling bits) n e s t) }
-    {
-        let _ = &self.outputs_left;
-    }
-
-    /// Observations of single scalars are never refused: no list of them leaves any challenger with an
-    /// error.
-    ///
-    /// A law: the body does nothing, and a caller cites the clause.
-    pub fn observes_are_not_refused(&self)
-        ensures { (values : List F) (e : ChallengerError)
-            (s t : multi_state.MultiFieldState F PF P) →
-            ¬ (RefusesObserve (LeavesInCalls
-            ⟦<Self as CanObserve<F>>⟧.observation.observed
-            ⟦<Self as CanObserve<F>>⟧.observation.may_leave s values) e t) }
     {
         let _ = &self.outputs_left;
     }

@@ -4,3 +4,5 @@ pub mod GroupLaws
 pub mod ScriptLaws
 pub mod Scripts
 pub mod Standings
+pub mod StepFamilies
+pub mod SuiteRules

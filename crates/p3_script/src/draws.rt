@@ -251,8 +251,7 @@ fn accepted_extensions<S: Suite, A: AcceptRule<S::Extension>, P: Tape>(
     ensures { let codec = ⟦<ExtensionFieldCodec<S::Field, S::Extension, S::Codec> as Codec<S::Challenger, S::Extension>>⟧ in
         KeepsOrRefuses (drawn_rejecting {Symbol = S.Challenger.Symbol}
         (⟦<S::Extension as Declared<S::Field, S::Digest>>⟧.step Challenge label.now (Fixed n))
-        codec.sampling
-        (A.rule accept.now) limit n)
+        codec.sampling (A.rule accept.now) limit n)
         (driving_of S.Challenger.state P.bytes driver.old) bound_values result
         (driving_of S.Challenger.state P.bytes driver.new) }
 {
@@ -276,7 +275,8 @@ fn accepted_bits<S: Suite, A: AcceptRule<usize>, P: Tape>(
     requires has { IsTrue S.Group.HAS_UNIFORM }
     requires within { width ≤ S.Group.most_bits }
     ensures { KeepsOrRefuses (drawn_rejecting {Symbol = S.Challenger.Symbol}
-        (uniform_bits_step label.now width (Fixed n)) (S.Group.uniform_draws width) (A.rule accept.now) limit n)
+        (uniform_bits_step label.now width (Fixed n)) (S.Group.uniform_draws width)
+        (A.rule accept.now) limit n)
         (driving_of S.Challenger.state P.bytes driver.old) bound_values result
         (driving_of S.Challenger.state P.bytes driver.new) }
 {

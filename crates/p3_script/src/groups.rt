@@ -1,5 +1,5 @@
 //! The groups of steps that a challenger may have beside the plain ones: bits and proofs of work, and uniform bits.
-ghost use Rattle.std.specs.Prelude.{◌≡◌, ◌≤◌, ℕ, Bool, true, false, IsTrue, IsErr, IfOk, IfErr};
+ghost use Rattle.std.specs.Prelude.{◌≡◌, ◌≤◌, ℕ, Bool, IsTrue, IsErr, IfOk, IfErr};
 ghost use Rattle.p3_challenger_core.specs.Observation.{Observation};
 ghost use Rattle.p3_challenger_core.specs.Reading.{IsPrefixFree};
 ghost use Rattle.p3_challenger_core.specs.Sampling.{Sampling};
@@ -22,17 +22,15 @@ ghost use Rattle.p3_step_laws.specs.Limits.{TellsLimits};
 ghost use Rattle.p3_step_laws.specs.OneReason.{TellOneReason};
 ghost use Rattle.p3_step_laws.specs.Encoded.{OnlyReads, AnyValue};
 
-use p3_challenger_core::{CanSampleBits, Sponge};
+mod all_steps;
+mod bits_and_work;
+mod plain_steps;
+
+use p3_challenger_core::Sponge;
 use p3_driver_core::TranscriptBound;
 use p3_drivers::{DriverState, ProverState, Tape, VerifierState};
 use p3_field_core::ScalarField;
 use p3_fs_core::{Declared, Kind, Label, Length, PatternError, TranscriptError};
-use p3_grinding::{CanSampleUniformBits, GrindingChallenger};
-use p3_step_laws::{
-    bit_draws_are_refused_for_one_reason, bit_draws_tell_limits, carried_work_agrees,
-    read_work_is_encoded, sent_work_is_received, uniform_draws_are_refused_for_one_reason,
-    uniform_draws_tell_limits, work_is_refused_for_one_reason,
-};
 use p3_symmetric::DigestHasher;
 
 /// A group of steps that a challenger has beside the plain ones: for each of them a function that calls the driver's
@@ -102,8 +100,8 @@ pub trait StepGroup<C: Sponge, F: ScalarField> {
 
     /// Draws numbers of `width` uniform bits until the rule has taken `n`, on either side.
     ///
-    /// Conditions: the group has uniform bits, `width` is at most [`max_bits`](StepGroup::max_bits), and the rule may be
-    /// asked at any time.
+    /// Conditions: the group has uniform bits, `width` is at most [`max_bits`](StepGroup::max_bits), and the rule may
+    /// be asked at any time.
     fn challenge_uniform_bits_rejecting<
         U,
         D: DigestHasher,
@@ -121,8 +119,8 @@ pub trait StepGroup<C: Sponge, F: ScalarField> {
         requires within { width ≤ most_bits }
         requires callable { R.IsAlwaysCallable accept.now }
         ensures played { (rule : Rule ℕ) → ComputesOfValues R.Fn accept.now rule → PlaysOrRefuses
-            (drawn_rejecting {Symbol = C.Symbol} (uniform_bits_step label.now width (Length.Fixed n))
-            (uniform_draws width) rule limit n)
+            (drawn_rejecting {Symbol = C.Symbol}
+            (uniform_bits_step label.now width (Length.Fixed n)) (uniform_draws width) rule limit n)
             (driving_of C.state P.bytes driver.old).transcript bound_values result
             (driving_of C.state P.bytes driver.new).transcript }
         ensures kept { (driving_of C.state P.bytes driver.new).bytes
@@ -188,8 +186,8 @@ pub trait StepGroup<C: Sponge, F: ScalarField> {
             ChecksAndKeeps (work_of step F.residues before_witness witness bit_draws bits) carried
             (verifying_of C.state verifier.old) result (verifying_of C.state verifier.new) };
 
-    /// Draws of bits and checks of work are refused for the draw limit only where it is met, and a witness that a prover
-    /// has found passes. A law: the body does nothing.
+    /// Draws of bits and checks of work are refused for the draw limit only where it is met, and a witness that a
+    /// prover has found passes. A law: the body does nothing.
     fn steps_are_lawful()
         ensures bits { IsTrue HAS_POW → (width n : ℕ) →
             TellsLimits {Symbol = C.Symbol} (drawing_list (bit_draws width) n) }
@@ -204,8 +202,8 @@ pub trait StepGroup<C: Sponge, F: ScalarField> {
             let work = work_of step F.residues before_witness witness bit_draws bits in
             OnlyReads (received_work work (encoding F.residues F.bit_length)) AnyValue
             (sent_work work (encoding F.residues F.bit_length)) }
-        ensures carried { IsTrue HAS_POW → (step : Step) (bits : ℕ) (x : F) →
-            CompletesCarriedWork (work_of step F.residues before_witness witness bit_draws bits) x };
+        ensures carried { IsTrue HAS_POW → (step : Step) (bits : ℕ) (x : F) → CompletesCarriedWork
+            (work_of step F.residues before_witness witness bit_draws bits) x };
 
     /// Draws of bits and proofs of work are refused for one reason: any two errors from one state, neither of them for
     /// being out of memory, say the same. A law: the body calls laws alone.
@@ -216,7 +214,8 @@ pub trait StepGroup<C: Sponge, F: ScalarField> {
         ensures uniform { IsTrue HAS_UNIFORM → (step : Step) (width n : ℕ) →
             TellOneReason (RefusesStep {Symbol = C.Symbol}
             (meaning.drawn_list step (uniform_draws width) n)) }
-        ensures rejecting { IsTrue HAS_UNIFORM → (step : Step) (width : ℕ) (rule : Rule ℕ) (limit n : ℕ) →
+        ensures rejecting { IsTrue HAS_UNIFORM →
+            (step : Step) (width : ℕ) (rule : Rule ℕ) (limit n : ℕ) →
             TellOneReason (RefusesStep {Symbol = C.Symbol}
             (drawn_rejecting step (uniform_draws width) rule limit n)) }
         ensures ground { IsTrue HAS_POW → (step : Step) (bits : ℕ) → TellOneReason (RefusesToGrind
@@ -235,367 +234,17 @@ pub trait StepGroup<C: Sponge, F: ScalarField> {
 #[derive(Clone, Copy, Debug)]
 pub struct Plain;
 
-impl<C: Sponge, F: ScalarField> StepGroup<C, F> for Plain {
-    ghost use Rattle.std.specs.Prelude.{Some, []};
-    ghost use Rattle.p3_script.specs.GroupLaws.{not_there};
-    ghost use Rattle.p3_challenger_core.specs.Observation.{unrefused_observe};
-    ghost use Rattle.p3_challenger_core.specs.Sampling.{unrefused_draw};
-
-    const HAS_POW: bool = false;
-
-    ghost HAS_POW = { false };
-
-    const HAS_UNIFORM: bool = false;
-
-    ghost HAS_UNIFORM = { false };
-
-    ghost most_bits = { 0 };
-
-    ghost bit_draws = { λ _. unrefused_draw (λ _. Some 0) (λ s. s) };
-
-    ghost uniform_draws = { λ _. unrefused_draw (λ _. Some 0) (λ s. s) };
-
-    ghost before_witness = { unrefused_draw (λ _. Some tt) (λ s. s) };
-
-    ghost witness = { unrefused_observe (λ _. []) (λ s _. s) };
-
-    ghost may_run_out = { λ _. ⊥ };
-
-    ghost witnesses_prefix_free = { not_there };
-
-    fn max_bits() -> usize {
-        0
-    }
-
-    fn challenge_bits<U, D: DigestHasher, P: Tape>(
-        driver: &mut DriverState<C, U, D, P>,
-        _label: Label,
-        _width: usize,
-        _n: usize,
-    ) -> Result<Vec<TranscriptBound<usize>>, TranscriptError>
-        ensures same { driver.new ≡ driver.old }
-        ensures refused { IsErr result }
-    {
-        Err(TranscriptError::Pattern(PatternError::Finished))
-    }
-
-    fn challenge_uniform_bits<U, D: DigestHasher, P: Tape>(
-        driver: &mut DriverState<C, U, D, P>,
-        _label: Label,
-        _width: usize,
-        _n: usize,
-    ) -> Result<Vec<TranscriptBound<usize>>, TranscriptError>
-        ensures same { driver.new ≡ driver.old }
-        ensures refused { IsErr result }
-    {
-        Err(TranscriptError::Pattern(PatternError::Finished))
-    }
-
-    fn challenge_uniform_bits_rejecting<
-        U,
-        D: DigestHasher,
-        P: Tape,
-        R: Fn(usize, &[usize]) -> bool,
-    >(
-        driver: &mut DriverState<C, U, D, P>,
-        _label: Label,
-        _width: usize,
-        _n: usize,
-        _accept: &R,
-        _limit: u64,
-    ) -> Result<Vec<TranscriptBound<usize>>, TranscriptError>
-        ensures same { driver.new ≡ driver.old }
-        ensures refused { IsErr result }
-    {
-        Err(TranscriptError::Pattern(PatternError::Finished))
-    }
-
-    fn pow<U, D: DigestHasher>(
-        prover: &mut ProverState<C, U, D>,
-        _label: Label,
-        _bits: usize,
-    ) -> Result<(), TranscriptError>
-        ensures same { prover.new ≡ prover.old }
-        ensures refused { IsErr result }
-    {
-        Err(TranscriptError::Pattern(PatternError::Finished))
-    }
-
-    fn observe_pow<U, D: DigestHasher>(
-        prover: &mut ProverState<C, U, D>,
-        _label: Label,
-        _bits: usize,
-    ) -> Result<F, TranscriptError>
-        ensures same { prover.new ≡ prover.old }
-        ensures refused { IsErr result }
-    {
-        Err(TranscriptError::Pattern(PatternError::Finished))
-    }
-
-    fn check_pow<U, D: DigestHasher>(
-        verifier: &mut VerifierState<'_, C, U, D>,
-        _label: Label,
-        _bits: usize,
-    ) -> Result<(), TranscriptError>
-        ensures same { verifier.new ≡ verifier.old }
-        ensures refused { IsErr result }
-    {
-        Err(TranscriptError::Pattern(PatternError::Finished))
-    }
-
-    fn check_carried_pow<U, D: DigestHasher>(
-        verifier: &mut VerifierState<'_, C, U, D>,
-        _label: Label,
-        _bits: usize,
-        _carried: F,
-    ) -> Result<(), TranscriptError>
-        ensures same { verifier.new ≡ verifier.old }
-        ensures refused { IsErr result }
-    {
-        Err(TranscriptError::Pattern(PatternError::Finished))
-    }
-
-    fn steps_are_lawful() {}
-
-    fn steps_are_refused_for_one_reason() {}
-}
-
 /// The plain steps, bits and proofs of work. Not in the Rust crate.
 #[derive(Clone, Copy, Debug)]
 pub struct BitsPow;
-
-impl<C: GrindingChallenger + Drop> StepGroup<C, C::Witness> for BitsPow
-where
-    C::Witness: ScalarField,
-{
-    ghost use Rattle.std.specs.Prelude.{Some};
-    ghost use Rattle.p3_challenger_core.specs.Sampling.{unrefused_draw};
-
-    const HAS_POW: bool = true;
-
-    ghost HAS_POW = { true };
-
-    const HAS_UNIFORM: bool = false;
-
-    ghost HAS_UNIFORM = { false };
-
-    ghost most_bits = { C.most_bits };
-
-    ghost bit_draws = { C.bits_sampling };
-
-    ghost uniform_draws = { λ _. unrefused_draw (λ _. Some 0) (λ s. s) };
-
-    ghost before_witness = { C.before_witness };
-
-    ghost witness = { C.observation };
-
-    ghost may_run_out = { C.may_run_out };
-
-    ghost witnesses_prefix_free = { λ _. C.witnesses_prefix_free };
-
-    fn max_bits() -> usize {
-        C::max_bits()
-    }
-
-    fn challenge_bits<U, D: DigestHasher, P: Tape>(
-        driver: &mut DriverState<C, U, D, P>,
-        label: Label,
-        width: usize,
-        n: usize,
-    ) -> Result<Vec<TranscriptBound<usize>>, TranscriptError> {
-        driver.challenge_bits(label, width, n)
-    }
-
-    fn pow<U, D: DigestHasher>(
-        prover: &mut ProverState<C, U, D>,
-        label: Label,
-        bits: usize,
-    ) -> Result<(), TranscriptError> {
-        prover.pow(label, bits)
-    }
-
-    fn observe_pow<U, D: DigestHasher>(
-        prover: &mut ProverState<C, U, D>,
-        label: Label,
-        bits: usize,
-    ) -> Result<C::Witness, TranscriptError> {
-        prover.observe_pow(label, bits)
-    }
-
-    fn check_pow<U, D: DigestHasher>(
-        verifier: &mut VerifierState<'_, C, U, D>,
-        label: Label,
-        bits: usize,
-    ) -> Result<(), TranscriptError> {
-        verifier.check_pow(label, bits)
-    }
-
-    fn check_carried_pow<U, D: DigestHasher>(
-        verifier: &mut VerifierState<'_, C, U, D>,
-        label: Label,
-        bits: usize,
-        carried: C::Witness,
-    ) -> Result<(), TranscriptError> {
-        verifier.observe_pow(label, bits, carried)
-    }
-
-    fn challenge_uniform_bits<U, D: DigestHasher, P: Tape>(
-        driver: &mut DriverState<C, U, D, P>,
-        _label: Label,
-        _width: usize,
-        _n: usize,
-    ) -> Result<Vec<TranscriptBound<usize>>, TranscriptError>
-        ensures same { driver.new ≡ driver.old }
-        ensures refused { IsErr result }
-    {
-        Err(TranscriptError::Pattern(PatternError::Finished))
-    }
-
-    fn challenge_uniform_bits_rejecting<
-        U,
-        D: DigestHasher,
-        P: Tape,
-        R: Fn(usize, &[usize]) -> bool,
-    >(
-        driver: &mut DriverState<C, U, D, P>,
-        _label: Label,
-        _width: usize,
-        _n: usize,
-        _accept: &R,
-        _limit: u64,
-    ) -> Result<Vec<TranscriptBound<usize>>, TranscriptError>
-        ensures same { driver.new ≡ driver.old }
-        ensures refused { IsErr result }
-    {
-        Err(TranscriptError::Pattern(PatternError::Finished))
-    }
-
-    fn steps_are_lawful() {
-        bit_draws_tell_limits::<C>();
-        sent_work_is_received::<C>();
-        read_work_is_encoded::<C>();
-        carried_work_agrees::<C>();
-    }
-
-    fn steps_are_refused_for_one_reason() {
-        bit_draws_are_refused_for_one_reason::<C>();
-        work_is_refused_for_one_reason::<C>();
-    }
-}
 
 /// The plain steps, bits and proofs of work, and uniform bits. Not in the Rust crate.
 #[derive(Clone, Copy, Debug)]
 pub struct Both;
 
-impl<C: GrindingChallenger + CanSampleUniformBits<C::Witness> + Drop> StepGroup<C, C::Witness>
-    for Both
-where
-    C::Witness: ScalarField,
+// A step that the group does not have. No caller gets here: each would have to show that the group has it.
+fn not_there<T>() -> Result<T, TranscriptError>
+    ensures { IsErr result }
 {
-    const HAS_POW: bool = true;
-
-    ghost HAS_POW = { true };
-
-    const HAS_UNIFORM: bool = true;
-
-    ghost HAS_UNIFORM = { true };
-
-    ghost most_bits = { C.most_bits };
-
-    ghost bit_draws = { C.bits_sampling };
-
-    ghost uniform_draws = { λ width. (C.uniform true width).draw };
-
-    ghost before_witness = { C.before_witness };
-
-    ghost witness = { C.observation };
-
-    ghost may_run_out = { C.may_run_out };
-
-    ghost witnesses_prefix_free = { λ _. C.witnesses_prefix_free };
-
-    fn max_bits() -> usize {
-        C::max_bits()
-    }
-
-    fn challenge_bits<U, D: DigestHasher, P: Tape>(
-        driver: &mut DriverState<C, U, D, P>,
-        label: Label,
-        width: usize,
-        n: usize,
-    ) -> Result<Vec<TranscriptBound<usize>>, TranscriptError> {
-        driver.challenge_bits(label, width, n)
-    }
-
-    fn pow<U, D: DigestHasher>(
-        prover: &mut ProverState<C, U, D>,
-        label: Label,
-        bits: usize,
-    ) -> Result<(), TranscriptError> {
-        prover.pow(label, bits)
-    }
-
-    fn observe_pow<U, D: DigestHasher>(
-        prover: &mut ProverState<C, U, D>,
-        label: Label,
-        bits: usize,
-    ) -> Result<C::Witness, TranscriptError> {
-        prover.observe_pow(label, bits)
-    }
-
-    fn check_pow<U, D: DigestHasher>(
-        verifier: &mut VerifierState<'_, C, U, D>,
-        label: Label,
-        bits: usize,
-    ) -> Result<(), TranscriptError> {
-        verifier.check_pow(label, bits)
-    }
-
-    fn check_carried_pow<U, D: DigestHasher>(
-        verifier: &mut VerifierState<'_, C, U, D>,
-        label: Label,
-        bits: usize,
-        carried: C::Witness,
-    ) -> Result<(), TranscriptError> {
-        verifier.observe_pow(label, bits, carried)
-    }
-
-    fn challenge_uniform_bits<U, D: DigestHasher, P: Tape>(
-        driver: &mut DriverState<C, U, D, P>,
-        label: Label,
-        width: usize,
-        n: usize,
-    ) -> Result<Vec<TranscriptBound<usize>>, TranscriptError> {
-        driver.challenge_uniform_bits::<C::Witness>(label, width, n)
-    }
-
-    fn challenge_uniform_bits_rejecting<
-        U,
-        D: DigestHasher,
-        P: Tape,
-        R: Fn(usize, &[usize]) -> bool,
-    >(
-        driver: &mut DriverState<C, U, D, P>,
-        label: Label,
-        width: usize,
-        n: usize,
-        accept: &R,
-        limit: u64,
-    ) -> Result<Vec<TranscriptBound<usize>>, TranscriptError> {
-        driver.challenge_uniform_bits_rejecting::<C::Witness, R>(label, width, n, accept, limit)
-    }
-
-    fn steps_are_lawful() {
-        bit_draws_tell_limits::<C>();
-        uniform_draws_tell_limits::<C::Witness, C>();
-        sent_work_is_received::<C>();
-        read_work_is_encoded::<C>();
-        carried_work_agrees::<C>();
-    }
-
-    fn steps_are_refused_for_one_reason() {
-        bit_draws_are_refused_for_one_reason::<C>();
-        uniform_draws_are_refused_for_one_reason::<C::Witness, C>();
-        work_is_refused_for_one_reason::<C>();
-    }
+    Err(TranscriptError::Pattern(PatternError::Finished))
 }

@@ -1,6 +1,7 @@
 //! The laws of the steps of scripts.
 ghost use Rattle.p3_challenger_core.specs.Reading.{IsPrefixCode};
-ghost use Rattle.p3_script.specs.ScriptLaws.{AreAllCanonical, AreAllDetermined, AreTakenWherePossible, AreSentWherePossible};
+ghost use Rattle.p3_script.specs.ScriptLaws.{AreAllCanonical, AreAllDetermined};
+ghost use Rattle.p3_script.specs.ScriptLaws.{AreTakenWherePossible, AreSentWherePossible};
 
 use crate::groups::StepGroup;
 use crate::suite::{Meaning, Suite};
@@ -12,23 +13,24 @@ use p3_step_laws::{
     values_tell_limits,
 };
 
-/// What holds of every step of every script of a suite: its bytes and its carried witness tell its value, and so do what
-/// is sent and that a witness is the least one; and where it may be played each side refuses it only when out of memory.
+/// What holds of every step of every script of a suite: its bytes and its carried witness tell its value, and so do
+/// what is sent and that a witness is the least one; and where it may be played each side refuses it only when out of
+/// memory.
 ///
 /// A law: the body calls laws alone, and a caller cites the clauses. Not in the Rust crate.
 pub fn script_steps_are_lawful<S: Suite>()
     ensures canonical { let rules = ⟦<S as Meaning>⟧.rules S.Field.DIMENSION in
-        AreAllCanonical S S.Unit S.Challenger S.Codec S.Digest S.Group S.Unit.Item S.Challenger.State
-        S.Challenger.Symbol rules }
+        AreAllCanonical S S.Unit S.Challenger S.Codec S.Digest S.Group
+        S.Unit.Item S.Challenger.State S.Challenger.Symbol rules }
     ensures determined { let rules = ⟦<S as Meaning>⟧.rules S.Field.DIMENSION in
-        AreAllDetermined S S.Unit S.Challenger S.Codec S.Digest S.Group S.Unit.Item S.Challenger.State
-        S.Challenger.Symbol rules }
+        AreAllDetermined S S.Unit S.Challenger S.Codec S.Digest S.Group
+        S.Unit.Item S.Challenger.State S.Challenger.Symbol rules }
     ensures taken { let rules = ⟦<S as Meaning>⟧.rules S.Field.DIMENSION in
-        AreTakenWherePossible S S.Unit S.Challenger S.Codec S.Digest S.Group S.Unit.Item S.Challenger.State
-        S.Challenger.Symbol rules }
+        AreTakenWherePossible S S.Unit S.Challenger S.Codec S.Digest S.Group
+        S.Unit.Item S.Challenger.State S.Challenger.Symbol rules }
     ensures sent { let rules = ⟦<S as Meaning>⟧.rules S.Field.DIMENSION in
-        AreSentWherePossible S S.Unit S.Challenger S.Codec S.Digest S.Group S.Unit.Item S.Challenger.State
-        S.Challenger.Symbol rules }
+        AreSentWherePossible S S.Unit S.Challenger S.Codec S.Digest S.Group
+        S.Unit.Item S.Challenger.State S.Challenger.Symbol rules }
 {
     values_are_a_code::<
         S::Extension,

@@ -2,8 +2,8 @@
 use crate::suite::Suite;
 use p3_fs_core::{Kind, Label};
 
-/// A step of a script: a call of one of the drivers' methods, with what that takes beside the values that are sent. Not in
-/// the Rust crate.
+/// A step of a script: a call of one of the drivers' methods, with what that takes beside the values that are sent. Not
+/// in the Rust crate.
 #[derive(Drop)]
 pub enum Step<S: Suite> {
     /// A container is opened.

@@ -7,6 +7,7 @@ ghost use Rattle.p3_fs_core.specs.Steps.{marker_of};
 ghost use Rattle.p3_patterns.specs.PatternSteps.{steps_of};
 ghost use Rattle.p3_runs.specs.Runs.{AreAdmitted, interactions};
 ghost use Rattle.p3_script.specs.Scripts.{play_of};
+ghost use Rattle.p3_script.specs.StepFamilies.{SendsNothing, Draws};
 ghost use Rattle.p3_script_checks.specs.Carriers.{Carries, CarryRules};
 
 use crate::admission::admitted;
@@ -99,13 +100,37 @@ fn interaction_of<S: Suite>(carriers: &Carriers, step: &Step<S>) -> Interaction
         extensions,
     } = carriers;
     match step {
-        Step::Begin { label, kind } => marker(Hierarchy::Begin, *kind, *label),
-        Step::End { label, kind } => marker(Hierarchy::End, *kind, *label),
         Step::Salt { label, len } => bytes(Kind::Salt, *label, Length::Fixed(*len)),
         Step::Bytes { label, len } => bytes(Kind::Message, *label, Length::Fixed(*len)),
         Step::Hint { label, len } => bytes(Kind::Hint, *label, Length::Fixed(*len)),
         Step::BytesBounded { label, max } => bytes(Kind::Message, *label, Length::Bounded(*max)),
         Step::HintBounded { label, max } => bytes(Kind::Hint, *label, Length::Bounded(*max)),
+        Step::Scalar { label } => like(scalars, Kind::Message, *label, Length::Scalar),
+        Step::Scalars { label, n } => like(scalars, Kind::Message, *label, Length::Fixed(*n)),
+        Step::ScalarsBounded { label, max } => {
+            like(scalars, Kind::Message, *label, Length::Bounded(*max))
+        }
+        Step::Extension { label } => like(extensions, Kind::Message, *label, Length::Scalar),
+        Step::Pow { label, bits } => like(scalars, Kind::Pow, *label, Length::Fixed(*bits)),
+        Step::ObservePow { label, bits } => like(scalars, Kind::Pow, *label, Length::Fixed(*bits)),
+        _ => unsent_interaction(carriers, step),
+    }
+}
+
+// The same of a step of which nothing is sent.
+fn unsent_interaction<S: Suite>(carriers: &Carriers, step: &Step<S>) -> Interaction
+    requires { SendsNothing step.now }
+    ensures { let rules = ⟦<S as Meaning>⟧.rules S.Field.DIMENSION in
+        CarryRules rules carriers.now.scalars carriers.now.extensions →
+        step_of result ≡ (play_of rules step.now).interaction }
+{
+    let Carriers {
+        scalars,
+        extensions,
+    } = carriers;
+    match step {
+        Step::Begin { label, kind } => marker(Hierarchy::Begin, *kind, *label),
+        Step::End { label, kind } => marker(Hierarchy::End, *kind, *label),
         Step::PublicScalar { label, .. } => like(scalars, Kind::Public, *label, Length::Scalar),
         Step::PublicScalars { label, values } => {
             like(scalars, Kind::Public, *label, Length::Fixed(values.len()))
@@ -113,12 +138,6 @@ fn interaction_of<S: Suite>(carriers: &Carriers, step: &Step<S>) -> Interaction
         Step::PublicScalarsBounded { label, max, .. } => {
             like(scalars, Kind::Public, *label, Length::Bounded(*max))
         }
-        Step::Scalar { label } => like(scalars, Kind::Message, *label, Length::Scalar),
-        Step::Scalars { label, n } => like(scalars, Kind::Message, *label, Length::Fixed(*n)),
-        Step::ScalarsBounded { label, max } => {
-            like(scalars, Kind::Message, *label, Length::Bounded(*max))
-        }
-        Step::Extension { label } => like(extensions, Kind::Message, *label, Length::Scalar),
         Step::ObserveExtension { label, .. } => {
             like(extensions, Kind::Message, *label, Length::Scalar)
         }
@@ -136,6 +155,22 @@ fn interaction_of<S: Suite>(carriers: &Carriers, step: &Step<S>) -> Interaction
         Step::Opaque { label, .. } => {
             Interaction::opaque(Hierarchy::Atomic, Kind::Message, *label, Length::Scalar)
         }
+        _ => draw_interaction(carriers, step),
+    }
+}
+
+// The same of a draw.
+fn draw_interaction<S: Suite>(carriers: &Carriers, step: &Step<S>) -> Interaction
+    requires { Draws step.now }
+    ensures { let rules = ⟦<S as Meaning>⟧.rules S.Field.DIMENSION in
+        CarryRules rules carriers.now.scalars carriers.now.extensions →
+        step_of result ≡ (play_of rules step.now).interaction }
+{
+    let Carriers {
+        scalars,
+        extensions,
+    } = carriers;
+    match step {
         Step::ChallengeScalar { label } => like(scalars, Kind::Challenge, *label, Length::Scalar),
         Step::ChallengeScalars { label, n } => {
             like(scalars, Kind::Challenge, *label, Length::Fixed(*n))
@@ -157,8 +192,7 @@ fn interaction_of<S: Suite>(carriers: &Carriers, step: &Step<S>) -> Interaction
             n,
             ..
         } => uniform_bits(*label, *width, *n),
-        Step::Pow { label, bits } => like(scalars, Kind::Pow, *label, Length::Fixed(*bits)),
-        Step::ObservePow { label, bits } => like(scalars, Kind::Pow, *label, Length::Fixed(*bits)),
+        _ => unreachable!(),
     }
 }
 

@@ -2,7 +2,9 @@
 ghost use Rattle.std.specs.Prelude.{◌≡◌};
 ghost use Rattle.p3_drivers.specs.Drivers.{proving_of};
 ghost use Rattle.p3_script.specs.Scripts.{play_of};
-ghost use Rattle.p3_script_prover.specs.Sending.{SendsOrRefuses, value_given, played_witness, played_draw};
+ghost use Rattle.p3_script.specs.StepFamilies.{SendsNothing, Draws};
+ghost use Rattle.p3_script_prover.specs.Sending.{KnowsOrRefuses, SendsOrRefuses, value_given};
+ghost use Rattle.p3_script_prover.specs.Sending.{played_witness, played_draw};
 
 use crate::{drawing, sending};
 use p3_challenger_core::Sponge;
@@ -42,13 +44,38 @@ pub fn prover_step<S: Suite>(
         played_witness played_draw result (proving_of S.Challenger.state prover.new) }
 {
     match step {
-        Step::Begin { label, kind } => sending::begin(prover, *label, *kind),
-        Step::End { label, kind } => sending::end(prover, *label, *kind),
         Step::Salt { label, len } => sending::add_salt(prover, *label, sent, *len),
         Step::Bytes { label, len } => sending::add_bytes(prover, *label, sent, *len),
         Step::Hint { label, len } => sending::add_hint(prover, *label, sent, *len),
         Step::BytesBounded { label, max } => sending::add_bytes_bounded(prover, *label, sent, *max),
         Step::HintBounded { label, max } => sending::add_hint_bounded(prover, *label, sent, *max),
+        Step::Scalar { label } => sending::add_scalar(prover, *label, sent),
+        Step::Scalars { label, n } => sending::add_scalars(prover, *label, sent, *n),
+        Step::ScalarsBounded { label, max } => {
+            sending::add_scalars_bounded(prover, *label, sent, *max)
+        }
+        Step::Extension { label } => sending::add_extension(prover, *label, sent),
+        Step::Pow { label, bits } => sending::pow(prover, *label, *bits),
+        Step::ObservePow { label, bits } => sending::observe_pow(prover, *label, *bits),
+        _ => unsent_step(alloc, prover, step),
+    }
+}
+
+// Plays a step of which nothing is sent.
+fn unsent_step<S: Suite>(
+    alloc: Global,
+    prover: &mut ProverState<S::Challenger, S::Unit, S::Digest>,
+    step: &Step<S>,
+) -> Result<Played<S>, TranscriptError>
+    requires family { SendsNothing step.now }
+    requires admitted { (play_of (⟦<S as Meaning>⟧.rules S.Field.DIMENSION) step.now).admitted }
+    ensures { let rules = ⟦<S as Meaning>⟧.rules S.Field.DIMENSION in
+        KnowsOrRefuses (play_of rules step.now) (proving_of S.Challenger.state prover.old)
+        played_witness played_draw result (proving_of S.Challenger.state prover.new) }
+{
+    match step {
+        Step::Begin { label, kind } => sending::begin(prover, *label, *kind),
+        Step::End { label, kind } => sending::end(prover, *label, *kind),
         Step::PublicScalar { label, value } => sending::add_public_scalar(prover, *label, value),
         Step::PublicScalars { label, values } => {
             sending::add_public_scalars(prover, *label, values)
@@ -56,12 +83,6 @@ pub fn prover_step<S: Suite>(
         Step::PublicScalarsBounded { label, values, max } => {
             sending::add_public_scalars_bounded(prover, *label, values, *max)
         }
-        Step::Scalar { label } => sending::add_scalar(prover, *label, sent),
-        Step::Scalars { label, n } => sending::add_scalars(prover, *label, sent, *n),
-        Step::ScalarsBounded { label, max } => {
-            sending::add_scalars_bounded(prover, *label, sent, *max)
-        }
-        Step::Extension { label } => sending::add_extension(prover, *label, sent),
         Step::ObserveExtension { label, value } => {
             sending::observe_extension(prover, *label, value)
         }
@@ -72,6 +93,23 @@ pub fn prover_step<S: Suite>(
             sending::observe_extensions_bounded(prover, *label, values, *max)
         }
         Step::Opaque { label, value } => sending::observe_opaque(prover, *label, value),
+        _ => draw_step(alloc, prover, step),
+    }
+}
+
+// Plays a draw.
+fn draw_step<S: Suite>(
+    alloc: Global,
+    prover: &mut ProverState<S::Challenger, S::Unit, S::Digest>,
+    step: &Step<S>,
+) -> Result<Played<S>, TranscriptError>
+    requires family { Draws step.now }
+    requires admitted { (play_of (⟦<S as Meaning>⟧.rules S.Field.DIMENSION) step.now).admitted }
+    ensures { let rules = ⟦<S as Meaning>⟧.rules S.Field.DIMENSION in
+        KnowsOrRefuses (play_of rules step.now) (proving_of S.Challenger.state prover.old)
+        played_witness played_draw result (proving_of S.Challenger.state prover.new) }
+{
+    match step {
         Step::ChallengeScalar { label } => drawing::scalar(alloc, prover, *label),
         Step::ChallengeScalars { label, n } => drawing::scalars(alloc, prover, *label, *n),
         Step::ChallengeExtension { label } => drawing::extension(alloc, prover, *label),
@@ -93,7 +131,6 @@ pub fn prover_step<S: Suite>(
             accept,
             limit,
         } => drawing::uniform_bits_rejecting(alloc, prover, *label, *width, *n, accept, *limit),
-        Step::Pow { label, bits } => sending::pow(prover, *label, *bits),
-        Step::ObservePow { label, bits } => sending::observe_pow(prover, *label, *bits),
+        _ => unreachable!(),
     }
 }

@@ -1,8 +1,9 @@
 //! One step of a script.
-ghost use Rattle.std.specs.Prelude.{◌≡◌};
+ghost use Rattle.std.specs.Prelude.{◌≡◌, None};
 ghost use Rattle.p3_drivers.specs.Drivers.{verifying_of};
 ghost use Rattle.p3_runs.specs.Stepping.{IsCarriedTo};
 ghost use Rattle.p3_script.specs.Scripts.{play_of, received_of, drawn_of};
+ghost use Rattle.p3_script.specs.StepFamilies.{SendsNothing, Draws};
 ghost use Rattle.p3_script_verifier.specs.Taking.{TakesOrRefuses};
 
 use crate::answer::Answer;
@@ -37,8 +38,6 @@ pub fn verifier_step<'a, S: Suite>(
         (verifying_of S.Challenger.state verifier.new) }
 {
     match step {
-        Step::Begin { label, kind } => known::begin(verifier, *label, *kind),
-        Step::End { label, kind } => known::end(verifier, *label, *kind),
         Step::Salt { label, len } => receives::receive_salt(verifier, *label, *len),
         Step::Bytes { label, len } => receives::receive_bytes(verifier, *label, *len),
         Step::Hint { label, len } => receives::receive_hint(verifier, *label, *len),
@@ -48,23 +47,68 @@ pub fn verifier_step<'a, S: Suite>(
         Step::HintBounded { label, max } => {
             receives::receive_counted_hint(verifier, *label, *max)
         }
-        Step::PublicScalar { label, value } => known::public_scalar(verifier, *label, value),
-        Step::PublicScalars { label, values } => known::public_scalars(verifier, *label, values),
-        Step::PublicScalarsBounded { label, values, max } => {
-            known::counted_public_scalars(verifier, *label, values, *max)
-        }
         Step::Scalar { label } => receives::receive_scalar(verifier, *label),
         Step::Scalars { label, n } => receives::receive_scalars(alloc, verifier, *label, *n),
         Step::ScalarsBounded { label, max } => {
             receives::receive_counted_scalars(alloc, verifier, *label, *max)
         }
         Step::Extension { label } => receives::receive_extension(verifier, *label),
+        Step::Pow { label, bits } => work::receive_witness(verifier, *label, *bits),
+        Step::ObservePow { label, bits } => match witness {
+            Some(carried) => work::check_carried(verifier, *label, *bits, carried),
+            None => unreachable!(),
+        },
+        _ => unsent_step(alloc, verifier, step),
+    }
+}
+
+// Plays a step of which nothing is sent.
+fn unsent_step<'a, S: Suite>(
+    alloc: Global,
+    verifier: &mut VerifierState<'a, S::Challenger, S::Unit, S::Digest>,
+    step: &Step<S>,
+) -> Result<Answer<'a, S>, TranscriptError>
+    requires family { SendsNothing step.now }
+    requires admitted { (play_of (⟦<S as Meaning>⟧.rules S.Field.DIMENSION) step.now).admitted }
+    ensures { let rules = ⟦<S as Meaning>⟧.rules S.Field.DIMENSION in
+        TakesOrRefuses (play_of rules step.now) None
+        (verifying_of S.Challenger.state verifier.old) (λ r. received_of r.0) (λ r. drawn_of r.1)
+        result
+        (verifying_of S.Challenger.state verifier.new) }
+{
+    match step {
+        Step::Begin { label, kind } => known::begin(verifier, *label, *kind),
+        Step::End { label, kind } => known::end(verifier, *label, *kind),
+        Step::PublicScalar { label, value } => known::public_scalar(verifier, *label, value),
+        Step::PublicScalars { label, values } => known::public_scalars(verifier, *label, values),
+        Step::PublicScalarsBounded { label, values, max } => {
+            known::counted_public_scalars(verifier, *label, values, *max)
+        }
         Step::ObserveExtension { label, value } => known::extension(verifier, *label, value),
         Step::ObserveExtensions { label, values } => known::extensions(verifier, *label, values),
         Step::ObserveExtensionsBounded { label, values, max } => {
             known::counted_extensions(verifier, *label, values, *max)
         }
         Step::Opaque { label, value } => known::opaque(verifier, *label, value),
+        _ => draw_step(alloc, verifier, step),
+    }
+}
+
+// Plays a draw.
+fn draw_step<'a, S: Suite>(
+    alloc: Global,
+    verifier: &mut VerifierState<'a, S::Challenger, S::Unit, S::Digest>,
+    step: &Step<S>,
+) -> Result<Answer<'a, S>, TranscriptError>
+    requires family { Draws step.now }
+    requires admitted { (play_of (⟦<S as Meaning>⟧.rules S.Field.DIMENSION) step.now).admitted }
+    ensures { let rules = ⟦<S as Meaning>⟧.rules S.Field.DIMENSION in
+        TakesOrRefuses (play_of rules step.now) None
+        (verifying_of S.Challenger.state verifier.old) (λ r. received_of r.0) (λ r. drawn_of r.1)
+        result
+        (verifying_of S.Challenger.state verifier.new) }
+{
+    match step {
         Step::ChallengeScalar { label } => known::draw_scalar(alloc, verifier, *label),
         Step::ChallengeScalars { label, n } => known::draw_scalars(alloc, verifier, *label, *n),
         Step::ChallengeExtension { label } => known::draw_extension(alloc, verifier, *label),
@@ -92,10 +136,6 @@ pub fn verifier_step<'a, S: Suite>(
         } => {
             known::draw_uniform_bits_rejecting(alloc, verifier, *label, *width, *n, accept, *limit)
         }
-        Step::Pow { label, bits } => work::receive_witness(verifier, *label, *bits),
-        Step::ObservePow { label, bits } => match witness {
-            Some(carried) => work::check_carried(verifier, *label, *bits, carried),
-            None => unreachable!(),
-        },
+        _ => unreachable!(),
     }
 }

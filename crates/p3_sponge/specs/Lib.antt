@@ -1,7 +1,7 @@
 pub mod Cells
 pub mod CellsLaws
-pub mod Drawn
-pub mod DrawnLaws
+pub mod Drawing
+pub mod DrawingLaws
 pub mod Outputs
 pub mod OutputsLaws
 pub mod SpongeCalls

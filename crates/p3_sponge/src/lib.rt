@@ -2,6 +2,8 @@
 //! segments of calls, outputs in a row, and lemmas on them.
 #![tactic(auto)]
 
+mod buffer;
 mod cells;
 
+pub use buffer::write_after;
 pub use cells::{count, overwrite, zero};

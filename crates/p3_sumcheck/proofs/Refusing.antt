@@ -1,13 +1,12 @@
 -- Where the rounds are next, a verifier refuses none for the sake of the pattern.
 use Rattle.std.proofs.Common.{◌≡◌, ℕ, ◌+◌, ◌-◌, ◌<◌, ◌⊎◌, List, inl, inr, suc, length, sym, subst, arith, Result, Err}
 use Rattle.std.specs.Result.{IfErr}
-use Rattle.p3_challenger.specs.Completeness.{IsOwnRefusal}
 use Rattle.p3_challenger.specs.CompletenessLaws.{next-own_refusal}
 use Rattle.p3_challenger.specs.Driving.{Driving}
-use Rattle.p3_challenger.specs.Errors.{IsBadShape}
 use Rattle.p3_challenger.specs.TranscriptError.{TranscriptError}
 use Rattle.p3_challenger.specs.TranscriptLaws.{next-first}
 use Rattle.p3_challenger.specs.Transcripts.{AreNext, IsNext}
+use Rattle.p3_sumcheck.specs.Faults.{IsNoPatternFault}
 use Rattle.p3_sumcheck.specs.declared.error.SumcheckError.{SumcheckError}
 use Rattle.p3_sumcheck.specs.declared.error.SumcheckError.TheVariants as fault
 use Rattle.p3_sumcheck.specs.ReadingLaws.{next-reading_fault}
@@ -19,7 +18,7 @@ use Rattle.p3_sumcheck.proofs.Reading.{reads-plays}
 -- a step of it that was refused is refused so
 abbrev IsStepFault : SumcheckError → Type 0
 IsStepFault (fault.Round i) = Unit {0}
-IsStepFault (fault.Transcript e) = ((reason : List ℕ) × IsBadShape reason e) ⊎ IsOwnRefusal e
+IsStepFault (fault.Transcript e) = IsNoPatternFault e
 
 module _ {S Symbol F : Type 0} (m : Sumcheck S Symbol F) where
   round-fault : (claim : F) (i : ℕ) (before after : Driving S) (e : SumcheckError) →
@@ -50,7 +49,7 @@ module _ {S Symbol F : Type 0} (m : Sumcheck S Symbol F) where
   pub faults : {R : Type 0} (claim : F) (n : ℕ) (before after : Driving S) (result : Result R SumcheckError) →
       AreNext (steps_of m n) before.transcript.playing → IfErr result (λ e. Refuses m claim n before e after) →
       (e : TranscriptError) → result ≡ Err (fault.Transcript e) →
-      ((reason : List ℕ) × IsBadShape reason e) ⊎ IsOwnRefusal e
+      IsNoPatternFault e
   faults {R} claim n before after result next refuses e is =
       refusal-fault claim n before after (fault.Transcript e) next
       (subst (λ (r : Result R SumcheckError). IfErr r (λ f. Refuses m claim n before f after)) is refuses)

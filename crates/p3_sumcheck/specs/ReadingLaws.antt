@@ -2,9 +2,7 @@
 -- refused.
 use Rattle.std.specs.Prelude.{ℕ, List, ◌⊎◌, refl}
 use Rattle.std.proofs.Common.{inl, inr}
-use Rattle.p3_challenger.specs.Completeness.{IsOwnRefusal}
 use Rattle.p3_challenger.specs.Driving.{Driving}
-use Rattle.p3_challenger.specs.Errors.{IsBadShape}
 use Rattle.p3_challenger.specs.Reads.{Reading}
 use Rattle.p3_challenger.specs.TranscriptError.{TranscriptError}
 use Rattle.p3_challenger.specs.TranscriptError.TheVariants.{BadProofShape, Challenger, InvalidKind, LabelTooLong}
@@ -13,10 +11,11 @@ use Rattle.p3_challenger.specs.TranscriptError.TheVariants.{Pattern}
 use Rattle.p3_challenger.specs.TranscriptLaws.{next-not_refused}
 use Rattle.p3_challenger.specs.Transcripts.{IsNext}
 use Rattle.p3_challenger.specs.Verifying.{RefusesToRead}
+use Rattle.p3_sumcheck.specs.Faults.{IsNoPatternFault}
 
 pub next-reading_fault : {S Symbol A : Type 0} (r : Reading S Symbol A) (before after : Driving S)
     (e : TranscriptError) → IsNext before.transcript.playing r.interaction → RefusesToRead r before e after →
-    ((reason : List ℕ) × IsBadShape reason e) ⊎ IsOwnRefusal e
+    IsNoPatternFault e
 next-reading_fault r before after (MissingBegin info) next refuses = absurd refuses
 next-reading_fault r before after (InvalidKind info) next refuses = absurd refuses
 next-reading_fault r before after (MismatchedBeginEnd info) next refuses = absurd refuses

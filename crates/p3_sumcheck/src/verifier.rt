@@ -1,15 +1,14 @@
 //! The verifier's side.
 ghost use Rattle.std.specs.Prelude.{◌≡◌, ◌<◌, ◌≤◌, ◌++◌, ◌^◌, ◌∷◌, ◌⊎◌, [], ℕ, List, Err, length, IfErr, IfOk};
 ghost use Rattle.std.specs.Prelude.{MatchResult, OnOk};
-ghost use Rattle.p3_challenger.specs.Completeness.{IsOwnRefusal};
 ghost use Rattle.p3_challenger.specs.Driving.{Driving};
 ghost use Rattle.p3_challenger.specs.Drivers.{verifying_of};
-ghost use Rattle.p3_challenger.specs.Errors.{IsBadShape};
 ghost use Rattle.p3_challenger.specs.Residues.{sum_of};
 ghost use Rattle.p3_challenger.specs.Rounds.{steps_of_rounds};
 ghost use Rattle.p3_challenger.specs.TranscriptError.{TranscriptError};
 ghost use Rattle.p3_challenger.specs.Transcripts.{AreNext, steps_on};
 ghost use Rattle.p3_challenger.specs.Verifying.{ReceivesOrRefuses};
+ghost use Rattle.p3_sumcheck.specs.Faults.{IsNoPatternFault};
 ghost use Rattle.p3_sumcheck.specs.Claims.{HasLuckyRound};
 ghost use Rattle.p3_sumcheck.specs.Sumchecks.{Accepts, Disagrees, IsMemory, Proves, ReadsRound, Refuses};
 ghost use Rattle.p3_sumcheck.specs.Sumchecks.{RefusesRound, challenges_of, read_pair, round_steps, sumcheck_of};
@@ -82,7 +81,7 @@ pub fn verify<
     ensures next { let steps = steps_of_rounds (round_steps ⟦<F as Declared<F, D>>⟧.algebra) in
         AreNext (steps rounds) (verifying_of C.state verifier.old).transcript.playing →
         (e : TranscriptError) → result ≡ Err (fault.Transcript e) →
-        ((reason : List ℕ) × IsBadShape reason e) ⊎ IsOwnRefusal e }
+        IsNoPatternFault e }
     // The first pair that does not add to the running claim is refused as that of its round, with
     // no challenge drawn after it, or memory is out.
     ensures disagrees { let m = sumcheck_of F.residues ⟦<F as Declared<F, D>>⟧.algebra

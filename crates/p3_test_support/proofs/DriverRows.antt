@@ -16,8 +16,8 @@ use Rattle.p3_fs_core.specs.declared.step.Kind.{Kind}
 use Rattle.p3_fs_core.specs.declared.step.Kind.TheVariants.{Message, Salt, Challenge}
 use Rattle.p3_fs_core.specs.declared.step.Length.{Length}
 use Rattle.p3_fs_core.specs.declared.step.Length.TheVariants.{Scalar, Fixed, Bounded}
-use Rattle.p3_duplex.specs.DuplexCalls as duplex
-use Rattle.p3_duplex.specs.DuplexCalls.{DuplexSponge}
+use Rattle.p3_sponge.specs.SpongeCalls as sponge
+use Rattle.p3_duplex.specs.DuplexCalls.{DuplexSponge, duplex}
 use Rattle.p3_fs_core.specs.Counts.{count_width}
 use Rattle.p3_fs_core.specs.Alphabet.{Alphabet, alphabet_of}
 use Rattle.p3_driver_core.specs.Meanings.{observed_list, observed_bounded, sent, sent_bounded, sent_bytes, hinted}
@@ -34,12 +34,12 @@ start =
     record { cells = residues.of 6 ∷ residues.of 2 ∷ residues.of 131 ∷ []; pending = []; outputs_left = 2 }
 
 abbrev value : Observation Sponge F257 F257
-value = unrefused_observe (λ x. x ∷ []) (duplex.observed residues (turned residues 2 3) 2)
+value = unrefused_observe (λ x. x ∷ []) (sponge.observed (duplex residues (turned residues 2 3) 2))
 
 abbrev draw : Sampling Sponge F257
 draw =
-    unrefused_draw (λ s. Some (duplex.sampled residues (turned residues 2 3) 2 s))
-    (duplex.after_sampled residues (turned residues 2 3) 2)
+    unrefused_draw (λ s. Some (sponge.sampled (duplex residues (turned residues 2 3) 2) s))
+    (sponge.after_sampled (duplex residues (turned residues 2 3) 2))
 
 abbrev in_field : Alphabet Sponge F257 F257
 in_field = alphabet_of (packed residues 1) (λ len. 257 ≤ len) value (λ _ _ _. ⊥)
@@ -59,10 +59,10 @@ numbers ns = map residues.of ns
 abbrev goes : {A : Type 0} → Meaning Sponge F257 A → List ℕ × ℕ × ℕ
 goes m =
     let s = m.effect.after start in
-    let next = duplex.after_sampled residues (turned residues 2 3) 2 s in (
+    let next = sponge.after_sampled (duplex residues (turned residues 2 3) 2) s in (
       m.wire,
-      residues.number (duplex.sampled residues (turned residues 2 3) 2 s),
-      residues.number (duplex.sampled residues (turned residues 2 3) 2 next),
+      residues.number (sponge.sampled (duplex residues (turned residues 2 3) 2) s),
+      residues.number (sponge.sampled (duplex residues (turned residues 2 3) 2) next),
     )
 
 -- ---- steps that feed

@@ -5,9 +5,10 @@ use Rattle.p3_small_primes.specs.F257Residues.{F257, residues}
 use Rattle.p3_symmetric.specs.Turn.{turned}
 use Rattle.p3_challenger_core.specs.Segments.{Call, observe, observe_empty_array, draw, ByCalls, BySegments, segments}
 use Rattle.p3_challenger_core.specs.Segments.{run_calls, run_calls_to_digest, run_segments, run_segments_to_digest}
+use Rattle.p3_sponge.specs.Outputs.{stepped, step_queries, outputs_from}
+use Rattle.p3_sponge.specs.SpongeSegments.{absorbed_blocks, block_queries}
 use Rattle.p3_duplex.specs.DuplexCalls.{DuplexSponge, fresh, duplex_by_calls}
-use Rattle.p3_duplex.specs.DuplexSegments.{duplex_by_segments, absorbed_blocks, block_queries, permuted}
-use Rattle.p3_duplex.specs.DuplexSegments.{queries_in_order, outputs_from}
+use Rattle.p3_duplex.specs.DuplexSegments.{duplex_by_segments}
 
 abbrev start : DuplexSponge F257
 start = fresh residues 3
@@ -83,28 +84,28 @@ short_block_digest = refl
 
 -- the same by segments
 fresh_draws_by_segments : drawn_by_segments (draw ∷ draw ∷ draw ∷ draw ∷ []) ≡ 2 ∷ 1 ∷ 5 ∷ 3 ∷ []
-unfolding absorbed_blocks block_queries permuted queries_in_order outputs_from
+unfolding absorbed_blocks block_queries stepped step_queries outputs_from
 fresh_draws_by_segments = refl
 
 digest_after_one_draw_by_segments : digest_after_segments (five ∷ draw ∷ []) ≡ 4 ∷ 10 ∷ []
-unfolding absorbed_blocks block_queries permuted queries_in_order outputs_from
+unfolding absorbed_blocks block_queries stepped step_queries outputs_from
 digest_after_one_draw_by_segments = refl
 
 full_block_digest_by_segments : digest_after_segments (five ∷ nought ∷ []) ≡ 5 ∷ 10 ∷ []
-unfolding absorbed_blocks block_queries permuted queries_in_order outputs_from
+unfolding absorbed_blocks block_queries stepped step_queries outputs_from
 full_block_digest_by_segments = refl
 
 three_draws_by_segments : drawn_by_segments (five ∷ draw ∷ draw ∷ draw ∷ []) ≡ 3 ∷ 1 ∷ 10 ∷ []
-unfolding absorbed_blocks block_queries permuted queries_in_order outputs_from
+unfolding absorbed_blocks block_queries stepped step_queries outputs_from
 three_draws_by_segments = refl
 
 full_block_draw_by_segments : drawn_by_segments (five ∷ nought ∷ draw ∷ []) ≡ 4 ∷ []
-unfolding absorbed_blocks block_queries permuted queries_in_order outputs_from
+unfolding absorbed_blocks block_queries stepped step_queries outputs_from
 full_block_draw_by_segments = refl
 
 two_segments : drawn_by_segments (five ∷ draw ∷ draw ∷ five ∷ draw ∷ draw ∷ []) ≡ drawn
     (five ∷ draw ∷ draw ∷ five ∷ draw ∷ draw ∷ [])
-unfolding absorbed_blocks block_queries permuted queries_in_order outputs_from
+unfolding absorbed_blocks block_queries stepped step_queries outputs_from
 two_segments = refl
 
 -- ---- the queries to the permutation
@@ -156,51 +157,51 @@ array_queries = refl
 
 -- the same by segments
 fresh_draws_queries_by_segments : queries_by_segments (draw ∷ draw ∷ draw ∷ draw ∷ []) ≡ state 0 0 0 ∷ state 1 2 3 ∷ []
-unfolding absorbed_blocks block_queries permuted queries_in_order outputs_from
+unfolding absorbed_blocks block_queries stepped step_queries outputs_from
 fresh_draws_queries_by_segments = refl
 
 fresh_draws_digest_queries_by_segments : queries_to_digest_by_segments (draw ∷ draw ∷ draw ∷ draw ∷ []) ≡ state 0 0 0 ∷
     state 1 2 3 ∷ state 3 5 4 ∷ []
-unfolding absorbed_blocks block_queries permuted queries_in_order outputs_from
+unfolding absorbed_blocks block_queries stepped step_queries outputs_from
 fresh_draws_digest_queries_by_segments = refl
 
 fresh_digest_queries_by_segments : queries_to_digest_by_segments [] ≡ state 0 0 0 ∷ []
-unfolding absorbed_blocks block_queries permuted queries_in_order outputs_from
+unfolding absorbed_blocks block_queries stepped step_queries outputs_from
 fresh_digest_queries_by_segments = refl
 
 short_block_queries_by_segments : queries_by_segments (five ∷ draw ∷ []) ≡ state 5 0 1 ∷ []
-unfolding absorbed_blocks block_queries permuted queries_in_order outputs_from
+unfolding absorbed_blocks block_queries stepped step_queries outputs_from
 short_block_queries_by_segments = refl
 
 pending_queries_by_segments : queries_by_segments (five ∷ []) ≡ []
-unfolding absorbed_blocks block_queries permuted queries_in_order outputs_from
+unfolding absorbed_blocks block_queries stepped step_queries outputs_from
 pending_queries_by_segments = refl
 
 short_block_digest_queries_by_segments : queries_to_digest_by_segments (five ∷ []) ≡ state 5 0 1 ∷ []
-unfolding absorbed_blocks block_queries permuted queries_in_order outputs_from
+unfolding absorbed_blocks block_queries stepped step_queries outputs_from
 short_block_digest_queries_by_segments = refl
 
 full_block_queries_by_segments : queries_by_segments (five ∷ nought ∷ draw ∷ []) ≡ state 5 0 2 ∷ []
-unfolding absorbed_blocks block_queries permuted queries_in_order outputs_from
+unfolding absorbed_blocks block_queries stepped step_queries outputs_from
 full_block_queries_by_segments = refl
 
 full_block_digest_queries_by_segments : queries_to_digest_by_segments (five ∷ nought ∷ []) ≡ state 5 0 2 ∷ state 1 4 8 ∷
     []
-unfolding absorbed_blocks block_queries permuted queries_in_order outputs_from
+unfolding absorbed_blocks block_queries stepped step_queries outputs_from
 full_block_digest_queries_by_segments = refl
 
 two_segments_queries_by_segments : queries_by_segments (five ∷ draw ∷ draw ∷ five ∷ draw ∷ []) ≡ state 5 0 1 ∷ state 5 0 9
     ∷ []
-unfolding absorbed_blocks block_queries permuted queries_in_order outputs_from
+unfolding absorbed_blocks block_queries stepped step_queries outputs_from
 two_segments_queries_by_segments = refl
 
 three_values_digest_queries_by_segments : queries_to_digest_by_segments (five ∷ nought ∷ five ∷ []) ≡ state 5 0 2 ∷ state
     5 0 9 ∷ []
-unfolding absorbed_blocks block_queries permuted queries_in_order outputs_from
+unfolding absorbed_blocks block_queries stepped step_queries outputs_from
 three_values_digest_queries_by_segments = refl
 
 array_queries_by_segments : queries_by_segments (draw ∷ observe_empty_array ∷ draw ∷ []) ≡ state 0 0 0 ∷ []
-unfolding absorbed_blocks block_queries permuted queries_in_order outputs_from
+unfolding absorbed_blocks block_queries stepped step_queries outputs_from
 array_queries_by_segments = refl
 
 -- the digests after those calls
@@ -211,11 +212,11 @@ three_values_digest : digest_after (five ∷ nought ∷ five ∷ []) ≡ 1 ∷ 1
 three_values_digest = refl
 
 four_draws_digest_by_segments : digest_after_segments (draw ∷ draw ∷ draw ∷ draw ∷ []) ≡ 6 ∷ 6 ∷ []
-unfolding absorbed_blocks block_queries permuted queries_in_order outputs_from
+unfolding absorbed_blocks block_queries stepped step_queries outputs_from
 four_draws_digest_by_segments = refl
 
 three_values_digest_by_segments : digest_after_segments (five ∷ nought ∷ five ∷ []) ≡ 1 ∷ 11 ∷ []
-unfolding absorbed_blocks block_queries permuted queries_in_order outputs_from
+unfolding absorbed_blocks block_queries stepped step_queries outputs_from
 three_values_digest_by_segments = refl
 
 -- ---- what is read back

@@ -5,8 +5,9 @@ use Rattle.p3_challenger_core.specs.Segments.{Call, observe, observe_empty_array
 use Rattle.p3_challenger_core.specs.Segments.{segments, run_calls, run_calls_to_digest, run_segments}
 use Rattle.p3_challenger_core.specs.Segments.{run_segments_to_digest}
 use Rattle.p3_challenger_core.specs.SegmentLaws.{cut-only}
+use Rattle.p3_sponge.specs.Outputs.{stepped, step_queries, outputs_from}
 use Rattle.p3_hash_challenger.specs.HashCalls.{HashFunction, HashSponge, with_pending, hash_by_calls}
-use Rattle.p3_hash_challenger.specs.HashSegments.{hash_by_segments, hashed, queries_in_order, outputs_from}
+use Rattle.p3_hash_challenger.specs.HashSegments.{hash_by_segments}
 use Rattle.p3_test_support.specs.LengthHasher.{length_digest}
 
 -- what is pending at the start: its hash is 4, 5, .. 35, and the hash of that is 32, 33, .. 63
@@ -38,11 +39,11 @@ empty_array : (run (draw ∷ draw ∷ observe_empty_array ∷ draw ∷ [])).answ
 empty_array = refl
 
 three_draws_by_segments : (run_by_segments (draw ∷ draw ∷ draw ∷ [])).answers ≡ 35 ∷ 34 ∷ 33 ∷ []
-unfolding hashed queries_in_order outputs_from
+unfolding stepped step_queries outputs_from
 three_draws_by_segments = refl
 
 empty_array_by_segments : (run_by_segments (draw ∷ draw ∷ observe_empty_array ∷ draw ∷ [])).answers ≡ 35 ∷ 34 ∷ 63 ∷ []
-unfolding hashed queries_in_order outputs_from
+unfolding stepped step_queries outputs_from
 empty_array_by_segments = refl
 
 -- ---- the queries to the hash function
@@ -78,38 +79,38 @@ three_draws_digest = refl
 
 -- the same by segments
 three_draws_queries_by_segments : (run_by_segments (draw ∷ draw ∷ draw ∷ [])).queries ≡ start ∷ []
-unfolding hashed queries_in_order outputs_from
+unfolding stepped step_queries outputs_from
 three_draws_queries_by_segments = refl
 
 empty_array_queries_by_segments : (run_by_segments (draw ∷ draw ∷ observe_empty_array ∷ draw ∷ [])).queries ≡ start ∷
     range_with_len 4 32 ∷ []
-unfolding hashed queries_in_order outputs_from
+unfolding stepped step_queries outputs_from
 empty_array_queries_by_segments = refl
 
 places_queries_by_segments : (run_by_segments (replicate 32 draw)).queries ≡ start ∷ []
-unfolding hashed queries_in_order outputs_from
+unfolding stepped step_queries outputs_from
 places_queries_by_segments = refl
 
 more_places_queries_by_segments : (run_by_segments (replicate 33 draw)).queries ≡ start ∷ range_with_len 4 32 ∷ []
-unfolding hashed queries_in_order outputs_from
+unfolding stepped step_queries outputs_from
 more_places_queries_by_segments = refl
 
 observed_queries_by_segments : (run_by_segments (observe 9 ∷ observe 8 ∷ draw ∷ [])).queries ≡
     (0 ∷ 1 ∷ 2 ∷ 3 ∷ 9 ∷ 8 ∷ []) ∷ []
-unfolding hashed queries_in_order outputs_from
+unfolding stepped step_queries outputs_from
 observed_queries_by_segments = refl
 
 digest_queries_by_segments : (run_to_digest_by_segments []).queries ≡ start ∷ []
-unfolding hashed queries_in_order outputs_from
+unfolding stepped step_queries outputs_from
 digest_queries_by_segments = refl
 
 three_draws_digest_queries_by_segments : (run_to_digest_by_segments (draw ∷ draw ∷ draw ∷ [])).queries ≡ start ∷
     range_with_len 4 32 ∷ []
-unfolding hashed queries_in_order outputs_from
+unfolding stepped step_queries outputs_from
 three_draws_digest_queries_by_segments = refl
 
 three_draws_digest_by_segments : (run_to_digest_by_segments (draw ∷ draw ∷ draw ∷ [])).after ≡ range_with_len 32 32
-unfolding hashed queries_in_order outputs_from
+unfolding stepped step_queries outputs_from
 three_draws_digest_by_segments = refl
 
 -- ---- the cut

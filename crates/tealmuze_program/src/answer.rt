@@ -4,7 +4,7 @@ use crate::entry::{Entry, parse_table};
 use crate::explaining::{Explained, Row, copied, explain};
 use crate::playing::{prove_steps, verify_steps};
 use crate::protocol::{Name, Protocol};
-use crate::shown::{Shown, drawn, received, scalars};
+use crate::shown::{Shown, drawn, numbers, received};
 use crate::suites::{GoldilocksBytes, HashesBytes};
 use crate::table::{Line, layout};
 use crate::values::parse_values;
@@ -181,8 +181,8 @@ fn answer_proved<S: HashesBytes>(
     }
     let shown = ProofShown {
         proof: hex::encode(alloc, narg)?,
-        witnesses: scalars::<S>(alloc, proved.witnesses.as_slice())?,
-        carried: scalars::<S>(alloc, proved.carried.as_slice())?,
+        witnesses: numbers::<S>(alloc, proved.witnesses.as_slice())?,
+        carried: numbers::<S>(alloc, proved.carried.as_slice())?,
         challenges,
     };
     let proof = &shown.proof;

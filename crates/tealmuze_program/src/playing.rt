@@ -1,7 +1,9 @@
 // A protocol on either side, by one call.
-ghost use Rattle.std.specs.Prelude.{◌≡◌, IfOk, IfErr};
+ghost use Rattle.std.specs.Prelude.{◌≡◌, length, IsOk, IfOk, IfErr};
 ghost use Rattle.p3_challenger.specs.ProverAnswers.{IsProvedScript, IsRefusedScript};
-ghost use Rattle.p3_challenger.specs.Scripts.{values_sent};
+ghost use Rattle.p3_challenger.specs.Provings.{AreHanded};
+ghost use Rattle.p3_challenger.specs.Runs.{AreAdmitted, carried_count};
+ghost use Rattle.p3_challenger.specs.Scripts.{play_of, values_sent};
 ghost use Rattle.p3_challenger.specs.Verdicts.{script_of};
 ghost use Rattle.p3_challenger.specs.VerifierAnswers.{IsVerifiedScript, IsRefusedProof};
 
@@ -14,7 +16,8 @@ use p3_challenger::fs::script::{
 };
 use std::alloc::Global;
 
-/// Proves by [`prove`]. The outer error is that the suite does not play the steps, or not with these values.
+/// Proves by [`prove`]. The outer error is that the suite does not play the steps, or not with these values; there is no
+/// other.
 pub fn prove_steps<S: Suite>(
     alloc: Global,
     challenger: S::Challenger,
@@ -22,6 +25,9 @@ pub fn prove_steps<S: Suite>(
     steps: &[Step<S>],
     sent: &[Sent<S>],
 ) -> Result<Result<Proved<S>, Fault>>
+    ensures played { let rules = ⟦<S as Meaning>⟧.rules S.Field.DIMENSION in
+        AreAdmitted (play_of rules) steps.now → AreHanded (play_of rules) steps.now (values_sent sent.now)
+        → IsOk result }
     ensures proved { let rules = ⟦<S as Meaning>⟧.rules S.Field.DIMENSION in
         let script = script_of (S.Challenger.state challenger) separator.now steps.now in
         IfOk result (λ answer. IfOk answer (IsProvedScript rules script (values_sent sent.now) S.Challenger.state)) }
@@ -36,7 +42,7 @@ pub fn prove_steps<S: Suite>(
 }
 
 /// Verifies by [`verify`]. The outer error is that the suite does not play the steps, or not with so many witnesses
-/// carried.
+/// carried; there is no other.
 pub fn verify_steps<'n, S: Suite>(
     alloc: Global,
     challenger: S::Challenger,
@@ -45,6 +51,9 @@ pub fn verify_steps<'n, S: Suite>(
     carried: &[S::Field],
     proof: &'n [u8],
 ) -> Result<Result<Verified<'n, S>, Fault>>
+    ensures played { let rules = ⟦<S as Meaning>⟧.rules S.Field.DIMENSION in
+        AreAdmitted (play_of rules) steps.now → carried_count (play_of rules) steps.now ≡ length carried.now
+        → IsOk result }
     ensures accepted { let rules = ⟦<S as Meaning>⟧.rules S.Field.DIMENSION in
         let script = script_of (S.Challenger.state challenger) separator.now steps.now in
         IfOk result (λ answer. IfOk answer (IsVerifiedScript rules script proof.now carried.now S.Challenger.state)) }

@@ -54,7 +54,8 @@ fn write_numbers<W: fmt::Write>(
     Ok(())
 }
 
-fn numbers<S: Suite>(alloc: Global, scalars: &[S::Field]) -> Result<Vec<u64>> {
+/// The canonical numbers of scalars.
+pub fn numbers<S: Suite>(alloc: Global, scalars: &[S::Field]) -> Result<Vec<u64>> {
     let mut numbers = Vec::new(alloc);
     for scalar in scalars {
         numbers.push(scalar.as_canonical_u64())?;
@@ -118,9 +119,4 @@ pub fn drawn<S: Suite>(alloc: Global, drawn: &Drawn<S>) -> Result<Shown> {
             Ok(Shown::Numbers(numbers))
         }
     }
-}
-
-/// The numbers of scalars.
-pub fn scalars<S: Suite>(alloc: Global, values: &[S::Field]) -> Result<Vec<u64>> {
-    numbers::<S>(alloc, values)
 }

@@ -1,8 +1,6 @@
 -- Two sums in one transcript, as a verifier reads them of any bytes.
 use Rattle.std.proofs.Common.{◌≡◌, ℕ, ◌<◌, ◌⊎◌, List, [], inl, inr, length, refl, sym, ap, subst, ◌∙◌, rules}
-use Rattle.p3_challenger.specs.Completeness.{IsOwnRefusal}
 use Rattle.p3_challenger.specs.Driving.{Driving}
-use Rattle.p3_challenger.specs.Errors.{IsBadShape}
 use Rattle.p3_challenger.specs.PatternSteps.{PatternSteps}
 use Rattle.p3_challenger.specs.Playing.{IsPlayed}
 use Rattle.p3_challenger.specs.Reading.{AreBytes}
@@ -18,6 +16,7 @@ use Rattle.p3_challenger.specs.TranscriptError.TheVariants.{Pattern}
 use Rattle.p3_challenger.specs.TranscriptLaws.{played-ends}
 use Rattle.p3_challenger.specs.Transcripts.{AreNext, steps_on}
 use Rattle.p3_challenger.specs.Verifying.{EndsReading, Receives, RefusesEnd}
+use Rattle.p3_sumcheck.specs.Faults.{IsNoPatternFault}
 use Rattle.p3_sumcheck.specs.declared.error.SumcheckError.{SumcheckError}
 use Rattle.p3_sumcheck.specs.declared.error.SumcheckError.TheVariants as fault
 use Rattle.p3_sumcheck.specs.declared.round.Round.{Round}
@@ -46,7 +45,7 @@ module _ {S : Type 0} (steps : List Step) (challenger : S) (pattern : PatternSte
 
 -- the end is then refused for the sake of the proof alone
 pub end-fault : {S : Type 0} (v : Driving S) (e : TranscriptError) → IsPlayed v.transcript.playing → RefusesEnd v e →
-    ((reason : List ℕ) × IsBadShape reason e) ⊎ IsOwnRefusal e
+    IsNoPatternFault e
 end-fault v (MissingBegin info) played refuses = absurd refuses
 end-fault v (InvalidKind info) played refuses = absurd refuses
 end-fault v (MismatchedBeginEnd info) played refuses = absurd refuses
@@ -111,7 +110,7 @@ module _ {S Symbol F : Type 0} (m : Sumcheck S Symbol F) where
   -- what a sumcheck whose steps are next is refused for
   pub sumcheck-fault : (claim : F) (n : ℕ) (before after : Driving S) (e : SumcheckError) →
       Refuses m claim n before e after →
-      ((f : TranscriptError) → e ≡ fault.Transcript f → ((reason : List ℕ) × IsBadShape reason f) ⊎ IsOwnRefusal f) →
+      ((f : TranscriptError) → e ≡ fault.Transcript f → IsNoPatternFault f) →
       IsSumcheckFault n e
   sumcheck-fault claim n before after (fault.Transcript f) refuses step = step f refl
   sumcheck-fault claim n before after (fault.Round i) refuses step = elim refuses.refuses [

@@ -1,9 +1,7 @@
 -- Two sumchecks in one transcript, each after the sum that it is of.
 use Rattle.std.specs.Prelude.{◌≡◌, ◌<◌, ◌⊎◌, ℕ, List, [], ◌∷◌, ◌++◌, false, codes}
 use Rattle.p3_challenger.specs.Algebras.{NamedAlgebra, algebra_step}
-use Rattle.p3_challenger.specs.Completeness.{IsOwnRefusal}
 use Rattle.p3_challenger.specs.Driving.{Driving}
-use Rattle.p3_challenger.specs.Errors.{IsBadShape}
 use Rattle.p3_challenger.specs.Kind.TheVariants.{Message}
 use Rattle.p3_challenger.specs.Length.TheVariants.{Scalar}
 use Rattle.p3_challenger.specs.Meanings.{sent}
@@ -14,6 +12,7 @@ use Rattle.p3_challenger.specs.Rounds.{steps_of_rounds}
 use Rattle.p3_challenger.specs.Steps.{Step}
 use Rattle.p3_challenger.specs.Transcripts.{Meaning, PlaysStep}
 use Rattle.p3_challenger.specs.Verifying.{EndsReading}
+use Rattle.p3_sumcheck.specs.Faults.{IsNoPatternFault}
 use Rattle.p3_sumcheck.specs.declared.error.SumcheckError.{SumcheckError}
 use Rattle.p3_sumcheck.specs.declared.error.SumcheckError.TheVariants as fault
 use Rattle.p3_sumcheck.specs.declared.round.Round.{Round}
@@ -116,4 +115,4 @@ module _ {S Symbol F : Type 0} (m : Sumcheck S Symbol F) where
 -- has another shape, or the challenger or memory is refused.
 abbrev pub IsSumcheckFault : ℕ → SumcheckError → Type 0
 IsSumcheckFault n (fault.Round i) = i < n
-IsSumcheckFault n (fault.Transcript e) = ((reason : List ℕ) × IsBadShape reason e) ⊎ IsOwnRefusal e
+IsSumcheckFault n (fault.Transcript e) = IsNoPatternFault e

@@ -17,7 +17,7 @@ impl<
     ghost use Rattle.p3_challenger_core.specs.Bits.{most_bits_of};
     ghost use Rattle.p3_challenger_core.specs.BitLaws.{low_bits-below, most_bits-short};
     ghost use Rattle.p3_challenger_core.specs.Sampling.{unrefused_draw};
-    ghost use Rattle.p3_duplex.specs.DuplexStateLaws.{bits-sampled};
+    ghost use Rattle.p3_sponge.specs.DrawingLaws.{value-sampled};
 
     // The greatest number of bits, below 64, whose power of two is below the order.
     ghost most_bits = { most_bits_of F.residues.order };
@@ -31,7 +31,8 @@ impl<
 
     ghost number_tells = { λ _ _ same. same };
 
-    ghost samples_bits = { λ bits. bits-sampled F.residues P.permutation RATE bits };
+    ghost samples_bits = { λ bits. value-sampled (duplex_state.sampled F.residues P.permutation RATE)
+        (duplex_state.after_sampled F.residues P.permutation RATE) (λ x. F.residues.number x % 2 ^ bits) };
 
     ghost bits_below = { λ bits s x _ drawn. low_bits-below
         (F.residues.number (duplex_state.sampled F.residues P.permutation RATE s)) bits x drawn };

@@ -7,11 +7,11 @@ ghost use Rattle.p3_challenger_core.specs.Bits.{most_bits_of};
 ghost use Rattle.p3_grinding.specs.Checks.{IsLeast, RefusesSearch};
 ghost use Rattle.p3_duplex.specs.LaneSearch.{IsFirstLane, PassesAt, LanePasses, PassesCheck, check};
 
-use super::overwrite;
 use crate::DuplexChallenger;
 use p3_challenger_core::ChallengerError;
 use p3_field_core::PrimeField64;
 use p3_lanes::{LanePermutation, PackedField, PackedValue};
+use p3_sponge::overwrite;
 
 impl<
     F: PrimeField64 + PackedField,

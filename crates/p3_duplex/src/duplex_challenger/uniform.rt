@@ -27,11 +27,11 @@ impl<
     /// below the bound for so many, and each value of the bits is that of as many of the elements below the bound as
     /// the bound has multiples of `2^bits`. At least one bit is asked for, and as many as one element serves for.
     ///
-    /// A law: the body does nothing, and a caller cites the clauses.
-    pub fn uniform_bits_have_no_bias(&self)
+    /// A law: the body is empty, and a caller cites the clauses.
+    pub fn uniform_bits_have_no_bias()
         ensures drawn { (resample : Bool) (bits : ℕ) (c : DuplexState F P) → 0 < bits →
             bits ≤ F.MAX_SINGLE_SAMPLE_BITS →
-            (⟦<DuplexChallenger<F, P, WIDTH, RATE> as CanSampleUniformBits<F>>⟧.uniform resample bits).draw.sampled c
+            (⟦<Self as CanSampleUniformBits<F>>⟧.uniform resample bits).draw.sampled c
             ≡ option_map (low_bits F.residues bits)
             (taken_element F.residues P.permutation RATE resample bits c) }
         ensures below { (resample : Bool) (bits : ℕ) (c : DuplexState F P) (x : F) →
@@ -39,24 +39,20 @@ impl<
             F.residues.number x < uniform_bound F.residues.order bits }
         ensures shared { (bits value : ℕ) → value < 2 ^ bits → how_many_give F.residues bits value
             ≡ uniform_bound F.residues.order bits / 2 ^ bits }
-    {
-        let _ = &self.outputs_left;
-    }
+    {}
 
     /// Draws of uniform bits take no memory, and those that draw no other value in the place of a rejected one meet no
     /// limit.
     ///
-    /// A law: the body does nothing, and a caller cites the clauses.
-    pub fn uniform_draws_take_no_memory(&self)
+    /// A law: the body is empty, and a caller cites the clauses.
+    pub fn uniform_draws_take_no_memory()
         ensures memory { (resample : Bool) (bits : ℕ) (c d : DuplexState F P) →
-            let u = ⟦<DuplexChallenger<F, P, WIDTH, RATE> as CanSampleUniformBits<F>>⟧.uniform resample bits in
+            let u = ⟦<Self as CanSampleUniformBits<F>>⟧.uniform resample bits in
             ¬ (u.draw.may_leave c d) }
         ensures limit { (bits : ℕ) (c : DuplexState F P) →
-            let u = ⟦<DuplexChallenger<F, P, WIDTH, RATE> as CanSampleUniformBits<F>>⟧.uniform false bits in
+            let u = ⟦<Self as CanSampleUniformBits<F>>⟧.uniform false bits in
             ¬ (u.draw.meets_limit c) }
-    {
-        let _ = &self.outputs_left;
-    }
+    {}
 
     /// Where another value may be drawn in the place of a rejected one, a draw gives nothing exactly where each of as
     /// many elements as the draw limit allows is drawn and is not below the bound. There, and nowhere else, it meets

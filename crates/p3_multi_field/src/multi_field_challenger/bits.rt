@@ -19,7 +19,7 @@ impl<
     ghost use Rattle.p3_challenger_core.specs.Bits.{most_bits_of};
     ghost use Rattle.p3_challenger_core.specs.BitLaws.{low_bits-below, most_bits-short};
     ghost use Rattle.p3_challenger_core.specs.Sampling.{unrefused_draw};
-    ghost use Rattle.p3_sponge.specs.DrawnLaws.{value-sampled};
+    ghost use Rattle.p3_sponge.specs.DrawingLaws.{value-sampled};
 
     // The greatest number of bits, below 64, whose power of two is below the order of the scalars.
     ghost most_bits = { most_bits_of F.residues.order };

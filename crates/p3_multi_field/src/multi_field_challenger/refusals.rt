@@ -1,15 +1,15 @@
-//! Laws: what is never refused, beside observes and draws of single scalars.
-ghost use Rattle.std.specs.Prelude.{◌≡◌, ℕ};
+//! Laws: what is never refused.
+ghost use Rattle.std.specs.Prelude.{◌≡◌, ℕ, List};
 ghost use Rattle.p3_challenger_core.specs.Observation.{LeavesInCalls, RefusesObserve};
-ghost use Rattle.p3_challenger_core.specs.Sampling.{RefusesDraw};
+ghost use Rattle.p3_challenger_core.specs.Sampling.{RefusesDraw, RefusesDraws};
 ghost use Rattle.p3_challenger_core.specs.declared.error.ChallengerError.{ChallengerError};
 ghost use Rattle.p3_grinding.specs.Checks.{all_zero, check_of};
 ghost use Rattle.p3_multi_field.specs.MultiFieldState.{MultiFieldState};
 
 use crate::MultiField32Challenger;
-use p3_challenger_core::{CanObserve, CanSampleBits};
+use p3_challenger_core::{CanObserve, CanSample, CanSampleBits};
 use p3_field_bridge::FieldBridge;
-use p3_field_core::{PrimeField32, PrimeField64};
+use p3_field_core::{BasedVectorSpace, PrimeField32, PrimeField64};
 use p3_grinding::BeforeWitness;
 use p3_symmetric::{CryptographicPermutation, Hash, MerkleCap};
 
@@ -20,6 +20,31 @@ impl<
     const WIDTH: usize,
     const RATE: usize,
 > MultiField32Challenger<F, PF, P, WIDTH, RATE> {
+    /// Observations of single scalars are never refused: no list of them leaves any challenger with an error.
+    ///
+    /// A law: the body is empty, and a caller cites the clause.
+    pub fn observes_are_not_refused()
+        ensures { (values : List F) (e : ChallengerError) (s t : MultiFieldState F PF P) →
+            ¬ (RefusesObserve (LeavesInCalls ⟦<Self as CanObserve<F>>⟧.observation.observed
+            ⟦<Self as CanObserve<F>>⟧.observation.may_leave s values) e t) }
+    {}
+
+    /// Draws are never refused, whatever is drawn: no number of them leaves any challenger with an error.
+    ///
+    /// A law: the body is empty, and a caller cites the clause.
+    pub fn draws_are_not_refused<A: BasedVectorSpace<F>>()
+        ensures { (n : ℕ) (e : ChallengerError) (s t : MultiFieldState F PF P) →
+            ¬ (RefusesDraws ⟦<Self as CanSample<A>>⟧.sampling n e s t) }
+    {}
+
+    /// Nor are draws of bits.
+    ///
+    /// A law: the body is empty, and a caller cites the clause.
+    pub fn bit_draws_are_not_refused()
+        ensures { (bits n : ℕ) (e : ChallengerError) (s t : MultiFieldState F PF P) →
+            ¬ (RefusesDraws (⟦<Self as CanSampleBits<usize>>⟧.bits_sampling bits) n e s t) }
+    {}
+
     /// Observations of arrays and lists of lists of scalars, of digests and of caps are never refused: no list of them
     /// leaves any challenger with an error. A slice of them leaves, by the law `slice_leaves` of [`CanObserve`], what
     /// such a list leaves.

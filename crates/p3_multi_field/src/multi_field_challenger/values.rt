@@ -77,7 +77,7 @@ impl<
     ghost use Rattle.std.specs.Prelude.{Some};
     ghost use Rattle.p3_challenger_core.specs.Sampling.{unrefused_draw};
     ghost use Rattle.p3_multi_field.specs.MultiFieldState as multi_state;
-    ghost use Rattle.p3_sponge.specs.DrawnLaws.{elements-sampled};
+    ghost use Rattle.p3_sponge.specs.DrawingLaws.{elements-sampled};
 
     // The element whose coefficients are the next digits, coefficient 0 first. A draw takes no memory and has no
     // limit: it is never refused.

@@ -1,67 +1,20 @@
-use Rattle.std.proofs.Common.{[], ◌∷◌, ◌≤◌, IsTrue}
-use Rattle.p3_codecs.specs.Extension as extension
-use Rattle.p3_fs_core.specs.Algebras.{algebra_of}
-use Rattle.p3_fs_core.specs.Alphabet.{alphabet_of}
-use Rattle.p3_fs_core.specs.Scalar.{encoding}
 use Rattle.p3_fs_core.specs.ScalarLaws.{is_encoding}
-use Rattle.p3_runs.specs.Absorbed.{alone}
-use Rattle.p3_runs.specs.Rules.{Rules}
 use Rattle.p3_script.proofs.Canonical.{step-canonical}
 use Rattle.p3_script.proofs.Determined.{step-determined}
 use Rattle.p3_script.proofs.Lawful.{Lawful}
 use Rattle.p3_script.proofs.Possible.{step-refused}
+use Rattle.p3_script.specs.SuiteRules.{rules_of}
 use Rattle.p3_script.proofs.laws.script_steps_are_lawful.Goals as goal
 
 pub returns : goal.returns
 returns g c =
-    let base = g.S.Codec.Codec in
     let field = g.S.Field in
-    let space = g.S.Extension.BasedVectorSpace in
-    let group = g.S.Group.StepGroup in
-    let digest_of = g.S.Digest.DigestHasher.digest_of in
-    let order = field.PrimeCharacteristicRing.residues.order in
-    let rules : Rules _ _ _ _ _ _ _ = record {
-      marker_name = 40 ∷ 41 ∷ [];
-      is_secure = 128 ≤ base.SECURITY_BITS;
-      scalar = record {
-        algebra = algebra_of order field.BasedVectorSpace.DIMENSION (digest_of field.AlgebraIdentity.identity)
-            field.Named.name_bytes;
-        coefficients = alone;
-        encoding = base.encoding;
-        observation = base.observation;
-        sampling = base.sampling;
-      };
-      extension = record {
-        algebra = algebra_of order space.DIMENSION (digest_of g.S.Extension.AlgebraIdentity.identity)
-            g.S.Extension.Named.name_bytes;
-        coefficients = space.coefficients;
-        encoding = extension.encoding base.encoding space.DIMENSION space.coefficients space.element;
-        observation = extension.observed_coefficients base.observation space.coefficients;
-        sampling = extension.drawn_coefficients base.sampling space.DIMENSION space.element;
-      };
-      alphabet = alphabet_of g.S.Unit.Unit.items g.S.Unit.Unit.is_too_long g.S.Challenger.CanObserve-1.observation
-          g.S.Challenger.CanObserve-1.slice_may_leave;
-      opaque = g.S.Challenger.CanObserve-2.observation;
-      IsOwn = g.S.Suite.is_own;
-      accepts_extension = g.S.Accept.AcceptRule-1.rule;
-      accepts_bits = g.S.Accept.AcceptRule-2.rule;
-      residues = field.PrimeCharacteristicRing.residues;
-      witness_encoding = encoding field.PrimeCharacteristicRing.residues field.Field.bit_length;
-      bits = record {
-        most = group.most_bits;
-        are_there = IsTrue group.HAS_POW;
-        are_uniform = IsTrue group.HAS_UNIFORM;
-        plain = group.bit_draws;
-        uniform = group.uniform_draws;
-      };
-      grinding = record {
-        is_there = IsTrue group.HAS_POW;
-        before_witness = group.before_witness;
-        witness = group.witness;
-        may_run_out = group.may_run_out;
-      };
-      digest_of = digest_of;
-    } in
+    let space = g.S.Extension in
+    let challenger = g.S.Challenger in
+    let rules = rules_of g.S.Codec.Codec field.PrimeCharacteristicRing field.Field field.BasedVectorSpace.DIMENSION
+    field.AlgebraIdentity field.Named space.BasedVectorSpace space.AlgebraIdentity space.Named g.S.Unit.Unit
+    challenger.CanObserve-1 challenger.CanObserve-2 g.S.Suite.is_own g.S.Accept.AcceptRule-1 g.S.Accept.AcceptRule-2
+    g.S.Group.StepGroup g.S.Digest.DigestHasher in
     let laws : Lawful rules = record {
       scalar = record {
         code = g.met.S.Codec.Codec.is_codec.encodes.prefix_code;

@@ -6,16 +6,6 @@ returns-in-BytesBounded g c = rw c.in-BytesBounded.is c.add_bytes_bounded.ensure
 pub returns-in-ScalarsBounded : goal.returns-in-ScalarsBounded
 returns-in-ScalarsBounded g c = rw c.in-ScalarsBounded.is c.add_scalars_bounded.ensures
 
-pub returns-in-PublicScalarsBounded : goal.returns-in-PublicScalarsBounded
-returns-in-PublicScalarsBounded g c =
-    rw c.in-PublicScalarsBounded.is
-    (c.add_public_scalars_bounded.ensures.comes _ (rw c.in-PublicScalarsBounded.is at c.requires.handed))
-
-pub returns-in-ObserveExtensionsBounded : goal.returns-in-ObserveExtensionsBounded
-returns-in-ObserveExtensionsBounded g c =
-    rw c.in-ObserveExtensionsBounded.is
-    (c.observe_extensions_bounded.ensures.comes _ (rw c.in-ObserveExtensionsBounded.is at c.requires.handed))
-
 pub returns-in-Pow : goal.returns-in-Pow
 returns-in-Pow g c = rw c.in-Pow.is (c.pow.ensures.comes _ (rw c.in-Pow.is at c.requires.handed))
 

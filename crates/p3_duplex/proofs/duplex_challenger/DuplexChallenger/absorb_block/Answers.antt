@@ -1,7 +1,9 @@
 use Rattle.std.proofs.Common.{◌≡◌, ◌<◌, ◌+◌, [], ◌++◌, length, take, sym, ap, ◌∙◌, arith}
-use Rattle.p3_duplex.specs.DuplexCalls.{permutation_input}
+use Rattle.p3_sponge.specs.SpongeCalls.{permutation_input}
+use Rattle.p3_sponge.specs.SpongeStepLaws.{permutation_input-some}
+use Rattle.p3_duplex.specs.DuplexCalls.{duplex}
 use Rattle.p3_duplex.specs.DuplexState.{DuplexState, fed}
-use Rattle.p3_duplex.proofs.Blocks.{permutation_input-some, fed-absorbed}
+use Rattle.p3_duplex.proofs.Blocks.{fed-absorbed}
 use Rattle.p3_duplex.proofs.duplex_challenger.DuplexChallenger.absorb_block.Goals as goal
 
 -- with nothing pending the block alone is absorbed
@@ -11,6 +13,7 @@ returns-clause-fed g c =
     let permutation = g.P.CryptographicPermutation.permutation in
     let rate = g.row.RATE in
     let inside = c.self.inside in
+    let rule = duplex r (permutation inside.permutation) rate in
     let block = c.args.block.now in
     let pending = take inside.inputs inside.input_buffer in
     let none : pending ≡ [] = ap (λ (s : DuplexState g.row.F.Denot g.row.P.Denot). s.sponge.pending) c.self.view_is
@@ -23,8 +26,8 @@ returns-clause-fed g c =
     let full : length pending + length block ≡ rate = omega (arith, ap length none, c.requires.whole) in
     let some : 0 < length block = omega (arith, c.requires.whole, c.self.invariant.positive) in
     let cells = c.permute_mut.ensures
-    ∙ ap (permutation inside.permutation) (c.overwrite.ensures ∙ permutation_input-some r rate inside.sponge_state block some)
-    ∙ ap (λ p. permutation inside.permutation (permutation_input r rate inside.sponge_state (p ++ block))) (sym none) in
+    ∙ ap (permutation inside.permutation) (c.overwrite.ensures ∙ permutation_input-some rule inside.sponge_state block some)
+    ∙ ap (λ p. permutation inside.permutation (permutation_input rule inside.sponge_state (p ++ block))) (sym none) in
     (λ i. record {
       sponge = record { cells = cells i; pending = none i; outputs_left = rate };
       permutation = inside.permutation;

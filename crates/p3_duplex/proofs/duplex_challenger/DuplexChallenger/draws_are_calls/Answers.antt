@@ -1,5 +1,5 @@
 use Rattle.std.proofs.Common.{Some, ap}
-use Rattle.p3_duplex.proofs.Calls.{drawn-are_answers, after_drawn-is_calls}
+use Rattle.p3_duplex.proofs.Calls.{drawn-are_answers, steps-are_calls}
 use Rattle.p3_duplex.proofs.duplex_challenger.DuplexChallenger.draws_are_calls.Goals as goal
 
 pub returns-clause-element : goal.returns-clause-element
@@ -11,5 +11,5 @@ returns-clause-element g c state =
 
 pub returns-clause-after : goal.returns-clause-after
 returns-clause-after g c state =
-    after_drawn-is_calls g.F.PrimeCharacteristicRing.residues g.P.CryptographicPermutation.permutation g.row.RATE
+    steps-are_calls g.F.PrimeCharacteristicRing.residues g.P.CryptographicPermutation.permutation g.row.RATE
     g.A.BasedVectorSpace.DIMENSION state

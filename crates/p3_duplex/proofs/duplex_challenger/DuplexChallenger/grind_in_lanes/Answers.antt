@@ -1,4 +1,4 @@
-use Rattle.std.proofs.Common.{◌≡◌, ◌∙◌, length, refl, subst, arith}
+use Rattle.std.proofs.Common.{refl, subst, arith}
 use Rattle.p3_challenger_core.specs.BitLaws.{most_bits-short}
 use Rattle.p3_duplex.specs.LaneSearch.{IsLeastOf, NoneOfAll}
 use Rattle.p3_duplex.proofs.LaneSearching.{passes-prepared, least-is_least, none-passes, array_fits}

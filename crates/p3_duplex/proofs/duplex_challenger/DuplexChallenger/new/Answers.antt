@@ -1,24 +1,33 @@
-use Rattle.std.proofs.Common.{replicate}
-use Rattle.p3_duplex.proofs.ReadBack.{reads_back, reads_back_to_digest, reads_back_or_collides, started, started-fits}
+use Rattle.std.proofs.Common.{replicate, arith}
+use Rattle.p3_sponge.specs.SpongeCalls.{emptied}
+use Rattle.p3_sponge.specs.SpongeStepLaws.{emptied-fits}
+use Rattle.p3_duplex.specs.DuplexCalls.{duplex}
+use Rattle.p3_duplex.proofs.ReadBack.{reads_back, reads_back_to_digest, reads_back_or_collides}
 use Rattle.p3_duplex.proofs.duplex_challenger.DuplexChallenger.new.Goals as goal
 
 pub returns-clause-reads_back : goal.returns-clause-reads_back
 returns-clause-reads_back g c below =
+    let r = g.F.PrimeCharacteristicRing.residues in
+    let permute = g.P.CryptographicPermutation.permutation c.args.permutation in
     let cells = replicate g.row.WIDTH c.zero.result in
-    reads_back g.F.PrimeCharacteristicRing.residues g.met.F.PrimeCharacteristicRing.are_residues g.row.RATE below
-    (g.P.CryptographicPermutation.permutation c.args.permutation) c.requires.rate (started cells)
-    (started-fits g.row.RATE cells c.requires.rate)
+    let positive = c.requires.rate in
+    reads_back r g.met.F.PrimeCharacteristicRing.are_residues permute g.row.RATE below positive (emptied cells 0)
+    (emptied-fits (duplex r permute g.row.RATE) positive positive cells 0 (omega arith))
 
 pub returns-clause-to_digest : goal.returns-clause-to_digest
 returns-clause-to_digest g c below =
+    let r = g.F.PrimeCharacteristicRing.residues in
+    let permute = g.P.CryptographicPermutation.permutation c.args.permutation in
     let cells = replicate g.row.WIDTH c.zero.result in
-    reads_back_to_digest g.F.PrimeCharacteristicRing.residues g.met.F.PrimeCharacteristicRing.are_residues g.row.RATE
-    below (g.P.CryptographicPermutation.permutation c.args.permutation) c.requires.rate (started cells)
-    (started-fits g.row.RATE cells c.requires.rate)
+    let positive = c.requires.rate in
+    reads_back_to_digest r g.met.F.PrimeCharacteristicRing.are_residues permute g.row.RATE below positive (emptied cells 0)
+    (emptied-fits (duplex r permute g.row.RATE) positive positive cells 0 (omega arith))
 
 pub returns-clause-or_collides : goal.returns-clause-or_collides
 returns-clause-or_collides g c below =
+    let r = g.F.PrimeCharacteristicRing.residues in
+    let permute = g.P.CryptographicPermutation.permutation c.args.permutation in
     let cells = replicate g.row.WIDTH c.zero.result in
-    reads_back_or_collides g.F.PrimeCharacteristicRing.residues g.met.F.PrimeCharacteristicRing.are_residues g.row.RATE
-    below (g.P.CryptographicPermutation.permutation c.args.permutation) c.requires.rate (started cells)
-    (started-fits g.row.RATE cells c.requires.rate)
+    let positive = c.requires.rate in
+    reads_back_or_collides r g.met.F.PrimeCharacteristicRing.are_residues permute g.row.RATE below positive (emptied cells 0)
+    (emptied-fits (duplex r permute g.row.RATE) positive positive cells 0 (omega arith))

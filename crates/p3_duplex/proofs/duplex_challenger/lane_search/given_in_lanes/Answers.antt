@@ -1,8 +1,7 @@
-use Rattle.std.proofs.Common.{◌≡◌, ℕ, ◌<◌, ◌+◌, ◌∙◌, List, length, map, slice_index_or, slice_set, inl, inr, sym, ap, arith, rules}
+use Rattle.std.proofs.Common.{◌≡◌, ◌<◌, ◌∙◌, length, map, slice_index_or, slice_set, inl, inr, sym, ap, arith}
 use Rattle.std.proofs.lemmas.Bool.{cases_eq}
 use Rattle.std.proofs.lemmas.List.{length-set, length-map, map-set, get_or-map, get_or-set_other, get_or_default, ext_get_or}
 use Rattle.std.proofs.lemmas.Grind.{get_or-set_at}
-use Rattle.p3_duplex.specs.LaneSearch.{given_by}
 use Rattle.p3_duplex.proofs.LaneBatches.{offset_fits}
 use Rattle.p3_duplex.proofs.duplex_challenger.lane_search.given_in_lanes.Goals as goal
 

@@ -1,5 +1,5 @@
 use Rattle.std.proofs.Common.{◌<◌, ◌≤◌, Some, take, ap, ◌∙◌, arith}
-use Rattle.p3_sponge.specs.DrawnLaws.{has_drawn-none, has_drawn-next, has_drawn-values, has_drawn-state}
+use Rattle.p3_sponge.specs.DrawingLaws.{has_drawn-none, has_drawn-next, has_drawn-values, has_drawn-state}
 use Rattle.p3_multi_field.proofs.multi_field_challenger.values.MultiField32ChallengerCanSample.sample.Goals as goal
 
 pub loop-i-init : goal.loop-i-init

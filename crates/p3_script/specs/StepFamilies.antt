@@ -1,0 +1,31 @@
+-- The families of steps of scripts, by which functions over all kinds of steps are split.
+use Rattle.p3_script.specs.declared.steps.Step as script
+use Rattle.p3_script.specs.declared.steps.Step.TheVariants as step
+
+module _ {Su F EF U O C K Ac D G It St Sy : Type 0} where
+  -- nothing of it is sent: it is a marker, a value that both sides know, or a draw
+  abbrev pub SendsNothing : script.Step Su F EF U O C K Ac D G It St Sy → Type 0
+  SendsNothing (step.Salt label len) = ⊥
+  SendsNothing (step.Bytes label len) = ⊥
+  SendsNothing (step.Hint label len) = ⊥
+  SendsNothing (step.BytesBounded label max) = ⊥
+  SendsNothing (step.HintBounded label max) = ⊥
+  SendsNothing (step.Scalar label) = ⊥
+  SendsNothing (step.Scalars label n) = ⊥
+  SendsNothing (step.ScalarsBounded label max) = ⊥
+  SendsNothing (step.Extension label) = ⊥
+  SendsNothing (step.Pow label bits) = ⊥
+  SendsNothing (step.ObservePow label bits) = ⊥
+  SendsNothing _ = Unit {0}
+
+  -- it draws a challenge
+  abbrev pub Draws : script.Step Su F EF U O C K Ac D G It St Sy → Type 0
+  Draws (step.ChallengeScalar label) = Unit {0}
+  Draws (step.ChallengeScalars label n) = Unit {0}
+  Draws (step.ChallengeExtension label) = Unit {0}
+  Draws (step.ChallengeExtensions label n) = Unit {0}
+  Draws (step.ChallengeExtensionsRejecting label n accept limit) = Unit {0}
+  Draws (step.ChallengeBits label width n) = Unit {0}
+  Draws (step.ChallengeUniformBits label width n) = Unit {0}
+  Draws (step.ChallengeUniformBitsRejecting label width n accept limit) = Unit {0}
+  Draws _ = ⊥
