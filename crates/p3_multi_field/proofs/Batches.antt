@@ -1,21 +1,11 @@
 -- Scalars that are observed a batch at a time.
-use Rattle.std.proofs.Common.{◌≡◌, ℕ, ◌<◌, ◌≤◌, ◌+◌, ◌-◌, List, [], ◌∷◌, ◌++◌, length, take, refl, sym, ap, ◌∙◌}
-use Rattle.std.proofs.lemmas.Slice.{take-put_mid}
-use borrow.Rule.Slice.PartMut.{put_mid}
+use Rattle.std.proofs.Common.{◌≡◌, ℕ, ◌<◌, ◌+◌, List, [], ◌∷◌, length, refl, ap, ◌∙◌}
 use Rattle.p3_challenger_core.specs.Observation.{observed_all}
 use Rattle.p3_sponge.specs.SpongeCalls as sponge
 use Rattle.p3_sponge.specs.SpongeCalls.{SpongeRule}
 use Rattle.p3_sponge.specs.SpongeListLaws.{with_values, all-pending, all-absorbed}
 use Rattle.p3_multi_field.specs.MultiFieldCalls.{FieldPair, batch_of, scalars_rule}
 use Rattle.p3_multi_field.specs.MultiFieldState.{MultiFieldState, scalar_observed, scalars_observed}
-
--- values that are written after what is pending are pending with it
-pub pending-written : {F : Type 0} (places values written : List F) (n : ℕ) → n ≤ length places → written ≡ values
-    → take (n + length values) (put_mid n (n + length values - n) places written) ≡ take n places ++ values
-pending-written places values written n within same =
-    let end : n + length values ≡ n + length written = ap (λ ys. n + length ys) (sym same) in
-    take-put_mid n (n + length values - n) places written (n + length values) end within
-    ∙ ap (λ ys. take n places ++ ys) same
 
 module _ {F PF P : Type 0} (pair : FieldPair F PF) (permute : P → List PF → List PF) (rate : ℕ) where
   abbrev rule : MultiFieldState F PF P → SpongeRule (List PF) F

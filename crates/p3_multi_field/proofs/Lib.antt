@@ -5,6 +5,7 @@ pub mod MultiFieldQueries
 pub mod MultiFieldSteps
 pub mod Numbers
 pub mod Packing
+pub mod Pairs
 pub mod ReadBack
 pub mod WordBlocks
 pub mod WorkedRows

@@ -18,14 +18,17 @@ module _ {F PF : Type 0} (pair : FieldPair F PF) (permute other : List PF → Li
   abbrev rule : SpongeRule (List PF) F
   rule = scalars_rule pair permute rate
 
+  abbrev Agreed : List PF → Type 0
+  Agreed = Agree rule other
+
   -- what is pending is absorbed, and then blocks are
   same_absorbed : (cells : List PF) (pending : List F) (others : List (List PF))
-      → All (Agree rule other) (queries_by_pending pair permute rate cells pending ++ others)
+      → All Agreed (queries_by_pending pair permute rate cells pending ++ others)
       → absorbed_pending pair other rate cells pending ≡ absorbed_pending pair permute rate cells pending
   same_absorbed cells [] others h = refl
   same_absorbed cells (x ∷ xs) others h =
       ap (λ after. emptied after rule.row_len)
-      (All-head (Agree rule other) (scalars_over pair rate cells (x ∷ xs)) others h)
+      (All-head Agreed (scalars_over pair rate cells (x ∷ xs)) others h)
 
   same_pending : (cells : List PF) (pending : List F)
       → queries_by_pending pair other rate cells pending ≡ queries_by_pending pair permute rate cells pending
@@ -33,34 +36,35 @@ module _ {F PF : Type 0} (pair : FieldPair F PF) (permute other : List PF → Li
   same_pending cells (x ∷ xs) = refl
 
   same_words : (s : MultiFieldSponge F PF) (others : List (List PF))
-      → All (Agree rule other) (queries_by_words pair permute rate s.cells others)
+      → All Agreed (queries_by_words pair permute rate s.cells others)
       → words_absorbed pair other rate s others ≡ words_absorbed pair permute rate s others
   same_words s [] h = refl
   same_words s (block ∷ others) h =
       let state = overwritten pair.outer rate s.cells block in
       let rest = queries_by_words pair permute rate (permute state) others in
       ap (λ cells. words_absorbed pair other rate (emptied cells rule.row_len) others)
-      (All-head (Agree rule other) state rest h)
-      ∙ same_words (permuting rule state) others (All-tail (Agree rule other) state rest h)
+      (All-head Agreed state rest h)
+      ∙ same_words (permuting rule state) others (All-tail Agreed state rest h)
 
-  same_queries : (cells : List PF) (others : List (List PF)) → All (Agree rule other) (queries_by_words pair permute rate cells others)
+  same_queries : (cells : List PF) (others : List (List PF))
+      → All Agreed (queries_by_words pair permute rate cells others)
       → queries_by_words pair other rate cells others ≡ queries_by_words pair permute rate cells others
   same_queries cells [] h = refl
   same_queries cells (block ∷ others) h =
       let state = overwritten pair.outer rate cells block in
       let rest = queries_by_words pair permute rate (permute state) others in
-      ap (λ after. state ∷ queries_by_words pair other rate after others) (All-head (Agree rule other) state rest h)
-      ∙ ap (λ states. state ∷ states) (same_queries (permute state) others (All-tail (Agree rule other) state rest h))
+      ap (λ after. state ∷ queries_by_words pair other rate after others) (All-head Agreed state rest h)
+      ∙ ap (λ states. state ∷ states) (same_queries (permute state) others (All-tail Agreed state rest h))
 
   same_digest : (s : MultiFieldSponge F PF) (words : List PF)
-      → All (Agree rule other) (run_call pair permute rate s (observe (digest words))).queries
+      → All Agreed (run_call pair permute rate s (observe (digest words))).queries
       → run_call pair other rate s (observe (digest words)) ≡ run_call pair permute rate s (observe (digest words))
   same_digest s words h =
       let first = queries_by_pending pair permute rate s.cells s.pending in
       let opening = absorbed_pending pair permute rate s.cells s.pending in
       let all = blocks rate words in
       let others = queries_by_words pair permute rate opening.cells all in
-      let rest : All (Agree rule other) others = all-second (Agree rule other) first others h in
+      let rest : All Agreed others = all-second Agreed first others h in
       (λ i. let t = same_absorbed s.cells s.pending others h i in record {
         answers = [];
         queries = same_pending s.cells s.pending i ++ queries_by_words pair other rate t.cells all;
@@ -73,7 +77,7 @@ module _ {F PF : Type 0} (pair : FieldPair F PF) (permute other : List PF → Li
       })
 
   pub same_call : (s : MultiFieldSponge F PF) (call : Call (Symbol F PF))
-      → All (Agree rule other) (run_call pair permute rate s call).queries
+      → All Agreed (run_call pair permute rate s call).queries
       → run_call pair other rate s call ≡ run_call pair permute rate s call
   same_call s (observe (scalar x)) h = same_value rule other s x h
   same_call s (observe (digest words)) h = same_digest s words h

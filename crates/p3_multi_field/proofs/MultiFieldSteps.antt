@@ -10,7 +10,8 @@ use Rattle.p3_sponge.specs.Cells.{overwritten}
 use Rattle.p3_sponge.specs.OutputsLaws.{further-div}
 use Rattle.p3_sponge.specs.SpongeCalls.{SpongeRule, SpongeRun, emptied, permuting, run_value}
 use Rattle.p3_sponge.specs.SpongeSegments.{opened, run_values}
-use Rattle.p3_sponge.specs.SpongeStepLaws.{Fits, run_values-next, run_draws-next, emptied-fits, observed-fits, sampled-fits}
+use Rattle.p3_sponge.specs.SpongeStepLaws.{Fits, run_values-next, run_draws-next, emptied-fits, observed-fits}
+use Rattle.p3_sponge.specs.SpongeStepLaws.{sampled-fits}
 use Rattle.p3_multi_field.specs.MultiFieldCalls.{FieldPair, Symbol, scalar, digest, MultiFieldSponge, batch_of, row_of}
 use Rattle.p3_multi_field.specs.MultiFieldCalls.{scalars_rule, blocks_within, blocks, absorbed_pending, words_absorbed}
 use Rattle.p3_multi_field.specs.MultiFieldCalls.{queries_by_pending, queries_by_words, run_call, multi_field_by_calls}

@@ -13,7 +13,8 @@ use Rattle.p3_sponge.specs.Cells.{cell}
 use Rattle.p3_sponge.specs.SpongeCalls.{SpongeRule, permutation_input, run_value, run_draw, sponge_by_calls}
 use Rattle.p3_sponge.specs.SpongeStepLaws.{Fits}
 use Rattle.p3_sponge.specs.SpongeReadBackLaws as sponge_laws
-use Rattle.p3_multi_field.specs.MultiFieldCalls.{FieldPair, MultiFieldSponge, batch_of, row_of, packed_cells, scalars_rule}
+use Rattle.p3_multi_field.specs.MultiFieldCalls.{FieldPair, MultiFieldSponge, batch_of, row_of, packed_cells}
+use Rattle.p3_multi_field.specs.MultiFieldCalls.{scalars_rule}
 use Rattle.p3_multi_field.specs.MultiFieldReadBack.{run_scalar_calls, ReadsBack}
 use Rattle.p3_multi_field.proofs.Packing.{length-packed_cells}
 

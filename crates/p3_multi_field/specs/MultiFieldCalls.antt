@@ -7,7 +7,8 @@ use Rattle.p3_field_bridge.specs.Bridges.{packed, digit_of}
 use Rattle.p3_challenger_core.specs.Segments.{Call, observe, observe_empty_array, draw, stays, ByCalls}
 use Rattle.p3_sponge.specs.Cells.{cell, counted_over, overwritten}
 use Rattle.p3_sponge.specs.SpongeCalls as sponge
-use Rattle.p3_sponge.specs.SpongeCalls.{SpongeRule, CellSponge, SpongeRun, emptied, permuting, run_value, run_draw, run_end}
+use Rattle.p3_sponge.specs.SpongeCalls.{SpongeRule, CellSponge, SpongeRun, emptied, permuting, run_value, run_draw}
+use Rattle.p3_sponge.specs.SpongeCalls.{run_end}
 
 -- Two fields: that of the scalars, which are observed and drawn, and that of the cells; in how many bits a
 -- scalar is packed, how many scalars a cell packs, and how many digits are drawn from a cell.

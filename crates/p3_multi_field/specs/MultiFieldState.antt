@@ -7,7 +7,8 @@ use Rattle.p3_sponge.specs.Drawing as in_order
 use Rattle.p3_sponge.specs.SpongeCalls as sponge
 use Rattle.p3_sponge.specs.SpongeCalls.{SpongeRule}
 use Rattle.p3_multi_field.specs.MultiFieldCalls as calls
-use Rattle.p3_multi_field.specs.MultiFieldCalls.{FieldPair, Symbol, MultiFieldSponge, scalars_rule, multi_field_by_calls}
+use Rattle.p3_multi_field.specs.MultiFieldCalls.{FieldPair, Symbol, MultiFieldSponge, scalars_rule}
+use Rattle.p3_multi_field.specs.MultiFieldCalls.{multi_field_by_calls}
 
 -- What a challenger keeps of its numbers: the rate is some cells but not all of them; the order of the scalars is
 -- below that of the cells; a cell packs some scalars and gives some digits; the rate packs at most 255 scalars, and

@@ -33,7 +33,7 @@ use self::packing::{absorb, digit_at, pack_over};
 use crate::{HasFieldPair, MultiField32ChallengerError};
 use p3_field_bridge::FieldBridge;
 use p3_field_core::{Named, PrimeField32, PrimeField64};
-use p3_sponge::zero;
+use p3_sponge::{write_after, zero};
 use p3_symmetric::CryptographicPermutation;
 use std::fmt;
 use std::marker::Model;
@@ -360,8 +360,7 @@ impl<
         if values.is_empty() {
             return;
         }
-        let buffer = &mut self.pending[..];
-        buffer[self.scalars..end].copy_from_slice(values);
+        write_after(&mut self.pending[..], self.scalars, values);
         if end == batch_len {
             absorb::<F, PF, P, WIDTH, RATE>(
                 &mut self.sponge_state,

@@ -91,11 +91,10 @@ impl<
             (⟦<Self as CanSampleBits<usize>>⟧.bits_sampling bits).after c
             ≡ after_calls ⟦<PF as HasFieldPair<F>>⟧.field_pair P.permutation RATE c (draw ∷ []) }
         ensures digest { (c : MultiFieldState F PF P) →
+            let pair = ⟦<PF as HasFieldPair<F>>⟧.field_pair in
+            let by_calls = multi_field_by_calls pair (P.permutation c.permutation) RATE in
             ⟦<Self as CanFinalizeDigest>⟧.digest_of c
-            ≡ (run_calls_to_digest
-            (multi_field_by_calls ⟦<PF as HasFieldPair<F>>⟧.field_pair
-            (P.permutation c.permutation) RATE)
-            c.sponge []).after }
+            ≡ (run_calls_to_digest by_calls c.sponge []).after }
     {}
 
     /// After scalars that are observed, at least one, draw `k` answers output `k` of the cells that they leave when all

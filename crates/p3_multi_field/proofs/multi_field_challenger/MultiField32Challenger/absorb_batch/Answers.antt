@@ -2,8 +2,9 @@ use Rattle.std.proofs.Common.{rules, ◌≡◌, ◌<◌, ◌≤◌, ◌+◌, [],
 use Rattle.std.proofs.lemmas.List.{length-take-le}
 use Rattle.p3_sponge.specs.SpongeCalls.{permutation_input}
 use Rattle.p3_sponge.specs.SpongeStepLaws.{permutation_input-some}
-use Rattle.p3_multi_field.specs.MultiFieldCalls.{pair_of, batch_of, row_of, scalars_rule}
+use Rattle.p3_multi_field.specs.MultiFieldCalls.{batch_of, row_of, scalars_rule}
 use Rattle.p3_multi_field.specs.MultiFieldState.{MultiFieldState, scalars_observed}
+use Rattle.p3_multi_field.proofs.Pairs.{pair_over}
 use Rattle.p3_multi_field.proofs.Batches.{observed-absorbed}
 use Rattle.p3_multi_field.proofs.Numbers.{some_product, keeps_all}
 use Rattle.p3_multi_field.proofs.multi_field_challenger.MultiField32Challenger.absorb_batch.Goals as goal
@@ -25,8 +26,7 @@ invariant_of-self g c =
 pub returns-clause-fed : goal.returns-clause-fed
 returns-clause-fed g c =
     let bridge = g.PF.FieldBridge in
-    let pair = pair_of g.F.PrimeCharacteristicRing.residues g.PF.PrimeCharacteristicRing.residues bridge.RADIX_BITS
-    bridge.ABSORB_COUNT bridge.SQUEEZE_COUNT in
+    let pair = pair_over g.F.PrimeCharacteristicRing.residues g.PF.PrimeCharacteristicRing.residues bridge in
     let permutation = g.P.CryptographicPermutation.permutation in
     let rate = g.row.RATE in
     let inside = c.self.inside in

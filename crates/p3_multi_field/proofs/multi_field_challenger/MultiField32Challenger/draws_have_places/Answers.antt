@@ -1,17 +1,17 @@
 use Rattle.std.proofs.Common.{subst}
-use Rattle.p3_multi_field.specs.MultiFieldCalls.{pair_of, scalars_rule}
+use Rattle.p3_sponge.specs.SpongeStepLaws.{Fits}
+use Rattle.p3_multi_field.specs.MultiFieldCalls.{scalars_rule}
 use Rattle.p3_multi_field.specs.MultiFieldState.{MultiFieldState}
+use Rattle.p3_multi_field.proofs.Pairs.{pair_over}
 use Rattle.p3_multi_field.proofs.Calls.{scalars-places, digest-places}
 use Rattle.p3_multi_field.proofs.Numbers.{some_product}
-use Rattle.p3_sponge.specs.SpongeStepLaws.{Fits}
 use Rattle.p3_multi_field.proofs.MultiFieldSteps.{kept-fits}
 use Rattle.p3_multi_field.proofs.multi_field_challenger.MultiField32Challenger.draws_have_places.Goals as goal
 
 pub returns : goal.returns
 returns g c =
     let bridge = g.PF.FieldBridge in
-    let pair = pair_of g.F.PrimeCharacteristicRing.residues g.PF.PrimeCharacteristicRing.residues bridge.RADIX_BITS
-    bridge.ABSORB_COUNT bridge.SQUEEZE_COUNT in
+    let pair = pair_over g.F.PrimeCharacteristicRing.residues g.PF.PrimeCharacteristicRing.residues bridge in
     let rate = g.row.RATE in
     let inside = c.self.inside in
     let keeps = c.self.invariant in
@@ -20,9 +20,7 @@ returns g c =
     let rule = scalars_rule pair permute rate in
     let fits : Fits rule state.sponge =
     subst (λ (d : MultiFieldState g.row.F.Denot g.row.PF.Denot g.row.P.Denot). Fits rule d.sponge) c.self.view_is
-    (kept-fits pair permute g.row.WIDTH rate g.F.PrimeCharacteristicRing.residues.order
-    g.PF.PrimeCharacteristicRing.residues.order inside.scalars inside.outputs_left inside.sponge_state inside.pending
-    keeps) in
+    (kept-fits pair permute _ rate _ _ inside.scalars inside.outputs_left inside.sponge_state inside.pending keeps) in
     let some_batch = some_product bridge.ABSORB_COUNT rate keeps.some_packed keeps.positive in
     let some_row = some_product rate bridge.SQUEEZE_COUNT keeps.positive keeps.some_digits in
     record {

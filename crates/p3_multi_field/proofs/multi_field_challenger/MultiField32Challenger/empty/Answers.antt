@@ -1,16 +1,14 @@
 use Rattle.std.proofs.Common.{rules, ◌≡◌, ◌<◌, ◌≤◌, length, take, ap, ◌∙◌, arith}
 use Rattle.std.proofs.lemmas.List.{length-take-le}
-use Rattle.p3_multi_field.specs.MultiFieldCalls.{pair_of}
 use Rattle.p3_multi_field.specs.MultiFieldState.{MultiFieldState}
+use Rattle.p3_multi_field.proofs.Pairs.{pair_over}
 use Rattle.p3_multi_field.proofs.WordBlocks.{absorbed-some}
 use Rattle.p3_multi_field.proofs.multi_field_challenger.MultiField32Challenger.empty.Goals as goal
 
 -- something is pending, and it is absorbed
 pub returns-else-self-eq0-clause-absorbed : goal.returns-else-self-eq0-clause-absorbed
 returns-else-self-eq0-clause-absorbed g c =
-    let bridge = g.PF.FieldBridge in
-    let pair = pair_of g.F.PrimeCharacteristicRing.residues g.PF.PrimeCharacteristicRing.residues bridge.RADIX_BITS
-    bridge.ABSORB_COUNT bridge.SQUEEZE_COUNT in
+    let pair = pair_over g.F.PrimeCharacteristicRing.residues g.PF.PrimeCharacteristicRing.residues g.PF.FieldBridge in
     let before = c.args.self.now in
     let inside = c.self.inside in
     let within : inside.scalars ≤ length inside.pending = search rules in

@@ -1,12 +1,13 @@
 use Rattle.std.proofs.Common.{subst, take}
 use Rattle.p3_challenger_core.specs.SegmentLaws.{run_calls-segments, run_calls-segments_to_digest, run_calls-same}
 use Rattle.p3_challenger_core.specs.SegmentLaws.{run_calls_to_digest-same}
-use Rattle.p3_multi_field.specs.MultiFieldCalls.{pair_of, scalars_rule, multi_field_by_calls}
-use Rattle.p3_multi_field.specs.MultiFieldSegments.{multi_field_by_segments}
-use Rattle.p3_multi_field.specs.MultiFieldState.{MultiFieldState}
-use Rattle.p3_multi_field.proofs.Numbers.{some_product}
 use Rattle.p3_sponge.specs.SpongeQueryLaws.{Agree, same_end}
 use Rattle.p3_sponge.specs.SpongeStepLaws.{Fits}
+use Rattle.p3_multi_field.specs.MultiFieldCalls.{scalars_rule, multi_field_by_calls}
+use Rattle.p3_multi_field.specs.MultiFieldSegments.{multi_field_by_segments}
+use Rattle.p3_multi_field.specs.MultiFieldState.{MultiFieldState}
+use Rattle.p3_multi_field.proofs.Pairs.{pair_over}
+use Rattle.p3_multi_field.proofs.Numbers.{some_product}
 use Rattle.p3_multi_field.proofs.MultiFieldSteps.{kept-fits, multi_field_steps}
 use Rattle.p3_multi_field.proofs.MultiFieldQueries.{same_call}
 use Rattle.p3_multi_field.proofs.multi_field_challenger.MultiField32Challenger.follows_segments.Goals as goal
@@ -15,8 +16,7 @@ use Rattle.p3_multi_field.proofs.multi_field_challenger.MultiField32Challenger.f
 pub returns : goal.returns
 returns g c =
     let bridge = g.PF.FieldBridge in
-    let pair = pair_of g.F.PrimeCharacteristicRing.residues g.PF.PrimeCharacteristicRing.residues bridge.RADIX_BITS
-    bridge.ABSORB_COUNT bridge.SQUEEZE_COUNT in
+    let pair = pair_over g.F.PrimeCharacteristicRing.residues g.PF.PrimeCharacteristicRing.residues bridge in
     let rate = g.row.RATE in
     let inside = c.self.inside in
     let keeps = c.self.invariant in
@@ -24,9 +24,7 @@ returns g c =
     let rule = scalars_rule pair permute rate in
     let fits : Fits rule c.args.self.now.sponge =
     subst (λ (d : MultiFieldState g.row.F.Denot g.row.PF.Denot g.row.P.Denot). Fits rule d.sponge) c.self.view_is
-    (kept-fits pair permute g.row.WIDTH rate g.F.PrimeCharacteristicRing.residues.order
-    g.PF.PrimeCharacteristicRing.residues.order inside.scalars inside.outputs_left inside.sponge_state inside.pending
-    keeps) in
+    (kept-fits pair permute _ rate _ _ inside.scalars inside.outputs_left inside.sponge_state inside.pending keeps) in
     let by_calls = multi_field_by_calls pair permute rate in
     let by_segments = multi_field_by_segments pair permute rate in
     let steps = multi_field_steps pair permute rate keeps.positive

@@ -1,8 +1,9 @@
 use Rattle.std.proofs.Common.{rules, ◌≡◌, ◌<◌, ◌≤◌, ℕ, min, replicate, arith}
 use Rattle.p3_sponge.specs.SpongeCalls.{emptied}
 use Rattle.p3_sponge.specs.SpongeStepLaws.{emptied-fits}
-use Rattle.p3_multi_field.specs.MultiFieldCalls.{pair_of, scalars_rule}
+use Rattle.p3_multi_field.specs.MultiFieldCalls.{scalars_rule}
 use Rattle.p3_multi_field.proofs.Numbers.{keeps_none, some_product}
+use Rattle.p3_multi_field.proofs.Pairs.{pair_over}
 use Rattle.p3_multi_field.proofs.ReadBack.{reads_back}
 use Rattle.p3_multi_field.proofs.multi_field_challenger.MultiField32Challenger.new.Goals as goal
 
@@ -28,7 +29,7 @@ returns-clause-reads_back g c below =
     omega (arith, c.if-ORDER_U64.false, g.met.F.PrimeField64.order_u64_is, g.met.PF.PrimeField64.order_u64_is) in
     let bridge = g.PF.FieldBridge in
     let counts = g.met.PF.FieldBridge.are_counts in
-    let pair = pair_of inner outer bridge.RADIX_BITS bridge.ABSORB_COUNT bridge.SQUEEZE_COUNT in
+    let pair = pair_over inner outer bridge in
     let some_batch = some_product bridge.ABSORB_COUNT g.row.RATE (counts.absorb_one increasing) c.requires.rate in
     let some_row = some_product g.row.RATE bridge.SQUEEZE_COUNT c.requires.rate (counts.squeeze_one increasing) in
     let permute = g.P.CryptographicPermutation.permutation c.args.permutation in

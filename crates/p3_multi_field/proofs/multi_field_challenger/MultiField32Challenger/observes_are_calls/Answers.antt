@@ -1,31 +1,26 @@
 use Rattle.std.proofs.Common.{map, ◌∙◌}
 use Rattle.std.specs.List.{flat_map}
-use Rattle.p3_multi_field.specs.MultiFieldCalls.{pair_of, scalar, digest}
+use Rattle.p3_multi_field.specs.MultiFieldCalls.{scalar, digest}
 use Rattle.p3_multi_field.specs.MultiFieldStateLaws.{scalars-fed, lists-fed, digests-fed}
+use Rattle.p3_multi_field.proofs.Pairs.{pair_over}
 use Rattle.p3_multi_field.proofs.Calls.{fed-is_calls}
 use Rattle.p3_multi_field.proofs.multi_field_challenger.MultiField32Challenger.observes_are_calls.Goals as goal
 
 pub returns-clause-array : goal.returns-clause-array
 returns-clause-array g c state xs =
-    let bridge = g.PF.FieldBridge in
-    let pair = pair_of g.F.PrimeCharacteristicRing.residues g.PF.PrimeCharacteristicRing.residues bridge.RADIX_BITS
-    bridge.ABSORB_COUNT bridge.SQUEEZE_COUNT in
+    let pair = pair_over g.F.PrimeCharacteristicRing.residues g.PF.PrimeCharacteristicRing.residues g.PF.FieldBridge in
     let permute = g.P.CryptographicPermutation.permutation in
     scalars-fed pair permute g.row.RATE state xs ∙ fed-is_calls pair permute g.row.RATE state (map scalar xs)
 
 pub returns-clause-lists : goal.returns-clause-lists
 returns-clause-lists g c state lists =
-    let bridge = g.PF.FieldBridge in
-    let pair = pair_of g.F.PrimeCharacteristicRing.residues g.PF.PrimeCharacteristicRing.residues bridge.RADIX_BITS
-    bridge.ABSORB_COUNT bridge.SQUEEZE_COUNT in
+    let pair = pair_over g.F.PrimeCharacteristicRing.residues g.PF.PrimeCharacteristicRing.residues g.PF.FieldBridge in
     let permute = g.P.CryptographicPermutation.permutation in
     lists-fed pair permute g.row.RATE (λ list. list.items) state lists.items
     ∙ fed-is_calls pair permute g.row.RATE state (flat_map (λ list. map scalar list.items) lists.items)
 
 pub returns-clause-cap : goal.returns-clause-cap
 returns-clause-cap g c state cap =
-    let bridge = g.PF.FieldBridge in
-    let pair = pair_of g.F.PrimeCharacteristicRing.residues g.PF.PrimeCharacteristicRing.residues bridge.RADIX_BITS
-    bridge.ABSORB_COUNT bridge.SQUEEZE_COUNT in
+    let pair = pair_over g.F.PrimeCharacteristicRing.residues g.PF.PrimeCharacteristicRing.residues g.PF.FieldBridge in
     let permute = g.P.CryptographicPermutation.permutation in
     digests-fed pair permute g.row.RATE state cap ∙ fed-is_calls pair permute g.row.RATE state (map digest cap)

@@ -1,16 +1,14 @@
 use Rattle.std.proofs.Common.{◌≡◌, ◌++◌, ap, ◌∙◌, arith}
 use Rattle.std.proofs.lemmas.List.{take-append-drop}
-use Rattle.p3_multi_field.specs.MultiFieldCalls.{pair_of}
 use Rattle.p3_multi_field.specs.MultiFieldState.{scalars_observed}
 use Rattle.p3_multi_field.specs.MultiFieldStateLaws.{scalars-append}
+use Rattle.p3_multi_field.proofs.Pairs.{pair_over}
 use Rattle.p3_multi_field.proofs.multi_field_challenger.MultiField32Challenger.push_all.Goals as goal
 
 -- the scalars that fill up what is pending
 pub loop-rest-init : goal.loop-rest-init
 loop-rest-init g c =
-    let bridge = g.PF.FieldBridge in
-    let pair = pair_of g.F.PrimeCharacteristicRing.residues g.PF.PrimeCharacteristicRing.residues bridge.RADIX_BITS
-    bridge.ABSORB_COUNT bridge.SQUEEZE_COUNT in
+    let pair = pair_over g.F.PrimeCharacteristicRing.residues g.PF.PrimeCharacteristicRing.residues g.PF.FieldBridge in
     let permutation = g.P.CryptographicPermutation.permutation in
     let rate = g.row.RATE in
     let front = c.split_at.result.0.now in
@@ -26,9 +24,7 @@ loop-rest-init g c =
 -- a batch more
 pub loop-rest-preserved : goal.loop-rest-preserved
 loop-rest-preserved g c =
-    let bridge = g.PF.FieldBridge in
-    let pair = pair_of g.F.PrimeCharacteristicRing.residues g.PF.PrimeCharacteristicRing.residues bridge.RADIX_BITS
-    bridge.ABSORB_COUNT bridge.SQUEEZE_COUNT in
+    let pair = pair_over g.F.PrimeCharacteristicRing.residues g.PF.PrimeCharacteristicRing.residues g.PF.FieldBridge in
     let permutation = g.P.CryptographicPermutation.permutation in
     let rate = g.row.RATE in
     let split = c.split_at-in-loop-rest in

@@ -1,15 +1,13 @@
 use Rattle.std.proofs.Common.{◌≡◌, drop}
 use Rattle.p3_challenger_core.specs.Observation.{observed_all}
-use Rattle.p3_multi_field.specs.MultiFieldCalls.{pair_of}
 use Rattle.p3_multi_field.specs.MultiFieldState.{digest_observed}
+use Rattle.p3_multi_field.proofs.Pairs.{pair_over}
 use Rattle.p3_multi_field.proofs.multi_field_challenger.MultiField32Challenger.push_caps.Given as goal
 
 -- what is left to observe leads to the same end
 abbrev pub invariant-loop-i : goal.invariant-loop-i
 invariant-loop-i g l =
-    let bridge = g.PF.FieldBridge in
-    let pair = pair_of g.F.PrimeCharacteristicRing.residues g.PF.PrimeCharacteristicRing.residues bridge.RADIX_BITS
-    bridge.ABSORB_COUNT bridge.SQUEEZE_COUNT in
+    let pair = pair_over g.F.PrimeCharacteristicRing.residues g.PF.PrimeCharacteristicRing.residues g.PF.FieldBridge in
     let feed = digest_observed pair g.P.CryptographicPermutation.permutation g.row.RATE in
     let each = observed_all (λ u x. feed u (g.D.AsSlice.items x)) in
     let all = observed_all (λ s xs. each s (g.V.AsSlice.items xs)) in

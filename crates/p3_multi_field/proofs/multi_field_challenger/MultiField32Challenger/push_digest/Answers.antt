@@ -1,8 +1,9 @@
 use Rattle.std.proofs.Common.{◌≡◌, ◌<◌, ◌-◌, ◌∷◌, length, take, drop, min, sym, ap, ◌∙◌, arith}
 use Rattle.std.proofs.lemmas.Bool.Decides.{nat_tests}
 use Rattle.std.proofs.lemmas.List.{length-drop, take_min, drop_min}
-use Rattle.p3_multi_field.specs.MultiFieldCalls.{pair_of, words_absorbed, blocks}
+use Rattle.p3_multi_field.specs.MultiFieldCalls.{words_absorbed, blocks}
 use Rattle.p3_multi_field.specs.MultiFieldState.{MultiFieldState}
+use Rattle.p3_multi_field.proofs.Pairs.{pair_over}
 use Rattle.p3_multi_field.proofs.WordBlocks.{blocks-some}
 use Rattle.p3_multi_field.proofs.multi_field_challenger.MultiField32Challenger.push_digest.Goals as goal
 
@@ -19,9 +20,7 @@ loop-rest-smaller g c =
 -- a block more
 pub loop-rest-preserved : goal.loop-rest-preserved
 loop-rest-preserved g c =
-    let bridge = g.PF.FieldBridge in
-    let pair = pair_of g.F.PrimeCharacteristicRing.residues g.PF.PrimeCharacteristicRing.residues bridge.RADIX_BITS
-    bridge.ABSORB_COUNT bridge.SQUEEZE_COUNT in
+    let pair = pair_over g.F.PrimeCharacteristicRing.residues g.PF.PrimeCharacteristicRing.residues g.PF.FieldBridge in
     let outer = g.PF.PrimeCharacteristicRing.residues in
     let permutation = g.P.CryptographicPermutation.permutation in
     let rate = g.row.RATE in

@@ -1,14 +1,13 @@
 use Rattle.std.proofs.Common.{◌≡◌, [], length}
-use Rattle.p3_multi_field.specs.MultiFieldCalls.{pair_of, words_absorbed, blocks}
+use Rattle.p3_multi_field.specs.MultiFieldCalls.{words_absorbed, blocks}
 use Rattle.p3_multi_field.specs.MultiFieldState.{digest_observed}
+use Rattle.p3_multi_field.proofs.Pairs.{pair_over}
 use Rattle.p3_multi_field.proofs.multi_field_challenger.MultiField32Challenger.push_digest.Given as goal
 
 -- the blocks that are left lead to the same end, and nothing is pending before them
 abbrev pub invariant-loop-rest : goal.invariant-loop-rest
 invariant-loop-rest g l =
-    let bridge = g.PF.FieldBridge in
-    let pair = pair_of g.F.PrimeCharacteristicRing.residues g.PF.PrimeCharacteristicRing.residues bridge.RADIX_BITS
-    bridge.ABSORB_COUNT bridge.SQUEEZE_COUNT in
+    let pair = pair_over g.F.PrimeCharacteristicRing.residues g.PF.PrimeCharacteristicRing.residues g.PF.FieldBridge in
     let permutation = g.P.CryptographicPermutation.permutation in
     let rate = g.row.RATE in
     (record l.self {

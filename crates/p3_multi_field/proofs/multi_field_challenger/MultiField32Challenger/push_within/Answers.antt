@@ -2,17 +2,16 @@ use Rattle.std.proofs.Common.{rules, ◌≡◌, ◌<◌, ◌≤◌, ◌+◌, [],
 use Rattle.std.proofs.lemmas.Bool.Decides.{nat_tests}
 use Rattle.std.proofs.lemmas.List.{length-take-le}
 use Rattle.p3_sponge.specs.SpongeCalls.{permutation_input}
-use Rattle.p3_multi_field.specs.MultiFieldCalls.{pair_of, batch_of, row_of, scalars_rule}
+use Rattle.p3_multi_field.specs.MultiFieldCalls.{batch_of, row_of, scalars_rule}
 use Rattle.p3_multi_field.specs.MultiFieldState.{MultiFieldState, scalars_observed}
-use Rattle.p3_multi_field.proofs.Batches.{pending-written, observed-pending, observed-absorbed}
+use Rattle.p3_multi_field.proofs.Pairs.{pair_over}
+use Rattle.p3_multi_field.proofs.Batches.{observed-pending, observed-absorbed}
 use Rattle.p3_multi_field.proofs.multi_field_challenger.MultiField32Challenger.push_within.Goals as goal
 
 -- the scalars fill the rate, so all that is pending is absorbed
 pub returns-then-end-batch_len-clause-fed : goal.returns-then-end-batch_len-clause-fed
 returns-then-end-batch_len-clause-fed g c =
-    let bridge = g.PF.FieldBridge in
-    let pair = pair_of g.F.PrimeCharacteristicRing.residues g.PF.PrimeCharacteristicRing.residues bridge.RADIX_BITS
-    bridge.ABSORB_COUNT bridge.SQUEEZE_COUNT in
+    let pair = pair_over g.F.PrimeCharacteristicRing.residues g.PF.PrimeCharacteristicRing.residues g.PF.FieldBridge in
     let permutation = g.P.CryptographicPermutation.permutation in
     let rate = g.row.RATE in
     let inside = c.self.inside in
@@ -25,8 +24,7 @@ returns-then-end-batch_len-clause-fed g c =
     } in
     let within : inside.scalars ≤ length inside.pending = search rules in
     let long : length pending ≡ inside.scalars = length-take-le inside.scalars inside.pending within in
-    let now_pending = pending-written inside.pending values c.copy_from_slice.new.self inside.scalars within
-    c.copy_from_slice.ensures.after in
+    let now_pending = c.write_after.ensures in
     let some : 0 < n = grind (arith, nat_tests, c.if-is_empty.ensures) in
     let full : length pending + n ≡ batch_of pair rate =
     omega (arith, long, c.if-end-batch_len.true, c.batch_len-batch_len.ensures) in
@@ -44,9 +42,7 @@ returns-then-end-batch_len-clause-fed g c =
 -- they do not, and are pending
 pub returns-else-end-batch_len-clause-fed : goal.returns-else-end-batch_len-clause-fed
 returns-else-end-batch_len-clause-fed g c =
-    let bridge = g.PF.FieldBridge in
-    let pair = pair_of g.F.PrimeCharacteristicRing.residues g.PF.PrimeCharacteristicRing.residues bridge.RADIX_BITS
-    bridge.ABSORB_COUNT bridge.SQUEEZE_COUNT in
+    let pair = pair_over g.F.PrimeCharacteristicRing.residues g.PF.PrimeCharacteristicRing.residues g.PF.FieldBridge in
     let permutation = g.P.CryptographicPermutation.permutation in
     let rate = g.row.RATE in
     let inside = c.self.inside in
@@ -59,8 +55,7 @@ returns-else-end-batch_len-clause-fed g c =
     } in
     let within : inside.scalars ≤ length inside.pending = search rules in
     let long : length pending ≡ inside.scalars = length-take-le inside.scalars inside.pending within in
-    let now_pending = pending-written inside.pending values c.copy_from_slice.new.self inside.scalars within
-    c.copy_from_slice.ensures.after in
+    let now_pending = c.write_after.ensures in
     let some : 0 < n = grind (arith, nat_tests, c.if-is_empty.ensures) in
     let fits : length pending + n ≤ batch_of pair rate =
     omega (

@@ -1,15 +1,11 @@
 use Rattle.std.proofs.Common.{◌≡◌, ◌<◌, length, take, drop, min, ap, ◌∙◌, refl}
 use Rattle.std.proofs.lemmas.List.{take_min, drop_min}
 use Rattle.p3_field_bridge.specs.Bridges.{packed}
-use Rattle.p3_multi_field.specs.MultiFieldCalls.{pair_of}
 use Rattle.p3_multi_field.proofs.Packing.{has_packed-none, has_packed-next, has_packed-all}
 use Rattle.p3_multi_field.proofs.multi_field_challenger.packing.pack_all.Goals as goal
 
 pub loop-i-init : goal.loop-i-init
-loop-i-init g c =
-    let bridge = g.PF.FieldBridge in
-    has_packed-none (pair_of g.F.PrimeCharacteristicRing.residues g.PF.PrimeCharacteristicRing.residues
-    bridge.RADIX_BITS bridge.ABSORB_COUNT bridge.SQUEEZE_COUNT) (length c.args.cells.now) c.args.scalars.now
+loop-i-init g c = has_packed-none _ (length c.args.cells.now) c.args.scalars.now
 
 -- the next cell packs the next scalars
 pub loop-i-preserved : goal.loop-i-preserved
@@ -17,7 +13,6 @@ loop-i-preserved g c =
     let bridge = g.PF.FieldBridge in
     let inner = g.F.PrimeCharacteristicRing.residues in
     let outer = g.PF.PrimeCharacteristicRing.residues in
-    let pair = pair_of inner outer bridge.RADIX_BITS bridge.ABSORB_COUNT bridge.SQUEEZE_COUNT in
     let rest = c.loop-i.rest.now in
     let count : c.min.result ≡ min bridge.ABSORB_COUNT (length rest) =
     c.min.ensures ∙ ap (λ k. min k (length rest)) c.ABSORB_COUNT.ensures in
@@ -27,13 +22,11 @@ loop-i-preserved g c =
     c.split_at.ensures.back ∙ ap (λ k. drop k rest) count ∙ drop_min bridge.ABSORB_COUNT rest in
     let long : length c.loop-i.cells ≡ length c.args.cells.now = c.loop-i.auto.cells in
     let more : c.loop-i.i < length c.args.cells.now = c.loop-i-test.true in
-    has_packed-next pair (length c.args.cells.now) c.args.scalars.now c.loop-i.cells _ c.loop-i.i rest
+    has_packed-next _ (length c.args.cells.now) c.args.scalars.now c.loop-i.cells _ c.loop-i.i rest
     c.split_at.result.1.now c.pack.result more long
     (c.pack.ensures ∙ ap (packed inner outer bridge.RADIX_BITS) front) back refl c.loop-i.invariant
 
 pub returns : goal.returns
 returns g c =
-    let bridge = g.PF.FieldBridge in
-    has_packed-all (pair_of g.F.PrimeCharacteristicRing.residues g.PF.PrimeCharacteristicRing.residues
-    bridge.RADIX_BITS bridge.ABSORB_COUNT bridge.SQUEEZE_COUNT) (length c.args.cells.now) c.args.scalars.now
-    c.loop-i.cells c.loop-i.i c.loop-i.rest.now c.loop-i-test.false c.loop-i.auto.cells c.loop-i.invariant
+    has_packed-all _ (length c.args.cells.now) c.args.scalars.now c.loop-i.cells c.loop-i.i c.loop-i.rest.now
+    c.loop-i-test.false c.loop-i.auto.cells c.loop-i.invariant

@@ -2,17 +2,16 @@ use Rattle.std.proofs.Common.{◌≡◌, ◌++◌, drop, take, length, ap, ◌�
 use Rattle.std.proofs.lemmas.List.{length-take-le}
 use Rattle.p3_sponge.specs.Cells.{counted_over}
 use Rattle.p3_sponge.specs.CellsLaws.{counted_over-front}
-use Rattle.p3_multi_field.specs.MultiFieldCalls.{pair_of, packed_cells}
+use Rattle.p3_multi_field.specs.MultiFieldCalls.{packed_cells}
 use Rattle.p3_multi_field.proofs.Packing.{length-packed_cells}
+use Rattle.p3_multi_field.proofs.Pairs.{pair_over}
 use Rattle.p3_multi_field.proofs.multi_field_challenger.packing.pack_over.Goals as goal
 
 -- the rate packs the scalars, and the cell after it has their number
 pub returns : goal.returns
 returns g c =
     let outer = g.PF.PrimeCharacteristicRing.residues in
-    let bridge = g.PF.FieldBridge in
-    let pair = pair_of g.F.PrimeCharacteristicRing.residues outer bridge.RADIX_BITS bridge.ABSORB_COUNT
-    bridge.SQUEEZE_COUNT in
+    let pair = pair_over g.F.PrimeCharacteristicRing.residues outer g.PF.FieldBridge in
     let cells = c.args.cells.now in
     let scalars = c.args.scalars.now in
     let rate = c.args.rate in
@@ -20,6 +19,6 @@ returns g c =
     let front : c.pack_all.new.cells ≡ packed_cells pair rate scalars =
     c.pack_all.ensures ∙ ap (λ n. packed_cells pair n scalars) long in
     c.count.ensures
-    ∙ ap (λ xs. counted_over outer rate (xs ++ drop rate cells) (take rate (xs ++ drop rate cells)) (length scalars)) front
+    ∙ ap (λ xs. let all = xs ++ drop rate cells in counted_over outer rate all (take rate all) (length scalars)) front
     ∙ counted_over-front outer cells (packed_cells pair rate scalars) rate (length scalars)
     (length-packed_cells pair rate scalars) c.requires.capacity

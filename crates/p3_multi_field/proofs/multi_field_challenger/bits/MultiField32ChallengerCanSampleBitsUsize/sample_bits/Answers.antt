@@ -1,7 +1,7 @@
 use Rattle.std.proofs.Common.{◌≡◌, ◌<◌, ◌%◌, ◌^◌, Some, arith, ap}
-use Rattle.p3_multi_field.specs.MultiFieldCalls.{pair_of}
 use Rattle.p3_multi_field.specs.MultiFieldState.{sampled}
 use Rattle.p3_challenger_core.specs.BitLaws.{greatest-le, shifted, shifted-positive}
+use Rattle.p3_multi_field.proofs.Pairs.{pair_over}
 use Rattle.p3_multi_field.proofs.multi_field_challenger.bits.MultiField32ChallengerCanSampleBitsUsize.sample_bits.Goals as goal
 
 pub overflow_shl-result : goal.overflow_shl-result
@@ -14,9 +14,7 @@ nonzero_rem-result g c =
 -- the low bits of the element that was drawn
 pub returns-clause-drawn : goal.returns-clause-drawn
 returns-clause-drawn g c =
-    let bridge = g.PF.FieldBridge in
-    let pair = pair_of g.F.PrimeCharacteristicRing.residues g.PF.PrimeCharacteristicRing.residues bridge.RADIX_BITS
-    bridge.ABSORB_COUNT bridge.SQUEEZE_COUNT in
+    let pair = pair_over g.F.PrimeCharacteristicRing.residues g.PF.PrimeCharacteristicRing.residues g.PF.FieldBridge in
     let r = g.F.PrimeCharacteristicRing.residues in
     let short : c.args.bits < 64 = omega (arith, greatest-le r.order 63, c.requires) in
     let element = c.in_ok-element.element in

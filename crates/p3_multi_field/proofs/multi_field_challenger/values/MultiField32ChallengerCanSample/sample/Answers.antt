@@ -1,61 +1,39 @@
 use Rattle.std.proofs.Common.{◌<◌, ◌≤◌, Some, take, ap, ◌∙◌, arith}
-use Rattle.p3_multi_field.specs.MultiFieldCalls.{pair_of}
 use Rattle.p3_sponge.specs.DrawingLaws.{has_drawn-none, has_drawn-next, has_drawn-values, has_drawn-state}
-use Rattle.p3_multi_field.specs.MultiFieldState.{sampled, after_sampled}
 use Rattle.p3_multi_field.proofs.multi_field_challenger.values.MultiField32ChallengerCanSample.sample.Goals as goal
 
 pub loop-i-init : goal.loop-i-init
-loop-i-init g c =
-    let bridge = g.PF.FieldBridge in
-    let pair = pair_of g.F.PrimeCharacteristicRing.residues g.PF.PrimeCharacteristicRing.residues bridge.RADIX_BITS
-    bridge.ABSORB_COUNT bridge.SQUEEZE_COUNT in
-    let permute = g.P.CryptographicPermutation.permutation in
-    has_drawn-none (sampled pair permute g.row.RATE) (after_sampled pair permute g.row.RATE)
-    g.A.BasedVectorSpace.DIMENSION c.args.self.now
+loop-i-init g c = has_drawn-none _ _ g.A.BasedVectorSpace.DIMENSION c.args.self.now
 
 -- the next coefficient is drawn
 pub loop-i-preserved : goal.loop-i-preserved
 loop-i-preserved g c =
-    let bridge = g.PF.FieldBridge in
-    let pair = pair_of g.F.PrimeCharacteristicRing.residues g.PF.PrimeCharacteristicRing.residues bridge.RADIX_BITS
-    bridge.ABSORB_COUNT bridge.SQUEEZE_COUNT in
-    let permute = g.P.CryptographicPermutation.permutation in
     let space = g.A.BasedVectorSpace in
     let i = c.loop-i.i in
     let xs = space.coefficients c.loop-i.element in
     let more : i < space.DIMENSION = omega (arith, c.loop-i-test.true, c.DIMENSION-i-end.ensures) in
-    has_drawn-next (sampled pair permute g.row.RATE) (after_sampled pair permute g.row.RATE)
-    space.DIMENSION c.args.self.now
-    xs (space.coefficients c.with_coefficient-element.result) i c.loop-i.self c.draw.new.self c.draw.result
-    more (g.met.A.BasedVectorSpace.length_coefficients c.loop-i.element) c.draw.ensures.value c.draw.ensures.after
+    let long = g.met.A.BasedVectorSpace.length_coefficients c.loop-i.element in
+    has_drawn-next _ _ space.DIMENSION c.args.self.now xs (space.coefficients c.with_coefficient-element.result) i
+    c.loop-i.self c.draw.new.self c.draw.result more long c.draw.ensures.value c.draw.ensures.after
     c.with_coefficient-element.ensures c.loop-i.invariant
 
 -- an element is its coefficients
 pub returns-clause-drawn : goal.returns-clause-drawn
 returns-clause-drawn g c =
-    let bridge = g.PF.FieldBridge in
-    let pair = pair_of g.F.PrimeCharacteristicRing.residues g.PF.PrimeCharacteristicRing.residues bridge.RADIX_BITS
-    bridge.ABSORB_COUNT bridge.SQUEEZE_COUNT in
-    let permute = g.P.CryptographicPermutation.permutation in
     let space = g.A.BasedVectorSpace in
     let laws = g.met.A.BasedVectorSpace in
     let element = c.loop-i.element in
     let xs = space.coefficients element in
     let long = laws.length_coefficients element in
     let all : space.DIMENSION ≤ c.loop-i.i = omega (arith, c.loop-i-test.false, c.DIMENSION-i-end.ensures) in
-    let values = has_drawn-values (sampled pair permute g.row.RATE) (after_sampled pair permute g.row.RATE)
-    space.DIMENSION c.args.self.now xs c.loop-i.i c.loop-i.self all long c.loop-i.invariant in
+    let values = has_drawn-values _ _ space.DIMENSION c.args.self.now xs c.loop-i.i c.loop-i.self all long
+    c.loop-i.invariant in
     ap Some (ap space.element values
     ∙ laws.same_coefficients (space.element xs) element (laws.coefficients_element xs long))
 
 pub returns-clause-after : goal.returns-clause-after
 returns-clause-after g c =
-    let bridge = g.PF.FieldBridge in
-    let pair = pair_of g.F.PrimeCharacteristicRing.residues g.PF.PrimeCharacteristicRing.residues bridge.RADIX_BITS
-    bridge.ABSORB_COUNT bridge.SQUEEZE_COUNT in
-    let permute = g.P.CryptographicPermutation.permutation in
     let space = g.A.BasedVectorSpace in
     let all : space.DIMENSION ≤ c.loop-i.i = omega (arith, c.loop-i-test.false, c.DIMENSION-i-end.ensures) in
-    has_drawn-state (sampled pair permute g.row.RATE) (after_sampled pair permute g.row.RATE)
-    space.DIMENSION c.args.self.now (take c.loop-i.i (space.coefficients c.loop-i.element)) c.loop-i.i c.loop-i.self
-    all c.loop-i.invariant
+    let drawn = take c.loop-i.i (space.coefficients c.loop-i.element) in
+    has_drawn-state _ _ space.DIMENSION c.args.self.now drawn c.loop-i.i c.loop-i.self all c.loop-i.invariant

@@ -1,15 +1,13 @@
 use Rattle.std.proofs.Common.{◌-◌, take}
-use Rattle.p3_multi_field.specs.MultiFieldCalls.{pair_of}
 use Rattle.p3_sponge.specs.DrawingLaws.{HasDrawn}
 use Rattle.p3_multi_field.specs.MultiFieldState.{sampled, after_sampled}
+use Rattle.p3_multi_field.proofs.Pairs.{pair_over}
 use Rattle.p3_multi_field.proofs.multi_field_challenger.values.MultiField32ChallengerCanSample.sample.Given as goal
 
 -- the coefficients so far are drawn
 abbrev pub invariant-loop-i : goal.invariant-loop-i
 invariant-loop-i g l =
-    let bridge = g.PF.FieldBridge in
-    let pair = pair_of g.F.PrimeCharacteristicRing.residues g.PF.PrimeCharacteristicRing.residues bridge.RADIX_BITS
-    bridge.ABSORB_COUNT bridge.SQUEEZE_COUNT in
+    let pair = pair_over g.F.PrimeCharacteristicRing.residues g.PF.PrimeCharacteristicRing.residues g.PF.FieldBridge in
     let space = g.A.BasedVectorSpace in
     let permute = g.P.CryptographicPermutation.permutation in
     HasDrawn (sampled pair permute g.row.RATE) (after_sampled pair permute g.row.RATE) space.DIMENSION l.initial.self
