@@ -1,4 +1,5 @@
 // The pattern of a script.
+use crate::recording::Type::{Bits, Bytes, Extensions, Marker, Opaque, Scalars, UniformBits};
 use crate::world::World;
 use anyhow::Result;
 use p3_challenger::fs::Hierarchy::{Begin, End};
@@ -52,69 +53,65 @@ fn interaction<S: World>(step: &Step<S>) -> Interaction {
     let (kind, label, length, of) = parts(step);
     let atomic = Hierarchy::Atomic;
     match of {
-        Type::Marker(hierarchy) => Interaction::marker::<()>(hierarchy, kind, label),
-        Type::Bytes => Interaction::bytes(atomic, kind, label, length),
-        Type::Scalars => {
+        Marker(hierarchy) => Interaction::marker::<()>(hierarchy, kind, label),
+        Bytes => Interaction::bytes(atomic, kind, label, length),
+        Scalars => {
             Interaction::algebra::<S::Field, S::Field, S::Digest>(atomic, kind, label, length)
         }
-        Type::Extensions => {
+        Extensions => {
             Interaction::algebra::<S::Field, S::Extension, S::Digest>(atomic, kind, label, length)
         }
-        Type::Opaque => Interaction::opaque(atomic, kind, label, length),
-        Type::Bits(width) => Interaction::bits(atomic, kind, label, width, length),
-        Type::UniformBits(width) => Interaction::uniform_bits(atomic, kind, label, width, length),
+        Opaque => Interaction::opaque(atomic, kind, label, length),
+        Bits(width) => Interaction::bits(atomic, kind, label, width, length),
+        UniformBits(width) => Interaction::uniform_bits(atomic, kind, label, width, length),
     }
 }
 
 // The kind of a step, its label, its length and its type.
 fn parts<S: World>(step: &Step<S>) -> (Kind, Label, Length, Type) {
     match step {
-        Step::Begin { label, kind } => (*kind, *label, Length::None, Type::Marker(Begin)),
-        Step::End { label, kind } => (*kind, *label, Length::None, Type::Marker(End)),
-        Step::Salt { label, len } => (Salt, *label, Fixed(*len), Type::Bytes),
-        Step::Bytes { label, len } => (Message, *label, Fixed(*len), Type::Bytes),
-        Step::Hint { label, len } => (Hint, *label, Fixed(*len), Type::Bytes),
-        Step::BytesBounded { label, max } => (Message, *label, Bounded(*max), Type::Bytes),
-        Step::HintBounded { label, max } => (Hint, *label, Bounded(*max), Type::Bytes),
-        Step::PublicScalar { label, .. } => (Public, *label, Scalar, Type::Scalars),
-        Step::PublicScalars { label, values } => {
-            (Public, *label, Fixed(values.len()), Type::Scalars)
-        }
+        Step::Begin { label, kind } => (*kind, *label, Length::None, Marker(Begin)),
+        Step::End { label, kind } => (*kind, *label, Length::None, Marker(End)),
+        Step::Salt { label, len } => (Salt, *label, Fixed(*len), Bytes),
+        Step::Bytes { label, len } => (Message, *label, Fixed(*len), Bytes),
+        Step::Hint { label, len } => (Hint, *label, Fixed(*len), Bytes),
+        Step::BytesBounded { label, max } => (Message, *label, Bounded(*max), Bytes),
+        Step::HintBounded { label, max } => (Hint, *label, Bounded(*max), Bytes),
+        Step::PublicScalar { label, .. } => (Public, *label, Scalar, Scalars),
+        Step::PublicScalars { label, values } => { (Public, *label, Fixed(values.len()), Scalars) }
         Step::PublicScalarsBounded { label, max, .. } => {
-            (Public, *label, Bounded(*max), Type::Scalars)
+            (Public, *label, Bounded(*max), Scalars)
         }
-        Step::Scalar { label } => (Message, *label, Scalar, Type::Scalars),
-        Step::Scalars { label, n } => (Message, *label, Fixed(*n), Type::Scalars),
-        Step::ScalarsBounded { label, max } => (Message, *label, Bounded(*max), Type::Scalars),
-        Step::Extension { label } => (Message, *label, Scalar, Type::Extensions),
-        Step::ObserveExtension { label, .. } => (Message, *label, Scalar, Type::Extensions),
+        Step::Scalar { label } => (Message, *label, Scalar, Scalars),
+        Step::Scalars { label, n } => (Message, *label, Fixed(*n), Scalars),
+        Step::ScalarsBounded { label, max } => (Message, *label, Bounded(*max), Scalars),
+        Step::Extension { label } | Step::ObserveExtension { label, .. } => {
+            (Message, *label, Scalar, Extensions)
+        }
         Step::ObserveExtensions { label, values } => {
-            (Message, *label, Fixed(values.len()), Type::Extensions)
+            (Message, *label, Fixed(values.len()), Extensions)
         }
         Step::ObserveExtensionsBounded { label, max, .. } => {
-            (Message, *label, Bounded(*max), Type::Extensions)
+            (Message, *label, Bounded(*max), Extensions)
         }
-        Step::Opaque { label, .. } => (Message, *label, Scalar, Type::Opaque),
-        Step::ChallengeScalar { label } => (Challenge, *label, Scalar, Type::Scalars),
-        Step::ChallengeScalars { label, n } => (Challenge, *label, Fixed(*n), Type::Scalars),
-        Step::ChallengeExtension { label } => (Challenge, *label, Scalar, Type::Extensions),
-        Step::ChallengeExtensions { label, n } => (Challenge, *label, Fixed(*n), Type::Extensions),
-        Step::ChallengeExtensionsRejecting { label, n, .. } => {
-            (Challenge, *label, Fixed(*n), Type::Extensions)
+        Step::Opaque { label, .. } => (Message, *label, Scalar, Opaque),
+        Step::ChallengeScalar { label } => (Challenge, *label, Scalar, Scalars),
+        Step::ChallengeScalars { label, n } => (Challenge, *label, Fixed(*n), Scalars),
+        Step::ChallengeExtension { label } => (Challenge, *label, Scalar, Extensions),
+        Step::ChallengeExtensions { label, n }
+        | Step::ChallengeExtensionsRejecting { label, n, .. } => {
+            (Challenge, *label, Fixed(*n), Extensions)
         }
-        Step::ChallengeBits { label, width, n } => {
-            (Challenge, *label, Fixed(*n), Type::Bits(*width))
-        }
-        Step::ChallengeUniformBits { label, width, n } => {
-            (Challenge, *label, Fixed(*n), Type::UniformBits(*width))
-        }
-        Step::ChallengeUniformBitsRejecting {
+        Step::ChallengeBits { label, width, n } => { (Challenge, *label, Fixed(*n), Bits(*width)) }
+        Step::ChallengeUniformBits { label, width, n }
+        | Step::ChallengeUniformBitsRejecting {
             label,
             width,
             n,
             ..
-        } => { (Challenge, *label, Fixed(*n), Type::UniformBits(*width)) }
-        Step::Pow { label, bits } => (Pow, *label, Fixed(*bits), Type::Scalars),
-        Step::ObservePow { label, bits } => (Pow, *label, Fixed(*bits), Type::Scalars),
+        } => { (Challenge, *label, Fixed(*n), UniformBits(*width)) }
+        Step::Pow { label, bits } | Step::ObservePow { label, bits } => {
+            (Pow, *label, Fixed(*bits), Scalars)
+        }
     }
 }
