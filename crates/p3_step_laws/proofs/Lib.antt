@@ -1,12 +1,8 @@
 pub mod ExtensionReasons
 pub mod LimitLaws
-pub mod ListReasons
-pub mod MirrorLaws
 pub mod OneReason
 pub mod OnlyMemory
 pub mod ReadBack
 pub mod ReadOnly
-pub mod EncodedLaws
 pub mod WorkMirrors
-pub mod WorkReasons
 pub mod WorkedRows
