@@ -1,5 +1,5 @@
 -- A refusal tells which limit is met, where values are drawn one after another.
-use Rattle.std.proofs.Common.{◌≡◌, ℕ, zero, suc, Some, None, List, [], ◌∷◌, ◌++◌, refl, inl, inr}
+use Rattle.std.proofs.Common.{◌≡◌, ℕ, zero, suc, None, List, [], ◌∷◌, ◌++◌, refl, inl, inr}
 use Rattle.p3_challenger_core.specs.Sampling.{Sampling, IsSampling, RefusesDraw}
 use Rattle.p3_challenger_core.specs.SamplingLaws.{in_row-is_sampling, refused-in_row}
 use Rattle.p3_challenger_core.specs.declared.error.ChallengerError.{ChallengerError}

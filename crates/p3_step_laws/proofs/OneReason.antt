@@ -1,5 +1,5 @@
 -- From one state, a step of which nothing is too long is refused for one reason.
-use Rattle.std.proofs.Common.{◌≡◌, arith, rules}
+use Rattle.std.proofs.Common.{arith, rules}
 use Rattle.std.proofs.lemmas.Grind.{common_steps}
 use Rattle.p3_driver_core.specs.Transcripts.{Meaning, RefusesStep}
 use Rattle.p3_step_laws.specs.Limits.{TellsLimits}

@@ -1,4 +1,3 @@
-use Rattle.std.proofs.Common.{rules}
 use Rattle.p3_step_laws.proofs.LimitLaws.{drawing_list-tells, rejecting-tells}
 use Rattle.p3_step_laws.proofs.OneReason.{short-one_reason}
 use Rattle.p3_step_laws.proofs.reasons.draws_are_refused_for_one_reason.Goals as goal
