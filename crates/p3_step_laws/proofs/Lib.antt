@@ -6,3 +6,4 @@ pub mod ReadBack
 pub mod ReadOnly
 pub mod WorkMirrors
 pub mod WorkedRows
+pub mod WorkReasons

@@ -13,7 +13,7 @@ use Rattle.p3_driver_core.specs.Reads.{read_counted_values, message_too_long}
 
 -- ---- bytes, and a value
 
-bytes-back : {S : Type 0} (bytes rest : List ℕ) →
+pub bytes-back : {S : Type 0} (bytes rest : List ℕ) →
     read_bytes {S = S} (length bytes) (bytes ++ rest) ≡ Ok (bytes, rest)
 bytes-back bytes rest = grind (arith, common_steps)
 

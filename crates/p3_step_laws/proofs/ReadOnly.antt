@@ -58,7 +58,7 @@ value_in-ok (Err reason) after x rest h = cc
 
 -- ---- bytes, and values
 
-bytes-only : {S : Type 0} (n : ℕ) (bytes x rest : List ℕ) → read_bytes {S = S} n bytes ≡ Ok (x, rest) →
+pub bytes-only : {S : Type 0} (n : ℕ) (bytes x rest : List ℕ) → read_bytes {S = S} n bytes ≡ Ok (x, rest) →
     (length x ≡ n) × (bytes ≡ x ++ rest)
 bytes-only n bytes x rest h = grind (arith, common_steps)
 

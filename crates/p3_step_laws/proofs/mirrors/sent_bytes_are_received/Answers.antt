@@ -1,0 +1,7 @@
+use Rattle.std.proofs.Common.{rules}
+use Rattle.p3_step_laws.proofs.ReadBack.{bytes-back}
+use Rattle.p3_step_laws.specs.CompletenessLaws.{read_back-completes}
+use Rattle.p3_step_laws.proofs.mirrors.sent_bytes_are_received.Goals as goal
+
+pub returns : goal.returns
+returns g c = search (rules, read_back-completes, bytes-back)
