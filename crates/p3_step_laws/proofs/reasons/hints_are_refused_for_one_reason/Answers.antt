@@ -1,0 +1,10 @@
+use Rattle.std.proofs.Common.{arith}
+use Rattle.p3_step_laws.proofs.reasons.hints_are_refused_for_one_reason.Goals as goal
+
+pub returns : goal.returns
+returns g c =
+    record {
+      fixed = grind arith;
+      counted = grind arith;
+      within = grind arith;
+    }
