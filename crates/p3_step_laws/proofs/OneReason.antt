@@ -1,9 +1,28 @@
--- From one state, a step of which nothing is too long is refused for one reason.
-use Rattle.std.proofs.Common.{arith}
-use Rattle.p3_driver_core.specs.Transcripts.{Meaning, RefusesStep}
+-- From one state, a step is refused for one reason.
+use Rattle.std.proofs.Common.{◌≤◌, ◌⊎◌, ℕ, List, length, arith}
+use Rattle.p3_challenger_core.specs.Observation.{Observation}
+use Rattle.p3_fs_core.specs.Alphabet.{Alphabet}
+use Rattle.p3_fs_core.specs.Steps.{Step}
+use Rattle.p3_driver_core.specs.Meanings.{observed, observed_bounded}
+use Rattle.p3_driver_core.specs.Transcripts.{Meaning, Transcript, RefusesStep, RefusesLength}
 use Rattle.p3_step_laws.specs.Limits.{TellsLimits}
 use Rattle.p3_step_laws.specs.OneReason.{TellOneReason}
 
+-- a step of which nothing is too long
 pub short-one_reason : {S Symbol A : Type 0} (m : Meaning S Symbol A) → TellsLimits m.effect → m.effect.fits →
     TellOneReason (RefusesStep m)
 short-one_reason m tells fits = grind (arith, tells.too_long, tells.witness)
+
+-- a step that feeds, whether or not it writes too
+module _ {S Symbol A : Type 0} (step : Step) (o : Observation S Symbol A) where
+  pub fed-one_reason : (x : A) → TellOneReason (RefusesStep (observed step o x))
+  fed-one_reason x = grind arith
+
+  module _ {I : Type 0} (a : Alphabet S Symbol I) (max : ℕ) (xs : List A) where
+    pub counted-one_reason : TellOneReason (RefusesStep (observed_bounded step a max o xs))
+    counted-one_reason = grind arith
+
+    pub within-one_reason : TellOneReason {V = Transcript S} (λ before e after.
+        RefusesLength (length xs) max before.playing e after.playing
+        ⊎ ((length xs ≤ max) × RefusesStep (observed_bounded step a max o xs) before e after))
+    within-one_reason = grind arith
