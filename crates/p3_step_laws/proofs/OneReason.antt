@@ -1,10 +1,13 @@
 -- From one state, a step is refused for one reason.
 use Rattle.std.proofs.Common.{◌≤◌, ◌⊎◌, ℕ, List, length, arith}
 use Rattle.p3_challenger_core.specs.Observation.{Observation}
+use Rattle.p3_challenger_core.specs.declared.error.ChallengerError.TheVariants.{DrawLimit, NoWitness}
 use Rattle.p3_fs_core.specs.Alphabet.{Alphabet}
 use Rattle.p3_fs_core.specs.Steps.{Step}
 use Rattle.p3_driver_core.specs.Meanings.{observed, observed_bounded}
+use Rattle.p3_driver_core.specs.Reads.{Reading}
 use Rattle.p3_driver_core.specs.Transcripts.{Meaning, Transcript, RefusesStep, RefusesLength}
+use Rattle.p3_driver_core.specs.Verifying.{RefusesToRead}
 use Rattle.p3_step_laws.specs.Limits.{TellsLimits}
 use Rattle.p3_step_laws.specs.OneReason.{TellOneReason}
 
@@ -26,3 +29,9 @@ module _ {S Symbol A : Type 0} (step : Step) (o : Observation S Symbol A) where
         RefusesLength (length xs) max before.playing e after.playing
         ⊎ ((length xs ≤ max) × RefusesStep (observed_bounded step a max o xs) before e after))
     within-one_reason = grind arith
+
+-- a step that reads, where what is then done meets no limit but that it is too long
+pub unread-one_reason : {S Symbol A : Type 0} (r : Reading S Symbol A) →
+    ((x : A) (s t : S) → (r.effect x).refuses DrawLimit s t → ⊥) →
+    ((x : A) (s t : S) → (r.effect x).refuses NoWitness s t → ⊥) → TellOneReason (RefusesToRead r)
+unread-one_reason r limit witness = grind (arith, limit, witness)
