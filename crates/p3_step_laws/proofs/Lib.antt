@@ -5,5 +5,5 @@ pub mod OnlyMemory
 pub mod ReadBack
 pub mod ReadOnly
 pub mod WorkMirrors
-pub mod WorkedRows
 pub mod WorkReasons
+pub mod WorkedRows

@@ -71,6 +71,6 @@ pub counted_values-back : {S A : Type 0} (e : Encoding A) → IsEncoding e → (
     (counted : ℕ → S → S) (max : ℕ) (xs : List A) (rest : List ℕ) → length xs ≤ max → max < 2 ^ 64 →
     read_counted_values e observed counted max ((count_bytes max (length xs) ++ flat_map e.wire xs) ++ rest)
     ≡ Ok (xs, rest)
-counted_values-back e encodes observed counted max xs rest within fits =
-    rw (append_assoc, count-back message_too_long max (length xs) within fits (flat_map e.wire xs ++ rest),
-    values-back e encodes observed xs rest)
+counted_values-back {S} e encodes observed counted max xs rest within fits =
+    let count = count-back {S = S} message_too_long max (length xs) within fits (flat_map e.wire xs ++ rest) in
+    rw (append_assoc, count, values-back e encodes observed xs rest)

@@ -72,8 +72,9 @@ module _ {S A : Type 0} (e : Encoding A) (encodes : IsEncoding e) where
       let v = value_in-ok (e.read front) (drop w bytes) x rest c.1 in
       let encoded = encodes.only_reads front x v.0 (AreBytes-take w bytes are) v.1 in
       let long = length-take-le w bytes (at_least (length bytes) w c.0) in
-      let none = nil_from_length v.0 (omega (arith, long, encodes.fixed_width x, ap length encoded,
-      length-append (e.wire x) v.0)) in
+      let width = encodes.fixed_width x in
+      let whole = length-append (e.wire x) v.0 in
+      let none = nil_from_length v.0 (omega (arith, long, width, whole, ap length encoded)) in
       let left = v.2 in
       cc (append-nil (e.wire x), take-append-drop w bytes)
 

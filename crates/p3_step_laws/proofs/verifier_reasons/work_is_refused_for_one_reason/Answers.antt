@@ -7,8 +7,8 @@ use Rattle.p3_step_laws.proofs.verifier_reasons.work_is_refused_for_one_reason.G
 
 pub returns : goal.returns
 returns g c =
-    let of = λ (step : Step) (bits : ℕ). work_of step g.C.Witness.PrimeCharacteristicRing.residues g.C.BeforeWitness.before_witness
-    g.C.CanObserve.observation g.C.CanSampleBits.bits_sampling bits in
+    let of = λ (step : Step) (bits : ℕ). work_of step g.C.Witness.PrimeCharacteristicRing.residues
+    g.C.BeforeWitness.before_witness g.C.CanObserve.observation g.C.CanSampleBits.bits_sampling bits in
     record {
       ground = λ step bits. ground-one_reason (of step bits) _;
       read = λ step bits. work-one_reason (of step bits) (search rules) _;
