@@ -1,12 +1,9 @@
 pub mod ExtensionReasons
 pub mod LimitLaws
-pub mod ListReasons
-pub mod MirrorLaws
 pub mod OneReason
 pub mod OnlyMemory
 pub mod ReadBack
 pub mod ReadOnly
-pub mod EncodedLaws
 pub mod WorkMirrors
 pub mod WorkReasons
 pub mod WorkedRows

@@ -4,9 +4,8 @@ use Rattle.p3_challenger_core.specs.declared.error.ChallengerError.{ChallengerEr
 use Rattle.p3_challenger_core.specs.declared.error.ChallengerError.TheVariants.{DrawLimit, NoWitness, TooLong}
 use Rattle.p3_challenger_core.specs.declared.error.ChallengerError.TheVariants as challenger
 use Rattle.p3_fs_core.specs.declared.error.TranscriptError.{TranscriptError}
-use Rattle.p3_fs_core.specs.declared.error.TranscriptError.TheVariants.{MissingBegin, InvalidKind, MismatchedBeginEnd}
-use Rattle.p3_fs_core.specs.declared.error.TranscriptError.TheVariants.{MissingEnd, BadProofShape, Pattern}
-use Rattle.p3_fs_core.specs.declared.error.TranscriptError.TheVariants.{Challenger, LabelTooLong, OutOfMemory}
+use Rattle.p3_fs_core.specs.declared.error.TranscriptError.TheVariants.{BadProofShape, Pattern, Challenger}
+use Rattle.p3_fs_core.specs.declared.error.TranscriptError.TheVariants.{OutOfMemory}
 use Rattle.p3_driver_core.specs.Effects.{Effect}
 use Rattle.p3_driver_core.specs.Transcripts.{Meaning, Transcript, PlaysStep, IsNext}
 use Rattle.p3_step_laws.specs.CompletenessLaws.{read_back-completes}
@@ -14,7 +13,6 @@ use Rattle.p3_step_laws.specs.ReadBack.{ReadsBack}
 use Rattle.p3_driver_core.specs.Reads.{Reading}
 use Rattle.p3_driver_core.specs.Driving.{Driving}
 use Rattle.p3_driver_core.specs.Verifying.{RefusesToRead}
-use Rattle.p3_step_laws.proofs.LimitLaws.{some_none}
 use Rattle.p3_step_laws.specs.Limits.{TellsLimits}
 use Rattle.p3_step_laws.specs.MemoryLaws.{next-only_memory}
 use Rattle.p3_step_laws.specs.Memory.{OnlyMemoryRefuses, OnlyMemoryRefusesToRead}
@@ -51,10 +49,6 @@ module _ {S Symbol A : Type 0} (m : Meaning S Symbol A) (r : Reading S Symbol A)
     gives = ap (λ (v : Driving S). m.effect.gives v.transcript.challenger) at ∙ plays.gives
 
     from_here : (e : TranscriptError) → RefusesToRead r start e end → e ≡ OutOfMemory
-    from_here (MissingBegin info) refuses = absurd refuses
-    from_here (InvalidKind info) refuses = absurd refuses
-    from_here (MismatchedBeginEnd info) refuses = absurd refuses
-    from_here (MissingEnd info) refuses = absurd refuses
     from_here (BadProofShape reason) refuses =
         absurd ((read_back-completes m r x mirrors).refuses before after rest start end (BadProofShape reason) plays at
         refuses)
@@ -62,16 +56,17 @@ module _ {S Symbol A : Type 0} (m : Meaning S Symbol A) (r : Reading S Symbol A)
         absurd ((read_back-completes m r x mirrors).refuses before after rest start end (Pattern e) plays at refuses)
     from_here (Challenger challenger.OutOfMemory) refuses = absurd refuses
     from_here (Challenger DrawLimit) refuses =
-        absurd (some_none gives (tells.limit start.transcript.challenger end.transcript.challenger
-        (refused_of_sent DrawLimit refuses.value refuses.read refuses.abandons.leaves)))
+        let none = tells.limit start.transcript.challenger end.transcript.challenger
+        (refused_of_sent DrawLimit refuses.value refuses.read refuses.abandons.leaves) in
+        let some = gives in absurd (cc)
     from_here (Challenger NoWitness) refuses =
         absurd (tells.witness start.transcript.challenger end.transcript.challenger
         (refused_of_sent NoWitness refuses.value refuses.read refuses.abandons.leaves))
     from_here (Challenger TooLong) refuses =
         absurd (tells.too_long start.transcript.challenger end.transcript.challenger
         (refused_of_sent TooLong refuses.value refuses.read refuses.abandons.leaves) plays.fits)
-    from_here LabelTooLong refuses = absurd refuses
     from_here OutOfMemory refuses = refl
+    from_here _ refuses = absurd refuses
 
   pub only_memory_to_read : OnlyMemoryRefusesToRead m r x
   only_memory_to_read before after rest start end e plays at refuses =

@@ -1,17 +1,11 @@
-use Rattle.p3_fs_core.specs.Alphabet.{alphabet_of}
-use Rattle.p3_step_laws.proofs.EncodedLaws.{value-encoded, values-encoded, counted_values-encoded}
+use Rattle.p3_step_laws.proofs.ReadOnly.{only_reads, value-only, values-only, counted_values-only}
 use Rattle.p3_step_laws.proofs.encoded.read_values_are_encoded.Goals as goal
 
-pub returns-clause-value : goal.returns-clause-value
-returns-clause-value g c = λ step.
-    value-encoded step g.Cdc.Codec.observation g.Cdc.Codec.encoding g.met.Cdc.Codec.is_codec.encodes
-
-pub returns-clause-list : goal.returns-clause-list
-returns-clause-list g c = λ step n.
-    values-encoded step g.Cdc.Codec.observation g.Cdc.Codec.encoding g.met.Cdc.Codec.is_codec.encodes n
-
-pub returns-clause-counted : goal.returns-clause-counted
-returns-clause-counted g c = λ step max.
-    counted_values-encoded step g.Cdc.Codec.observation g.Cdc.Codec.encoding g.met.Cdc.Codec.is_codec.encodes
-    (alphabet_of g.U.Unit.items g.U.Unit.is_too_long g.C.CanObserve.observation
-    g.C.CanObserve.slice_may_leave) max
+pub returns : goal.returns
+returns g c =
+    let encodes = g.met.Cdc.Codec.is_codec.encodes in
+    record {
+      value = λ step. only_reads (λ bytes x rest are h. (tt, value-only _ encodes bytes x rest are h));
+      list = λ step n. only_reads (values-only _ encodes _ n);
+      counted = λ step max. only_reads (counted_values-only _ encodes _ _ max);
+    }

@@ -1,13 +1,6 @@
-use Rattle.std.specs.Prelude.{true}
+use Rattle.std.proofs.Common.{rules}
 use Rattle.p3_step_laws.proofs.LimitLaws.{drawing_list-tells, rejecting-tells}
 use Rattle.p3_step_laws.proofs.limits.uniform_draws_tell_limits.Goals as goal
 
-pub returns-clause-list : goal.returns-clause-list
-returns-clause-list g c = λ width n.
-    drawing_list-tells g.C.Sponge.next (g.C.CanSampleUniformBits.uniform true width).draw
-    (g.met.C.CanSampleUniformBits.draws_uniform true width).draws n
-
-pub returns-clause-rejecting : goal.returns-clause-rejecting
-returns-clause-rejecting g c = λ width rule limit n.
-    rejecting-tells g.C.Sponge.next (g.C.CanSampleUniformBits.uniform true width).draw
-    (g.met.C.CanSampleUniformBits.draws_uniform true width).draws rule limit n
+pub returns : goal.returns
+returns g c = search (rules, drawing_list-tells, rejecting-tells, g.met.C.CanSampleUniformBits.draws_uniform)

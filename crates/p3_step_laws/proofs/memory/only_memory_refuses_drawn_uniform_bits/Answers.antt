@@ -1,18 +1,12 @@
 use Rattle.std.specs.Prelude.{true}
-use Rattle.p3_driver_core.specs.Meanings as meaning
-use Rattle.p3_driver_core.specs.Rejecting.{drawn_rejecting}
 use Rattle.p3_step_laws.proofs.LimitLaws.{drawing_list-tells, rejecting-tells}
 use Rattle.p3_step_laws.proofs.OnlyMemory.{only_memory}
 use Rattle.p3_step_laws.proofs.memory.only_memory_refuses_drawn_uniform_bits.Goals as goal
 
 pub returns-clause-list : goal.returns-clause-list
 returns-clause-list g c = λ step width n.
-    let d = (g.C.CanSampleUniformBits.uniform true width).draw in
-    only_memory (meaning.drawn_list step d n)
-    (drawing_list-tells g.C.Sponge.next d (g.met.C.CanSampleUniformBits.draws_uniform true width).draws n)
+    only_memory _ (drawing_list-tells (g.met.C.CanSampleUniformBits.draws_uniform true width).draws n)
 
 pub returns-clause-rejecting : goal.returns-clause-rejecting
 returns-clause-rejecting g c = λ step width rule limit n.
-    let d = (g.C.CanSampleUniformBits.uniform true width).draw in
-    only_memory (drawn_rejecting step d rule limit n)
-    (rejecting-tells g.C.Sponge.next d (g.met.C.CanSampleUniformBits.draws_uniform true width).draws rule limit n)
+    only_memory _ (rejecting-tells (g.met.C.CanSampleUniformBits.draws_uniform true width).draws rule limit n)
