@@ -1,7 +1,7 @@
 -- From equal symbols to equal runs.
 use Rattle.std.proofs.Common.{◌≡◌, ℕ, ◌≤◌, ◌⊎◌, inl, inr, List, [], length, Bool, true, false, refl, sym, ap, ◌∙◌}
 use Rattle.std.specs.List.{All}
-use Rattle.std.specs.Str.{bytes_eq}
+use Rattle.std.specs.Prelude.{Decides}
 use Rattle.std.proofs.lemmas.Bool.Decides.{not_from_Decides}
 use Rattle.std.proofs.lemmas.List.{append-nil}
 use Rattle.std.proofs.lemmas.Slice.Eq.{bytes_eq-Decides}
@@ -34,22 +34,15 @@ pub record SeparatorLaws (U D : Type 0) (digest_of : List ℕ → List ℕ) : Ty
 -- a seed that begins another is that seed
 seeds-equal : IsPrefixCodeOn AreSeedParts seed_of_parts → (x y : SeedParts) → AreSeedParts x → AreSeedParts y →
     OneBegins (seed_of_parts x) (seed_of_parts y) → x ≡ y
-seeds-equal code x y p q (inl h) = (code x y h.0 [] p q (h.1 ∙ sym (append-nil (seed_of_parts y)))).0
-seeds-equal code x y p q (inr h) = sym (code y x h.0 [] q p (h.1 ∙ sym (append-nil (seed_of_parts x)))).0
+seeds-equal code x y p q (inl h) = (code x y h.0 [] p q (cc (append-nil (seed_of_parts y)))).0
+seeds-equal code x y p q (inr h) = (code x y [] h.0 p q (cc (append-nil (seed_of_parts x)))).0
 
 -- two texts of one digest are equal, and then something holds, or they collide
-equal-or_collide : {P : Type 0} (digest_of : List ℕ → List ℕ) (a b : List ℕ) → digest_of a ≡ digest_of b →
-    (a ≡ b → P) → P ⊎ Collide digest_of a b
-equal-or_collide {P = P} digest_of a b same then =
-    let by_test : (t : Bool) → bytes_eq a b ≡ t → P ⊎ Collide digest_of a b
-    = elim [
-      | true ↦ λ test. inl (then ((bytes_eq-Decides a b).0 test))
-      | false ↦ λ test. inr (record {
-        differ = not_from_Decides (bytes_eq a b) (bytes_eq-Decides a b) test;
-        share = same;
-      })
-    ] in
-    by_test (bytes_eq a b) refl
+equal-or_collide : {P : Type 0} (digest_of : List ℕ → List ℕ) (a b : List ℕ) (test : Bool) → Decides test (a ≡ b) →
+    digest_of a ≡ digest_of b → (a ≡ b → P) → P ⊎ Collide digest_of a b
+equal-or_collide digest_of a b true decides share then = inl (then (decides.0 refl))
+equal-or_collide digest_of a b false decides share then =
+    inr (record { differ = not_from_Decides false decides refl; share = share })
 
 -- ---- runs
 
@@ -64,26 +57,24 @@ module _ {X S Symbol I F EF O Ac U D : Type 0} (rules : Rules S Symbol I F EF O 
   same-protocol x y same =
       let xi = x.separator.is_identifier in
       let yi = y.separator.is_identifier in
-      let names = of.identifiers xi.version yi.version xi.name yi.name xi.short yi.short
-      (sym xi.encoded ∙ ap (λ (s : SeedParts). s.protocol_id) same ∙ yi.encoded) in
       let xl = x.separator.is_label in
       let yl = y.separator.is_label in
+      let names = of.identifiers xi.version yi.version xi.name yi.name xi.short yi.short
+      (sym xi.encoded ∙ ap (λ (s : SeedParts). s.protocol_id) same ∙ yi.encoded) in
       let chunks = of.labels xl.chunks yl.chunks xl.counted yl.counted
       (sym xl.encoded ∙ ap (λ (s : SeedParts). s.label) same ∙ yl.encoded) in
       record { version = names.0; name = names.1; chunks = chunks }
 
   pub symbols-bind : SymbolsBind U D rules play
   symbols-bind x y feed =
-      let begin = laws.begins (seed rules play x) (seed rules play y) (symbols play x.steps x.values)
-      (symbols play y.steps y.values) (of.bytes x.separator) (of.bytes y.separator) feed.finished.0.seed_fits
+      let begin = laws.begins _ _ _ _ (of.bytes x.separator) (of.bytes y.separator) feed.finished.0.seed_fits
       feed.finished.1.seed_fits feed.same in
-      let same : parts_in x ≡ parts_in y = seeds-equal of.seeds (parts_in x) (parts_in y) (of.parts x.separator)
-      (of.parts y.separator) begin.0 in
-      let rest = begin.1 (ap seed_of_parts same) in
+      let same : parts_in x ≡ parts_in y = seeds-equal of.seeds _ _ (of.parts x.separator) (of.parts y.separator) begin.0
+      in
       record {
         protocol = same-protocol x y same;
-        steps = equal-or_collide rules.digest_of (alternate_rendering (pattern x)) (alternate_rendering (pattern y))
-            (ap (λ (s : SeedParts). s.digest) same)
-            (λ texts. let patterns = (of.patterns x.separator.pattern.value y.separator.pattern.value).0 texts in
+        steps = equal-or_collide rules.digest_of _ _ _ (bytes_eq-Decides _ _) (ap (λ (s : SeedParts). s.digest) same) (λ texts.
+            let patterns = (of.patterns x.separator.pattern.value y.separator.pattern.value).0 texts in
+            let rest = begin.1 (ap seed_of_parts same) in
             record { patterns = patterns; values = absorbed-bound rules play laws told x y feed patterns rest });
       }

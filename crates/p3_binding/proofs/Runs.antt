@@ -1,5 +1,5 @@
 -- Runs of equal patterns that feed the same symbols absorbed the same.
-use Rattle.std.proofs.Common.{rules as r, ◌≡◌, ℕ, ◌⊎◌, inl, inr, List, [], ◌∷◌, length, map, take, refl, sym, ap, ◌∙◌}
+use Rattle.std.proofs.Common.{◌≡◌, ℕ, ◌⊎◌, inl, inr, List, [], ◌∷◌, length, map, take, refl, sym, ap, ◌∙◌}
 use Rattle.std.proofs.lemmas.List.{length-map, take-map}
 use Rattle.p3_fs_core.specs.StepFits.{FitsLength, AreProgramSteps}
 use Rattle.p3_fs_core.specs.Steps.{Step}
@@ -39,7 +39,7 @@ module _ {X S Symbol I F EF O Ac : Type 0} (rules : Rules S Symbol I F EF O Ac) 
         (told x v p.0 k.0 p.1 i.0.fits.carried) (rw shapes at (told y w q.0 l.0 q.1 j.0.fits.carried)) e in
         let others = steps-bound xs ys vs ws _ _ there i.1 j.1 p.3 q.3 k.1 l.1 read.1 in cc
     steps-bound [] [] [] [] s t same i j p q k l e = refl
-    steps-bound _ _ _ _ s t same i j p q k l e = search r
+    steps-bound _ _ _ _ s t same i j p q k l e = search
 
     module _ {U D : Type 0} where
       -- they have equally many steps
@@ -58,6 +58,6 @@ module _ {X S Symbol I F EF O Ac : Type 0} (rules : Rules S Symbol I F EF O Ac) 
           let q = feed.finished.1 in
           let many = as-many x y feed.as_far patterns in
           let names : SameButTypeNames (interactions play x.steps) (interactions play y.steps)
-          = rw (p.in_pattern, q.in_pattern, many, ← take-map, ← take-map, patterns) in
+          = simp (p.in_pattern, q.in_pattern, ← take-map, many, patterns) in
           steps-bound x.steps y.steps x.values y.values _ _ names (front-fits rules play x x.steps x.values p)
           (front-fits rules play y y.steps y.values q) p.finishes q.finishes feed.held.0 feed.held.1 e

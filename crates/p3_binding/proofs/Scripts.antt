@@ -1,7 +1,8 @@
 -- Each step of a script absorbs as its step of the pattern says, and feeds as what it absorbs says.
-use Rattle.std.proofs.Common.{refl}
+use Rattle.std.proofs.Common.{refl, []}
 use Rattle.p3_fs_core.specs.StepFits.{FitsLength}
 use Rattle.p3_binding.specs.Binding.{IsHeld}
+use Rattle.p3_runs.specs.Absorbed.{Nothing}
 use Rattle.p3_runs.specs.Rules.{Rules}
 use Rattle.p3_runs.specs.Values.{Value}
 use Rattle.p3_runs.specs.Values as value
@@ -9,16 +10,14 @@ use Rattle.p3_script.specs.Scripts.{play_of}
 use Rattle.p3_script.specs.declared.steps.Step as script
 use Rattle.p3_script.specs.declared.steps.Step.TheVariants as step
 use Rattle.p3_binding.proofs.Lawful.{Lawful}
-use Rattle.p3_binding.proofs.Shapes.{shape_of}
+use Rattle.p3_binding.proofs.Shapes.{Silent, shape_of}
+use Rattle.p3_binding.proofs.Runs.{EachTold}
 use Rattle.p3_binding.proofs.Told.{Told, silent, bytes, counted_bytes, own, many-told, one-told, counted-told}
 use Rattle.p3_binding.proofs.Told.{witness-told}
 
 module _ {S Symbol I F EF O Ac : Type 0} (r : Rules S Symbol I F EF O Ac) (laws : Lawful r)
     {Su U C K D G It St Sy : Type 0} where
-  pub step-told : (x : script.Step Su F EF U O C K Ac D G It St Sy) (v : Value F EF) → (play_of r x).Fits v →
-      IsHeld r.IsOwn ((play_of r x).absorbed v) → ((play_of r x).effect v).fits →
-      FitsLength (play_of r x).interaction.length →
-      Told r (shape_of (play_of r x).interaction) ((play_of r x).absorbed v) ((play_of r x).effect v).symbols
+  pub step-told : EachTold r (λ (x : script.Step Su F EF U O C K Ac D G It St Sy). play_of r x)
   step-told (step.Salt label len) (value.Bytes text) h b f n = bytes h b f
   step-told (step.Bytes label len) (value.Bytes text) h b f n = bytes h b f
   step-told (step.Hint label len) (value.Bytes text) h b f n = silent
@@ -37,4 +36,4 @@ module _ {S Symbol I F EF O Ac : Type 0} (r : Rules S Symbol I F EF O Ac) (laws 
   step-told (step.Opaque label x) v h b f n = own b
   step-told (step.Pow label bits) (value.Witness x) h b f n = witness-told r bits x h
   step-told (step.ObservePow label bits) (value.Witness x) h b f n = witness-told r bits x h
-  step-told _ _ h b f n = search silent
+  step-told _ _ h b f n = let nothing : Told r Silent Nothing [] = silent in search
