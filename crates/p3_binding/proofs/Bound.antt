@@ -10,11 +10,10 @@ use Rattle.p3_domain_separator.specs.Seed.{identifier, label_of, FitsCount, Seed
 use Rattle.p3_domain_separator.specs.Seed.{seed_of_parts}
 use Rattle.p3_domain_separator.specs.SeparatorSeed.{seed_of_separator}
 use Rattle.p3_domain_separator.specs.declared.domain_separator.DomainSeparator.{DomainSeparator}
-use Rattle.p3_binding.specs.Binding.{Collide, RenderingsTellPatterns, alternate_rendering, SymbolsBind, SameProtocol}
-use Rattle.p3_runs.specs.Fronts.{Run, pattern, seed}
+use Rattle.p3_binding.specs.Binding.{Collide, RenderingsTellPatterns, SymbolsBind, SameProtocol}
+use Rattle.p3_runs.specs.Fronts.{Run}
 use Rattle.p3_runs.specs.Plays.{Play}
 use Rattle.p3_runs.specs.Rules.{Rules}
-use Rattle.p3_runs.specs.Runs.{symbols}
 use Rattle.p3_binding.proofs.Lawful.{Lawful}
 use Rattle.p3_binding.proofs.Runs.{EachTold, absorbed-bound}
 

@@ -1,7 +1,5 @@
 -- Each step of a script absorbs as its step of the pattern says, and feeds as what it absorbs says.
 use Rattle.std.proofs.Common.{refl, []}
-use Rattle.p3_fs_core.specs.StepFits.{FitsLength}
-use Rattle.p3_binding.specs.Binding.{IsHeld}
 use Rattle.p3_runs.specs.Absorbed.{Nothing}
 use Rattle.p3_runs.specs.Rules.{Rules}
 use Rattle.p3_runs.specs.Values.{Value}
@@ -10,7 +8,7 @@ use Rattle.p3_script.specs.Scripts.{play_of}
 use Rattle.p3_script.specs.declared.steps.Step as script
 use Rattle.p3_script.specs.declared.steps.Step.TheVariants as step
 use Rattle.p3_binding.proofs.Lawful.{Lawful}
-use Rattle.p3_binding.proofs.Shapes.{Silent, shape_of}
+use Rattle.p3_binding.proofs.Shapes.{Silent}
 use Rattle.p3_binding.proofs.Runs.{EachTold}
 use Rattle.p3_binding.proofs.Told.{Told, silent, bytes, counted_bytes, own, many-told, one-told, counted-told}
 use Rattle.p3_binding.proofs.Told.{witness-told}

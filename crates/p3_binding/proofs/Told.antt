@@ -2,7 +2,7 @@
 use Rattle.std.proofs.Common.{◌≡◌, ℕ, zero, suc, ◌^◌, ◌<◌, ◌≤◌, List, [], ◌∷◌, ◌++◌, length, map, flat_map, inl, inr}
 use Rattle.std.proofs.Common.{refl, sym, ap, ◌∙◌, append_assoc, arith}
 use Rattle.std.specs.List.{AllByRecursion}
-use Rattle.std.proofs.lemmas.List.{append-nil, length-append, length-map, nil_from_length}
+use Rattle.std.proofs.lemmas.List.{append-nil, length-map}
 use Rattle.p3_challenger_core.specs.Reading.{AreBytes, OneBegins}
 use Rattle.p3_challenger_core.specs.SymbolLaws.{row-prefix_code, as_many-prefix_code}
 use Rattle.p3_fs_core.specs.Counts.{count_bytes}
