@@ -16,6 +16,7 @@ use Rattle.p3_runs.specs.Plays.{Play}
 use Rattle.p3_runs.specs.Rules.{Rules}
 use Rattle.p3_binding.proofs.Lawful.{Lawful}
 use Rattle.p3_binding.proofs.Runs.{EachTold, absorbed-bound}
+use Rattle.p3_binding.proofs.Told.{begins-equal}
 
 -- ---- separators
 
@@ -29,12 +30,6 @@ pub record SeparatorLaws (U D : Type 0) (digest_of : List ℕ → List ℕ) : Ty
       (v ≡ w) × (a ≡ b)
   pub labels : (x y : List (List ℕ)) → All FitsCount x → All FitsCount y → label_of x ≡ label_of y → x ≡ y
   pub patterns : RenderingsTellPatterns
-
--- a seed that begins another is that seed
-seeds-equal : IsPrefixCodeOn AreSeedParts seed_of_parts → (x y : SeedParts) → AreSeedParts x → AreSeedParts y →
-    OneBegins (seed_of_parts x) (seed_of_parts y) → x ≡ y
-seeds-equal code x y p q (inl h) = (code x y h.0 [] p q (cc (append-nil (seed_of_parts y)))).0
-seeds-equal code x y p q (inr h) = (code x y [] h.0 p q (cc (append-nil (seed_of_parts x)))).0
 
 -- two texts of one digest are equal, and then something holds, or they collide
 equal-or_collide : {P : Type 0} (digest_of : List ℕ → List ℕ) (a b : List ℕ) (test : Bool) → Decides test (a ≡ b) →
@@ -68,7 +63,7 @@ module _ {X S Symbol I F EF O Ac U D : Type 0} (rules : Rules S Symbol I F EF O 
   symbols-bind x y feed =
       let begin = laws.begins _ _ _ _ (of.bytes x.separator) (of.bytes y.separator) feed.finished.0.seed_fits
       feed.finished.1.seed_fits feed.same in
-      let same : parts_in x ≡ parts_in y = seeds-equal of.seeds _ _ (of.parts x.separator) (of.parts y.separator) begin.0
+      let same : parts_in x ≡ parts_in y = begins-equal seed_of_parts of.seeds _ _ (of.parts x.separator) (of.parts y.separator) begin.0
       in
       record {
         protocol = same-protocol x y same;

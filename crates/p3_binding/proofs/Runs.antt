@@ -5,7 +5,7 @@ use Rattle.p3_fs_core.specs.StepFits.{FitsLength, AreProgramSteps}
 use Rattle.p3_patterns.specs.Rendering.{SameButTypeNames, without_type_name}
 use Rattle.p3_binding.specs.Binding.{IsHeld, AreHeld, FeedTheSame}
 use Rattle.p3_runs.specs.FrontLaws.{front-fits}
-use Rattle.p3_runs.specs.Fronts.{Run, pattern, IsWhole}
+use Rattle.p3_runs.specs.Fronts.{Run, pattern, IsFinished, IsWhole}
 use Rattle.p3_runs.specs.Plays.{Play}
 use Rattle.p3_runs.specs.Rules.{Rules}
 use Rattle.p3_runs.specs.Runs.{interactions, Finishes, symbols, absorbed}
@@ -40,23 +40,20 @@ module _ {X S Symbol I F EF O Ac : Type 0} (rules : Rules S Symbol I F EF O Ac) 
     steps-bound [] [] [] [] s t same i j p q k l e = refl
     steps-bound _ _ _ _ s t same i j p q k l e = search
 
-    module _ {U D : Type 0} where
-      -- they have equally many steps
-      as-many : (x y : Run X F EF S U D) →
-          (IsWhole rules play x × IsWhole rules play y) ⊎ (length x.steps ≡ length y.steps) →
-          SameButTypeNames (pattern x) (pattern y) → length x.steps ≡ length y.steps
-      as-many x y (inl whole) patterns = simp length-map at (ap length (rw (← whole.0, ← whole.1) at patterns))
-      as-many x y (inr same) patterns = same
+    -- whole runs, and fronts of equally many steps
+    same-steps : {U D : Type 0} (x y : Run X F EF S U D) → IsFinished rules play x → IsFinished rules play y →
+        (IsWhole rules play x × IsWhole rules play y) ⊎ (length x.steps ≡ length y.steps) →
+        SameButTypeNames (pattern x) (pattern y) →
+        SameButTypeNames (interactions play x.steps) (interactions play y.steps)
+    same-steps x y p q (inl whole) patterns = rw (whole.0, whole.1) patterns
+    same-steps x y p q (inr same) patterns = simp (p.in_pattern, q.in_pattern, ← take-map, same, patterns)
 
-      pub absorbed-bound : (x y : Run X F EF S U D) → FeedTheSame rules play x y →
-          SameButTypeNames (pattern x) (pattern y) →
-          symbols play x.steps x.values ≡ symbols play y.steps y.values →
-          absorbed play x.steps x.values ≡ absorbed play y.steps y.values
-      absorbed-bound x y feed patterns e =
-          let p = feed.finished.0 in
-          let q = feed.finished.1 in
-          let many = as-many x y feed.as_far patterns in
-          let names : SameButTypeNames (interactions play x.steps) (interactions play y.steps)
-          = simp (p.in_pattern, q.in_pattern, ← take-map, many, patterns) in
-          steps-bound x.steps y.steps x.values y.values _ _ names (front-fits rules play x x.steps x.values p)
-          (front-fits rules play y y.steps y.values q) p.finishes q.finishes feed.held.0 feed.held.1 e
+    pub absorbed-bound : {U D : Type 0} (x y : Run X F EF S U D) → FeedTheSame rules play x y →
+        SameButTypeNames (pattern x) (pattern y) →
+        symbols play x.steps x.values ≡ symbols play y.steps y.values →
+        absorbed play x.steps x.values ≡ absorbed play y.steps y.values
+    absorbed-bound x y feed patterns e =
+        let p = feed.finished.0 in
+        let q = feed.finished.1 in
+        steps-bound x.steps y.steps x.values y.values _ _ (same-steps x y p q feed.as_far patterns)
+        (front-fits rules play x _ _ p) (front-fits rules play y _ _ q) p.finishes q.finishes feed.held.0 feed.held.1 e

@@ -10,8 +10,7 @@ use Rattle.p3_script.specs.declared.steps.Step.TheVariants as step
 use Rattle.p3_binding.proofs.Lawful.{Lawful}
 use Rattle.p3_binding.proofs.Shapes.{Silent}
 use Rattle.p3_binding.proofs.Runs.{EachTold}
-use Rattle.p3_binding.proofs.Told.{Told, silent, bytes, counted_bytes, own, many-told, one-told, counted-told}
-use Rattle.p3_binding.proofs.Told.{witness-told}
+use Rattle.p3_binding.proofs.Told.{Told, silent, bytes, own, witness, many-told, one-told}
 
 module _ {S Symbol I F EF O Ac : Type 0} (r : Rules S Symbol I F EF O Ac) (laws : Lawful r)
     {Su U C K D G It St Sy : Type 0} where
@@ -19,19 +18,19 @@ module _ {S Symbol I F EF O Ac : Type 0} (r : Rules S Symbol I F EF O Ac) (laws 
   step-told (step.Salt label len) (value.Bytes text) h b f n = bytes h b f
   step-told (step.Bytes label len) (value.Bytes text) h b f n = bytes h b f
   step-told (step.Hint label len) (value.Bytes text) h b f n = silent
-  step-told (step.BytesBounded label max) (value.Bytes text) h b f n = counted_bytes h n b f.1
+  step-told (step.BytesBounded label max) (value.Bytes text) h b f n = bytes (h, n) b f.1
   step-told (step.HintBounded label max) (value.Bytes text) h b f n = silent
   step-told (step.PublicScalar label x) v h b f n = one-told r laws.scalar x
   step-told (step.PublicScalars label xs) v h b f n = many-told r laws.scalar _ xs.items refl
-  step-told (step.PublicScalarsBounded label xs max) v h b f n = counted-told r laws.scalar max xs.items h.1 n
+  step-told (step.PublicScalarsBounded label xs max) v h b f n = many-told r laws.scalar _ xs.items (h.1, n)
   step-told (step.Scalar label) (value.Scalar x) h b f n = one-told r laws.scalar x
-  step-told (step.Scalars label len) (value.Scalars xs) h b f n = many-told r laws.scalar len xs h
-  step-told (step.ScalarsBounded label max) (value.Scalars xs) h b f n = counted-told r laws.scalar max xs h n
+  step-told (step.Scalars label len) (value.Scalars xs) h b f n = many-told r laws.scalar _ xs h
+  step-told (step.ScalarsBounded label max) (value.Scalars xs) h b f n = many-told r laws.scalar _ xs (h, n)
   step-told (step.Extension label) (value.Extension x) h b f n = one-told r laws.extension x
   step-told (step.ObserveExtension label x) v h b f n = one-told r laws.extension x
   step-told (step.ObserveExtensions label xs) v h b f n = many-told r laws.extension _ xs.items refl
-  step-told (step.ObserveExtensionsBounded label xs max) v h b f n = counted-told r laws.extension max xs.items h.1 n
+  step-told (step.ObserveExtensionsBounded label xs max) v h b f n = many-told r laws.extension _ xs.items (h.1, n)
   step-told (step.Opaque label x) v h b f n = own b
-  step-told (step.Pow label bits) (value.Witness x) h b f n = witness-told r bits x h
-  step-told (step.ObservePow label bits) (value.Witness x) h b f n = witness-told r bits x h
+  step-told (step.Pow label bits) (value.Witness x) h b f n = witness x h
+  step-told (step.ObservePow label bits) (value.Witness x) h b f n = witness x h
   step-told _ _ h b f n = let nothing : Told r Silent Nothing [] = silent in search
