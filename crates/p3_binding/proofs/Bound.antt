@@ -44,15 +44,13 @@ module _ {X S Symbol I F EF O Ac U D : Type 0} (rules : Rules S Symbol I F EF O 
     (laws : Lawful rules) (told : EachTold rules play) (of : SeparatorLaws U D rules.digest_of) where
   abbrev parts_in : Run X F EF S U D → SeedParts
   parts_in x =
-      parts_of rules.digest_of x.separator.protocol_id x.separator.pattern.value x.separator.instance_label.items
+      let s = x.separator in parts_of rules.digest_of s.protocol_id s.pattern.value s.instance_label.items
 
   -- the protocols, of equal parts of seeds
   same-protocol : (x y : Run X F EF S U D) → parts_in x ≡ parts_in y → SameProtocol x y
   same-protocol x y same =
-      let xi = x.separator.is_identifier in
-      let yi = y.separator.is_identifier in
-      let xl = x.separator.is_label in
-      let yl = y.separator.is_label in
+      let xi = x.separator.is_identifier in let yi = y.separator.is_identifier in
+      let xl = x.separator.is_label in let yl = y.separator.is_label in
       let names = of.identifiers xi.version yi.version xi.name yi.name xi.short yi.short
       (sym xi.encoded ∙ ap (λ (s : SeedParts). s.protocol_id) same ∙ yi.encoded) in
       let chunks = of.labels xl.chunks yl.chunks xl.counted yl.counted

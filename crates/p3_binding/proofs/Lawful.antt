@@ -17,14 +17,10 @@ module _ {S Symbol I F EF O Ac : Type 0} (rules : Rules S Symbol I F EF O Ac) wh
   abbrev pub IsShort : List ℕ → Type 0
   IsShort bytes = rules.alphabet.is_too_long (length bytes) → ⊥
 
-  -- byte strings whose symbols begin the same begin one another
-  abbrev pub BytesBegin : Type 0
-  BytesBegin =
-      (a b : List ℕ) (x y : List Symbol) → AreBytes a → AreBytes b → IsShort a → IsShort b →
-      bytes_symbols a ++ x ≡ bytes_symbols b ++ y → OneBegins a b × (a ≡ b → x ≡ y)
-
   pub record Lawful : Type 0 where
-    pub begins : BytesBegin
+    -- byte strings whose symbols begin the same begin one another
+    pub begins : (a b : List ℕ) (x y : List Symbol) → AreBytes a → AreBytes b → IsShort a → IsShort b →
+        bytes_symbols a ++ x ≡ bytes_symbols b ++ y → OneBegins a b × (a ≡ b → x ≡ y)
     pub short : (len : ℕ) → len ≤ 255 → rules.alphabet.is_too_long len → ⊥
     pub coefficients : IsPrefixCode rules.scalar.observation.symbols
     pub scalar : LawfulCoding rules.scalar

@@ -22,6 +22,10 @@ pub begins-equal : {T S : Type 0} {IsValue : T → Type 0} (encoding : T → Lis
 begins-equal encoding code x y p q (inl h) = (code x y h.0 [] p q (cc (append-nil (encoding y)))).0
 begins-equal encoding code x y p q (inr h) = (code x y [] h.0 p q (cc (append-nil (encoding x)))).0
 
+-- what is read says what is made of it
+under : {A B S : Type 0} {a b : A} {x y : S} (make : A → B) → (a ≡ b) × (x ≡ y) → (make a ≡ make b) × (x ≡ y)
+under make read = (ap make read.0, read.1)
+
 -- so many may stand there
 abbrev pub FitsMany : Length → ℕ → Type 0
 FitsMany None n = ⊥
@@ -100,10 +104,8 @@ module _ {S Symbol I F EF O Ac : Type 0} (rules : Rules S Symbol I F EF O Ac) wh
         rows xss ++ x ≡ rows yss ++ y → (xss ≡ yss) × (x ≡ y)
     rows-read degree [] [] x y same h k e = (refl, e)
     rows-read degree (xs ∷ xss) (ys ∷ yss) x y same h k e =
-        let symbols = flat_map rules.scalar.observation.symbols in
-        let left = append_assoc (symbols xs) (rows xss) x in
-        let right = append_assoc (symbols ys) (rows yss) y in
-        let first = row-prefix_code _ laws.coefficients xs ys _ _ (h.0 ∙ sym k.0) (sym left ∙ e ∙ right) in
+        let first = row-prefix_code _ laws.coefficients xs ys (rows xss ++ x) (rows yss ++ y) (h.0 ∙ sym k.0)
+        (simp append_assoc at e) in
         let others = rows-read degree xss yss x y (cc) h.1 k.1 first.1 in
         (cc, others.1)
     rows-read degree _ _ x y same h k e = cc
@@ -113,15 +115,9 @@ module _ {S Symbol I F EF O Ac : Type 0} (rules : Rules S Symbol I F EF O Ac) wh
         Told shape b t → s ++ x ≡ t ++ y → (a ≡ b) × (x ≡ y)
     told-reads x y silent silent e = (refl, e)
     told-reads x y (bytes {many = many} l i p) (bytes m j q) e =
-        let count = count-read many _ _ _ _ x y l m e in
-        let read = bytes-read _ _ x y i j p q count.0 count.1 in
-        (ap Bytes read.0, read.1)
+        let count = count-read many _ _ _ _ x y l m e in under Bytes (bytes-read _ _ x y i j p q count.0 count.1)
     told-reads x y (elements {many = many} l each) (elements m every) e =
-        let count = count-read many _ _ _ _ x y l m e in
-        let read = rows-read _ _ _ x y count.0 each every count.1 in
-        (ap Elements read.0, read.1)
-    told-reads x y (own h) (own k) e =
-        let read = laws.opaque _ _ x y h k e in (ap Own read.0, read.1)
+        let count = count-read many _ _ _ _ x y l m e in under Elements (rows-read _ _ _ x y count.0 each every count.1)
+    told-reads x y (own h) (own k) e = under Own (laws.opaque _ _ x y h k e)
     told-reads x y (witness {bits = zero} v h) (witness w k) e = (refl, e)
-    told-reads x y (witness {bits = suc more} v h) (witness w k) e =
-        let read = laws.witness h v w x y e in (ap Witness read.0, read.1)
+    told-reads x y (witness {bits = suc more} v h) (witness w k) e = under Witness (laws.witness h v w x y e)

@@ -1,6 +1,6 @@
 -- Hints and witnesses of 0 bits leave the challenger as it is.
-use Rattle.std.proofs.Common.{◌≡◌, zero, List, [], ◌∷◌, Option, Some, None, refl, subst}
-use Rattle.p3_driver_core.specs.Effects.{Effect}
+use Rattle.std.proofs.Common.{◌≡◌, zero, List, [], ◌∷◌, Option, Some, None, refl, sym, ◌∙◌, subst}
+use Rattle.p3_driver_core.specs.Effects.{Effect, untouched}
 use Rattle.p3_binding.specs.Hints.{SameButHint, SameButHints, HintsDoNotInfluence}
 use Rattle.p3_binding.specs.ScriptBinding.{ScriptHintsDoNotInfluence}
 use Rattle.p3_runs.specs.Fronts.{seeded}
@@ -42,25 +42,16 @@ module _ {X S Symbol I F EF O Ac : Type 0} (rules : Rules S Symbol I F EF O Ac) 
 
 -- ---- the steps of scripts
 
--- of a value, where there is one, that leaves the challenger as it is
-abbrev Leaves : {S Symbol T : Type 0} → Effect S Symbol (Option T) → S → Type 0
-Leaves e s = (e.gives s ≡ Some None) × (e.after s ≡ s)
-
-some-leaves : {S Symbol T A : Type 0} (e : A → Effect S Symbol (Option T)) (o : Option A) (s : S) →
-    ((x : A) → Leaves (e x) s) → Leaves (effect_some None e o) s
-some-leaves e None s h = (refl, refl)
-some-leaves e (Some x) s h = h x
-
+-- no value, and any that leaves the challenger as it is, do the same
 both-leave : {S Symbol T A : Type 0} (e : A → Effect S Symbol (Option T)) (o p : Option A) (s : S) →
-    ((x : A) → Leaves (e x) s) → Same (effect_some None e o) (effect_some None e p) s
-both-leave e o p s h =
-    let a = some-leaves e o s h in
-    let b = some-leaves e p s h in
-    (cc, cc)
+    ((x : A) → Same (e x) (untouched None) s) → Same (effect_some None e o) (effect_some None e p) s
+both-leave e None None s h = (refl, refl)
+both-leave e None (Some y) s h = (sym (h y).0, sym (h y).1)
+both-leave e (Some x) None s h = h x
+both-leave e (Some x) (Some y) s h = ((h x).0 ∙ sym (h y).0, (h x).1 ∙ sym (h y).1)
 
 module _ {S Symbol I F EF O Ac : Type 0} (r : Rules S Symbol I F EF O Ac) (Su U C K D G It St Sm : Type 0) where
-  step-agrees : (x : script.Step Su F EF U O C K Ac D G It St Sm) (v w : Value F EF) (s : S) →
-      SameButHint (play_of r x).interaction v w → Same ((play_of r x).effect v) ((play_of r x).effect w) s
+  step-agrees : EachAgrees r (λ (x : script.Step Su F EF U O C K Ac D G It St Sm). play_of r x)
   step-agrees (step.Begin label kind) v w s h = (refl, refl)
   step-agrees (step.End label kind) v w s h = (refl, refl)
   step-agrees (step.Hint label len) v w s h = both-leave _ (bytes_in v) (bytes_in w) s (λ x. (refl, refl))
