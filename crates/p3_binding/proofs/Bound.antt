@@ -1,11 +1,10 @@
 -- From equal symbols to equal runs.
-use Rattle.std.proofs.Common.{◌≡◌, ℕ, ◌≤◌, ◌⊎◌, inl, inr, List, [], length, Bool, true, false, refl, sym, ap, ◌∙◌}
+use Rattle.std.proofs.Common.{◌≡◌, ℕ, ◌≤◌, ◌⊎◌, inl, inr, List, length, Bool, true, false, refl, sym, ap, ◌∙◌}
 use Rattle.std.specs.List.{All}
 use Rattle.std.specs.Prelude.{Decides}
 use Rattle.std.proofs.lemmas.Bool.Decides.{not_from_Decides}
-use Rattle.std.proofs.lemmas.List.{append-nil}
 use Rattle.std.proofs.lemmas.Slice.Eq.{bytes_eq-Decides}
-use Rattle.p3_challenger_core.specs.Reading.{AreBytes, OneBegins, IsPrefixCodeOn}
+use Rattle.p3_challenger_core.specs.Reading.{AreBytes, IsPrefixCodeOn}
 use Rattle.p3_domain_separator.specs.Seed.{identifier, label_of, FitsCount, SeedParts, AreSeedParts, parts_of}
 use Rattle.p3_domain_separator.specs.Seed.{seed_of_parts}
 use Rattle.p3_domain_separator.specs.SeparatorSeed.{seed_of_separator}

@@ -1,6 +1,6 @@
 -- Runs of equal patterns that feed the same symbols absorbed the same.
 use Rattle.std.proofs.Common.{◌≡◌, ◌⊎◌, inl, inr, List, [], ◌∷◌, length, refl, ap}
-use Rattle.std.proofs.lemmas.List.{length-map, take-map}
+use Rattle.std.proofs.lemmas.List.{take-map}
 use Rattle.p3_fs_core.specs.StepFits.{FitsLength, AreProgramSteps}
 use Rattle.p3_patterns.specs.Rendering.{SameButTypeNames, without_type_name}
 use Rattle.p3_binding.specs.Binding.{IsHeld, AreHeld, FeedTheSame}
