@@ -60,12 +60,13 @@ module _ {X S Symbol I F EF O Ac U D : Type 0} (rules : Rules S Symbol I F EF O 
   symbols-bind x y feed =
       let begin = laws.begins _ _ _ _ (of.bytes x.separator) (of.bytes y.separator) feed.finished.0.seed_fits
       feed.finished.1.seed_fits feed.same in
-      let same : parts_in x ≡ parts_in y = begins-equal seed_of_parts of.seeds _ _ (of.parts x.separator) (of.parts y.separator) begin.0
-      in
+      let same : parts_in x ≡ parts_in y
+      = begins-equal seed_of_parts of.seeds _ _ (of.parts x.separator) (of.parts y.separator) begin.0 in
       record {
         protocol = same-protocol x y same;
-        steps = equal-or_collide rules.digest_of _ _ _ (bytes_eq-Decides _ _) (ap (λ (s : SeedParts). s.digest) same) (λ texts.
-            let patterns = (of.patterns x.separator.pattern.value y.separator.pattern.value).0 texts in
+        steps = equal-or_collide rules.digest_of _ _ _ (bytes_eq-Decides _ _)
+            (ap (λ (s : SeedParts). s.digest) same)
+            (λ texts. let patterns = (of.patterns x.separator.pattern.value y.separator.pattern.value).0 texts in
             let rest = begin.1 (ap seed_of_parts same) in
             record { patterns = patterns; values = absorbed-bound rules play laws told x y feed patterns rest });
       }

@@ -11,8 +11,7 @@ use Rattle.p3_runs.specs.Rules.{Rules}
 use Rattle.p3_runs.specs.Runs.{interactions, Finishes, symbols, absorbed}
 use Rattle.p3_runs.specs.Values.{Value}
 use Rattle.p3_binding.proofs.Lawful.{Lawful}
-use Rattle.p3_binding.proofs.Shapes.{shape_of}
-use Rattle.p3_binding.proofs.Told.{Told, told-reads}
+use Rattle.p3_binding.proofs.Told.{Told, shape_of, told-reads}
 
 module _ {X S Symbol I F EF O Ac : Type 0} (rules : Rules S Symbol I F EF O Ac) (play : X → Play S Symbol F EF O) where
   -- each step absorbs as its step of the pattern says
@@ -53,7 +52,6 @@ module _ {X S Symbol I F EF O Ac : Type 0} (rules : Rules S Symbol I F EF O Ac) 
         symbols play x.steps x.values ≡ symbols play y.steps y.values →
         absorbed play x.steps x.values ≡ absorbed play y.steps y.values
     absorbed-bound x y feed patterns e =
-        let p = feed.finished.0 in
-        let q = feed.finished.1 in
+        let p = feed.finished.0 in let q = feed.finished.1 in
         steps-bound x.steps y.steps x.values y.values _ _ (same-steps x y p q feed.as_far patterns)
         (front-fits rules play x _ _ p) (front-fits rules play y _ _ q) p.finishes q.finishes feed.held.0 feed.held.1 e

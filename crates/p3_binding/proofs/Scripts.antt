@@ -8,9 +8,8 @@ use Rattle.p3_script.specs.Scripts.{play_of}
 use Rattle.p3_script.specs.declared.steps.Step as script
 use Rattle.p3_script.specs.declared.steps.Step.TheVariants as step
 use Rattle.p3_binding.proofs.Lawful.{Lawful}
-use Rattle.p3_binding.proofs.Shapes.{Silent}
 use Rattle.p3_binding.proofs.Runs.{EachTold}
-use Rattle.p3_binding.proofs.Told.{Told, silent, bytes, own, witness, many-told, one-told}
+use Rattle.p3_binding.proofs.Told.{Told, Silent, silent, bytes, own, witness, many-told, one-told}
 
 module _ {S Symbol I F EF O Ac : Type 0} (r : Rules S Symbol I F EF O Ac) (laws : Lawful r)
     {Su U C K D G It St Sy : Type 0} where

@@ -8,23 +8,40 @@ use Rattle.p3_challenger_core.specs.SymbolLaws.{row-prefix_code, places-prefix_c
 use Rattle.p3_fs_core.specs.BigEndianLaws.{length-in_bytes, AreBytes-in_bytes}
 use Rattle.p3_fs_core.specs.CountLaws.{count_width-most}
 use Rattle.p3_fs_core.specs.Counts.{count_bytes, count_width}
+use Rattle.p3_fs_core.specs.Steps.{Step}
+use Rattle.p3_fs_core.specs.declared.step.Kind.{Kind}
+use Rattle.p3_fs_core.specs.declared.step.Kind.TheVariants.{Hint, Challenge, Pow}
 use Rattle.p3_fs_core.specs.declared.step.Length.{Length}
 use Rattle.p3_fs_core.specs.declared.step.Length.TheVariants.{None, Scalar, Fixed, Bounded}
+use Rattle.p3_fs_core.specs.declared.step.TypeTag.{TypeTag}
+use Rattle.p3_fs_core.specs.declared.step.TypeTag.TheVariants as tag
 use Rattle.p3_driver_core.specs.Working.{symbols_of_check}
 use Rattle.p3_runs.specs.Absorbed.{Absorbed, Nothing, Bytes, Elements, Own, Witness, witness_of}
 use Rattle.p3_runs.specs.Rules.{Rules, Coding}
 use Rattle.p3_binding.proofs.Lawful.{Lawful, LawfulCoding, bytes_symbols, IsShort}
-use Rattle.p3_binding.proofs.Shapes.{Shape, Silent, BytesOf, ElementsOf, OwnValue, WitnessOf}
 
--- of two encodings, of which one begins the other, both are the same, and so are the values
-pub begins-equal : {T S : Type 0} {IsValue : T → Type 0} (encoding : T → List S) → IsPrefixCodeOn IsValue encoding →
-    (x y : T) → IsValue x → IsValue y → OneBegins (encoding x) (encoding y) → x ≡ y
-begins-equal encoding code x y p q (inl h) = (code x y h.0 [] p q (cc (append-nil (encoding y)))).0
-begins-equal encoding code x y p q (inr h) = (code x y [] h.0 p q (cc (append-nil (encoding x)))).0
+-- ---- what a step feeds, as its step of the pattern says it
 
--- what is read says what is made of it
-under : {A B S : Type 0} {a b : A} {x y : S} (make : A → B) → (a ≡ b) × (x ≡ y) → (make a ≡ make b) × (x ≡ y)
-under make read = (ap make read.0, read.1)
+-- nothing; bytes, as many as the length says; so many elements of so many coefficients; a value that the challenger
+-- alone knows; a witness of so many bits
+pub data Shape : Type 0 where
+  Silent : Shape
+  BytesOf : Length → Shape
+  ElementsOf : Length → ℕ → Shape
+  OwnValue : Shape
+  WitnessOf : Length → Shape
+
+abbrev pub shape_with : TypeTag → Kind → Length → Shape
+shape_with tag.Bytes Hint length = Silent
+shape_with tag.Bytes kind length = BytesOf length
+shape_with (tag.Algebra order degree digest) Challenge length = Silent
+shape_with (tag.Algebra order degree digest) Pow length = WitnessOf length
+shape_with (tag.Algebra order degree digest) kind length = ElementsOf length degree
+shape_with tag.Opaque kind length = OwnValue
+shape_with _ kind length = Silent
+
+abbrev pub shape_of : Step → Shape
+shape_of s = shape_with s.type_tag s.kind s.length
 
 -- so many may stand there
 abbrev pub FitsMany : Length → ℕ → Type 0
@@ -78,46 +95,56 @@ module _ {S Symbol I F EF O Ac : Type 0} (rules : Rules S Symbol I F EF O Ac) wh
         Told (ElementsOf Scalar c.algebra.degree) (Elements (c.coefficients x ∷ [])) (c.observation.symbols x)
     one-told x = rw append-nil at (many-told Scalar (x ∷ []) refl)
 
-  -- ---- reading back
+-- ---- reading back
 
-  module _ (laws : Lawful rules) where
-    bytes-read : (a b : List ℕ) (x y : List Symbol) → AreBytes a → AreBytes b → IsShort rules a → IsShort rules b →
-        length a ≡ length b → bytes_symbols rules a ++ x ≡ bytes_symbols rules b ++ y → (a ≡ b) × (x ≡ y)
-    bytes-read a b x y a_are b_are a_short b_short as_long e =
-        let read = laws.begins a b x y a_are b_are a_short b_short e in
-        let same = begins-equal _ (places-prefix_code (length b)) a b as_long refl read.0 in (same, read.1 same)
+-- of two encodings, of which one begins the other, both are the same, and so are the values
+pub begins-equal : {T S : Type 0} {IsValue : T → Type 0} (encoding : T → List S) → IsPrefixCodeOn IsValue encoding →
+    (x y : T) → IsValue x → IsValue y → OneBegins (encoding x) (encoding y) → x ≡ y
+begins-equal encoding code x y p q (inl h) = (code x y h.0 [] p q (cc (append-nil (encoding y)))).0
+begins-equal encoding code x y p q (inr h) = (code x y [] h.0 p q (cc (append-nil (encoding x)))).0
 
-    count-read : (many : Length) (n m : ℕ) (a b x y : List Symbol) → FitsMany many n → FitsMany many m →
-        (count_symbols many n ++ a) ++ x ≡ (count_symbols many m ++ b) ++ y → (n ≡ m) × (a ++ x ≡ b ++ y)
-    count-read (Bounded max) n m a b x y p q e =
-        let width = count_width max in
-        let long = length-in_bytes width in
-        let short = λ (k : ℕ). laws.short (length (count_bytes max k)) (omega (arith, long k, count_width-most max)) in
-        let read = bytes-read (count_bytes max n) (count_bytes max m) (a ++ x) (b ++ y) (AreBytes-in_bytes width n)
-        (AreBytes-in_bytes width m) (short n) (short m) (long n ∙ sym (long m)) (simp append_assoc at e) in
-        (laws.counts max n m p.1 p.0 q.0 read.0, read.1)
-    count-read None n m a b x y p q e = absurd p
-    count-read _ n m a b x y p q e = (p ∙ sym q, e)
+-- what is read says what is made of it
+under : {A B S : Type 0} {a b : A} {x y : S} (make : A → B) → (a ≡ b) × (x ≡ y) → (make a ≡ make b) × (x ≡ y)
+under make read = (ap make read.0, read.1)
 
-    rows-read : (degree : ℕ) (xss yss : List (List F)) (x y : List Symbol) → length xss ≡ length yss →
-        AllByRecursion (λ xs. length xs ≡ degree) xss → AllByRecursion (λ ys. length ys ≡ degree) yss →
-        rows xss ++ x ≡ rows yss ++ y → (xss ≡ yss) × (x ≡ y)
-    rows-read degree [] [] x y same h k e = (refl, e)
-    rows-read degree (xs ∷ xss) (ys ∷ yss) x y same h k e =
-        let first = row-prefix_code _ laws.coefficients xs ys (rows xss ++ x) (rows yss ++ y) (h.0 ∙ sym k.0)
-        (simp append_assoc at e) in
-        let others = rows-read degree xss yss x y (cc) h.1 k.1 first.1 in
-        (cc, others.1)
-    rows-read degree _ _ x y same h k e = cc
+module _ {S Symbol I F EF O Ac : Type 0} (rules : Rules S Symbol I F EF O Ac) (laws : Lawful rules) where
+  bytes-read : (a b : List ℕ) (x y : List Symbol) → AreBytes a → AreBytes b → IsShort rules a → IsShort rules b →
+      length a ≡ length b → bytes_symbols rules a ++ x ≡ bytes_symbols rules b ++ y → (a ≡ b) × (x ≡ y)
+  bytes-read a b x y a_are b_are a_short b_short as_long e =
+      let read = laws.begins a b x y a_are b_are a_short b_short e in
+      let same = begins-equal _ (places-prefix_code (length b)) a b as_long refl read.0 in (same, read.1 same)
 
-    -- at steps of one shape
-    pub told-reads : {shape : Shape} {a b : Absorbed F O} {s t : List Symbol} (x y : List Symbol) → Told shape a s →
-        Told shape b t → s ++ x ≡ t ++ y → (a ≡ b) × (x ≡ y)
-    told-reads x y silent silent e = (refl, e)
-    told-reads x y (bytes {many = many} l i p) (bytes m j q) e =
-        let count = count-read many _ _ _ _ x y l m e in under Bytes (bytes-read _ _ x y i j p q count.0 count.1)
-    told-reads x y (elements {many = many} l each) (elements m every) e =
-        let count = count-read many _ _ _ _ x y l m e in under Elements (rows-read _ _ _ x y count.0 each every count.1)
-    told-reads x y (own h) (own k) e = under Own (laws.opaque _ _ x y h k e)
-    told-reads x y (witness {bits = zero} v h) (witness w k) e = (refl, e)
-    told-reads x y (witness {bits = suc more} v h) (witness w k) e = under Witness (laws.witness h v w x y e)
+  count-read : (many : Length) (n m : ℕ) (a b x y : List Symbol) → FitsMany many n → FitsMany many m →
+      (count_symbols rules many n ++ a) ++ x ≡ (count_symbols rules many m ++ b) ++ y → (n ≡ m) × (a ++ x ≡ b ++ y)
+  count-read (Bounded max) n m a b x y p q e =
+      let width = count_width max in
+      let long = length-in_bytes width in
+      let short = λ (k : ℕ). laws.short (length (count_bytes max k)) (omega (arith, long k, count_width-most max)) in
+      let read = bytes-read (count_bytes max n) (count_bytes max m) (a ++ x) (b ++ y) (AreBytes-in_bytes width n)
+      (AreBytes-in_bytes width m) (short n) (short m) (long n ∙ sym (long m)) (simp append_assoc at e) in
+      (laws.counts max n m p.1 p.0 q.0 read.0, read.1)
+  count-read None n m a b x y p q e = absurd p
+  count-read _ n m a b x y p q e = (p ∙ sym q, e)
+
+  rows-read : (degree : ℕ) (xss yss : List (List F)) (x y : List Symbol) → length xss ≡ length yss →
+      AllByRecursion (λ xs. length xs ≡ degree) xss → AllByRecursion (λ ys. length ys ≡ degree) yss →
+      rows rules xss ++ x ≡ rows rules yss ++ y → (xss ≡ yss) × (x ≡ y)
+  rows-read degree [] [] x y same h k e = (refl, e)
+  rows-read degree (xs ∷ xss) (ys ∷ yss) x y same h k e =
+      let first = row-prefix_code _ laws.coefficients xs ys (rows rules xss ++ x) (rows rules yss ++ y) (h.0 ∙ sym k.0)
+      (simp append_assoc at e) in
+      let others = rows-read degree xss yss x y (cc) h.1 k.1 first.1 in
+      (cc, others.1)
+  rows-read degree _ _ x y same h k e = cc
+
+  -- at steps of one shape
+  pub told-reads : {shape : Shape} {a b : Absorbed F O} {s t : List Symbol} (x y : List Symbol) → Told rules shape a s →
+      Told rules shape b t → s ++ x ≡ t ++ y → (a ≡ b) × (x ≡ y)
+  told-reads x y silent silent e = (refl, e)
+  told-reads x y (bytes {many = many} l i p) (bytes m j q) e =
+      let count = count-read many _ _ _ _ x y l m e in under Bytes (bytes-read _ _ x y i j p q count.0 count.1)
+  told-reads x y (elements {many = many} l each) (elements m every) e =
+      let count = count-read many _ _ _ _ x y l m e in under Elements (rows-read _ _ _ x y count.0 each every count.1)
+  told-reads x y (own h) (own k) e = under Own (laws.opaque _ _ x y h k e)
+  told-reads x y (witness {bits = zero} v h) (witness w k) e = (refl, e)
+  told-reads x y (witness {bits = suc more} v h) (witness w k) e = under Witness (laws.witness h v w x y e)
