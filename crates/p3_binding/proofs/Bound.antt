@@ -1,22 +1,21 @@
 -- From equal symbols to equal runs.
-use Rattle.std.proofs.Common.{◌≡◌, ℕ, ◌≤◌, ◌⊎◌, inl, inr, List, [], length, Bool, true, false, refl, sym, ap, ◌∙◌}
+use Rattle.std.proofs.Common.{◌≡◌, ℕ, ◌≤◌, ◌⊎◌, inl, inr, List, length, Bool, true, false, refl, sym, ap, ◌∙◌}
 use Rattle.std.specs.List.{All}
-use Rattle.std.specs.Str.{bytes_eq}
+use Rattle.std.specs.Prelude.{Decides}
 use Rattle.std.proofs.lemmas.Bool.Decides.{not_from_Decides}
-use Rattle.std.proofs.lemmas.List.{append-nil}
 use Rattle.std.proofs.lemmas.Slice.Eq.{bytes_eq-Decides}
-use Rattle.p3_challenger_core.specs.Reading.{AreBytes, OneBegins, IsPrefixCodeOn}
+use Rattle.p3_challenger_core.specs.Reading.{AreBytes, IsPrefixCodeOn}
 use Rattle.p3_domain_separator.specs.Seed.{identifier, label_of, FitsCount, SeedParts, AreSeedParts, parts_of}
 use Rattle.p3_domain_separator.specs.Seed.{seed_of_parts}
 use Rattle.p3_domain_separator.specs.SeparatorSeed.{seed_of_separator}
 use Rattle.p3_domain_separator.specs.declared.domain_separator.DomainSeparator.{DomainSeparator}
-use Rattle.p3_binding.specs.Binding.{Collide, RenderingsTellPatterns, alternate_rendering, SymbolsBind, SameProtocol}
-use Rattle.p3_runs.specs.Fronts.{Run, pattern, seed}
+use Rattle.p3_binding.specs.Binding.{Collide, RenderingsTellPatterns, SymbolsBind, SameProtocol}
+use Rattle.p3_runs.specs.Fronts.{Run}
 use Rattle.p3_runs.specs.Plays.{Play}
 use Rattle.p3_runs.specs.Rules.{Rules}
-use Rattle.p3_runs.specs.Runs.{symbols}
 use Rattle.p3_binding.proofs.Lawful.{Lawful}
 use Rattle.p3_binding.proofs.Runs.{EachTold, absorbed-bound}
+use Rattle.p3_binding.proofs.Told.{begins-equal}
 
 -- ---- separators
 
@@ -31,25 +30,12 @@ pub record SeparatorLaws (U D : Type 0) (digest_of : List ℕ → List ℕ) : Ty
   pub labels : (x y : List (List ℕ)) → All FitsCount x → All FitsCount y → label_of x ≡ label_of y → x ≡ y
   pub patterns : RenderingsTellPatterns
 
--- a seed that begins another is that seed
-seeds-equal : IsPrefixCodeOn AreSeedParts seed_of_parts → (x y : SeedParts) → AreSeedParts x → AreSeedParts y →
-    OneBegins (seed_of_parts x) (seed_of_parts y) → x ≡ y
-seeds-equal code x y p q (inl h) = (code x y h.0 [] p q (h.1 ∙ sym (append-nil (seed_of_parts y)))).0
-seeds-equal code x y p q (inr h) = sym (code y x h.0 [] q p (h.1 ∙ sym (append-nil (seed_of_parts x)))).0
-
 -- two texts of one digest are equal, and then something holds, or they collide
-equal-or_collide : {P : Type 0} (digest_of : List ℕ → List ℕ) (a b : List ℕ) → digest_of a ≡ digest_of b →
-    (a ≡ b → P) → P ⊎ Collide digest_of a b
-equal-or_collide {P = P} digest_of a b same then =
-    let by_test : (t : Bool) → bytes_eq a b ≡ t → P ⊎ Collide digest_of a b
-    = elim [
-      | true ↦ λ test. inl (then ((bytes_eq-Decides a b).0 test))
-      | false ↦ λ test. inr (record {
-        differ = not_from_Decides (bytes_eq a b) (bytes_eq-Decides a b) test;
-        share = same;
-      })
-    ] in
-    by_test (bytes_eq a b) refl
+equal-or_collide : {P : Type 0} (digest_of : List ℕ → List ℕ) (a b : List ℕ) (test : Bool) → Decides test (a ≡ b) →
+    digest_of a ≡ digest_of b → (a ≡ b → P) → P ⊎ Collide digest_of a b
+equal-or_collide digest_of a b true decides share then = inl (then (decides.0 refl))
+equal-or_collide digest_of a b false decides share then =
+    inr (record { differ = not_from_Decides false decides refl; share = share })
 
 -- ---- runs
 
@@ -57,33 +43,30 @@ module _ {X S Symbol I F EF O Ac U D : Type 0} (rules : Rules S Symbol I F EF O 
     (laws : Lawful rules) (told : EachTold rules play) (of : SeparatorLaws U D rules.digest_of) where
   abbrev parts_in : Run X F EF S U D → SeedParts
   parts_in x =
-      parts_of rules.digest_of x.separator.protocol_id x.separator.pattern.value x.separator.instance_label.items
+      let s = x.separator in parts_of rules.digest_of s.protocol_id s.pattern.value s.instance_label.items
 
   -- the protocols, of equal parts of seeds
   same-protocol : (x y : Run X F EF S U D) → parts_in x ≡ parts_in y → SameProtocol x y
   same-protocol x y same =
-      let xi = x.separator.is_identifier in
-      let yi = y.separator.is_identifier in
+      let xi = x.separator.is_identifier in let yi = y.separator.is_identifier in
+      let xl = x.separator.is_label in let yl = y.separator.is_label in
       let names = of.identifiers xi.version yi.version xi.name yi.name xi.short yi.short
       (sym xi.encoded ∙ ap (λ (s : SeedParts). s.protocol_id) same ∙ yi.encoded) in
-      let xl = x.separator.is_label in
-      let yl = y.separator.is_label in
       let chunks = of.labels xl.chunks yl.chunks xl.counted yl.counted
       (sym xl.encoded ∙ ap (λ (s : SeedParts). s.label) same ∙ yl.encoded) in
       record { version = names.0; name = names.1; chunks = chunks }
 
   pub symbols-bind : SymbolsBind U D rules play
   symbols-bind x y feed =
-      let begin = laws.begins (seed rules play x) (seed rules play y) (symbols play x.steps x.values)
-      (symbols play y.steps y.values) (of.bytes x.separator) (of.bytes y.separator) feed.finished.0.seed_fits
+      let begin = laws.begins _ _ _ _ (of.bytes x.separator) (of.bytes y.separator) feed.finished.0.seed_fits
       feed.finished.1.seed_fits feed.same in
-      let same : parts_in x ≡ parts_in y = seeds-equal of.seeds (parts_in x) (parts_in y) (of.parts x.separator)
-      (of.parts y.separator) begin.0 in
-      let rest = begin.1 (ap seed_of_parts same) in
+      let same : parts_in x ≡ parts_in y
+      = begins-equal seed_of_parts of.seeds _ _ (of.parts x.separator) (of.parts y.separator) begin.0 in
       record {
         protocol = same-protocol x y same;
-        steps = equal-or_collide rules.digest_of (alternate_rendering (pattern x)) (alternate_rendering (pattern y))
+        steps = equal-or_collide rules.digest_of _ _ _ (bytes_eq-Decides _ _)
             (ap (λ (s : SeedParts). s.digest) same)
             (λ texts. let patterns = (of.patterns x.separator.pattern.value y.separator.pattern.value).0 texts in
+            let rest = begin.1 (ap seed_of_parts same) in
             record { patterns = patterns; values = absorbed-bound rules play laws told x y feed patterns rest });
       }

@@ -4,14 +4,6 @@ use Rattle.p3_challenger_core.specs.Reading.{AreBytes, OneBegins, IsPrefixCode, 
 use Rattle.p3_fs_core.specs.Counts.{count_bytes}
 use Rattle.p3_runs.specs.Rules.{Rules, Coding}
 
--- the count of a step is told by its bytes, equally many and few
-pub record AreCounts : Type 0 where
-  pub told : (max count other : ℕ) → max < 2 ^ 64 → count ≤ max → other ≤ max →
-      count_bytes max count ≡ count_bytes max other → count ≡ other
-  pub as_long : (max count other : ℕ) → length (count_bytes max count) ≡ length (count_bytes max other)
-  pub short : (max count : ℕ) → length (count_bytes max count) ≤ 8
-  pub bytes : (max count : ℕ) → AreBytes (count_bytes max count)
-
 module _ {S Symbol I F EF O Ac : Type 0} (rules : Rules S Symbol I F EF O Ac) where
   -- a value feeds its coefficients, as many as its algebra says
   pub record LawfulCoding {A : Type 0} (c : Coding S Symbol F A) : Type 0 where
@@ -25,18 +17,15 @@ module _ {S Symbol I F EF O Ac : Type 0} (rules : Rules S Symbol I F EF O Ac) wh
   abbrev pub IsShort : List ℕ → Type 0
   IsShort bytes = rules.alphabet.is_too_long (length bytes) → ⊥
 
-  -- byte strings whose symbols begin the same begin one another
-  abbrev pub BytesBegin : Type 0
-  BytesBegin =
-      (a b : List ℕ) (x y : List Symbol) → AreBytes a → AreBytes b → IsShort a → IsShort b →
-      bytes_symbols a ++ x ≡ bytes_symbols b ++ y → OneBegins a b × (a ≡ b → x ≡ y)
-
   pub record Lawful : Type 0 where
-    pub begins : BytesBegin
+    -- byte strings whose symbols begin the same begin one another
+    pub begins : (a b : List ℕ) (x y : List Symbol) → AreBytes a → AreBytes b → IsShort a → IsShort b →
+        bytes_symbols a ++ x ≡ bytes_symbols b ++ y → OneBegins a b × (a ≡ b → x ≡ y)
     pub short : (len : ℕ) → len ≤ 255 → rules.alphabet.is_too_long len → ⊥
     pub coefficients : IsPrefixCode rules.scalar.observation.symbols
     pub scalar : LawfulCoding rules.scalar
     pub extension : LawfulCoding rules.extension
     pub opaque : IsPrefixCodeOn rules.IsOwn rules.opaque.symbols
     pub witness : rules.grinding.is_there → IsPrefixCode rules.grinding.witness.symbols
-    pub counts : AreCounts
+    pub counts : (max count other : ℕ) → max < 2 ^ 64 → count ≤ max → other ≤ max →
+        count_bytes max count ≡ count_bytes max other → count ≡ other

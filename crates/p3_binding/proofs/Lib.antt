@@ -2,7 +2,6 @@ pub mod Bound
 pub mod Lawful
 pub mod Runs
 pub mod Scripts
-pub mod Shapes
 pub mod Told
 pub mod Uninfluenced
 pub mod WorkedRows

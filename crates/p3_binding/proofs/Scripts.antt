@@ -1,7 +1,6 @@
 -- Each step of a script absorbs as its step of the pattern says, and feeds as what it absorbs says.
-use Rattle.std.proofs.Common.{length, refl}
-use Rattle.p3_fs_core.specs.StepFits.{FitsLength}
-use Rattle.p3_binding.specs.Binding.{IsHeld}
+use Rattle.std.proofs.Common.{refl, []}
+use Rattle.p3_runs.specs.Absorbed.{Nothing}
 use Rattle.p3_runs.specs.Rules.{Rules}
 use Rattle.p3_runs.specs.Values.{Value}
 use Rattle.p3_runs.specs.Values as value
@@ -9,49 +8,28 @@ use Rattle.p3_script.specs.Scripts.{play_of}
 use Rattle.p3_script.specs.declared.steps.Step as script
 use Rattle.p3_script.specs.declared.steps.Step.TheVariants as step
 use Rattle.p3_binding.proofs.Lawful.{Lawful}
-use Rattle.p3_binding.proofs.Shapes.{shape_of}
-use Rattle.p3_binding.proofs.Told.{Told, silent, bytes, counted_bytes, own, many-told, one-told, counted-told}
-use Rattle.p3_binding.proofs.Told.{witness-told}
+use Rattle.p3_binding.proofs.Runs.{EachTold}
+use Rattle.p3_binding.proofs.Told.{Told, Silent, silent, bytes, own, witness, many-told, one-told}
 
 module _ {S Symbol I F EF O Ac : Type 0} (r : Rules S Symbol I F EF O Ac) (laws : Lawful r)
     {Su U C K D G It St Sy : Type 0} where
-  pub step-told : (x : script.Step Su F EF U O C K Ac D G It St Sy) (v : Value F EF) → (play_of r x).Fits v →
-      IsHeld r.IsOwn ((play_of r x).absorbed v) → ((play_of r x).effect v).fits →
-      FitsLength (play_of r x).interaction.length →
-      Told r (shape_of (play_of r x).interaction) ((play_of r x).absorbed v) ((play_of r x).effect v).symbols
-  step-told (step.Begin label kind) value.Nothing h b f n = silent
-  step-told (step.End label kind) value.Nothing h b f n = silent
+  pub step-told : EachTold r (λ (x : script.Step Su F EF U O C K Ac D G It St Sy). play_of r x)
   step-told (step.Salt label len) (value.Bytes text) h b f n = bytes h b f
   step-told (step.Bytes label len) (value.Bytes text) h b f n = bytes h b f
   step-told (step.Hint label len) (value.Bytes text) h b f n = silent
-  step-told (step.BytesBounded label max) (value.Bytes text) h b f n = counted_bytes h n b f.1
+  step-told (step.BytesBounded label max) (value.Bytes text) h b f n = bytes (h, n) b f.1
   step-told (step.HintBounded label max) (value.Bytes text) h b f n = silent
-  step-told (step.PublicScalar label x) value.Nothing h b f n = one-told r laws r.scalar laws.scalar x
-  step-told (step.PublicScalars label xs) value.Nothing h b f n =
-      many-told r laws r.scalar laws.scalar (length xs.items) xs.items refl
-  step-told (step.PublicScalarsBounded label xs max) value.Nothing h b f n =
-      counted-told r laws r.scalar laws.scalar max xs.items h.1 n
-  step-told (step.Scalar label) (value.Scalar x) h b f n = one-told r laws r.scalar laws.scalar x
-  step-told (step.Scalars label len) (value.Scalars xs) h b f n = many-told r laws r.scalar laws.scalar len xs h
-  step-told (step.ScalarsBounded label max) (value.Scalars xs) h b f n =
-      counted-told r laws r.scalar laws.scalar max xs h n
-  step-told (step.Extension label) (value.Extension x) h b f n = one-told r laws r.extension laws.extension x
-  step-told (step.ObserveExtension label x) value.Nothing h b f n = one-told r laws r.extension laws.extension x
-  step-told (step.ObserveExtensions label xs) value.Nothing h b f n =
-      many-told r laws r.extension laws.extension (length xs.items) xs.items refl
-  step-told (step.ObserveExtensionsBounded label xs max) value.Nothing h b f n =
-      counted-told r laws r.extension laws.extension max xs.items h.1 n
-  step-told (step.Opaque label x) value.Nothing h b f n = own b
-  step-told (step.ChallengeScalar label) value.Nothing h b f n = silent
-  step-told (step.ChallengeScalars label len) value.Nothing h b f n = silent
-  step-told (step.ChallengeExtension label) value.Nothing h b f n = silent
-  step-told (step.ChallengeExtensions label len) value.Nothing h b f n = silent
-  step-told (step.ChallengeExtensionsRejecting label len accept limit) value.Nothing h b f n = silent
-  step-told (step.ChallengeBits label width len) value.Nothing h b f n = silent
-  step-told (step.ChallengeUniformBits label width len) value.Nothing h b f n = silent
-  step-told (step.ChallengeUniformBitsRejecting label width len accept limit) value.Nothing h b f n = silent
-  step-told (step.Pow label bits) (value.Witness x) h b f n = witness-told r laws bits x h
-  step-told (step.ObservePow label bits) (value.Witness x) h b f n = witness-told r laws bits x h
-  step-told (step.PublicScalarsBounded label xs max) _ h b f n = absurd h.0
-  step-told (step.ObserveExtensionsBounded label xs max) _ h b f n = absurd h.0
-  step-told _ _ h b f n = absurd h
+  step-told (step.PublicScalar label x) v h b f n = one-told r laws.scalar x
+  step-told (step.PublicScalars label xs) v h b f n = many-told r laws.scalar _ xs.items refl
+  step-told (step.PublicScalarsBounded label xs max) v h b f n = many-told r laws.scalar _ xs.items (h.1, n)
+  step-told (step.Scalar label) (value.Scalar x) h b f n = one-told r laws.scalar x
+  step-told (step.Scalars label len) (value.Scalars xs) h b f n = many-told r laws.scalar _ xs h
+  step-told (step.ScalarsBounded label max) (value.Scalars xs) h b f n = many-told r laws.scalar _ xs (h, n)
+  step-told (step.Extension label) (value.Extension x) h b f n = one-told r laws.extension x
+  step-told (step.ObserveExtension label x) v h b f n = one-told r laws.extension x
+  step-told (step.ObserveExtensions label xs) v h b f n = many-told r laws.extension _ xs.items refl
+  step-told (step.ObserveExtensionsBounded label xs max) v h b f n = many-told r laws.extension _ xs.items (h.1, n)
+  step-told (step.Opaque label x) v h b f n = own b
+  step-told (step.Pow label bits) (value.Witness x) h b f n = witness x h
+  step-told (step.ObservePow label bits) (value.Witness x) h b f n = witness x h
+  step-told _ _ h b f n = let nothing : Told r Silent Nothing [] = silent in search

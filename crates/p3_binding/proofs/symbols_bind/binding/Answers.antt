@@ -18,12 +18,7 @@ returns-clause-equal_symbols_bind g c =
       extension = record { feeds = λ x. refl; places = g.met.S.Extension.BasedVectorSpace.length_coefficients };
       opaque = c.requires.opaque;
       witness = λ there. (g.met.S.Group.StepGroup.witnesses_prefix_free there).prefix_code;
-      counts = record {
-        told = c.counts_are_told.ensures.told;
-        as_long = c.counts_are_told.ensures.as_long;
-        short = c.counts_are_told.ensures.short;
-        bytes = c.counts_are_told.ensures.bytes;
-      };
+      counts = c.counts_are_told.ensures.told;
     } in
     symbols-bind _ _ laws (step-told _ laws) record {
       parts = c.separators_have_seeds.ensures.parts;
