@@ -3,4 +3,3 @@ pub mod Determined
 pub mod Lawful
 pub mod OneReason
 pub mod Possible
-pub mod Reasoned
