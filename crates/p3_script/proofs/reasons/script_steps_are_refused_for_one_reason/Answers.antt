@@ -1,5 +1,4 @@
 -- Each kind of step, by the law of what it does.
-use Rattle.std.proofs.Common.{arith}
 use Rattle.p3_fs_core.specs.declared.step.Kind.TheVariants as kind
 use Rattle.p3_runs.specs.Values.{bytes_in, scalar_in, scalars_in, extension_in}
 use Rattle.p3_script.proofs.OneReason.{known-one_reason, same-one_reason, sent-one_reason, witness-one_reason}
@@ -68,6 +67,16 @@ returns g c (step.ObserveExtensionsBounded label xs max) may =
     kept_within _ max _ (c.values_are_refused_for_one_reason-2.ensures.observed_within _ max xs.items) s t u e f p.0 q.0)
     (λ s t u e f p q. c.carried_lists_are_refused_for_one_reason-2.ensures.within _ max xs.items _ _ _ e f p.0 q.0)
 returns g c (step.ObserveExtensions label xs) may =
-    known-one_reason _ _ (grind arith)
+    known-one_reason _ _
+    (λ s t u e f p q. c.values_are_refused_for_one_reason-2.ensures.observed_list _ xs.items _ _ _ e f p.0 q.0)
     (λ s t u e f p q. c.carried_lists_are_refused_for_one_reason-2.ensures.recorded _ xs.items _ _ _ e f p.0 q.0)
-returns g c _ may = same-one_reason _ (grind arith)
+returns g c (step.PublicScalar label x) may =
+    same-one_reason _ (λ s t u e f p q. c.values_are_refused_for_one_reason.ensures.observed _ x _ _ _ e f p.0 q.0)
+returns g c (step.PublicScalars label xs) may =
+    same-one_reason _ (λ s t u e f p q. c.values_are_refused_for_one_reason.ensures.observed_list _ xs.items _ _ _ e f p.0 q.0)
+returns g c (step.ObserveExtension label x) may =
+    same-one_reason _ (λ s t u e f p q. c.values_are_refused_for_one_reason-2.ensures.observed _ x _ _ _ e f p.0 q.0)
+returns g c (step.Opaque label x) may =
+    same-one_reason _ (λ s t u e f p q. c.opaque_values_are_refused_for_one_reason.ensures _ x _ _ _ e f p.0 q.0)
+returns g c _ may =
+    same-one_reason _ (λ s t u e f p q. c.markers_are_refused_for_one_reason.ensures _ _ _ _ e f p.0 q.0)
