@@ -1,5 +1,5 @@
 -- Where a step of a script may be played, each side refuses it only when out of memory.
-use Rattle.std.proofs.Common.{◌≡◌, ℕ, ◌<◌, ◌≤◌, ◌^◌, List, [], ◌∷◌, ◌++◌, Option, Some, None, Bool, true, false, inl, inr, refl, sym, ap, ◌∙◌, subst, IsSome, arith}
+use Rattle.std.proofs.Common.{◌≡◌, ℕ, ◌<◌, ◌≤◌, ◌^◌, List, [], ◌∷◌, ◌++◌, Option, Some, None, Bool, true, false, inl, inr, refl, sym, ap, ◌∙◌, subst, IsSome, is_some, arith}
 use Rattle.std.specs.Option.{option_map}
 use Rattle.std.specs.Prelude as list
 use Rattle.p3_challenger_core.specs.declared.error.ChallengerError.TheVariants as challenger
@@ -40,7 +40,7 @@ use Rattle.p3_runs.specs.Stepping.{IsTakenWherePossible, IsSentWherePossible, on
 use Rattle.p3_runs.specs.Values.{Value, Challenge, Witness, IsNothing, bytes_in, scalar_in, scalars_in}
 use Rattle.p3_runs.specs.Values.{extension_in, witness_in}
 use Rattle.p3_runs.specs.Values as value
-use Rattle.p3_script.specs.Scripts.{play_of, list_sent, knows_counted}
+use Rattle.p3_script.specs.Scripts.{play_of, knows_counted, sends_bytes, sends_one, sends_list, sends_counted, list_sent}
 use Rattle.p3_script.specs.declared.steps.Step as script
 use Rattle.p3_script.specs.declared.steps.Step.TheVariants as step
 use Rattle.p3_script.proofs.Canonical.{fitting}
@@ -48,16 +48,7 @@ use Rattle.p3_script.proofs.Lawful.{Lawful, LawfulCoding}
 
 -- what is made of something is of something
 mapped-some : {A T : Type 0} (f : A → T) (o : Option A) → IsSome (option_map f o) → IsSome o
-mapped-some f None h = absurd (cc)
-mapped-some f (Some x) h = refl
-
--- a list that is short enough is not refused as too long
-not_long : {S : Type 0} (len max : ℕ) (before after : Driving S) (e : TranscriptError) →
-    before.transcript.playing.finished ≡ false → len ≤ max → RefusesLongList len max before e after → ⊥
-not_long len max before after e going short refuses = elim refuses.playing.fault [
-  | inl h ↦ let done = h.0 in absurd (cc)
-  | inr h ↦ let long = h.1 in absurd (omega (arith, short, long))
-]
+mapped-some f o h = grind arith
 
 -- ---- what both sides know
 
@@ -67,29 +58,32 @@ pub record IsRefusedForMemory {S Symbol F EF O : Type 0} (play : Play S Symbol F
   pub sent : IsSentWherePossible play
 
 module _ {S Symbol F EF O A : Type 0} (condition : Type 0) (i : Step) (Fits : Value F EF → Type 0)
-    (f : A → Option (Challenge F EF)) (E : Effect S Symbol A) (absorbed : Absorbed F O)
-    (proving verifying : Refusing S) where
-  -- as each side refuses it, it is refused as any step is, where it is next
-  known_with-refused : TellsLimits E → ((v : Value F EF) (before after : Driving S) (e : TranscriptError) → Fits v →
-      IsNext before.transcript.playing i → verifying before e after →
-      RefusesStep (without_wire i E) before.transcript e after.transcript) →
-      ((v : Value F EF) (before after : Driving S) (e : TranscriptError) → Fits v →
-      IsNext before.transcript.playing i → proving before e after →
-      RefusesStep (without_wire i E) before.transcript e after.transcript) →
+    (f : A → Option (Challenge F EF)) (E : Effect S Symbol A) (absorbed : Absorbed F O) (tells : TellsLimits E) where
+  -- a side refuses it as any step is refused, where it is next
+  abbrev AsStep : Refusing S → Type 0
+  AsStep R =
+      (v : Value F EF) (before after : Driving S) (e : TranscriptError) → Fits v →
+      IsNext before.transcript.playing i → R before e after →
+      RefusesStep (without_wire i E) before.transcript e after.transcript
+
+  for_memory : (R : Refusing S) → AsStep R → (v : Value F EF) (before after : Driving S) (e : TranscriptError) →
+      Fits v → IsNext before.transcript.playing i → E.fits →
+      IsSome (option_map f (E.gives before.transcript.challenger)) → R before e after → e ≡ OutOfMemory
+  for_memory R same v before after e fits next short gives refuses =
+      next-only_memory (without_wire i E) tells before.transcript after.transcript e next short
+      (mapped-some f (E.gives before.transcript.challenger) gives) (same v before after e fits next refuses)
+
+  known_with-refused : (proving verifying : Refusing S) → AsStep proving → AsStep verifying →
       IsRefusedForMemory (only_if condition (known_with i Fits f E absorbed (sides_known proving verifying)))
-  known_with-refused tells unverified unproved =
+  known_with-refused proving verifying unproved unverified =
       record {
         taken = record {
           only_memory = λ witness before after e v refuses carried can.
-              next-only_memory (without_wire i E) tells before.transcript after.transcript e can.is_next can.short
-              (mapped-some f (E.gives before.transcript.challenger) can.gives)
-              (unverified v before after e can.fits can.is_next refuses);
+              for_memory verifying unverified v before after e can.fits can.is_next can.short can.gives refuses;
         };
         sent = record {
           only_memory = λ given v before after e handed refuses same can.
-              next-only_memory (without_wire i E) tells before.transcript after.transcript e can.is_next can.short
-              (mapped-some f (E.gives before.transcript.challenger) can.gives)
-              (unproved v before after e can.fits can.is_next refuses);
+              for_memory proving unproved v before after e can.fits can.is_next can.short can.gives refuses;
         };
       }
 
@@ -97,45 +91,36 @@ known-refused : {S Symbol F EF O A : Type 0} (condition : Type 0) (i : Step) (f 
     (E : Effect S Symbol A) (absorbed : Absorbed F O) → TellsLimits E →
     IsRefusedForMemory (only_if condition (known i f E absorbed))
 known-refused condition i f E absorbed tells =
-    known_with-refused condition i IsNothing f E absorbed _ _ tells (λ v before after e fits next refuses. refuses.0)
+    known_with-refused condition i IsNothing f E absorbed tells _ _ (λ v before after e fits next refuses. refuses.0)
     (λ v before after e fits next refuses. refuses.0)
 
 -- ---- what is sent
 
 -- what is sent is next alike, is given back, meets no limit, and is refused and read only when out of memory
-record Sending {S Symbol A : Type 0} (i : Step) (IsFit : A → Type 0) (sent : A → Meaning S Symbol A)
-    (proving : A → Refusing S) (reading : Reading S Symbol A) : Type 0 where
-  interaction : (x : A) → IsFit x → i ≡ (sent x).interaction
-  gives : (x : A) (s : S) → (sent x).effect.gives s ≡ Some x
-  tells : (x : A) → TellsLimits (sent x).effect
-  refused : (x : A) (before after : Driving S) (e : TranscriptError) → IsFit x →
-      before.transcript.playing.finished ≡ false → proving x before e after → RefusesToWrite (sent x) before e after
-  reads : (x : A) → IsFit x → OnlyMemoryRefusesToRead (sent x) reading x
-
 module _ {S Symbol F EF O A : Type 0} (i : Step) (found : Value F EF → Option A) (IsHanded IsFit : A → Type 0)
     (sent : A → Meaning S Symbol A) (absorbed : A → Absorbed F O) (proving : A → Refusing S)
-    (reading : Reading S Symbol A) (laws : Sending i IsFit sent proving reading) where
-  abbrev effect_of : Option A → Effect S Symbol (Option (Challenge F EF))
-  effect_of o = effect_some None (λ x. giving no_challenge (sent x).effect) o
-
+    (reading : Reading S Symbol A) (interaction : (x : A) → IsFit x → i ≡ (sent x).interaction)
+    (gives : (x : A) (s : S) → (sent x).effect.gives s ≡ Some x) (tells : (x : A) → TellsLimits (sent x).effect)
+    (refused : (x : A) (before after : Driving S) (e : TranscriptError) → IsFit x →
+    before.transcript.playing.finished ≡ false → proving x before e after → RefusesToWrite (sent x) before e after)
+    (reads : (x : A) → IsFit x → OnlyMemoryRefusesToRead (sent x) reading x) where
   -- a verifier
   sends-taken : IsTakenWherePossible (sends i found IsHanded IsFit sent absorbed proving reading)
   sends-taken =
       record {
         only_memory = λ witness before after e v refuses carried can.
             let x = fitting IsFit (found v) can.fits in
-            let fits : (sent x.0).effect.fits = subst (λ o. (effect_of o).fits) x.1 can.short in
-            let next = subst (λ (s : Step). IsNext before.transcript.playing s) (laws.interaction x.0 x.2) can.is_next in
-            let bytes : before.bytes ≡ (sent x.0).wire ++ can.left
-            = can.next ∙ ap (λ o. when_some [] (λ y. (sent y).wire) o ++ can.left) x.1 in
-            laws.reads x.0 x.2 before.transcript (record {
+            let next = rw (interaction x.0 x.2) at can.is_next in
+            let short = rw x.1 at can.short in
+            let bytes = rw x.1 at can.next in
+            reads x.0 x.2 before.transcript (record {
               challenger = (sent x.0).effect.after before.transcript.challenger;
               playing = step_on before.transcript.playing;
             }) can.left before after e
             (record {
               is_next = next;
-              fits = fits;
-              gives = laws.gives x.0 before.transcript.challenger;
+              fits = short;
+              gives = gives x.0 before.transcript.challenger;
               challenger = refl;
               playing = refl;
             })
@@ -149,14 +134,12 @@ module _ {S Symbol F EF O A : Type 0} (i : Step) (found : Value F EF → Option 
         only_memory = λ given v before after e handed refuses same can.
             let is : v ≡ given = cc in
             let x = fitting IsFit (found v) can.fits in
-            let fits : (sent x.0).effect.fits = subst (λ o. (effect_of o).fits) x.1 can.short in
-            let next = subst (λ (s : Step). IsNext before.transcript.playing s) (laws.interaction x.0 x.2) can.is_next in
-            let here : proving x.0 before e after
-            = subst (λ o. refuses_some proving o before e after) (ap found (sym is) ∙ x.1) refuses in
-            let gives : IsSome ((sent x.0).effect.gives before.transcript.challenger)
-            = subst (λ (o : Option A). IsSome o) (sym (laws.gives x.0 before.transcript.challenger)) refl in
-            next-only_memory (sent x.0) (laws.tells x.0) before.transcript after.transcript e next fits gives
-            (laws.refused x.0 before after e x.2 can.is_next.0 here).refuses;
+            let next = rw (interaction x.0 x.2) at can.is_next in
+            let short = rw x.1 at can.short in
+            let here = rw (← is, x.1) at refuses in
+            next-only_memory (sent x.0) (tells x.0) before.transcript after.transcript e next short
+            (ap is_some (gives x.0 before.transcript.challenger))
+            (refused x.0 before after e x.2 can.is_next.0 here).refuses;
       }
 
   sends-refused : IsRefusedForMemory (sends i found IsHanded IsFit sent absorbed proving reading)
@@ -167,41 +150,28 @@ module _ {S Symbol F EF O A : Type 0} (i : Step) (found : Value F EF → Option 
 -- a witness of which something is given passes
 passed : {W T : Type 0} (f : W → T) (x : W) (o : Option Bool) → IsSome (option_map f (where_passed x o)) →
     where_passed x o ≡ Some x
-passed f x None h = absurd (cc)
-passed f x (Some true) h = refl
-passed f x (Some false) h = absurd (cc)
+passed f x o h = grind arith
 
 module _ {S Symbol W : Type 0} (work : Work S Symbol W) (laws : IsResidues work.residues) (may_run_out : S → Type 0)
     (before after : Transcript S) (x : W) (least : IsLeast work.residues work.check before.challenger x)
     (next : IsNext before.playing work.interaction) where
   -- where a witness passes, a search finds one
   ground : (e : TranscriptError) → RefusesToGrind work may_run_out before e after → e ≡ OutOfMemory
-  ground (MissingBegin info) refuses = absurd refuses
-  ground (InvalidKind info) refuses = absurd refuses
-  ground (MismatchedBeginEnd info) refuses = absurd refuses
-  ground (MissingEnd info) refuses = absurd refuses
-  ground (BadProofShape reason) refuses = absurd refuses
+  ground OutOfMemory refuses = refl
   ground (Pattern e) refuses =
       absurd (next-not_refused before.playing after.playing work.interaction (Pattern e) next refuses.playing)
-  ground (Challenger challenger.OutOfMemory) refuses = absurd refuses
-  ground (Challenger challenger.DrawLimit) refuses = absurd refuses.leaves
   ground (Challenger challenger.NoWitness) refuses =
       absurd (refuses.leaves.0 (work.residues.number x) (laws.below x)
       (ap (λ y. (work.check y).sampled before.challenger) (laws.of_number x) ∙ least.passes))
-  ground (Challenger challenger.TooLong) refuses = absurd refuses.leaves
-  ground LabelTooLong refuses = absurd refuses
-  ground OutOfMemory refuses = refl
+  ground (Challenger challenger.OutOfMemory) refuses = absurd refuses
+  ground (Challenger _) refuses = absurd refuses.leaves
+  ground _ refuses = absurd refuses
 
 -- the witness that the caller carries is the step's
 carried_one : {S F EF : Type 0} (refuses : F → Refusing S) (witness : Option F) (v : Value F EF) (x : F)
     (before after : Driving S) (e : TranscriptError) → witness_in v ≡ Some x → v ∷ [] ≡ one_witness witness →
     refuses_some refuses witness before e after → refuses x before e after
-carried_one refuses None v x before after e is carried h = absurd h
-carried_one refuses (Some y) v x before after e is carried h =
-    let made : v ≡ Witness y = cc in
-    let found : Some y ≡ Some x = ap witness_in (sym made) ∙ is in
-    let same : y ≡ x = cc in
-    subst (λ z. refuses z before e after) same h
+carried_one refuses witness v x before after e is carried h = grind arith
 
 module _ {S Symbol F O : Type 0} (EF : Type 0) (condition there : Type 0) (work : Work S Symbol F) (may_run_out : S → Type 0)
     (absorbed : F → Absorbed F O) where
@@ -290,135 +260,49 @@ module _ {S Symbol F O : Type 0} (EF : Type 0) (condition there : Type 0) (work 
 
 -- ---- the shapes of what is sent
 
-not_refused : {S Symbol A : Type 0} (m : Meaning S Symbol A) (len max : ℕ) (before after : Driving S)
+within_refused : {S Symbol A : Type 0} (m : Meaning S Symbol A) (len max : ℕ) (before after : Driving S)
     (e : TranscriptError) → len ≤ max → before.transcript.playing.finished ≡ false →
     RefusesToWriteWithin len max m before e after → RefusesToWrite m before e after
-not_refused m len max before after e short going = elim [
-  | inl h ↦ absurd (not_long len max before after e going short h)
-  | inr h ↦ h.1
-]
+within_refused m len max before after e short going refuses = grind arith
 
 untouched-tells : {S Symbol A : Type 0} (x : A) → TellsLimits (untouched {S = S} {Symbol = Symbol} x)
 untouched-tells x = record { limit = λ s t h. absurd h; too_long = λ s t h fits. h; witness = λ s t h. h }
 
 module _ {S Symbol I F EF O Ac : Type 0} (rules : Rules S Symbol I F EF O Ac) (laws : Lawful rules) where
-  bytes-sending : (kind : Kind) (label : List ℕ) (len : ℕ) →
-      Sending (bytes_step kind label (lengths.Fixed len)) (HasLength len)
-      (meaning.sent_bytes kind label rules.alphabet)
-      (λ bytes. RefusesToWrite (meaning.sent_bytes kind label rules.alphabet bytes))
-      (reads.received_bytes kind label rules.alphabet len)
-  bytes-sending kind label len =
-      record {
-        interaction = λ bytes is. ap (λ n. bytes_step kind label (lengths.Fixed n)) (sym is);
-        gives = λ bytes s. refl;
-        tells = laws.bytes;
-        refused = λ bytes before after e is going h. h;
-        reads = λ bytes is. subst (λ n. OnlyMemoryRefusesToRead (meaning.sent_bytes kind label rules.alphabet bytes)
-            (reads.received_bytes kind label rules.alphabet n) bytes) is (laws.read_bytes kind label bytes);
-      }
-
-  counted_bytes-sending : (label : List ℕ) (max : ℕ) → max < 2 ^ 64 →
-      Sending (bytes_step kind.Message label (lengths.Bounded max)) (HasAtMost max)
-      (meaning.sent_bytes_bounded kind.Message label rules.alphabet max)
-      (λ bytes. RefusesToWriteWithin (list.length bytes) max
-      (meaning.sent_bytes_bounded kind.Message label rules.alphabet max bytes))
-      (reads.received_bytes_bounded label rules.alphabet max)
-  counted_bytes-sending label max small =
-      record {
-        interaction = λ bytes is. refl;
-        gives = λ bytes s. refl;
-        tells = laws.counted_bytes max;
-        refused = λ bytes before after e is going h. not_refused _ _ max before after e is going h;
-        reads = λ bytes is. laws.read_counted_bytes label max bytes is small;
-      }
-
-  hint-sending : (label : List ℕ) (len : ℕ) →
-      Sending {S = S} {Symbol = Symbol} (bytes_step kind.Hint label (lengths.Fixed len)) (HasLength len)
-      (meaning.hinted label) (λ bytes. RefusesToWrite {Symbol = Symbol} (meaning.hinted label bytes))
-      (reads.hint_received label len)
-  hint-sending label len =
-      record {
-        interaction = λ bytes is. ap (λ n. bytes_step kind.Hint label (lengths.Fixed n)) (sym is);
-        gives = λ bytes s. refl;
-        tells = untouched-tells;
-        refused = λ bytes before after e is going h. h;
-        reads = λ bytes is. subst (λ n. OnlyMemoryRefusesToRead {S = S} {Symbol = Symbol} (meaning.hinted label bytes)
-            (reads.hint_received label n) bytes) is (laws.read_hint label bytes);
-      }
-
-  counted_hint-sending : (label : List ℕ) (max : ℕ) → max < 2 ^ 64 →
-      Sending {S = S} {Symbol = Symbol} (bytes_step kind.Hint label (lengths.Bounded max)) (HasAtMost max)
-      (meaning.hinted_bounded label max)
-      (λ bytes. RefusesToWriteWithin {Symbol = Symbol} (list.length bytes) max (meaning.hinted_bounded label max bytes))
-      (reads.hint_received_bounded label max)
-  counted_hint-sending label max small =
-      record {
-        interaction = λ bytes is. refl;
-        gives = λ bytes s. refl;
-        tells = untouched-tells;
-        refused = λ bytes before after e is going h. not_refused _ _ max before after e is going h;
-        reads = λ bytes is. laws.read_counted_hint label max bytes is small;
-      }
+  bytes-refused : (kind : Kind) (label : List ℕ) (len : ℕ) → IsRefusedForMemory (sends_bytes rules kind label len)
+  bytes-refused kind label len =
+      sends-refused _ bytes_in _ _ _ _ _ _ (λ bytes is. cc) (λ bytes s. refl) laws.bytes
+      (λ bytes before after e is going h. h) (λ bytes is.
+      subst (λ n. OnlyMemoryRefusesToRead (meaning.sent_bytes kind label rules.alphabet bytes)
+      (reads.received_bytes kind label rules.alphabet n) bytes) is (laws.read_bytes kind label bytes))
 
   module _ {A : Type 0} (c : Coding S Symbol F A) (lawful : LawfulCoding rules c) where
-    one-sending : (i : Step) →
-        Sending i Any (meaning.sent i c.observation c.encoding)
-        (λ x. RefusesToWrite (meaning.sent i c.observation c.encoding x)) (reads.received i c.observation c.encoding)
-    one-sending i =
-        record {
-          interaction = λ x is. refl;
-          gives = λ x s. refl;
-          tells = lawful.observed;
-          refused = λ x before after e is going h. h;
-          reads = λ x is. lawful.read i x;
-        }
+    one-refused : (found : Value F EF → Option A) (label : List ℕ) → IsRefusedForMemory (sends_one rules c found label)
+    one-refused found label =
+        sends-refused _ found _ _ _ _ _ _ (λ x is. refl) (λ x s. refl) lawful.observed
+        (λ x before after e is going h. h) (λ x is. lawful.read _ x)
 
-    abbrev step_of : List ℕ → ℕ → Step
-    step_of label n = algebra_step kind.Message label c.algebra (lengths.Fixed n)
+    list-refused : (found : Value F EF → Option (List A)) (label : List ℕ) (n : ℕ) →
+        IsRefusedForMemory (sends_list rules c found label n)
+    list-refused found label n =
+        sends-refused _ found _ _ _ _ _ _ (λ xs is. cc) (λ xs s. refl) lawful.observed_list
+        (λ xs before after e is going h. h) (λ xs is.
+        subst (λ m. OnlyMemoryRefusesToRead (list_sent rules c label xs)
+        (reads.received_list (algebra_step kind.Message label c.algebra (lengths.Fixed m)) c.observation c.encoding m)
+        xs) is (lawful.read_list _ xs))
 
-    list-sending : (label : List ℕ) (n : ℕ) →
-        Sending (step_of label n) (HasLength n) (list_sent rules c label)
-        (λ xs. RefusesToWrite (list_sent rules c label xs))
-        (reads.received_list (step_of label n) c.observation c.encoding n)
-    list-sending label n =
-        record {
-          interaction = λ xs is. ap (step_of label) (sym is);
-          gives = λ xs s. refl;
-          tells = lawful.observed_list;
-          refused = λ xs before after e is going h. h;
-          reads = λ xs is. subst (λ m. OnlyMemoryRefusesToRead (list_sent rules c label xs)
-              (reads.received_list (step_of label m) c.observation c.encoding m) xs) is
-              (lawful.read_list (step_of label (list.length xs)) xs);
-        }
-
-    counted-sending : (i : Step) (max : ℕ) → max < 2 ^ 64 →
-        Sending i (HasAtMost max) (meaning.sent_bounded i rules.alphabet max c.observation c.encoding)
-        (λ xs. RefusesToWriteWithin (list.length xs) max
-        (meaning.sent_bounded i rules.alphabet max c.observation c.encoding xs))
-        (reads.received_bounded i rules.alphabet max c.observation c.encoding)
-    counted-sending i max small =
-        record {
-          interaction = λ xs is. refl;
-          gives = λ xs s. refl;
-          tells = lawful.observed_counted max;
-          refused = λ xs before after e is going h. not_refused _ _ max before after e is going h;
-          reads = λ xs is. lawful.read_counted i max xs is small;
-        }
+    counted-refused : (found : Value F EF → Option (List A)) (label : List ℕ) (max : ℕ) → max < 2 ^ 64 →
+        IsRefusedForMemory (sends_counted rules c found label max)
+    counted-refused found label max small =
+        sends-refused _ found _ _ _ _ _ _ (λ xs is. refl) (λ xs s. refl) (lawful.observed_counted max)
+        (λ xs before after e. within_refused _ _ max before after e) (λ xs is. lawful.read_counted _ max xs is small)
 
     -- a list that both sides know, of at most so many
     counted-known : (kind : Kind) (label : List ℕ) (xs : List A) (max : ℕ) →
         IsRefusedForMemory (knows_counted rules c kind label xs max)
     counted-known kind label xs max =
-        known_with-refused _ _ (λ v. IsNothing v × (list.length xs ≤ max)) no_challenge _ _ _ _
-        (lawful.observed_counted max xs)
-        (λ v before after e is next refuses. elim refuses.0 [
-          | inl h ↦ absurd (laws.within (list.length xs) max before after e next.0 is.1 h)
-          | inr h ↦ h.1
-        ])
-        (λ v before after e is next refuses. elim refuses.0 [
-          | inl h ↦ absurd (not_long (list.length xs) max before after e next.0 is.1 h)
-          | inr h ↦ h.1
-        ])
+        known_with-refused _ _ _ no_challenge _ _ (lawful.observed_counted max xs) _ _
+        (λ v before after e is next refuses. grind arith) (λ v before after e is next refuses. grind arith)
 
   -- ---- the kinds
 
@@ -430,35 +314,44 @@ module _ {S Symbol I F EF O Ac : Type 0} (rules : Rules S Symbol I F EF O Ac) (l
   step-refused (step.End label kind) fits may =
       known-refused _ _ no_challenge (untouched (tt {0})) _ (untouched-tells (tt {0}))
   step-refused (step.Salt label len) fits may =
-      sends-refused _ bytes_in _ _ _ _ _ _ (bytes-sending kind.Salt label.now len)
+      bytes-refused kind.Salt label.now len
   step-refused (step.Bytes label len) fits may =
-      sends-refused _ bytes_in _ _ _ _ _ _ (bytes-sending kind.Message label.now len)
-  step-refused (step.Hint label len) fits may = sends-refused _ bytes_in _ _ _ _ _ _ (hint-sending label.now len)
+      bytes-refused kind.Message label.now len
+  step-refused (step.Hint label len) fits may = 
+      sends-refused _ bytes_in _ _ _ _ _ _ (λ bytes is. cc) (λ bytes s. refl) untouched-tells
+      (λ bytes before after e is going h. h) (λ bytes is.
+      subst (λ n. OnlyMemoryRefusesToRead {S = S} {Symbol = Symbol} (meaning.hinted label.now bytes)
+      (reads.hint_received label.now n) bytes) is (laws.read_hint label.now bytes))
   step-refused (step.BytesBounded label max) fits may =
-      sends-refused _ bytes_in _ _ _ _ _ _ (counted_bytes-sending label.now max fits)
+      sends-refused _ bytes_in _ _ _ _ _ _ (λ bytes is. refl) (λ bytes s. refl) (laws.counted_bytes max)
+      (λ bytes before after e. within_refused _ _ max before after e)
+      (λ bytes is. laws.read_counted_bytes label.now max bytes is fits)
   step-refused (step.HintBounded label max) fits may =
-      sends-refused _ bytes_in _ _ _ _ _ _ (counted_hint-sending label.now max fits)
+      sends-refused _ bytes_in _ _ _ _ _ _ (λ bytes is. refl) (λ bytes s. refl) untouched-tells
+      (λ bytes before after e. within_refused _ _ max before after e)
+      (λ bytes is. laws.read_counted_hint label.now max bytes is fits)
   step-refused (step.PublicScalar label x) fits may = known-refused _ _ no_challenge _ _ (laws.scalar.observed x)
   step-refused (step.PublicScalars label xs) fits may =
       known-refused _ _ no_challenge _ _ (laws.scalar.observed_list xs.items)
   step-refused (step.PublicScalarsBounded label xs max) fits may =
       counted-known rules.scalar laws.scalar kind.Public label.now xs.items max
   step-refused (step.Scalar label) fits may =
-      sends-refused _ scalar_in _ _ _ _ _ _ (one-sending rules.scalar laws.scalar _)
+      one-refused rules.scalar laws.scalar scalar_in label.now
   step-refused (step.Scalars label n) fits may =
-      sends-refused _ scalars_in _ _ _ _ _ _ (list-sending rules.scalar laws.scalar label.now n)
+      list-refused rules.scalar laws.scalar scalars_in label.now n
   step-refused (step.ScalarsBounded label max) fits may =
-      sends-refused _ scalars_in _ _ _ _ _ _ (counted-sending rules.scalar laws.scalar _ max fits)
+      counted-refused rules.scalar laws.scalar scalars_in label.now max fits
   step-refused (step.Extension label) fits may =
-      sends-refused _ extension_in _ _ _ _ _ _ (one-sending rules.extension laws.extension _)
+      one-refused rules.extension laws.extension extension_in label.now
   step-refused (step.ObserveExtension label x) fits may =
       known-refused _ _ no_challenge _ _ (laws.extension.observed x)
   step-refused (step.ObserveExtensions label xs) fits may =
-      known_with-refused _ _ IsNothing no_challenge _ _ _ _ (laws.extension.observed_list xs.items)
+      known_with-refused _ _ IsNothing no_challenge _ _ (laws.extension.observed_list xs.items) _ _
+      (λ v before after e is next refuses. refuses.0)
       (λ v before after e is next refuses. elim refuses.0 [
         | inl h ↦ absurd (laws.recorded (list.length xs.items) _ before after e next refl h)
         | inr h ↦ h.1
-      ]) (λ v before after e is next refuses. refuses.0)
+      ])
   step-refused (step.ObserveExtensionsBounded label xs max) fits may =
       counted-known rules.extension laws.extension kind.Message label.now xs.items max
   step-refused (step.Opaque label x) fits may = known-refused _ _ no_challenge _ _ (laws.opaque x)
