@@ -23,7 +23,7 @@ use Rattle.p3_driver_core.specs.Proving.{RefusesToWrite, RefusesLongList}
 use Rattle.p3_driver_core.specs.Reads as reads
 use Rattle.p3_driver_core.specs.Reads.{Reading}
 use Rattle.p3_driver_core.specs.TranscriptLaws.{next-not_refused}
-use Rattle.p3_driver_core.specs.Transcripts.{Meaning, Transcript, RefusesStep, IsNext}
+use Rattle.p3_driver_core.specs.Transcripts.{Meaning, Transcript, PlaysStep, RefusesStep, IsNext}
 use Rattle.p3_driver_core.specs.Transcripts.{without_wire, step_on, bytes_step}
 use Rattle.p3_driver_core.specs.Working.{Work, RefusesToGrind, checking, where_passed}
 use Rattle.p3_step_laws.specs.Completeness.{CompletesWork, CompletesCarriedWork}
@@ -35,8 +35,8 @@ use Rattle.p3_runs.specs.Plays.{Play, only_if, known, known_with, sends, sends_w
 use Rattle.p3_runs.specs.Plays.{no_challenge, when_some, effect_some, Any, HasLength, HasAtMost}
 use Rattle.p3_runs.specs.Rules.{Rules, Coding}
 use Rattle.p3_runs.specs.Sides.{Refusing, refuses_some, sides_known, RefusesToWriteWithin}
-use Rattle.p3_runs.specs.Sides.{RefusesCarriedWork}
-use Rattle.p3_runs.specs.Stepping.{IsTakenWherePossible, IsSentWherePossible, one_witness}
+use Rattle.p3_runs.specs.Sides.{RefusesCarriedWork, RefusesToReadWork}
+use Rattle.p3_runs.specs.Stepping.{IsTakenWherePossible, IsSentWherePossible, CanTake, one_witness}
 use Rattle.p3_runs.specs.Values.{Value, Challenge, Witness, IsNothing, bytes_in, scalar_in, scalars_in}
 use Rattle.p3_runs.specs.Values.{extension_in, witness_in}
 use Rattle.p3_runs.specs.Values as value
@@ -96,6 +96,13 @@ known-refused condition i f E absorbed tells =
 
 -- ---- what is sent
 
+played : {S Symbol A : Type 0} (m : Meaning S Symbol A) (x : A) (before : Transcript S) →
+    IsNext before.playing m.interaction → m.effect.fits → m.effect.gives before.challenger ≡ Some x →
+    PlaysStep m before x
+    (record { challenger = m.effect.after before.challenger; playing = step_on before.playing })
+played m x before next fits gives =
+    record { is_next = next; fits = fits; gives = gives; challenger = refl; playing = refl }
+
 -- what is sent is next alike, is given back, meets no limit, and is refused and read only when out of memory
 module _ {S Symbol F EF O A : Type 0} (i : Step) (found : Value F EF → Option A) (IsHanded IsFit : A → Type 0)
     (sent : A → Meaning S Symbol A) (absorbed : A → Absorbed F O) (proving : A → Refusing S)
@@ -113,17 +120,8 @@ module _ {S Symbol F EF O A : Type 0} (i : Step) (found : Value F EF → Option 
             let next = rw (interaction x.0 x.2) at can.is_next in
             let short = rw x.1 at can.short in
             let bytes = rw x.1 at can.next in
-            reads x.0 x.2 before.transcript (record {
-              challenger = (sent x.0).effect.after before.transcript.challenger;
-              playing = step_on before.transcript.playing;
-            }) can.left before after e
-            (record {
-              is_next = next;
-              fits = short;
-              gives = gives x.0 before.transcript.challenger;
-              challenger = refl;
-              playing = refl;
-            })
+            reads x.0 x.2 before.transcript _ can.left before after e
+            (played (sent x.0) x.0 before.transcript next short (gives x.0 before.transcript.challenger))
             (λ k. record { transcript = before.transcript; bytes = bytes k }) refuses;
       }
 
@@ -147,116 +145,72 @@ module _ {S Symbol F EF O A : Type 0} (i : Step) (found : Value F EF → Option 
 
 -- ---- proof of work
 
--- a witness of which something is given passes
-passed : {W T : Type 0} (f : W → T) (x : W) (o : Option Bool) → IsSome (option_map f (where_passed x o)) →
-    where_passed x o ≡ Some x
-passed f x o h = grind arith
-
-module _ {S Symbol W : Type 0} (work : Work S Symbol W) (laws : IsResidues work.residues) (may_run_out : S → Type 0)
-    (before after : Transcript S) (x : W) (least : IsLeast work.residues work.check before.challenger x)
-    (next : IsNext before.playing work.interaction) where
-  -- where a witness passes, a search finds one
-  ground : (e : TranscriptError) → RefusesToGrind work may_run_out before e after → e ≡ OutOfMemory
-  ground OutOfMemory refuses = refl
-  ground (Pattern e) refuses =
-      absurd (next-not_refused before.playing after.playing work.interaction (Pattern e) next refuses.playing)
-  ground (Challenger challenger.NoWitness) refuses =
-      absurd (refuses.leaves.0 (work.residues.number x) (laws.below x)
-      (ap (λ y. (work.check y).sampled before.challenger) (laws.of_number x) ∙ least.passes))
-  ground (Challenger challenger.OutOfMemory) refuses = absurd refuses
-  ground (Challenger _) refuses = absurd refuses.leaves
-  ground _ refuses = absurd refuses
-
--- the witness that the caller carries is the step's
-carried_one : {S F EF : Type 0} (refuses : F → Refusing S) (witness : Option F) (v : Value F EF) (x : F)
-    (before after : Driving S) (e : TranscriptError) → witness_in v ≡ Some x → v ∷ [] ≡ one_witness witness →
-    refuses_some refuses witness before e after → refuses x before e after
-carried_one refuses witness v x before after e is carried h = grind arith
-
 module _ {S Symbol F O : Type 0} (EF : Type 0) (condition there : Type 0) (work : Work S Symbol F) (may_run_out : S → Type 0)
     (absorbed : F → Absorbed F O) where
-  abbrev work_effect : Option F → Effect S Symbol (Option (Challenge F EF))
-  work_effect o = effect_some None (λ x. giving no_challenge (checking work x)) o
+  -- where a witness passes, a search finds one
+  ground : IsResidues work.residues → (before after : Transcript S) (x : F) →
+      IsLeast work.residues work.check before.challenger x → IsNext before.playing work.interaction →
+      (e : TranscriptError) → RefusesToGrind work may_run_out before e after → e ≡ OutOfMemory
+  ground laws before after x least next e refuses =
+      grind (arith, next-not_refused, laws.below x, laws.of_number x, least.passes)
 
   -- the witness that may be played passes
-  passing : (s : S) (o : Option F) (x : F) → o ≡ Some x → IsSome ((work_effect o).gives s) →
-      where_passed x ((work.check x).sampled s) ≡ Some x
-  passing s o x is some =
-      passed {T = Option (Challenge F EF)} no_challenge x ((work.check x).sampled s)
-      (subst (λ p. IsSome ((work_effect p).gives s)) is some)
+  passes : (x : F) (wire : List ℕ) (before : Transcript S) → IsNext before.playing work.interaction →
+      IsSome (option_map (no_challenge {F = F} {EF = EF}) (where_passed x ((work.check x).sampled before.challenger))) →
+      PlaysStep (record { interaction = work.interaction; effect = checking work x; wire = wire }) before x
+      (record { challenger = (work.check x).after before.challenger; playing = step_on before.playing })
+  passes x wire before next gives = played _ x before next tt (grind arith)
 
-  witness-taken : (enc : Encoding F) → ((x : F) → CompletesWork work enc x) →
-      IsTakenWherePossible (only_if condition (sends_witness {EF = EF} work there enc may_run_out absorbed))
-  witness-taken enc completes =
-      record {
-        only_memory = λ witness before after e v refuses carried can.
-            let x = fitting (λ _. there) (witness_in v) can.fits in
-            let bytes : before.bytes ≡ enc.wire x.0 ++ can.left
-            = can.next ∙ ap (λ o. when_some [] enc.wire o ++ can.left) x.1 in
-            (completes x.0).refuses before.transcript (record {
-              challenger = (work.check x.0).after before.transcript.challenger;
-              playing = step_on before.transcript.playing;
-            }) can.left before after e
-            (record {
-              is_next = can.is_next;
-              fits = tt;
-              gives = passing before.transcript.challenger (witness_in v) x.0 x.1 can.gives;
-              challenger = refl;
-              playing = refl;
-            })
-            (λ k. record { transcript = before.transcript; bytes = bytes k }) refuses;
-      }
+  module _ (enc : Encoding F) (laws : IsResidues work.residues) (completes : (x : F) → CompletesWork work enc x) where
+    abbrev sent_play : Play S Symbol F EF O
+    sent_play = only_if condition (sends_witness work there enc may_run_out absorbed)
 
-  witness-sent : (enc : Encoding F) → IsResidues work.residues →
-      IsSentWherePossible (only_if condition (sends_witness {EF = EF} work there enc may_run_out absorbed))
-  witness-sent enc laws =
-      record {
-        only_memory = λ given v before after e handed refuses same can.
-            let x = fitting (λ y. IsLeast work.residues work.check before.transcript.challenger y) (witness_in v) can.chosen
-            in elim refuses [
-              | inl h ↦ ground work laws may_run_out before.transcript after.transcript x.0 x.2 can.is_next e h.0
-              | inr h ↦ h.memory
-            ];
-      }
+    witness-read : (v : Value F EF) (before after : Driving S) (e : TranscriptError) →
+        RefusesToReadWork work enc before e after → CanTake sent_play before v → e ≡ OutOfMemory
+    witness-read (Witness x) before after e refuses can =
+        (completes x).refuses before.transcript _ can.left before after e
+        (passes x _ before.transcript can.is_next can.gives)
+        (λ k. record { transcript = before.transcript; bytes = can.next k }) refuses
+    witness-read _ before after e refuses can = absurd can.fits
 
-  witness-refused : (enc : Encoding F) → IsResidues work.residues → ((x : F) → CompletesWork work enc x) →
-      IsRefusedForMemory (only_if condition (sends_witness {EF = EF} work there enc may_run_out absorbed))
-  witness-refused enc laws completes =
-      record { taken = witness-taken enc completes; sent = witness-sent enc laws }
+    witness-refused : IsRefusedForMemory sent_play
+    witness-refused =
+        record {
+          taken = record { only_memory = λ w before after e v refuses same. witness-read v before after e refuses };
+          sent = record {
+            only_memory = λ given v before after e handed refuses same can.
+                let x = fitting (IsLeast work.residues work.check before.transcript.challenger) (witness_in v) can.chosen in
+                elim refuses [
+                  | inl h ↦ ground laws before.transcript after.transcript x.0 x.2 can.is_next e h.0
+                  | inr h ↦ h.memory
+                ];
+          };
+        }
 
-  carried-taken : ((x : F) → CompletesCarriedWork work x) →
-      IsTakenWherePossible (only_if condition (carries_witness {EF = EF} work there may_run_out absorbed))
-  carried-taken completes =
-      record {
-        only_memory = λ witness before after e v refuses carried can.
-            let x = fitting (λ _. there) (witness_in v) can.fits in
-            let here = carried_one (RefusesCarriedWork work) witness v x.0 before after e x.1 carried refuses in
-            (completes x.0).refuses before.transcript (record {
-              challenger = (work.check x.0).after before.transcript.challenger;
-              playing = step_on before.transcript.playing;
-            }) before.transcript after.transcript e
-            (record {
-              is_next = can.is_next;
-              fits = tt;
-              gives = passing before.transcript.challenger (witness_in v) x.0 x.1 can.gives;
-              challenger = refl;
-              playing = refl;
-            })
-            refl here.0;
-      }
+  module _ (laws : IsResidues work.residues) (completes : (x : F) → CompletesCarriedWork work x) where
+    abbrev carried_play : Play S Symbol F EF O
+    carried_play = only_if condition (carries_witness work there may_run_out absorbed)
 
-  carried-sent : IsResidues work.residues →
-      IsSentWherePossible (only_if condition (carries_witness {EF = EF} work there may_run_out absorbed))
-  carried-sent laws =
-      record {
-        only_memory = λ given v before after e handed refuses same can.
-            let x = fitting (λ y. IsLeast work.residues work.check before.transcript.challenger y) (witness_in v) can.chosen
-            in ground work laws may_run_out before.transcript after.transcript x.0 x.2 can.is_next e refuses.0;
-      }
+    carried-checked : (witness : Option F) (v : Value F EF) (before after : Driving S) (e : TranscriptError) →
+        refuses_some (RefusesCarriedWork work) witness before e after → v ∷ [] ≡ one_witness witness →
+        CanTake carried_play before v → e ≡ OutOfMemory
+    carried-checked (Some y) (Witness x) before after e refuses same can =
+        let is : y ≡ x = cc in
+        (completes x).refuses before.transcript _ before.transcript after.transcript e
+        (passes x [] before.transcript can.is_next can.gives) refl (rw is at refuses.0)
+    carried-checked None _ before after e refuses same can = absurd refuses
+    carried-checked _ _ before after e refuses same can = absurd can.fits
 
-  carried-refused : IsResidues work.residues → ((x : F) → CompletesCarriedWork work x) →
-      IsRefusedForMemory (only_if condition (carries_witness {EF = EF} work there may_run_out absorbed))
-  carried-refused laws completes = record { taken = carried-taken completes; sent = carried-sent laws }
+    carried-refused : IsRefusedForMemory carried_play
+    carried-refused =
+        record {
+          taken = record { only_memory = λ witness before after e v. carried-checked witness v before after e };
+          sent = record {
+            only_memory = λ given v before after e handed refuses same can.
+                let x = fitting (IsLeast work.residues work.check before.transcript.challenger) (witness_in v) can.chosen in
+                ground laws before.transcript after.transcript x.0 x.2 can.is_next e refuses.0;
+          };
+        }
 
 -- ---- the shapes of what is sent
 
