@@ -21,7 +21,6 @@ use Rattle.p3_runs.specs.Values.{bytes_in, scalar_in, scalars_in, extension_in, 
 use Rattle.p3_script.specs.Scripts.{play_of}
 use Rattle.p3_script.specs.declared.steps.Step as script
 use Rattle.p3_script.specs.declared.steps.Step.TheVariants as step
-use Rattle.p3_script.proofs.Lawful.{Lawful}
 
 -- ---- values
 
@@ -107,7 +106,9 @@ by_wire play code none =
 
 -- ---- the kinds
 
-module _ {S Symbol I F EF O Ac : Type 0} (rules : Rules S Symbol I F EF O Ac) (laws : Lawful rules) where
+module _ {S Symbol I F EF O Ac : Type 0} (rules : Rules S Symbol I F EF O Ac)
+    (scalar : IsPrefixCode rules.scalar.encoding.wire) (extension : IsPrefixCode rules.extension.encoding.wire)
+    (witness : IsPrefixCode rules.witness_encoding.wire) where
   pub step-canonical : {Su U C K D G It St Sy : Type 0} (x : script.Step Su F EF U O C K Ac D G It St Sy) →
       FitsLength (play_of rules x).interaction.length → IsCanonical (play_of rules x)
   step-canonical (step.Salt label len) fits = by_wire _ (told bytes_in Bytes bytes-is _ _ (bytes-code len)) (λ v. refl)
@@ -118,16 +119,16 @@ module _ {S Symbol I F EF O Ac : Type 0} (rules : Rules S Symbol I F EF O Ac) (l
   step-canonical (step.HintBounded label max) fits =
       by_wire _ (told bytes_in Bytes bytes-is _ _ (counted-code _ bytes-code max fits)) (λ v. refl)
   step-canonical (step.Scalar label) fits =
-      by_wire _ (told scalar_in Scalar scalar-is _ _ (value-code _ laws.scalar.code)) (λ v. refl)
+      by_wire _ (told scalar_in Scalar scalar-is _ _ (value-code _ scalar)) (λ v. refl)
   step-canonical (step.Scalars label n) fits =
-      by_wire _ (told scalars_in Scalars scalars-is _ _ (values-code _ laws.scalar.code n)) (λ v. refl)
+      by_wire _ (told scalars_in Scalars scalars-is _ _ (values-code _ scalar n)) (λ v. refl)
   step-canonical (step.ScalarsBounded label max) fits =
-      by_wire _ (told scalars_in Scalars scalars-is _ _ (counted-code _ (values-code _ laws.scalar.code) max fits))
+      by_wire _ (told scalars_in Scalars scalars-is _ _ (counted-code _ (values-code _ scalar) max fits))
       (λ v. refl)
   step-canonical (step.Extension label) fits =
-      by_wire _ (told extension_in Extension extension-is _ _ (value-code _ laws.extension.code)) (λ v. refl)
+      by_wire _ (told extension_in Extension extension-is _ _ (value-code _ extension)) (λ v. refl)
   step-canonical (step.Pow label bits) fits =
-      by_wire _ (told witness_in Witness witness-is _ _ (value-code _ laws.witness)) (λ v. refl)
+      by_wire _ (told witness_in Witness witness-is _ _ (value-code _ witness)) (λ v. refl)
   step-canonical (step.ObservePow label bits) fits =
       record { one_way = λ v w a b c d p q bytes carried. (cc, simp no_wire at bytes, cc) }
   step-canonical (step.PublicScalarsBounded label xs max) fits =

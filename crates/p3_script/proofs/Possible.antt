@@ -31,11 +31,11 @@ use Rattle.p3_step_laws.specs.Limits.{TellsLimits}
 use Rattle.p3_step_laws.specs.Memory.{OnlyMemoryRefusesToRead}
 use Rattle.p3_step_laws.specs.MemoryLaws.{next-only_memory}
 use Rattle.p3_runs.specs.Absorbed.{Absorbed}
-use Rattle.p3_runs.specs.Plays.{Play, only_if, known, known_with, sends, sends_witness, carries_witness, giving}
+use Rattle.p3_runs.specs.Plays.{Play, only_if, known, known_with, known_within, sends, sends_witness, carries_witness, giving}
 use Rattle.p3_runs.specs.Plays.{no_challenge, when_some, effect_some, Any, HasLength, HasAtMost}
 use Rattle.p3_runs.specs.Rules.{Rules, Coding}
 use Rattle.p3_runs.specs.Sides.{Refusing, refuses_some, sides_known, RefusesToWriteWithin}
-use Rattle.p3_runs.specs.Sides.{RefusesCarriedWork, RefusesToReadWork}
+use Rattle.p3_runs.specs.Sides.{RefusesWithin, RefusesCarriedWithin, RefusesCarriedWork, RefusesToReadWork}
 use Rattle.p3_runs.specs.Stepping.{IsTakenWherePossible, IsSentWherePossible, CanTake, one_witness}
 use Rattle.p3_runs.specs.Values.{Value, Challenge, Witness, IsNothing, bytes_in, scalar_in, scalars_in}
 use Rattle.p3_runs.specs.Values.{extension_in, witness_in}
@@ -44,7 +44,6 @@ use Rattle.p3_script.specs.Scripts.{play_of, knows_counted, sends_bytes, sends_o
 use Rattle.p3_script.specs.declared.steps.Step as script
 use Rattle.p3_script.specs.declared.steps.Step.TheVariants as step
 use Rattle.p3_script.proofs.Canonical.{fitting}
-use Rattle.p3_script.proofs.Lawful.{Lawful, LawfulCoding}
 
 -- what is made of something is of something
 mapped-some : {A T : Type 0} (f : A → T) (o : Option A) → IsSome (option_map f o) → IsSome o
@@ -73,7 +72,7 @@ module _ {S Symbol F EF O A : Type 0} (condition : Type 0) (i : Step) (Fits : Va
       next-only_memory (without_wire i E) tells before.transcript after.transcript e next short
       (mapped-some f (E.gives before.transcript.challenger) gives) (same v before after e fits next refuses)
 
-  known_with-refused : (proving verifying : Refusing S) → AsStep proving → AsStep verifying →
+  pub known_with-refused : (proving verifying : Refusing S) → AsStep proving → AsStep verifying →
       IsRefusedForMemory (only_if condition (known_with i Fits f E absorbed (sides_known proving verifying)))
   known_with-refused proving verifying unproved unverified =
       record {
@@ -87,7 +86,7 @@ module _ {S Symbol F EF O A : Type 0} (condition : Type 0) (i : Step) (Fits : Va
         };
       }
 
-known-refused : {S Symbol F EF O A : Type 0} (condition : Type 0) (i : Step) (f : A → Option (Challenge F EF))
+pub known-refused : {S Symbol F EF O A : Type 0} (condition : Type 0) (i : Step) (f : A → Option (Challenge F EF))
     (E : Effect S Symbol A) (absorbed : Absorbed F O) → TellsLimits E →
     IsRefusedForMemory (only_if condition (known i f E absorbed))
 known-refused condition i f E absorbed tells =
@@ -140,7 +139,7 @@ module _ {S Symbol F EF O A : Type 0} (i : Step) (found : Value F EF → Option 
             (refused x.0 before after e x.2 can.is_next.0 here).refuses;
       }
 
-  sends-refused : IsRefusedForMemory (sends i found IsHanded IsFit sent absorbed proving reading)
+  pub sends-refused : IsRefusedForMemory (sends i found IsHanded IsFit sent absorbed proving reading)
   sends-refused = record { taken = sends-taken; sent = sends-sent }
 
 -- ---- proof of work
@@ -173,7 +172,7 @@ module _ {S Symbol F O : Type 0} (EF : Type 0) (condition there : Type 0) (work 
         (λ k. record { transcript = before.transcript; bytes = can.next k }) refuses
     witness-read _ before after e refuses can = absurd can.fits
 
-    witness-refused : IsRefusedForMemory sent_play
+    pub witness-refused : IsRefusedForMemory sent_play
     witness-refused =
         record {
           taken = record { only_memory = λ w before after e v refuses same. witness-read v before after e refuses };
@@ -201,7 +200,7 @@ module _ {S Symbol F O : Type 0} (EF : Type 0) (condition there : Type 0) (work 
     carried-checked None _ before after e refuses same can = absurd refuses
     carried-checked _ _ before after e refuses same can = absurd can.fits
 
-    carried-refused : IsRefusedForMemory carried_play
+    pub carried-refused : IsRefusedForMemory carried_play
     carried-refused =
         record {
           taken = record { only_memory = λ witness before after e v. carried-checked witness v before after e };
@@ -214,119 +213,18 @@ module _ {S Symbol F O : Type 0} (EF : Type 0) (condition there : Type 0) (work 
 
 -- ---- the shapes of what is sent
 
-within_refused : {S Symbol A : Type 0} (m : Meaning S Symbol A) (len max : ℕ) (before after : Driving S)
+pub within_refused : {S Symbol A : Type 0} (m : Meaning S Symbol A) (len max : ℕ) (before after : Driving S)
     (e : TranscriptError) → len ≤ max → before.transcript.playing.finished ≡ false →
     RefusesToWriteWithin len max m before e after → RefusesToWrite m before e after
 within_refused m len max before after e short going refuses = grind arith
 
-untouched-tells : {S Symbol A : Type 0} (x : A) → TellsLimits (untouched {S = S} {Symbol = Symbol} x)
+pub untouched-tells : {S Symbol A : Type 0} (x : A) → TellsLimits (untouched {S = S} {Symbol = Symbol} x)
 untouched-tells x = record { limit = λ s t h. absurd h; too_long = λ s t h fits. h; witness = λ s t h. h }
 
-module _ {S Symbol I F EF O Ac : Type 0} (rules : Rules S Symbol I F EF O Ac) (laws : Lawful rules) where
-  bytes-refused : (kind : Kind) (label : List ℕ) (len : ℕ) → IsRefusedForMemory (sends_bytes rules kind label len)
-  bytes-refused kind label len =
-      sends-refused _ bytes_in _ _ _ _ _ _ (λ bytes is. cc) (λ bytes s. refl) laws.bytes
-      (λ bytes before after e is going h. h) (λ bytes is.
-      subst (λ n. OnlyMemoryRefusesToRead (meaning.sent_bytes kind label rules.alphabet bytes)
-      (reads.received_bytes kind label rules.alphabet n) bytes) is (laws.read_bytes kind label bytes))
-
-  module _ {A : Type 0} (c : Coding S Symbol F A) (lawful : LawfulCoding rules c) where
-    one-refused : (found : Value F EF → Option A) (label : List ℕ) → IsRefusedForMemory (sends_one rules c found label)
-    one-refused found label =
-        sends-refused _ found _ _ _ _ _ _ (λ x is. refl) (λ x s. refl) lawful.observed
-        (λ x before after e is going h. h) (λ x is. lawful.read _ x)
-
-    list-refused : (found : Value F EF → Option (List A)) (label : List ℕ) (n : ℕ) →
-        IsRefusedForMemory (sends_list rules c found label n)
-    list-refused found label n =
-        sends-refused _ found _ _ _ _ _ _ (λ xs is. cc) (λ xs s. refl) lawful.observed_list
-        (λ xs before after e is going h. h) (λ xs is.
-        subst (λ m. OnlyMemoryRefusesToRead (list_sent rules c label xs)
-        (reads.received_list (algebra_step kind.Message label c.algebra (lengths.Fixed m)) c.observation c.encoding m)
-        xs) is (lawful.read_list _ xs))
-
-    counted-refused : (found : Value F EF → Option (List A)) (label : List ℕ) (max : ℕ) → max < 2 ^ 64 →
-        IsRefusedForMemory (sends_counted rules c found label max)
-    counted-refused found label max small =
-        sends-refused _ found _ _ _ _ _ _ (λ xs is. refl) (λ xs s. refl) (lawful.observed_counted max)
-        (λ xs before after e. within_refused _ _ max before after e) (λ xs is. lawful.read_counted _ max xs is small)
-
-    -- a list that both sides know, of at most so many
-    counted-known : (kind : Kind) (label : List ℕ) (xs : List A) (max : ℕ) →
-        IsRefusedForMemory (knows_counted rules c kind label xs max)
-    counted-known kind label xs max =
-        known_with-refused _ _ _ no_challenge _ _ (lawful.observed_counted max xs) _ _
-        (λ v before after e is next refuses. grind arith) (λ v before after e is next refuses. grind arith)
-
-  -- ---- the kinds
-
-  pub step-refused : {Su U C K D G It St Sy : Type 0} (x : script.Step Su F EF U O C K Ac D G It St Sy) →
-      FitsLength (play_of rules x).interaction.length → (play_of rules x).admitted →
-      IsRefusedForMemory (play_of rules x)
-  step-refused (step.Begin label kind) fits may =
-      known-refused _ _ no_challenge (untouched (tt {0})) _ (untouched-tells (tt {0}))
-  step-refused (step.End label kind) fits may =
-      known-refused _ _ no_challenge (untouched (tt {0})) _ (untouched-tells (tt {0}))
-  step-refused (step.Salt label len) fits may =
-      bytes-refused kind.Salt label.now len
-  step-refused (step.Bytes label len) fits may =
-      bytes-refused kind.Message label.now len
-  step-refused (step.Hint label len) fits may = 
-      sends-refused _ bytes_in _ _ _ _ _ _ (λ bytes is. cc) (λ bytes s. refl) untouched-tells
-      (λ bytes before after e is going h. h) (λ bytes is.
-      subst (λ n. OnlyMemoryRefusesToRead {S = S} {Symbol = Symbol} (meaning.hinted label.now bytes)
-      (reads.hint_received label.now n) bytes) is (laws.read_hint label.now bytes))
-  step-refused (step.BytesBounded label max) fits may =
-      sends-refused _ bytes_in _ _ _ _ _ _ (λ bytes is. refl) (λ bytes s. refl) (laws.counted_bytes max)
-      (λ bytes before after e. within_refused _ _ max before after e)
-      (λ bytes is. laws.read_counted_bytes label.now max bytes is fits)
-  step-refused (step.HintBounded label max) fits may =
-      sends-refused _ bytes_in _ _ _ _ _ _ (λ bytes is. refl) (λ bytes s. refl) untouched-tells
-      (λ bytes before after e. within_refused _ _ max before after e)
-      (λ bytes is. laws.read_counted_hint label.now max bytes is fits)
-  step-refused (step.PublicScalar label x) fits may = known-refused _ _ no_challenge _ _ (laws.scalar.observed x)
-  step-refused (step.PublicScalars label xs) fits may =
-      known-refused _ _ no_challenge _ _ (laws.scalar.observed_list xs.items)
-  step-refused (step.PublicScalarsBounded label xs max) fits may =
-      counted-known rules.scalar laws.scalar kind.Public label.now xs.items max
-  step-refused (step.Scalar label) fits may =
-      one-refused rules.scalar laws.scalar scalar_in label.now
-  step-refused (step.Scalars label n) fits may =
-      list-refused rules.scalar laws.scalar scalars_in label.now n
-  step-refused (step.ScalarsBounded label max) fits may =
-      counted-refused rules.scalar laws.scalar scalars_in label.now max fits
-  step-refused (step.Extension label) fits may =
-      one-refused rules.extension laws.extension extension_in label.now
-  step-refused (step.ObserveExtension label x) fits may =
-      known-refused _ _ no_challenge _ _ (laws.extension.observed x)
-  step-refused (step.ObserveExtensions label xs) fits may =
-      known_with-refused _ _ IsNothing no_challenge _ _ (laws.extension.observed_list xs.items) _ _
-      (λ v before after e is next refuses. refuses.0)
-      (λ v before after e is next refuses. elim refuses.0 [
-        | inl h ↦ absurd (laws.recorded (list.length xs.items) _ before after e next refl h)
-        | inr h ↦ h.1
-      ])
-  step-refused (step.ObserveExtensionsBounded label xs max) fits may =
-      counted-known rules.extension laws.extension kind.Message label.now xs.items max
-  step-refused (step.Opaque label x) fits may = known-refused _ _ no_challenge _ _ (laws.opaque x)
-  step-refused (step.ChallengeScalar label) fits may =
-      known-refused _ _ (λ x. Some (value.OfScalars (x ∷ []))) _ _ laws.scalar.drawn
-  step-refused (step.ChallengeScalars label n) fits may =
-      known-refused _ _ (λ xs. Some (value.OfScalars xs)) _ _ (laws.scalar.drawn_list n)
-  step-refused (step.ChallengeExtension label) fits may =
-      known-refused _ _ (λ x. Some (value.OfExtensions (x ∷ []))) _ _ laws.extension.drawn
-  step-refused (step.ChallengeExtensions label n) fits may =
-      known-refused _ _ (λ xs. Some (value.OfExtensions xs)) _ _ (laws.extension.drawn_list n)
-  step-refused (step.ChallengeExtensionsRejecting label n accept limit) fits may =
-      known-refused _ _ (λ xs. Some (value.OfExtensions xs)) _ _
-      (laws.extension.drawn_rejecting (rules.accepts_extension accept) limit n)
-  step-refused (step.ChallengeBits label width n) fits may =
-      known-refused _ _ (λ xs. Some (value.OfBits xs)) _ _ (laws.bits may.0 width n)
-  step-refused (step.ChallengeUniformBits label width n) fits may =
-      known-refused _ _ (λ xs. Some (value.OfBits xs)) _ _ (laws.uniform may.0 width n)
-  step-refused (step.ChallengeUniformBitsRejecting label width n accept limit) fits may =
-      known-refused _ _ (λ xs. Some (value.OfBits xs)) _ _
-      (laws.rejecting may.0 width (rules.accepts_bits accept) limit n)
-  step-refused (step.Pow label bits) fits may =
-      witness-refused _ _ _ _ _ _ rules.witness_encoding laws.residues (laws.work may.0 _ bits)
-  step-refused (step.ObservePow label bits) fits may = carried-refused _ _ _ _ _ _ laws.residues (laws.carried_work may.0 _ bits)
+-- a list that both sides know, of at most so many
+pub counted-refused : {S Symbol A F EF O : Type 0} (m : Meaning S Symbol A) (len max : ℕ) (absorbed : Absorbed F O) →
+    TellsLimits m.effect → IsRefusedForMemory (known_within {EF = EF} m.interaction len max m.effect absorbed
+    (RefusesWithin len max m) (RefusesCarriedWithin len max m))
+counted-refused m len max absorbed tells =
+    known_with-refused _ _ _ no_challenge _ _ tells _ _
+    (λ v before after e is next refuses. grind arith) (λ v before after e is next refuses. grind arith)
