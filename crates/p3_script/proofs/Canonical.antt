@@ -8,15 +8,12 @@ use Rattle.p3_fs_core.specs.BigEndianLaws.{big_endian-in_bytes, length-in_bytes}
 use Rattle.p3_fs_core.specs.CountLaws.{count_width-enough}
 use Rattle.p3_fs_core.specs.Counts.{count_width, count_bytes}
 use Rattle.p3_fs_core.specs.StepFits.{FitsLength}
-use Rattle.p3_fs_core.specs.Steps.{Step}
-use Rattle.p3_driver_core.specs.Effects.{Effect}
-use Rattle.p3_runs.specs.Absorbed.{Absorbed}
 use Rattle.p3_runs.specs.Plays.{Play, when_some}
 use Rattle.p3_runs.specs.Runs.{if_carried}
 use Rattle.p3_runs.specs.Rules.{Rules}
 use Rattle.p3_runs.specs.Sides.{holds_some}
 use Rattle.p3_runs.specs.Stepping.{IsCanonical}
-use Rattle.p3_runs.specs.Values.{Value, Challenge, Nothing, Bytes, Scalar, Scalars, Extension, Witness, IsNothing}
+use Rattle.p3_runs.specs.Values.{Value, Bytes, Scalar, Scalars, Extension, Witness, IsNothing}
 use Rattle.p3_runs.specs.Values.{bytes_in, scalar_in, scalars_in, extension_in, witness_in}
 use Rattle.p3_script.specs.Scripts.{play_of}
 use Rattle.p3_script.specs.declared.steps.Step as script
@@ -92,7 +89,7 @@ told : {F EF A : Type 0} (found : Value F EF → Option A) (made : A → Value F
 told found made is IsFit wire code v w a b p q e =
     let x = fitting IsFit (found v) p in
     let y = fitting IsFit (found w) q in
-    let same = code x.0 y.0 a b x.2 y.2 (simp (x.1, y.1) at e) in
+    let same = code x.0 y.0 a b x.2 y.2 (rw (x.1, y.1) at e) in
     (is v x.0 x.1 ∙ ap made same.0 ∙ sym (is w y.0 y.1), same.1)
 
 -- where no caller carries it

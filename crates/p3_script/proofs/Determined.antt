@@ -1,7 +1,5 @@
 -- What is sent at a step, and that a witness is the least one, tells its value.
-use Rattle.std.proofs.Common.{◌≡◌, [], ◌∷◌, Some, sym, ap, ◌∙◌, subst, inl, inr, true, Bool, arith, rules}
-use Rattle.std.proofs.lemmas.Bool.{cases_lt}
-use Rattle.std.proofs.Math.Nat.{eq-or-lt_of_le}
+use Rattle.std.proofs.Common.{◌≡◌, [], ◌∷◌, ap, Bool, arith, rules}
 use Rattle.p3_challenger_core.specs.Sampling.{Sampling}
 use Rattle.p3_field_core.specs.Residues.{Residues, IsResidues}
 use Rattle.p3_grinding.specs.Checks.{IsLeast}

@@ -61,11 +61,11 @@ returns g c =
         subst (λ n. OnlyMemoryRefusesToRead (meaning.sent_bytes kind.Message label.now (rules g).alphabet x)
         (reads.received_bytes kind.Message label.now (rules g).alphabet n) x) is
         (c.only_memory_refuses_sent_bytes.ensures.fixed kind.Message label.now x))
-    refused (step.Hint label len) fits may = 
+    refused (step.Hint label len) fits may =
         sends-refused _ bytes_in _ _ _ _ _ _ (λ bytes is. cc) (λ bytes s. refl) untouched-tells
         (λ bytes before after e is going h. h) (λ bytes is.
         subst (λ n. OnlyMemoryRefusesToRead {S = g.row.S-Challenger-State.Denot}
-          {Symbol = g.row.S-Challenger-Symbol.Denot} (meaning.hinted label.now bytes)
+        {Symbol = g.row.S-Challenger-Symbol.Denot} (meaning.hinted label.now bytes)
         (reads.hint_received label.now n) bytes) is (c.only_memory_refuses_hints.ensures.fixed label.now bytes))
     refused (step.BytesBounded label max) fits may =
         sends-refused _ bytes_in _ _ _ _ _ _ (λ bytes is. refl) (λ bytes s. refl) (c.bytes_tell_limits.ensures.counted max)
