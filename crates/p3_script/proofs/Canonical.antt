@@ -1,5 +1,6 @@
 -- Each step of a script is told by its bytes and its carried witness.
-use Rattle.std.proofs.Common.{◌≡◌, ℕ, ◌<◌, ◌≤◌, ◌^◌, List, [], ◌++◌, length, Option, Some, None, refl, sym, ap, ◌∙◌, append_assoc, arith}
+use Rattle.std.proofs.Common.{◌≡◌, ℕ, ◌<◌, ◌≤◌, ◌^◌, List, [], ◌++◌, length, Option, Some, None, refl, sym, ap, ◌∙◌}
+use Rattle.std.proofs.Common.{append_assoc, arith}
 use Rattle.std.specs.List.{flat_map}
 use Rattle.p3_challenger_core.specs.Reading.{IsPrefixCode}
 use Rattle.p3_challenger_core.specs.SymbolLaws.{row-prefix_code, as_many-prefix_code}

@@ -77,7 +77,11 @@ pub carried-one_reason : {S F EF : Type 0} (sides : Sides S F EF) →
     ((given : Value F EF) → TellOneReason (sides.prover given)) →
     ((witness : Option F) → TellOneReason (sides.verifier witness)) → RefuseForOneReason sides
 carried-one_reason sides proves verifies =
-    record { verifier = λ witness. halts-one_reason _ (verifies witness); prover = λ given. halts-one_reason _ (proves given) }
+    record {
+      verifier = λ witness. halts-one_reason _ (verifies witness);
+      prover = λ given. halts-one_reason _
+          (proves given);
+    }
 
 pub some-one_reason : {S A : Type 0} (refuses : A → Refusing S) → ((x : A) → TellOneReason (refuses x)) →
     (o : Option A) → TellOneReason (refuses_some refuses o)

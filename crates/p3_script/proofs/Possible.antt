@@ -1,5 +1,6 @@
 -- Where a step of a script may be played, each side refuses it only when out of memory.
-use Rattle.std.proofs.Common.{◌≡◌, ℕ, ◌≤◌, List, [], ◌∷◌, Option, Some, None, false, inl, inr, refl, ap, IsSome, is_some, arith}
+use Rattle.std.proofs.Common.{◌≡◌, ℕ, ◌≤◌, List, [], ◌∷◌, Option, Some, None, false, inl, inr, refl, ap, IsSome}
+use Rattle.std.proofs.Common.{is_some, arith}
 use Rattle.std.specs.Option.{option_map}
 use Rattle.p3_field_core.specs.Residues.{IsResidues}
 use Rattle.p3_grinding.specs.Checks.{IsLeast}
@@ -128,7 +129,8 @@ module _ {S Symbol F EF O A : Type 0} (i : Step) (found : Value F EF → Option 
 
 -- ---- proof of work
 
-module _ {S Symbol F O : Type 0} (EF : Type 0) (condition there : Type 0) (work : Work S Symbol F) (may_run_out : S → Type 0)
+module _ {S Symbol F O : Type 0} (EF : Type 0) (condition there : Type 0) (work : Work S Symbol F)
+    (may_run_out : S → Type 0)
     (absorbed : F → Absorbed F O) where
   -- where a witness passes, a search finds one
   ground : IsResidues work.residues → (before after : Transcript S) (x : F) →
@@ -162,7 +164,8 @@ module _ {S Symbol F O : Type 0} (EF : Type 0) (condition there : Type 0) (work 
           taken = record { only_memory = λ w before after e v refuses same. witness-read v before after e refuses };
           sent = record {
             only_memory = λ given v before after e handed refuses same can.
-                let x = fitting (IsLeast work.residues work.check before.transcript.challenger) (witness_in v) can.chosen in
+                let x = fitting (IsLeast work.residues work.check before.transcript.challenger) (witness_in v)
+                can.chosen in
                 elim refuses [
                   | inl h ↦ ground laws before.transcript after.transcript x.0 x.2 can.is_next e h.0
                   | inr h ↦ h.memory
@@ -190,7 +193,8 @@ module _ {S Symbol F O : Type 0} (EF : Type 0) (condition there : Type 0) (work 
           taken = record { only_memory = λ witness before after e v. carried-checked witness v before after e };
           sent = record {
             only_memory = λ given v before after e handed refuses same can.
-                let x = fitting (IsLeast work.residues work.check before.transcript.challenger) (witness_in v) can.chosen in
+                let x = fitting (IsLeast work.residues work.check before.transcript.challenger) (witness_in v)
+                can.chosen in
                 ground laws before.transcript after.transcript x.0 x.2 can.is_next e refuses.0;
           };
         }

@@ -39,7 +39,8 @@ pub returns : goal.returns
 returns g c =
     record {
       canonical = step-canonical (rules g) g.met.S.Codec.Codec.is_codec.encodes.prefix_code c.values_are_a_code.ensures
-          (is_encoding _ g.met.S.Field.PrimeCharacteristicRing.are_residues _ g.met.S.Field.Field.bits_below).prefix_code;
+          (is_encoding _ g.met.S.Field.PrimeCharacteristicRing.are_residues _
+          g.met.S.Field.Field.bits_below).prefix_code;
       determined = step-determined (rules g) g.met.S.Field.PrimeCharacteristicRing.are_residues;
       taken = λ x fits may. (refused x fits may).taken;
       sent = λ x fits may. (refused x fits may).sent;
@@ -68,14 +69,16 @@ returns g c =
         {Symbol = g.row.S-Challenger-Symbol.Denot} (meaning.hinted label.now bytes)
         (reads.hint_received label.now n) bytes) is (c.only_memory_refuses_hints.ensures.fixed label.now bytes))
     refused (step.BytesBounded label max) fits may =
-        sends-refused _ bytes_in _ _ _ _ _ _ (λ bytes is. refl) (λ bytes s. refl) (c.bytes_tell_limits.ensures.counted max)
+        sends-refused _ bytes_in _ _ _ _ _ _ (λ bytes is. refl) (λ bytes s. refl)
+        (c.bytes_tell_limits.ensures.counted max)
         (λ bytes before after e. within_refused _ _ max before after e)
         (λ bytes is. c.only_memory_refuses_sent_bytes.ensures.counted label.now max bytes is fits)
     refused (step.HintBounded label max) fits may =
         sends-refused _ bytes_in _ _ _ _ _ _ (λ bytes is. refl) (λ bytes s. refl) untouched-tells
         (λ bytes before after e. within_refused _ _ max before after e)
         (λ bytes is. c.only_memory_refuses_hints.ensures.counted label.now max bytes is fits)
-    refused (step.PublicScalar label x) fits may = known-refused _ _ no_challenge _ _ (c.values_tell_limits.ensures.value x)
+    refused (step.PublicScalar label x) fits may = known-refused _ _ no_challenge _ _
+        (c.values_tell_limits.ensures.value x)
     refused (step.PublicScalars label xs) fits may =
         known-refused _ _ no_challenge _ _ (c.values_tell_limits.ensures.list xs.items)
     refused (step.PublicScalarsBounded label xs max) fits may =
@@ -89,7 +92,8 @@ returns g c =
         (λ xs before after e is going h. h) (λ xs is.
         subst (λ m. OnlyMemoryRefusesToRead (list_sent (rules g) (rules g).scalar label.now xs)
         (reads.received_list (algebra_step kind.Message label.now (rules g).scalar.algebra (lengths.Fixed m))
-        (rules g).scalar.observation (rules g).scalar.encoding m) xs) is (c.only_memory_refuses_sent_values.ensures.list _ xs))
+        (rules g).scalar.observation (rules g).scalar.encoding m) xs) is
+        (c.only_memory_refuses_sent_values.ensures.list _ xs))
     refused (step.ScalarsBounded label max) fits may =
         sends-refused _ scalars_in _ _ _ _ _ _ (λ xs is. refl) (λ xs s. refl) (c.values_tell_limits.ensures.counted max)
         (λ xs before after e. within_refused _ _ max before after e)
@@ -103,7 +107,8 @@ returns g c =
         known_with-refused _ _ IsNothing no_challenge _ _ (c.values_tell_limits-2.ensures.list xs.items) _ _
         (λ v before after e is next refuses. refuses.0)
         (λ v before after e is next refuses. elim refuses.0 [
-          | inl h ↦ absurd (c.carried_lists_are_let_through.ensures.recorded (list.length xs.items) _ before after e next refl h)
+          | inl h ↦ absurd (c.carried_lists_are_let_through.ensures.recorded (list.length xs.items) _ before after e
+              next refl h)
           | inr h ↦ h.1
         ])
     refused (step.ObserveExtensionsBounded label xs max) fits may =
@@ -129,6 +134,8 @@ returns g c =
         known-refused _ _ (λ xs. Some (value.OfBits xs)) _ _
         (c.steps_are_lawful.ensures.rejecting may.0 width ((rules g).accepts_bits accept) limit n)
     refused (step.Pow label bits) fits may =
-        witness-refused _ _ _ _ _ _ (rules g).witness_encoding g.met.S.Field.PrimeCharacteristicRing.are_residues (c.steps_are_lawful.ensures.read may.0 _ bits)
-    refused (step.ObservePow label bits) fits may = carried-refused _ _ _ _ _ _ g.met.S.Field.PrimeCharacteristicRing.are_residues (c.steps_are_lawful.ensures.carried may.0 _ bits)
+        witness-refused _ _ _ _ _ _ (rules g).witness_encoding g.met.S.Field.PrimeCharacteristicRing.are_residues
+        (c.steps_are_lawful.ensures.read may.0 _ bits)
+    refused (step.ObservePow label bits) fits may = carried-refused _ _ _ _ _ _
+        g.met.S.Field.PrimeCharacteristicRing.are_residues (c.steps_are_lawful.ensures.carried may.0 _ bits)
     refused _ fits may = known-refused _ _ no_challenge (untouched (tt {0})) _ (untouched-tells (tt {0}))
