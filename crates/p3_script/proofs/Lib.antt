@@ -1,6 +1,4 @@
 pub mod Canonical
 pub mod Determined
-pub mod Lawful
 pub mod OneReason
 pub mod Possible
-pub mod Reasoned

@@ -1,63 +1,38 @@
 -- Where a step of a script may be played, each side refuses it only when out of memory.
-use Rattle.std.proofs.Common.{◌≡◌, ℕ, ◌<◌, ◌≤◌, ◌^◌, List, [], ◌∷◌, ◌++◌, Option, Some, None, Bool, true, false, inl, inr, refl, sym, ap, ◌∙◌, subst, IsSome, arith}
+use Rattle.std.proofs.Common.{◌≡◌, ℕ, ◌≤◌, List, [], ◌∷◌, Option, Some, None, false, inl, inr, refl, ap, IsSome}
+use Rattle.std.proofs.Common.{is_some, arith}
 use Rattle.std.specs.Option.{option_map}
-use Rattle.std.specs.Prelude as list
-use Rattle.p3_challenger_core.specs.declared.error.ChallengerError.TheVariants as challenger
 use Rattle.p3_field_core.specs.Residues.{IsResidues}
 use Rattle.p3_grinding.specs.Checks.{IsLeast}
-use Rattle.p3_fs_core.specs.Algebras.{algebra_step}
 use Rattle.p3_fs_core.specs.Encoding.{Encoding}
-use Rattle.p3_fs_core.specs.StepFits.{FitsLength}
 use Rattle.p3_fs_core.specs.Steps.{Step}
 use Rattle.p3_fs_core.specs.declared.error.TranscriptError.{TranscriptError}
-use Rattle.p3_fs_core.specs.declared.error.TranscriptError.TheVariants.{MissingBegin, InvalidKind, MismatchedBeginEnd}
-use Rattle.p3_fs_core.specs.declared.error.TranscriptError.TheVariants.{MissingEnd, BadProofShape, Pattern}
-use Rattle.p3_fs_core.specs.declared.error.TranscriptError.TheVariants.{Challenger, LabelTooLong, OutOfMemory}
-use Rattle.p3_fs_core.specs.declared.step.Kind.{Kind}
-use Rattle.p3_fs_core.specs.declared.step.Kind.TheVariants as kind
-use Rattle.p3_fs_core.specs.declared.step.Length.TheVariants as lengths
+use Rattle.p3_fs_core.specs.declared.error.TranscriptError.TheVariants.{OutOfMemory}
 use Rattle.p3_driver_core.specs.Driving.{Driving}
 use Rattle.p3_driver_core.specs.Effects.{Effect, untouched}
-use Rattle.p3_driver_core.specs.Meanings as meaning
-use Rattle.p3_driver_core.specs.Proving.{RefusesToWrite, RefusesLongList}
-use Rattle.p3_driver_core.specs.Reads as reads
+use Rattle.p3_driver_core.specs.Proving.{RefusesToWrite}
 use Rattle.p3_driver_core.specs.Reads.{Reading}
 use Rattle.p3_driver_core.specs.TranscriptLaws.{next-not_refused}
-use Rattle.p3_driver_core.specs.Transcripts.{Meaning, Transcript, RefusesStep, IsNext}
-use Rattle.p3_driver_core.specs.Transcripts.{without_wire, step_on, bytes_step}
+use Rattle.p3_driver_core.specs.Transcripts.{Meaning, Transcript, PlaysStep, RefusesStep, IsNext}
+use Rattle.p3_driver_core.specs.Transcripts.{without_wire, step_on}
 use Rattle.p3_driver_core.specs.Working.{Work, RefusesToGrind, checking, where_passed}
 use Rattle.p3_step_laws.specs.Completeness.{CompletesWork, CompletesCarriedWork}
 use Rattle.p3_step_laws.specs.Limits.{TellsLimits}
 use Rattle.p3_step_laws.specs.Memory.{OnlyMemoryRefusesToRead}
 use Rattle.p3_step_laws.specs.MemoryLaws.{next-only_memory}
 use Rattle.p3_runs.specs.Absorbed.{Absorbed}
-use Rattle.p3_runs.specs.Plays.{Play, only_if, known, known_with, sends, sends_witness, carries_witness, giving}
-use Rattle.p3_runs.specs.Plays.{no_challenge, when_some, effect_some, Any, HasLength, HasAtMost}
-use Rattle.p3_runs.specs.Rules.{Rules, Coding}
+use Rattle.p3_runs.specs.Plays.{Play, only_if, known, known_with, known_within, sends, sends_witness, carries_witness}
+use Rattle.p3_runs.specs.Plays.{no_challenge}
 use Rattle.p3_runs.specs.Sides.{Refusing, refuses_some, sides_known, RefusesToWriteWithin}
-use Rattle.p3_runs.specs.Sides.{RefusesCarriedWork}
-use Rattle.p3_runs.specs.Stepping.{IsTakenWherePossible, IsSentWherePossible, one_witness}
-use Rattle.p3_runs.specs.Values.{Value, Challenge, Witness, IsNothing, bytes_in, scalar_in, scalars_in}
-use Rattle.p3_runs.specs.Values.{extension_in, witness_in}
-use Rattle.p3_runs.specs.Values as value
-use Rattle.p3_script.specs.Scripts.{play_of, list_sent, knows_counted}
-use Rattle.p3_script.specs.declared.steps.Step as script
-use Rattle.p3_script.specs.declared.steps.Step.TheVariants as step
+use Rattle.p3_runs.specs.Sides.{RefusesWithin, RefusesCarriedWithin, RefusesCarriedWork, RefusesToReadWork}
+use Rattle.p3_runs.specs.Stepping.{IsTakenWherePossible, IsSentWherePossible, CanTake, one_witness}
+use Rattle.p3_runs.specs.Values.{Value, Challenge, Witness, IsNothing}
+use Rattle.p3_runs.specs.Values.{witness_in}
 use Rattle.p3_script.proofs.Canonical.{fitting}
-use Rattle.p3_script.proofs.Lawful.{Lawful, LawfulCoding}
 
 -- what is made of something is of something
 mapped-some : {A T : Type 0} (f : A → T) (o : Option A) → IsSome (option_map f o) → IsSome o
-mapped-some f None h = absurd (cc)
-mapped-some f (Some x) h = refl
-
--- a list that is short enough is not refused as too long
-not_long : {S : Type 0} (len max : ℕ) (before after : Driving S) (e : TranscriptError) →
-    before.transcript.playing.finished ≡ false → len ≤ max → RefusesLongList len max before e after → ⊥
-not_long len max before after e going short refuses = elim refuses.playing.fault [
-  | inl h ↦ let done = h.0 in absurd (cc)
-  | inr h ↦ let long = h.1 in absurd (omega (arith, short, long))
-]
+mapped-some f o h = grind arith
 
 -- ---- what both sides know
 
@@ -67,78 +42,70 @@ pub record IsRefusedForMemory {S Symbol F EF O : Type 0} (play : Play S Symbol F
   pub sent : IsSentWherePossible play
 
 module _ {S Symbol F EF O A : Type 0} (condition : Type 0) (i : Step) (Fits : Value F EF → Type 0)
-    (f : A → Option (Challenge F EF)) (E : Effect S Symbol A) (absorbed : Absorbed F O)
-    (proving verifying : Refusing S) where
-  -- as each side refuses it, it is refused as any step is, where it is next
-  known_with-refused : TellsLimits E → ((v : Value F EF) (before after : Driving S) (e : TranscriptError) → Fits v →
-      IsNext before.transcript.playing i → verifying before e after →
-      RefusesStep (without_wire i E) before.transcript e after.transcript) →
-      ((v : Value F EF) (before after : Driving S) (e : TranscriptError) → Fits v →
-      IsNext before.transcript.playing i → proving before e after →
-      RefusesStep (without_wire i E) before.transcript e after.transcript) →
+    (f : A → Option (Challenge F EF)) (E : Effect S Symbol A) (absorbed : Absorbed F O) (tells : TellsLimits E) where
+  -- a side refuses it as any step is refused, where it is next
+  abbrev AsStep : Refusing S → Type 0
+  AsStep R =
+      (v : Value F EF) (before after : Driving S) (e : TranscriptError) → Fits v →
+      IsNext before.transcript.playing i → R before e after →
+      RefusesStep (without_wire i E) before.transcript e after.transcript
+
+  for_memory : (R : Refusing S) → AsStep R → (v : Value F EF) (before after : Driving S) (e : TranscriptError) →
+      Fits v → IsNext before.transcript.playing i → E.fits →
+      IsSome (option_map f (E.gives before.transcript.challenger)) → R before e after → e ≡ OutOfMemory
+  for_memory R same v before after e fits next short gives refuses =
+      next-only_memory (without_wire i E) tells before.transcript after.transcript e next short
+      (mapped-some f (E.gives before.transcript.challenger) gives) (same v before after e fits next refuses)
+
+  pub known_with-refused : (proving verifying : Refusing S) → AsStep proving → AsStep verifying →
       IsRefusedForMemory (only_if condition (known_with i Fits f E absorbed (sides_known proving verifying)))
-  known_with-refused tells unverified unproved =
+  known_with-refused proving verifying unproved unverified =
       record {
         taken = record {
           only_memory = λ witness before after e v refuses carried can.
-              next-only_memory (without_wire i E) tells before.transcript after.transcript e can.is_next can.short
-              (mapped-some f (E.gives before.transcript.challenger) can.gives)
-              (unverified v before after e can.fits can.is_next refuses);
+              for_memory verifying unverified v before after e can.fits can.is_next can.short can.gives refuses;
         };
         sent = record {
           only_memory = λ given v before after e handed refuses same can.
-              next-only_memory (without_wire i E) tells before.transcript after.transcript e can.is_next can.short
-              (mapped-some f (E.gives before.transcript.challenger) can.gives)
-              (unproved v before after e can.fits can.is_next refuses);
+              for_memory proving unproved v before after e can.fits can.is_next can.short can.gives refuses;
         };
       }
 
-known-refused : {S Symbol F EF O A : Type 0} (condition : Type 0) (i : Step) (f : A → Option (Challenge F EF))
+pub known-refused : {S Symbol F EF O A : Type 0} (condition : Type 0) (i : Step) (f : A → Option (Challenge F EF))
     (E : Effect S Symbol A) (absorbed : Absorbed F O) → TellsLimits E →
     IsRefusedForMemory (only_if condition (known i f E absorbed))
 known-refused condition i f E absorbed tells =
-    known_with-refused condition i IsNothing f E absorbed _ _ tells (λ v before after e fits next refuses. refuses.0)
+    known_with-refused condition i IsNothing f E absorbed tells _ _ (λ v before after e fits next refuses. refuses.0)
     (λ v before after e fits next refuses. refuses.0)
 
 -- ---- what is sent
 
--- what is sent is next alike, is given back, meets no limit, and is refused and read only when out of memory
-record Sending {S Symbol A : Type 0} (i : Step) (IsFit : A → Type 0) (sent : A → Meaning S Symbol A)
-    (proving : A → Refusing S) (reading : Reading S Symbol A) : Type 0 where
-  interaction : (x : A) → IsFit x → i ≡ (sent x).interaction
-  gives : (x : A) (s : S) → (sent x).effect.gives s ≡ Some x
-  tells : (x : A) → TellsLimits (sent x).effect
-  refused : (x : A) (before after : Driving S) (e : TranscriptError) → IsFit x →
-      before.transcript.playing.finished ≡ false → proving x before e after → RefusesToWrite (sent x) before e after
-  reads : (x : A) → IsFit x → OnlyMemoryRefusesToRead (sent x) reading x
+played : {S Symbol A : Type 0} (m : Meaning S Symbol A) (x : A) (before : Transcript S) →
+    IsNext before.playing m.interaction → m.effect.fits → m.effect.gives before.challenger ≡ Some x →
+    PlaysStep m before x
+    (record { challenger = m.effect.after before.challenger; playing = step_on before.playing })
+played m x before next fits gives =
+    record { is_next = next; fits = fits; gives = gives; challenger = refl; playing = refl }
 
+-- what is sent is next alike, is given back, meets no limit, and is refused and read only when out of memory
 module _ {S Symbol F EF O A : Type 0} (i : Step) (found : Value F EF → Option A) (IsHanded IsFit : A → Type 0)
     (sent : A → Meaning S Symbol A) (absorbed : A → Absorbed F O) (proving : A → Refusing S)
-    (reading : Reading S Symbol A) (laws : Sending i IsFit sent proving reading) where
-  abbrev effect_of : Option A → Effect S Symbol (Option (Challenge F EF))
-  effect_of o = effect_some None (λ x. giving no_challenge (sent x).effect) o
-
+    (reading : Reading S Symbol A) (interaction : (x : A) → IsFit x → i ≡ (sent x).interaction)
+    (gives : (x : A) (s : S) → (sent x).effect.gives s ≡ Some x) (tells : (x : A) → TellsLimits (sent x).effect)
+    (refused : (x : A) (before after : Driving S) (e : TranscriptError) → IsFit x →
+    before.transcript.playing.finished ≡ false → proving x before e after → RefusesToWrite (sent x) before e after)
+    (reads : (x : A) → IsFit x → OnlyMemoryRefusesToRead (sent x) reading x) where
   -- a verifier
   sends-taken : IsTakenWherePossible (sends i found IsHanded IsFit sent absorbed proving reading)
   sends-taken =
       record {
         only_memory = λ witness before after e v refuses carried can.
             let x = fitting IsFit (found v) can.fits in
-            let fits : (sent x.0).effect.fits = subst (λ o. (effect_of o).fits) x.1 can.short in
-            let next = subst (λ (s : Step). IsNext before.transcript.playing s) (laws.interaction x.0 x.2) can.is_next in
-            let bytes : before.bytes ≡ (sent x.0).wire ++ can.left
-            = can.next ∙ ap (λ o. when_some [] (λ y. (sent y).wire) o ++ can.left) x.1 in
-            laws.reads x.0 x.2 before.transcript (record {
-              challenger = (sent x.0).effect.after before.transcript.challenger;
-              playing = step_on before.transcript.playing;
-            }) can.left before after e
-            (record {
-              is_next = next;
-              fits = fits;
-              gives = laws.gives x.0 before.transcript.challenger;
-              challenger = refl;
-              playing = refl;
-            })
+            let next = rw (interaction x.0 x.2) at can.is_next in
+            let short = rw x.1 at can.short in
+            let bytes = rw x.1 at can.next in
+            reads x.0 x.2 before.transcript _ can.left before after e
+            (played (sent x.0) x.0 before.transcript next short (gives x.0 before.transcript.challenger))
             (λ k. record { transcript = before.transcript; bytes = bytes k }) refuses;
       }
 
@@ -149,337 +116,103 @@ module _ {S Symbol F EF O A : Type 0} (i : Step) (found : Value F EF → Option 
         only_memory = λ given v before after e handed refuses same can.
             let is : v ≡ given = cc in
             let x = fitting IsFit (found v) can.fits in
-            let fits : (sent x.0).effect.fits = subst (λ o. (effect_of o).fits) x.1 can.short in
-            let next = subst (λ (s : Step). IsNext before.transcript.playing s) (laws.interaction x.0 x.2) can.is_next in
-            let here : proving x.0 before e after
-            = subst (λ o. refuses_some proving o before e after) (ap found (sym is) ∙ x.1) refuses in
-            let gives : IsSome ((sent x.0).effect.gives before.transcript.challenger)
-            = subst (λ (o : Option A). IsSome o) (sym (laws.gives x.0 before.transcript.challenger)) refl in
-            next-only_memory (sent x.0) (laws.tells x.0) before.transcript after.transcript e next fits gives
-            (laws.refused x.0 before after e x.2 can.is_next.0 here).refuses;
+            let next = rw (interaction x.0 x.2) at can.is_next in
+            let short = rw x.1 at can.short in
+            let here = rw (← is, x.1) at refuses in
+            next-only_memory (sent x.0) (tells x.0) before.transcript after.transcript e next short
+            (ap is_some (gives x.0 before.transcript.challenger))
+            (refused x.0 before after e x.2 can.is_next.0 here).refuses;
       }
 
-  sends-refused : IsRefusedForMemory (sends i found IsHanded IsFit sent absorbed proving reading)
+  pub sends-refused : IsRefusedForMemory (sends i found IsHanded IsFit sent absorbed proving reading)
   sends-refused = record { taken = sends-taken; sent = sends-sent }
 
 -- ---- proof of work
 
--- a witness of which something is given passes
-passed : {W T : Type 0} (f : W → T) (x : W) (o : Option Bool) → IsSome (option_map f (where_passed x o)) →
-    where_passed x o ≡ Some x
-passed f x None h = absurd (cc)
-passed f x (Some true) h = refl
-passed f x (Some false) h = absurd (cc)
-
-module _ {S Symbol W : Type 0} (work : Work S Symbol W) (laws : IsResidues work.residues) (may_run_out : S → Type 0)
-    (before after : Transcript S) (x : W) (least : IsLeast work.residues work.check before.challenger x)
-    (next : IsNext before.playing work.interaction) where
-  -- where a witness passes, a search finds one
-  ground : (e : TranscriptError) → RefusesToGrind work may_run_out before e after → e ≡ OutOfMemory
-  ground (MissingBegin info) refuses = absurd refuses
-  ground (InvalidKind info) refuses = absurd refuses
-  ground (MismatchedBeginEnd info) refuses = absurd refuses
-  ground (MissingEnd info) refuses = absurd refuses
-  ground (BadProofShape reason) refuses = absurd refuses
-  ground (Pattern e) refuses =
-      absurd (next-not_refused before.playing after.playing work.interaction (Pattern e) next refuses.playing)
-  ground (Challenger challenger.OutOfMemory) refuses = absurd refuses
-  ground (Challenger challenger.DrawLimit) refuses = absurd refuses.leaves
-  ground (Challenger challenger.NoWitness) refuses =
-      absurd (refuses.leaves.0 (work.residues.number x) (laws.below x)
-      (ap (λ y. (work.check y).sampled before.challenger) (laws.of_number x) ∙ least.passes))
-  ground (Challenger challenger.TooLong) refuses = absurd refuses.leaves
-  ground LabelTooLong refuses = absurd refuses
-  ground OutOfMemory refuses = refl
-
--- the witness that the caller carries is the step's
-carried_one : {S F EF : Type 0} (refuses : F → Refusing S) (witness : Option F) (v : Value F EF) (x : F)
-    (before after : Driving S) (e : TranscriptError) → witness_in v ≡ Some x → v ∷ [] ≡ one_witness witness →
-    refuses_some refuses witness before e after → refuses x before e after
-carried_one refuses None v x before after e is carried h = absurd h
-carried_one refuses (Some y) v x before after e is carried h =
-    let made : v ≡ Witness y = cc in
-    let found : Some y ≡ Some x = ap witness_in (sym made) ∙ is in
-    let same : y ≡ x = cc in
-    subst (λ z. refuses z before e after) same h
-
-module _ {S Symbol F O : Type 0} (EF : Type 0) (condition there : Type 0) (work : Work S Symbol F) (may_run_out : S → Type 0)
+module _ {S Symbol F O : Type 0} (EF : Type 0) (condition there : Type 0) (work : Work S Symbol F)
+    (may_run_out : S → Type 0)
     (absorbed : F → Absorbed F O) where
-  abbrev work_effect : Option F → Effect S Symbol (Option (Challenge F EF))
-  work_effect o = effect_some None (λ x. giving no_challenge (checking work x)) o
+  -- where a witness passes, a search finds one
+  ground : IsResidues work.residues → (before after : Transcript S) (x : F) →
+      IsLeast work.residues work.check before.challenger x → IsNext before.playing work.interaction →
+      (e : TranscriptError) → RefusesToGrind work may_run_out before e after → e ≡ OutOfMemory
+  ground laws before after x least next e refuses =
+      grind (arith, next-not_refused, laws.below x, laws.of_number x, least.passes)
 
   -- the witness that may be played passes
-  passing : (s : S) (o : Option F) (x : F) → o ≡ Some x → IsSome ((work_effect o).gives s) →
-      where_passed x ((work.check x).sampled s) ≡ Some x
-  passing s o x is some =
-      passed {T = Option (Challenge F EF)} no_challenge x ((work.check x).sampled s)
-      (subst (λ p. IsSome ((work_effect p).gives s)) is some)
+  passes : (x : F) (wire : List ℕ) (before : Transcript S) → IsNext before.playing work.interaction →
+      IsSome (option_map (no_challenge {F = F} {EF = EF}) (where_passed x ((work.check x).sampled before.challenger))) →
+      PlaysStep (record { interaction = work.interaction; effect = checking work x; wire = wire }) before x
+      (record { challenger = (work.check x).after before.challenger; playing = step_on before.playing })
+  passes x wire before next gives = played _ x before next tt (grind arith)
 
-  witness-taken : (enc : Encoding F) → ((x : F) → CompletesWork work enc x) →
-      IsTakenWherePossible (only_if condition (sends_witness {EF = EF} work there enc may_run_out absorbed))
-  witness-taken enc completes =
-      record {
-        only_memory = λ witness before after e v refuses carried can.
-            let x = fitting (λ _. there) (witness_in v) can.fits in
-            let bytes : before.bytes ≡ enc.wire x.0 ++ can.left
-            = can.next ∙ ap (λ o. when_some [] enc.wire o ++ can.left) x.1 in
-            (completes x.0).refuses before.transcript (record {
-              challenger = (work.check x.0).after before.transcript.challenger;
-              playing = step_on before.transcript.playing;
-            }) can.left before after e
-            (record {
-              is_next = can.is_next;
-              fits = tt;
-              gives = passing before.transcript.challenger (witness_in v) x.0 x.1 can.gives;
-              challenger = refl;
-              playing = refl;
-            })
-            (λ k. record { transcript = before.transcript; bytes = bytes k }) refuses;
-      }
+  module _ (enc : Encoding F) (laws : IsResidues work.residues) (completes : (x : F) → CompletesWork work enc x) where
+    abbrev sent_play : Play S Symbol F EF O
+    sent_play = only_if condition (sends_witness work there enc may_run_out absorbed)
 
-  witness-sent : (enc : Encoding F) → IsResidues work.residues →
-      IsSentWherePossible (only_if condition (sends_witness {EF = EF} work there enc may_run_out absorbed))
-  witness-sent enc laws =
-      record {
-        only_memory = λ given v before after e handed refuses same can.
-            let x = fitting (λ y. IsLeast work.residues work.check before.transcript.challenger y) (witness_in v) can.chosen
-            in elim refuses [
-              | inl h ↦ ground work laws may_run_out before.transcript after.transcript x.0 x.2 can.is_next e h.0
-              | inr h ↦ h.memory
-            ];
-      }
+    witness-read : (v : Value F EF) (before after : Driving S) (e : TranscriptError) →
+        RefusesToReadWork work enc before e after → CanTake sent_play before v → e ≡ OutOfMemory
+    witness-read (Witness x) before after e refuses can =
+        (completes x).refuses before.transcript _ can.left before after e
+        (passes x _ before.transcript can.is_next can.gives)
+        (λ k. record { transcript = before.transcript; bytes = can.next k }) refuses
+    witness-read _ before after e refuses can = absurd can.fits
 
-  witness-refused : (enc : Encoding F) → IsResidues work.residues → ((x : F) → CompletesWork work enc x) →
-      IsRefusedForMemory (only_if condition (sends_witness {EF = EF} work there enc may_run_out absorbed))
-  witness-refused enc laws completes =
-      record { taken = witness-taken enc completes; sent = witness-sent enc laws }
+    pub witness-refused : IsRefusedForMemory sent_play
+    witness-refused =
+        record {
+          taken = record { only_memory = λ w before after e v refuses same. witness-read v before after e refuses };
+          sent = record {
+            only_memory = λ given v before after e handed refuses same can.
+                let x = fitting (IsLeast work.residues work.check before.transcript.challenger) (witness_in v)
+                can.chosen in
+                elim refuses [
+                  | inl h ↦ ground laws before.transcript after.transcript x.0 x.2 can.is_next e h.0
+                  | inr h ↦ h.memory
+                ];
+          };
+        }
 
-  carried-taken : ((x : F) → CompletesCarriedWork work x) →
-      IsTakenWherePossible (only_if condition (carries_witness {EF = EF} work there may_run_out absorbed))
-  carried-taken completes =
-      record {
-        only_memory = λ witness before after e v refuses carried can.
-            let x = fitting (λ _. there) (witness_in v) can.fits in
-            let here = carried_one (RefusesCarriedWork work) witness v x.0 before after e x.1 carried refuses in
-            (completes x.0).refuses before.transcript (record {
-              challenger = (work.check x.0).after before.transcript.challenger;
-              playing = step_on before.transcript.playing;
-            }) before.transcript after.transcript e
-            (record {
-              is_next = can.is_next;
-              fits = tt;
-              gives = passing before.transcript.challenger (witness_in v) x.0 x.1 can.gives;
-              challenger = refl;
-              playing = refl;
-            })
-            refl here.0;
-      }
+  module _ (laws : IsResidues work.residues) (completes : (x : F) → CompletesCarriedWork work x) where
+    abbrev carried_play : Play S Symbol F EF O
+    carried_play = only_if condition (carries_witness work there may_run_out absorbed)
 
-  carried-sent : IsResidues work.residues →
-      IsSentWherePossible (only_if condition (carries_witness {EF = EF} work there may_run_out absorbed))
-  carried-sent laws =
-      record {
-        only_memory = λ given v before after e handed refuses same can.
-            let x = fitting (λ y. IsLeast work.residues work.check before.transcript.challenger y) (witness_in v) can.chosen
-            in ground work laws may_run_out before.transcript after.transcript x.0 x.2 can.is_next e refuses.0;
-      }
+    carried-checked : (witness : Option F) (v : Value F EF) (before after : Driving S) (e : TranscriptError) →
+        refuses_some (RefusesCarriedWork work) witness before e after → v ∷ [] ≡ one_witness witness →
+        CanTake carried_play before v → e ≡ OutOfMemory
+    carried-checked (Some y) (Witness x) before after e refuses same can =
+        let is : y ≡ x = cc in
+        (completes x).refuses before.transcript _ before.transcript after.transcript e
+        (passes x [] before.transcript can.is_next can.gives) refl (rw is at refuses.0)
+    carried-checked None _ before after e refuses same can = absurd refuses
+    carried-checked _ _ before after e refuses same can = absurd can.fits
 
-  carried-refused : IsResidues work.residues → ((x : F) → CompletesCarriedWork work x) →
-      IsRefusedForMemory (only_if condition (carries_witness {EF = EF} work there may_run_out absorbed))
-  carried-refused laws completes = record { taken = carried-taken completes; sent = carried-sent laws }
+    pub carried-refused : IsRefusedForMemory carried_play
+    carried-refused =
+        record {
+          taken = record { only_memory = λ witness before after e v. carried-checked witness v before after e };
+          sent = record {
+            only_memory = λ given v before after e handed refuses same can.
+                let x = fitting (IsLeast work.residues work.check before.transcript.challenger) (witness_in v)
+                can.chosen in
+                ground laws before.transcript after.transcript x.0 x.2 can.is_next e refuses.0;
+          };
+        }
 
 -- ---- the shapes of what is sent
 
-not_refused : {S Symbol A : Type 0} (m : Meaning S Symbol A) (len max : ℕ) (before after : Driving S)
+pub within_refused : {S Symbol A : Type 0} (m : Meaning S Symbol A) (len max : ℕ) (before after : Driving S)
     (e : TranscriptError) → len ≤ max → before.transcript.playing.finished ≡ false →
     RefusesToWriteWithin len max m before e after → RefusesToWrite m before e after
-not_refused m len max before after e short going = elim [
-  | inl h ↦ absurd (not_long len max before after e going short h)
-  | inr h ↦ h.1
-]
+within_refused m len max before after e short going refuses = grind arith
 
-untouched-tells : {S Symbol A : Type 0} (x : A) → TellsLimits (untouched {S = S} {Symbol = Symbol} x)
+pub untouched-tells : {S Symbol A : Type 0} (x : A) → TellsLimits (untouched {S = S} {Symbol = Symbol} x)
 untouched-tells x = record { limit = λ s t h. absurd h; too_long = λ s t h fits. h; witness = λ s t h. h }
 
-module _ {S Symbol I F EF O Ac : Type 0} (rules : Rules S Symbol I F EF O Ac) (laws : Lawful rules) where
-  bytes-sending : (kind : Kind) (label : List ℕ) (len : ℕ) →
-      Sending (bytes_step kind label (lengths.Fixed len)) (HasLength len)
-      (meaning.sent_bytes kind label rules.alphabet)
-      (λ bytes. RefusesToWrite (meaning.sent_bytes kind label rules.alphabet bytes))
-      (reads.received_bytes kind label rules.alphabet len)
-  bytes-sending kind label len =
-      record {
-        interaction = λ bytes is. ap (λ n. bytes_step kind label (lengths.Fixed n)) (sym is);
-        gives = λ bytes s. refl;
-        tells = laws.bytes;
-        refused = λ bytes before after e is going h. h;
-        reads = λ bytes is. subst (λ n. OnlyMemoryRefusesToRead (meaning.sent_bytes kind label rules.alphabet bytes)
-            (reads.received_bytes kind label rules.alphabet n) bytes) is (laws.read_bytes kind label bytes);
-      }
-
-  counted_bytes-sending : (label : List ℕ) (max : ℕ) → max < 2 ^ 64 →
-      Sending (bytes_step kind.Message label (lengths.Bounded max)) (HasAtMost max)
-      (meaning.sent_bytes_bounded kind.Message label rules.alphabet max)
-      (λ bytes. RefusesToWriteWithin (list.length bytes) max
-      (meaning.sent_bytes_bounded kind.Message label rules.alphabet max bytes))
-      (reads.received_bytes_bounded label rules.alphabet max)
-  counted_bytes-sending label max small =
-      record {
-        interaction = λ bytes is. refl;
-        gives = λ bytes s. refl;
-        tells = laws.counted_bytes max;
-        refused = λ bytes before after e is going h. not_refused _ _ max before after e is going h;
-        reads = λ bytes is. laws.read_counted_bytes label max bytes is small;
-      }
-
-  hint-sending : (label : List ℕ) (len : ℕ) →
-      Sending {S = S} {Symbol = Symbol} (bytes_step kind.Hint label (lengths.Fixed len)) (HasLength len)
-      (meaning.hinted label) (λ bytes. RefusesToWrite {Symbol = Symbol} (meaning.hinted label bytes))
-      (reads.hint_received label len)
-  hint-sending label len =
-      record {
-        interaction = λ bytes is. ap (λ n. bytes_step kind.Hint label (lengths.Fixed n)) (sym is);
-        gives = λ bytes s. refl;
-        tells = untouched-tells;
-        refused = λ bytes before after e is going h. h;
-        reads = λ bytes is. subst (λ n. OnlyMemoryRefusesToRead {S = S} {Symbol = Symbol} (meaning.hinted label bytes)
-            (reads.hint_received label n) bytes) is (laws.read_hint label bytes);
-      }
-
-  counted_hint-sending : (label : List ℕ) (max : ℕ) → max < 2 ^ 64 →
-      Sending {S = S} {Symbol = Symbol} (bytes_step kind.Hint label (lengths.Bounded max)) (HasAtMost max)
-      (meaning.hinted_bounded label max)
-      (λ bytes. RefusesToWriteWithin {Symbol = Symbol} (list.length bytes) max (meaning.hinted_bounded label max bytes))
-      (reads.hint_received_bounded label max)
-  counted_hint-sending label max small =
-      record {
-        interaction = λ bytes is. refl;
-        gives = λ bytes s. refl;
-        tells = untouched-tells;
-        refused = λ bytes before after e is going h. not_refused _ _ max before after e is going h;
-        reads = λ bytes is. laws.read_counted_hint label max bytes is small;
-      }
-
-  module _ {A : Type 0} (c : Coding S Symbol F A) (lawful : LawfulCoding rules c) where
-    one-sending : (i : Step) →
-        Sending i Any (meaning.sent i c.observation c.encoding)
-        (λ x. RefusesToWrite (meaning.sent i c.observation c.encoding x)) (reads.received i c.observation c.encoding)
-    one-sending i =
-        record {
-          interaction = λ x is. refl;
-          gives = λ x s. refl;
-          tells = lawful.observed;
-          refused = λ x before after e is going h. h;
-          reads = λ x is. lawful.read i x;
-        }
-
-    abbrev step_of : List ℕ → ℕ → Step
-    step_of label n = algebra_step kind.Message label c.algebra (lengths.Fixed n)
-
-    list-sending : (label : List ℕ) (n : ℕ) →
-        Sending (step_of label n) (HasLength n) (list_sent rules c label)
-        (λ xs. RefusesToWrite (list_sent rules c label xs))
-        (reads.received_list (step_of label n) c.observation c.encoding n)
-    list-sending label n =
-        record {
-          interaction = λ xs is. ap (step_of label) (sym is);
-          gives = λ xs s. refl;
-          tells = lawful.observed_list;
-          refused = λ xs before after e is going h. h;
-          reads = λ xs is. subst (λ m. OnlyMemoryRefusesToRead (list_sent rules c label xs)
-              (reads.received_list (step_of label m) c.observation c.encoding m) xs) is
-              (lawful.read_list (step_of label (list.length xs)) xs);
-        }
-
-    counted-sending : (i : Step) (max : ℕ) → max < 2 ^ 64 →
-        Sending i (HasAtMost max) (meaning.sent_bounded i rules.alphabet max c.observation c.encoding)
-        (λ xs. RefusesToWriteWithin (list.length xs) max
-        (meaning.sent_bounded i rules.alphabet max c.observation c.encoding xs))
-        (reads.received_bounded i rules.alphabet max c.observation c.encoding)
-    counted-sending i max small =
-        record {
-          interaction = λ xs is. refl;
-          gives = λ xs s. refl;
-          tells = lawful.observed_counted max;
-          refused = λ xs before after e is going h. not_refused _ _ max before after e is going h;
-          reads = λ xs is. lawful.read_counted i max xs is small;
-        }
-
-    -- a list that both sides know, of at most so many
-    counted-known : (kind : Kind) (label : List ℕ) (xs : List A) (max : ℕ) →
-        IsRefusedForMemory (knows_counted rules c kind label xs max)
-    counted-known kind label xs max =
-        known_with-refused _ _ (λ v. IsNothing v × (list.length xs ≤ max)) no_challenge _ _ _ _
-        (lawful.observed_counted max xs)
-        (λ v before after e is next refuses. elim refuses.0 [
-          | inl h ↦ absurd (laws.within (list.length xs) max before after e next.0 is.1 h)
-          | inr h ↦ h.1
-        ])
-        (λ v before after e is next refuses. elim refuses.0 [
-          | inl h ↦ absurd (not_long (list.length xs) max before after e next.0 is.1 h)
-          | inr h ↦ h.1
-        ])
-
-  -- ---- the kinds
-
-  pub step-refused : {Su U C K D G It St Sy : Type 0} (x : script.Step Su F EF U O C K Ac D G It St Sy) →
-      FitsLength (play_of rules x).interaction.length → (play_of rules x).admitted →
-      IsRefusedForMemory (play_of rules x)
-  step-refused (step.Begin label kind) fits may =
-      known-refused _ _ no_challenge (untouched (tt {0})) _ (untouched-tells (tt {0}))
-  step-refused (step.End label kind) fits may =
-      known-refused _ _ no_challenge (untouched (tt {0})) _ (untouched-tells (tt {0}))
-  step-refused (step.Salt label len) fits may =
-      sends-refused _ bytes_in _ _ _ _ _ _ (bytes-sending kind.Salt label.now len)
-  step-refused (step.Bytes label len) fits may =
-      sends-refused _ bytes_in _ _ _ _ _ _ (bytes-sending kind.Message label.now len)
-  step-refused (step.Hint label len) fits may = sends-refused _ bytes_in _ _ _ _ _ _ (hint-sending label.now len)
-  step-refused (step.BytesBounded label max) fits may =
-      sends-refused _ bytes_in _ _ _ _ _ _ (counted_bytes-sending label.now max fits)
-  step-refused (step.HintBounded label max) fits may =
-      sends-refused _ bytes_in _ _ _ _ _ _ (counted_hint-sending label.now max fits)
-  step-refused (step.PublicScalar label x) fits may = known-refused _ _ no_challenge _ _ (laws.scalar.observed x)
-  step-refused (step.PublicScalars label xs) fits may =
-      known-refused _ _ no_challenge _ _ (laws.scalar.observed_list xs.items)
-  step-refused (step.PublicScalarsBounded label xs max) fits may =
-      counted-known rules.scalar laws.scalar kind.Public label.now xs.items max
-  step-refused (step.Scalar label) fits may =
-      sends-refused _ scalar_in _ _ _ _ _ _ (one-sending rules.scalar laws.scalar _)
-  step-refused (step.Scalars label n) fits may =
-      sends-refused _ scalars_in _ _ _ _ _ _ (list-sending rules.scalar laws.scalar label.now n)
-  step-refused (step.ScalarsBounded label max) fits may =
-      sends-refused _ scalars_in _ _ _ _ _ _ (counted-sending rules.scalar laws.scalar _ max fits)
-  step-refused (step.Extension label) fits may =
-      sends-refused _ extension_in _ _ _ _ _ _ (one-sending rules.extension laws.extension _)
-  step-refused (step.ObserveExtension label x) fits may =
-      known-refused _ _ no_challenge _ _ (laws.extension.observed x)
-  step-refused (step.ObserveExtensions label xs) fits may =
-      known_with-refused _ _ IsNothing no_challenge _ _ _ _ (laws.extension.observed_list xs.items)
-      (λ v before after e is next refuses. elim refuses.0 [
-        | inl h ↦ absurd (laws.recorded (list.length xs.items) _ before after e next refl h)
-        | inr h ↦ h.1
-      ]) (λ v before after e is next refuses. refuses.0)
-  step-refused (step.ObserveExtensionsBounded label xs max) fits may =
-      counted-known rules.extension laws.extension kind.Message label.now xs.items max
-  step-refused (step.Opaque label x) fits may = known-refused _ _ no_challenge _ _ (laws.opaque x)
-  step-refused (step.ChallengeScalar label) fits may =
-      known-refused _ _ (λ x. Some (value.OfScalars (x ∷ []))) _ _ laws.scalar.drawn
-  step-refused (step.ChallengeScalars label n) fits may =
-      known-refused _ _ (λ xs. Some (value.OfScalars xs)) _ _ (laws.scalar.drawn_list n)
-  step-refused (step.ChallengeExtension label) fits may =
-      known-refused _ _ (λ x. Some (value.OfExtensions (x ∷ []))) _ _ laws.extension.drawn
-  step-refused (step.ChallengeExtensions label n) fits may =
-      known-refused _ _ (λ xs. Some (value.OfExtensions xs)) _ _ (laws.extension.drawn_list n)
-  step-refused (step.ChallengeExtensionsRejecting label n accept limit) fits may =
-      known-refused _ _ (λ xs. Some (value.OfExtensions xs)) _ _
-      (laws.extension.drawn_rejecting (rules.accepts_extension accept) limit n)
-  step-refused (step.ChallengeBits label width n) fits may =
-      known-refused _ _ (λ xs. Some (value.OfBits xs)) _ _ (laws.bits may.0 width n)
-  step-refused (step.ChallengeUniformBits label width n) fits may =
-      known-refused _ _ (λ xs. Some (value.OfBits xs)) _ _ (laws.uniform may.0 width n)
-  step-refused (step.ChallengeUniformBitsRejecting label width n accept limit) fits may =
-      known-refused _ _ (λ xs. Some (value.OfBits xs)) _ _
-      (laws.rejecting may.0 width (rules.accepts_bits accept) limit n)
-  step-refused (step.Pow label bits) fits may =
-      witness-refused _ _ _ _ _ _ rules.witness_encoding laws.residues (laws.work may.0 _ bits)
-  step-refused (step.ObservePow label bits) fits may = carried-refused _ _ _ _ _ _ laws.residues (laws.carried_work may.0 _ bits)
+-- a list that both sides know, of at most so many
+pub counted-refused : {S Symbol A F EF O : Type 0} (m : Meaning S Symbol A) (len max : ℕ) (absorbed : Absorbed F O) →
+    TellsLimits m.effect → IsRefusedForMemory (known_within {EF = EF} m.interaction len max m.effect absorbed
+    (RefusesWithin len max m) (RefusesCarriedWithin len max m))
+counted-refused m len max absorbed tells =
+    known_with-refused _ _ _ no_challenge _ _ tells _ _
+    (λ v before after e is next refuses. grind arith) (λ v before after e is next refuses. grind arith)

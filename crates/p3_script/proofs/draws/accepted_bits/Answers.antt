@@ -1,5 +1,8 @@
 use Rattle.p3_script.proofs.draws.accepted_bits.Goals as goal
 
 pub returns : goal.returns
-returns g c =
-    (c.challenge_uniform_bits_rejecting.ensures.played (g.A.AcceptRule.rule c.args.accept.now) (λ x kept r post. post), c.challenge_uniform_bits_rejecting.ensures.kept)
+returns g c = (
+  c.challenge_uniform_bits_rejecting.ensures.played (g.A.AcceptRule.rule c.args.accept.now)
+      (λ x kept r post. post),
+  c.challenge_uniform_bits_rejecting.ensures.kept,
+)
