@@ -1,8 +1,8 @@
 -- True rounds bring the table's sum to its value at the point, and a false claim takes a lucky round.
-use Rattle.std.proofs.Common.{◌≡◌, ℕ, suc, ◌/◌, ◌^◌, ◌≤◌, ◌⊎◌, inl, inr, refl, sym, ap, subst, ◌∙◌, arith}
-use Rattle.std.proofs.Common.{List, [], ◌∷◌, ◌++◌, length, Bool, true, false, length-take-le, length-drop, eqb}
+use Rattle.std.proofs.Common.{◌≡◌, ℕ, suc, ◌/◌, ◌^◌, ◌⊎◌, inl, inr, refl, sym, ap, ◌∙◌, arith}
+use Rattle.std.proofs.Common.{List, [], ◌∷◌, ◌++◌, length, length-take-le, length-drop}
 use Rattle.std.proofs.Math.Nat.{pow-suc}
-use Rattle.std.proofs.lemmas.Bool.{eq-eqb, eqb-true}
+use Rattle.std.proofs.lemmas.Bool.{cases_order}
 use Rattle.p3_challenger.specs.Residues.{Residues, IsResidues, sum_of}
 use Rattle.p3_challenger.specs.ResidueLaws.{number-injective}
 use Rattle.p3_challenger.specs.Rounds.{AreRounds}
@@ -10,30 +10,21 @@ use Rattle.p3_sumcheck.specs.declared.round.Round.{Round}
 use Rattle.p3_sumcheck.specs.Tables.{low_half, high_half, total, folded, folded_at}
 use Rattle.p3_sumcheck.specs.Claims.{HasLuckyRound, Reduces, claim_after, true_round, true_rounds}
 use Rattle.p3_sumcheck.specs.Sumchecks.{challenges_of}
-use Rattle.p3_sumcheck.proofs.Folding.{fold-length, total-folded}
+use Rattle.p3_sumcheck.proofs.Folding.{folded-half, total-folded}
 use Rattle.p3_sumcheck.proofs.Sums.{total-halves, total-one}
 
 -- ---- sizes
 
-half-of_power : (n : ℕ) → 2 ^ suc n / 2 ≡ 2 ^ n
-half-of_power n = let e = pow-suc 2 n in omega arith
-
--- the halves of a table of 2^(n + 1) values have 2^n each
-pub halves-length : {F : Type 0} (n : ℕ) (table : List F) → length table ≡ 2 ^ suc n →
-    (length (low_half table) ≡ 2 ^ n) × (length (high_half table) ≡ 2 ^ n)
-halves-length n table is =
-    let half : length table / 2 ≡ 2 ^ n = ap (λ m. m / 2) is ∙ half-of_power n in
-    let twice = pow-suc 2 n in
-    let enough : length table / 2 ≤ length table = omega arith in (
-      length-take-le (length table / 2) table enough ∙ half,
-      length-drop (length table / 2) table ∙ (omega arith),
-    )
+-- the halves of a table of 2^(n + 1) values are alike
+halves-alike : {F : Type 0} (n : ℕ) (table : List F) → length table ≡ 2 ^ suc n →
+    length (high_half table) ≡ length (low_half table)
+halves-alike n table is =
+    let low = length-take-le (length table / 2) table (omega arith) in
+    omega (arith, is, pow-suc 2 n, low, length-drop (length table / 2) table)
 
 pub folded-length : {F : Type 0} (r : Residues F) (x : F) (n : ℕ) (table : List F) → length table ≡ 2 ^ suc n →
     length (folded r x table) ≡ 2 ^ n
-folded-length r x n table is =
-    let both = halves-length n table is in
-    fold-length r x (low_half table) (high_half table) (omega (arith, both.0, both.1)) ∙ both.0
+folded-length r x n table is = omega (arith, is, pow-suc 2 n, folded-half r x table)
 
 -- ---- one more round
 
@@ -60,36 +51,13 @@ pub true_rounds-length : {F : Type 0} (r : Residues F) (table point : List F) �
 true_rounds-length r table [] = refl
 true_rounds-length r table (x ∷ point) = ap suc (true_rounds-length r (folded r x table) point)
 
--- ---- what is left of a claim
-
--- rounds bring a claim to one other, and go on from there
-pub reduces-split : {F : Type 0} (r : Residues F) (claim current last : F) (rounds others : List (Round F)) →
-    AreRounds (Reduces r) claim rounds current → AreRounds (Reduces r) claim (rounds ++ others) last →
-    AreRounds (Reduces r) current others last
-reduces-split r claim current last [] others so_far all =
-    subst (λ c. AreRounds (Reduces r) c others last) (sym so_far) all
-reduces-split r claim current last (round ∷ rounds) others so_far all =
-    let same : all.0 ≡ so_far.0 = all.1.1 ∙ sym so_far.1.1 in
-    reduces-split r so_far.0 current last rounds others so_far.2
-    (subst (λ c. AreRounds (Reduces r) c (rounds ++ others) last) same all.2)
-
-pub reduces-same : {F : Type 0} (r : Residues F) (claim one other : F) (rounds : List (Round F)) →
-    AreRounds (Reduces r) claim rounds one → AreRounds (Reduces r) claim rounds other → one ≡ other
-reduces-same r claim one other [] first second = first ∙ sym second
-reduces-same r claim one other (round ∷ rounds) first second =
-    let same : second.0 ≡ first.0 = second.1.1 ∙ sym first.1.1 in
-    reduces-same r first.0 one other rounds first.2
-    (subst (λ c. AreRounds (Reduces r) c rounds other) same second.2)
-
 -- ---- true rounds, and false claims
 
 module _ {F : Type 0} (r : Residues F) (laws : IsResidues r) where
   -- what a true round leaves is the sum of the folded table
   next-true : (n : ℕ) (table : List F) (x : F) → length table ≡ 2 ^ suc n →
       claim_after r (true_round r table x) ≡ total r (folded r x table)
-  next-true n table x is =
-      let both = halves-length n table is in
-      sym (total-folded r laws x (low_half table) (high_half table) (both.1 ∙ sym both.0))
+  next-true n table x is = sym (total-folded r laws x (low_half table) (high_half table) (halves-alike n table is))
 
   -- true rounds bring the sum of the table to its value at the point
   pub true-reduces : (table point : List F) (last : F) → length table ≡ 2 ^ length point →
@@ -101,13 +69,12 @@ module _ {F : Type 0} (r : Residues F) (laws : IsResidues r) where
     true-reduces (folded r x table) point last (folded-length r x (length point) table is) ends,
   )
 
-  either-by : (x y : F) (b : Bool) → eqb (r.number x) (r.number y) ≡ b → (x ≡ y) ⊎ (x ≡ y → ⊥)
-  either-by x y true e = inl (number-injective r laws x y (eqb-true (r.number x) (r.number y) e))
-  either-by x y false e =
-      inr (λ same. let yes = eq-eqb (r.number x) (r.number y) (ap r.number same) in absurd (cc))
-
   either-element : (x y : F) → (x ≡ y) ⊎ (x ≡ y → ⊥)
-  either-element x y = either-by x y (eqb (r.number x) (r.number y)) refl
+  either-element x y = elim (cases_order (r.number x) (r.number y)) [
+    | inl same ↦ inl (number-injective r laws x y same)
+    | inr (inl less) ↦ inr (λ same. absurd (omega (arith, less, ap r.number same)))
+    | inr (inr more) ↦ inr (λ same. absurd (omega (arith, more, ap r.number same)))
+  ]
 
   -- a claim that is not the sum of the table, and that rounds bring to the table's value at their point, takes a lucky
   -- round

@@ -1,11 +1,11 @@
 -- Where the rounds are next, a verifier refuses none for the sake of the pattern.
-use Rattle.std.proofs.Common.{◌≡◌, ℕ, ◌+◌, ◌-◌, ◌<◌, ◌⊎◌, List, inl, inr, suc, length, sym, subst, arith, Result, Err}
+use Rattle.std.proofs.Common.{◌≡◌, ℕ, ◌+◌, ◌-◌, inl, inr, suc, length, arith, Result, Err}
 use Rattle.std.specs.Result.{IfErr}
 use Rattle.p3_challenger.specs.CompletenessLaws.{next-own_refusal}
 use Rattle.p3_challenger.specs.Driving.{Driving}
 use Rattle.p3_challenger.specs.TranscriptError.{TranscriptError}
 use Rattle.p3_challenger.specs.TranscriptLaws.{next-first}
-use Rattle.p3_challenger.specs.Transcripts.{AreNext, IsNext}
+use Rattle.p3_challenger.specs.Transcripts.{AreNext}
 use Rattle.p3_sumcheck.specs.Faults.{IsNoPatternFault}
 use Rattle.p3_sumcheck.specs.declared.error.SumcheckError.{SumcheckError}
 use Rattle.p3_sumcheck.specs.declared.error.SumcheckError.TheVariants as fault
@@ -27,22 +27,22 @@ module _ {S Symbol F : Type 0} (m : Sumcheck S Symbol F) where
   round-fault claim i before after (fault.Transcript e) next refuses = elim refuses [
     | inl unread ↦ next-reading_fault (read_pair m) before after e next.0 unread
     | inr undrawn ↦
-        let here = sym (undrawn.3.plays.playing) in
         inr (next-own_refusal (drawn_challenge m) undrawn.2.transcript after.transcript e
-        (subst (λ p. IsNext p (drawn_challenge m).interaction) here next.1.0) undrawn.5)
+        (rw undrawn.3.plays.playing next.1.0) undrawn.5)
   ]
 
   refusal-fault : (claim : F) (n : ℕ) (before after : Driving S) (e : SumcheckError) →
       AreNext (steps_of m n) before.transcript.playing → Refuses m claim n before e after → IsStepFault e
   refusal-fault claim n before after e next refuses = elim refuses.refuses [
-    | inr memory ↦ subst IsStepFault (sym memory.1) (inr tt)
+    | inr memory ↦ rw memory.1 (inr tt)
     | inl round ↦
         let done = length refuses.rounds in
-        let is : n ≡ done + suc (n - done - 1) = omega (arith, round.0) in
-        let here = rounds-left m n (suc (n - done - 1)) before.transcript refuses.here.transcript refuses.rounds is
-        next (reads-plays m before refuses.rounds refuses.here refuses.accepts.reads) in
+        let left = n - done - 1 in
+        let is : n ≡ done + suc left = omega (arith, round.0) in
         round-fault refuses.current done refuses.here after e
-        (next-first (round_steps m.field) (steps_of m (n - done - 1)) refuses.here.transcript.playing here) round.1
+        (next-first (round_steps m.field) (steps_of m left) _
+        (rounds-left m n (suc left) before.transcript _ refuses.rounds is next
+        (reads-plays m before refuses.rounds refuses.here refuses.accepts.reads))) round.1
   ]
 
   -- so of a verifier's answer
@@ -50,6 +50,5 @@ module _ {S Symbol F : Type 0} (m : Sumcheck S Symbol F) where
       AreNext (steps_of m n) before.transcript.playing → IfErr result (λ e. Refuses m claim n before e after) →
       (e : TranscriptError) → result ≡ Err (fault.Transcript e) →
       IsNoPatternFault e
-  faults {R} claim n before after result next refuses e is =
-      refusal-fault claim n before after (fault.Transcript e) next
-      (subst (λ (r : Result R SumcheckError). IfErr r (λ f. Refuses m claim n before f after)) is refuses)
+  faults claim n before after result next refuses e is =
+      refusal-fault claim n before after (fault.Transcript e) next (rw is at refuses)

@@ -1,5 +1,5 @@
 -- Rounds that a prover has sent so far, and the table that is left.
-use Rattle.std.proofs.Common.{◌≡◌, ℕ, zero, suc, ◌+◌, ◌-◌, ◌^◌, ◌<◌, ◌≤◌, inl, inr, List, [], ◌∷◌, ◌++◌, length, refl, sym, ap, subst}
+use Rattle.std.proofs.Common.{◌≡◌, ℕ, zero, suc, ◌+◌, ◌-◌, ◌^◌, ◌<◌, ◌≤◌, inl, inr, List, [], ◌∷◌, ◌++◌, length, refl, sym, ap}
 use Rattle.std.proofs.Common.{◌∙◌, arith, get_or, zero-add, Option, Some}
 use Rattle.std.proofs.lemmas.List.{length-append}
 use Rattle.std.proofs.lemmas.Nat.{pow_pos}
@@ -8,25 +8,25 @@ use Rattle.p3_challenger.specs.Completeness.{IsOwnRefusal}
 use Rattle.p3_challenger.specs.CompletenessLaws.{next-own_refusal}
 use Rattle.p3_challenger.specs.Driving.{Driving}
 use Rattle.p3_challenger.specs.Proving.{Writes}
-use Rattle.p3_challenger.specs.Rounds.{AreRounds, steps_of_rounds}
-use Rattle.p3_challenger.specs.RoundLaws.{rounds-more, rounds-seen, steps_of_rounds-then}
+use Rattle.p3_challenger.specs.Rounds.{AreRounds}
+use Rattle.p3_challenger.specs.RoundLaws.{rounds-more, rounds-seen}
 use Rattle.p3_challenger.specs.TranscriptError.{TranscriptError}
-use Rattle.p3_challenger.specs.TranscriptLaws.{next-first, next-then}
+use Rattle.p3_challenger.specs.TranscriptLaws.{next-first}
 use Rattle.p3_challenger.specs.TranscriptError.TheVariants.{OutOfMemory}
-use Rattle.p3_challenger.specs.Transcripts.{AreNext, IsNext, Meaning, PlaysStep, steps_on}
+use Rattle.p3_challenger.specs.Transcripts.{AreNext, Meaning, PlaysStep, steps_on}
 use Rattle.p3_sumcheck.specs.declared.round.Round.{Round}
-use Rattle.p3_sumcheck.specs.Claims.{true_round, true_rounds, true_pair}
+use Rattle.p3_sumcheck.specs.Claims.{true_rounds}
 use Rattle.p3_sumcheck.specs.Sumchecks.{PlaysRound, Proves, RefusesToProve, RefusesToSend, Sumcheck, WritesRound}
 use Rattle.p3_sumcheck.specs.Sumchecks.{drawn_challenge, round_steps, sent_pair}
 use Rattle.p3_sumcheck.specs.Tables.{folded, folded_at, high_half, low_half, total}
 use Rattle.p3_sumcheck.proofs.ClaimLaws.{folded-length, folded_at-more, true_rounds-length, true_rounds-more}
+use Rattle.p3_sumcheck.proofs.Folding.{folded-half}
 use Rattle.p3_sumcheck.proofs.Declaring.{rounds-left, rounds-pass, steps_of}
 
 -- a list of one value
 one-value : {F : Type 0} (xs : List F) (x : F) → length xs ≡ 1 → x ≡ get_or xs 0 x → xs ≡ x ∷ []
-one-value [] x long is = absurd (omega (arith, long))
 one-value (y ∷ []) x long is = ap (λ z. z ∷ []) (sym is)
-one-value (y ∷ z ∷ xs) x long is = absurd (omega (arith, long))
+one-value _ x long is = absurd (omega (arith, long))
 
 -- a power of two is 1, or twice another
 some-left : (n k : ℕ) → k ≡ 2 ^ n → 1 < k → (m : ℕ) × (n ≡ suc m)
@@ -51,10 +51,9 @@ some-table table size few = let some = pow_pos size.0 in let is = size.1 in omeg
 pub writes-given : {S Symbol A : Type 0} (sent : Meaning S Symbol A) (x y : A) (before after : Driving S) →
     sent.effect.gives before.transcript.challenger ≡ Some y → Writes sent before x after → Writes sent before y after
 writes-given {A = A} sent x y before after gives writes =
-    let here = writes.plays.gives in
-    let both : ◌≡◌ {A = Option A} (Some x) (Some y) = sym here ∙ gives in
-    let same : x ≡ y = cc in
-    subst (λ z. Writes sent before z after) same writes
+    let both : ◌≡◌ {A = Option A} (Some y) (Some x) = sym gives ∙ writes.plays.gives in
+    let same : y ≡ x = cc in
+    rw same writes
 
 module _ {S Symbol F : Type 0} (m : Sumcheck S Symbol F) where
   pub round-written : (before here after : Driving S) (first second drawn x : F) (sent : List F) →
@@ -62,15 +61,16 @@ module _ {S Symbol F : Type 0} (m : Sumcheck S Symbol F) where
       PlaysStep (drawn_challenge m) here.transcript drawn after.transcript → after.bytes ≡ here.bytes → x ≡ drawn →
       WritesRound m before (record { first = first; second = second; challenge = x }) after
   round-written before here after first second drawn x sent writes draws kept is =
-      record {
-        plays = record {
-          here = here.transcript;
-          sends = (writes-given (sent_pair m (first ∷ second ∷ [])) sent (first ∷ second ∷ []) before here refl
-              writes).plays;
-          draws = subst (λ y. PlaysStep (drawn_challenge m) here.transcript y after.transcript) (sym is) draws;
-        };
+      let sends = (writes-given (sent_pair m (first ∷ second ∷ [])) sent _ before here refl writes).plays in
+      rw is (record {
+        plays = record { here = here.transcript; sends = sends; draws = draws };
         bytes = kept ∙ writes.wire;
-      }
+      })
+
+  -- rounds that are written are played
+  pub writes-plays : (before : Driving S) (xs : List (Round F)) (after : Driving S) →
+      AreRounds (WritesRound m) before xs after → AreRounds (PlaysRound m) before.transcript xs after.transcript
+  writes-plays = rounds-seen (WritesRound m) (λ v. v.transcript) (PlaysRound m) (λ b x a round. round.plays)
 
   -- The true rounds at the point were written, this table is left, and this is its true pair.
   pub record Sends (table : List F) (before : Driving S) (point left : List F) (pair : F × F) (here : Driving S) : Type 0
@@ -87,15 +87,15 @@ module _ {S Symbol F : Type 0} (m : Sumcheck S Symbol F) where
       (n : ℕ) × (length table ≡ 2 ^ n) → point ≡ [] → pair.0 ≡ total m.residues (low_half table) →
       pair.1 ≡ total m.residues (high_half table) → Sends table before point table pair before
   sends-none table before point pair size none first second =
-      record {
+      rw none (record {
         rounds_left = size.0;
         size = size.1;
-        whole = size.1 ∙ ap (λ k. 2 ^ k) (omega (arith, ap length none));
-        writes = subst (λ xs. AreRounds (WritesRound m) before (true_rounds m.residues table xs) before) (sym none) refl;
-        folds = sym (ap (λ xs. folded_at m.residues xs table) none);
+        whole = size.1 ∙ ap (λ k. 2 ^ k) (omega arith);
+        writes = refl;
+        folds = refl;
         first = first;
         second = second;
-      }
+      })
 
   module _ (table : List F) (before here after : Driving S) (point left : List F) (pair : F × F)
       (so_far : Sends table before point left pair here) (some : 1 < length left) where
@@ -103,34 +103,18 @@ module _ {S Symbol F : Type 0} (m : Sumcheck S Symbol F) where
     pub stops-at : (e : TranscriptError) → RefusesToSend m (pair.0 ∷ pair.1 ∷ []) here e after →
         RefusesToProve m table before e after
     stops-at e refuses =
-        let r = m.residues in
-        let first = so_far.first in
-        let second = so_far.second in
-        let is_pair : ◌≡◌ {A = List F} (pair.0 ∷ pair.1 ∷ []) (true_pair r left) = λ i. first i ∷ second i ∷ [] in
-        let true_now = is_pair ∙ ap (true_pair r) so_far.folds in
         record {
           point = point;
           here = here;
           writes = so_far.writes;
-          refuses = inl (
-            subst (λ xs. 1 < length xs) so_far.folds some,
-            subst (λ xs. RefusesToSend m xs here e after) true_now refuses,
-          );
+          refuses = inl (rw (← so_far.folds, ← so_far.first, ← so_far.second) (some, refuses));
         }
 
     module _ (x : F) (writes : WritesRound m here (record { first = pair.0; second = pair.1; challenge = x }) after) where
       written-more : AreRounds (WritesRound m) before (true_rounds m.residues table (point ++ (x ∷ []))) after
       written-more =
-          let r = m.residues in
-          let first = so_far.first in
-          let second = so_far.second in
-          let is_true : ◌≡◌ {A = Round F} (record { first = pair.0; second = pair.1; challenge = x })
-          (true_round r left x) = λ i. record { first = first i; second = second i; challenge = x } in
-          let true_now = is_true ∙ ap (λ xs. true_round r xs x) so_far.folds in
-          subst (λ rounds. AreRounds (WritesRound m) before rounds after) (sym (true_rounds-more r table point x))
-          (rounds-more (WritesRound m) before (true_rounds r table point) here
-          (true_round r (folded_at r point table) x) after so_far.writes
-          (subst (λ (round : Round F). WritesRound m here round after) true_now writes))
+          rw (true_rounds-more m.residues table point x, ← so_far.folds, ← so_far.first, ← so_far.second)
+          (rounds-more (WritesRound m) before (true_rounds m.residues table point) here _ after so_far.writes writes)
 
       pub sends-more : (grown more : List F) (next : F × F) → more ≡ folded m.residues x left →
           next.0 ≡ total m.residues (low_half more) → next.1 ≡ total m.residues (high_half more) →
@@ -138,19 +122,15 @@ module _ {S Symbol F : Type 0} (m : Sumcheck S Symbol F) where
       sends-more grown more next folding first second added =
           let r = m.residues in
           let fewer = some-left so_far.rounds_left (length left) so_far.size some in
-          let size : length left ≡ 2 ^ suc fewer.0 = so_far.size ∙ ap (λ k. 2 ^ k) fewer.1 in
-          record {
+          rw added (record {
             rounds_left = fewer.0;
-            size = ap length folding ∙ folded-length r x fewer.0 left size;
-            whole = so_far.whole ∙ ap (λ k. 2 ^ k)
-                (omega (arith, fewer.1, ap length added, length-append point (x ∷ [])));
-            writes = subst (λ xs. AreRounds (WritesRound m) before (true_rounds r table xs) after) (sym added)
-                written-more;
-            folds = folding ∙ ap (folded r x) so_far.folds ∙ sym (folded_at-more r table point x)
-                ∙ sym (ap (λ xs. folded_at r xs table) added);
+            size = ap length folding ∙ folded-length r x fewer.0 left (so_far.size ∙ ap (λ k. 2 ^ k) fewer.1);
+            whole = so_far.whole ∙ ap (λ k. 2 ^ k) (omega (arith, fewer.1, length-append point (x ∷ [])));
+            writes = written-more;
+            folds = rw (folded_at-more r table point x, ← so_far.folds) folding;
             first = first;
             second = second;
-          }
+          })
 
       -- there is no room for its challenge
       pub stops-after : (e : TranscriptError) → e ≡ OutOfMemory → RefusesToProve m table before e after
@@ -175,57 +155,41 @@ module _ {S Symbol F : Type 0} (m : Sumcheck S Symbol F) where
   sent-own_refusal pair before after e next refuses = elim refuses [
     | inl unsent ↦ next-own_refusal (sent_pair m pair) before.transcript after.transcript e next.0 unsent.refuses
     | inr undrawn ↦
-        let here = sym (undrawn.1.plays.playing) in
         next-own_refusal (drawn_challenge m) undrawn.0.transcript after.transcript e
-        (subst (λ p. IsNext p (drawn_challenge m).interaction) here next.1.0) undrawn.2
+        (rw undrawn.1.plays.playing next.1.0) undrawn.2
   ]
 
-  -- the rounds that are left are next
-  still-next : (n k : ℕ) (before here : Driving S) (rounds : List (Round F)) → n ≡ length rounds + k →
-      AreNext (steps_of m n) before.transcript.playing → AreRounds (WritesRound m) before rounds here →
-      AreNext (steps_of m k) here.transcript.playing
-  still-next n k before here rounds is next writes =
-      let plays : AreRounds (PlaysRound m) before.transcript rounds here.transcript
-      = rounds-seen (WritesRound m) (λ v. v.transcript) (PlaysRound m) (λ b x a round. round.plays) before rounds here
-      writes in
-      rounds-left m n k before.transcript here.transcript rounds is next plays
-
-  -- nothing is left of no values
-  none-folded : (point : List F) → length (folded_at m.residues point []) ≡ 0
-  none-folded [] = refl
-  none-folded (x ∷ point) = none-folded point
-
-  one-folded : (table : List F) (x : F) (point : List F) → length table ≡ 1 →
-      length (folded_at m.residues point (folded m.residues x table)) ≡ 0
-  one-folded [] x point one = absurd (omega (arith, one))
-  one-folded (y ∷ []) x point one = none-folded point
-  one-folded (y ∷ z ∷ table) x point one = absurd (omega (arith, one))
+  -- one value or none stays so
+  few-folded : (table point : List F) → length table ≤ 1 → length (folded_at m.residues point table) ≤ 1
+  few-folded table [] few = few
+  few-folded table (x ∷ point) few =
+      few-folded (folded m.residues x table) point (omega (arith, few, folded-half m.residues x table))
 
   -- a table of which some values are left was folded fewer times than it can be
   fewer-folds : (n : ℕ) (table point : List F) → length table ≡ 2 ^ n → 1 < length (folded_at m.residues point table) →
       length point < n
-  fewer-folds zero table [] size some = absurd (omega (arith, size, some))
-  fewer-folds zero table (x ∷ point) size some =
-      absurd (omega (arith, some, one-folded table x point size))
+  fewer-folds zero table point size some = absurd (omega (arith, some, few-folded table point (omega (arith, size))))
   fewer-folds (suc n) table [] size some = omega arith
   fewer-folds (suc n) table (x ∷ point) size some =
-      let fewer = fewer-folds n (folded m.residues x table) point (folded-length m.residues x n table size) some in
-      omega (arith, fewer)
+      omega (arith, fewer-folds n (folded m.residues x table) point (folded-length m.residues x n table size) some)
 
   pub own_refusal : (n : ℕ) (table : List F) (before after : Driving S) (e : TranscriptError) → length table ≡ 2 ^ n →
       AreNext (steps_of m n) before.transcript.playing → RefusesToProve m table before e after → IsOwnRefusal e
   own_refusal n table before after e size next refuses = elim refuses.refuses [
-    | inr memory ↦ subst IsOwnRefusal (sym memory.0) tt
+    | inr memory ↦ rw memory.0 tt
     | inl round ↦
-        let r = m.residues in
-        let fewer = fewer-folds n table refuses.point size round.0 in
-        let rounds = true_rounds r table refuses.point in
-        let many = true_rounds-length r table refuses.point in
-        let is : n ≡ length rounds + suc (n - length refuses.point - 1) = omega (arith, many, fewer) in
-        let here = still-next n (suc (n - length refuses.point - 1)) before refuses.here rounds is next refuses.writes in
-        sent-own_refusal (true_pair r (folded_at r refuses.point table)) refuses.here after e
-        (next-first (round_steps m.field) (steps_of m (n - length refuses.point - 1))
-        refuses.here.transcript.playing here) round.1
+        let point = refuses.point in
+        let rounds = true_rounds m.residues table point in
+        let left = n - length point - 1 in
+        let is : n ≡ length rounds + suc left = omega (
+          arith,
+          true_rounds-length m.residues table point,
+          fewer-folds n table point size round.0,
+        ) in
+        sent-own_refusal _ refuses.here after e
+        (next-first (round_steps m.field) (steps_of m left) _
+        (rounds-left m n (suc left) before.transcript _ rounds is next
+        (writes-plays before rounds refuses.here refuses.writes))) round.1
   ]
 
   -- and where they are played, the driver stands after them
@@ -234,12 +198,8 @@ module _ {S Symbol F : Type 0} (m : Sumcheck S Symbol F) where
       (length point ≡ n) × (after.transcript.playing ≡ steps_on (steps_of m n) before.transcript.playing)
   passes table point value n before after size proves =
       let rounds = true_rounds m.residues table point in
-      let plays : AreRounds (PlaysRound m) before.transcript rounds after.transcript
-      = rounds-seen (WritesRound m) (λ v. v.transcript) (PlaysRound m) (λ b x a round. round.plays) before rounds after
-      proves.writes in
       let many = one-power (length point) n (sym proves.size ∙ size) in (
         many,
-        (rounds-pass m rounds before.transcript after.transcript plays).1
-            ∙ ap (λ k. steps_on (steps_of m k) before.transcript.playing)
-            (true_rounds-length m.residues table point ∙ many),
+        rw (← many, ← true_rounds-length m.residues table point)
+            (rounds-pass m rounds before.transcript after.transcript (writes-plays before rounds after proves.writes)).1,
       )

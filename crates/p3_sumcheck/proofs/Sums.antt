@@ -1,5 +1,5 @@
 -- Sums of tables in parts, and of what is folded.
-use Rattle.std.proofs.Common.{◌≡◌, ℕ, ◌+◌, ◌/◌, ◌<◌, List, [], ◌∷◌, ◌++◌, length, take, drop, sum_by, get_or, sym, ap, ◌∙◌}
+use Rattle.std.proofs.Common.{◌≡◌, ℕ, ◌+◌, ◌/◌, ◌<◌, List, [], ◌∷◌, ◌++◌, length, take, drop, sum_by, get_or, ap, ◌∙◌}
 use Rattle.std.proofs.lemmas.List.Sums.{sum_by-cons, sum_by-take-drop, sum_by_more, sum_by_push}
 use Rattle.p3_challenger.specs.Residues.{Residues, IsResidues, sum_of}
 use Rattle.p3_challenger.specs.Rings.{IsRing}
@@ -18,10 +18,7 @@ module _ {F : Type 0} (r : Residues F) (laws : IsResidues r) where
 
   pub total-parts : (table front rest : List F) (k : ℕ) (x y u : F) → front ≡ take k table → rest ≡ drop k table →
       x ≡ total r front → y ≡ total r rest → u ≡ sum_of r x y → u ≡ total r table
-  total-parts table front rest k x y u is_front is_rest first second adds =
-      let one = first ∙ ap (total r) is_front in
-      let other = second ∙ ap (total r) is_rest in
-      adds ∙ (λ i. sum_of r (one i) (other i)) ∙ total-split table k
+  total-parts table front rest k x y u is_front is_rest first second adds = cc (total-split table k)
 
   -- those of its halves
   pub total-halves : (table : List F) → sum_of r (total r (low_half table)) (total r (high_half table)) ≡ total r table
@@ -30,28 +27,22 @@ module _ {F : Type 0} (r : Residues F) (laws : IsResidues r) where
   -- the total of a list with one value in front
   pub total-cons : (x : F) (xs : List F) → total r (x ∷ xs) ≡ sum_of r x (total r xs)
   total-cons x xs =
-      ap r.of (sum_by-cons r.number x xs)
-      ∙ sym (ring.sum_of_numbers (r.number x) (sum_by r.number xs))
-      ∙ ap (λ y. sum_of r y (total r xs)) (laws.of_number x)
+      cc (sum_by-cons r.number x xs, ring.sum_of_numbers (r.number x) (sum_by r.number xs), laws.of_number x)
 
   -- of a front of a list, with the next value added
   pub total-more : (xs : List F) (i : ℕ) (x : F) → i < length xs → x ≡ get_or xs i x → (t u : F) →
       t ≡ total r (take i xs) → u ≡ sum_of r t x → u ≡ total r (take (i + 1) xs)
   total-more xs i x below at t u so_far added =
-      let so = sum_by r.number (take i xs) in
-      added
-      ∙ ap (λ v. sum_of r v x) so_far
-      ∙ ap (λ y. sum_of r (r.of so) y) (sym (laws.of_number x))
-      ∙ ring.sum_of_numbers so (r.number x)
-      ∙ ap (λ y. r.of (so + r.number y)) at
-      ∙ ap r.of (sym (sum_by_more r.number xs i x below))
+      cc (
+        sum_by_more r.number xs i x below,
+        laws.of_number x,
+        ring.sum_of_numbers (sum_by r.number (take i xs)) (r.number x),
+      )
 
   -- of a list with one value at its end
   pub total-push : (xs : List F) (x : F) → total r (xs ++ (x ∷ [])) ≡ sum_of r (total r xs) x
   total-push xs x =
-      ap r.of (sum_by_push r.number xs x)
-      ∙ sym (ring.sum_of_numbers (sum_by r.number xs) (r.number x))
-      ∙ ap (λ y. sum_of r (total r xs) y) (laws.of_number x)
+      cc (sum_by_push r.number xs x, ring.sum_of_numbers (sum_by r.number xs) (r.number x), laws.of_number x)
 
   -- the total of a table of one value is that value
   pub total-one : (x : F) → total r (x ∷ []) ≡ x

@@ -1,5 +1,5 @@
 -- Laws of steps that a recorder takes where some pattern begins with them.
-use Rattle.std.proofs.Common.{◌≡◌, inl, inr, true, false, List, [], ◌∷◌, ◌++◌, sym, ap, subst, ◌∙◌, append_assoc}
+use Rattle.std.proofs.Common.{◌≡◌, inl, inr, false, List, [], ◌∷◌, ◌++◌, sym, ap, subst, ◌∙◌, append_assoc}
 use Rattle.p3_challenger.specs.Kind.TheVariants.{Protocol}
 use Rattle.p3_challenger.specs.PatternGrammar.{IsPattern, IsViable}
 use Rattle.p3_challenger.specs.Recording.{Recording, RefusesToRecord}

@@ -1,6 +1,6 @@
 -- What a step that reads, and is next, is refused for: the proof has another shape there, or the challenger or memory is
 -- refused.
-use Rattle.std.specs.Prelude.{ℕ, List, ◌⊎◌, refl}
+use Rattle.std.specs.Prelude.{refl}
 use Rattle.std.proofs.Common.{inl, inr}
 use Rattle.p3_challenger.specs.Driving.{Driving}
 use Rattle.p3_challenger.specs.Reads.{Reading}

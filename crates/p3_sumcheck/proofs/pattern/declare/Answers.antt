@@ -2,7 +2,7 @@ use Rattle.std.proofs.Common.{codes, ap, ◌∙◌}
 use Rattle.std.proofs.lemmas.Result.{err_from_is_err_and}
 use Rattle.p3_challenger.specs.Kind.TheVariants.{Challenge}
 use Rattle.p3_challenger.specs.Length.TheVariants.{Scalar}
-use Rattle.p3_sumcheck.proofs.Declaring.{alike, declares-more, only-first, only-second, same-steps, same-viable, stops-first, stops-second}
+use Rattle.p3_sumcheck.proofs.Declaring.{alike, declares-more, stops-first, stops-second}
 use Rattle.p3_sumcheck.proofs.pattern.declare.Goals as goal
 
 pub loop-preserved : goal.loop-preserved
@@ -20,10 +20,8 @@ returns-in_err-interact-clause-err g c =
     let challenge = c.of_same_type-challenge.ensures ∙ ap (alike Challenge (codes "fold") Scalar) pair in
     let p = err_from_is_err_and c.from_residual.result c.from_residual.ensures.1 in
     rw (p.1, p.2)
-    (same-steps _ _ _ _ pair challenge c.args.rounds c.args.recorder.now c.interact.new.self
-    c.in_err-interact.field-0.0
-    (stops-first _ _ c.loop.counter c.args.rounds c.args.recorder.now c.loop.recorder c.interact.new.self _
-    c.loop-test.true c.loop.invariant.recorded c.in_err-interact.ensures.err))
+    (stops-first _ _ _ _ pair challenge c.loop.counter c.args.rounds c.args.recorder.now c.loop.recorder
+    c.loop-test.true c.loop.invariant.recorded c.interact.new.self _ c.in_err-interact.ensures.err).0
 
 pub returns-in_err-interact-2-clause-err : goal.returns-in_err-interact-2-clause-err
 returns-in_err-interact-2-clause-err g c =
@@ -32,11 +30,8 @@ returns-in_err-interact-2-clause-err g c =
     let p = err_from_is_err_and c.from_residual-in_err-interact-2.result
     c.from_residual-in_err-interact-2.ensures.1 in
     rw (p.1, p.2)
-    (same-steps _ _ _ _ pair challenge c.args.rounds c.args.recorder.now c.interact-in-loop.new.self
-    c.in_err-interact-2.field-0.0
-    (stops-second _ _ c.loop.counter c.args.rounds c.args.recorder.now c.loop.recorder c.interact.new.self
-    c.interact-in-loop.new.self _ c.loop-test.true c.loop.invariant.recorded c.in_ok-interact.ensures.ok
-    c.in_err-interact-2.ensures.err))
+    (stops-second _ _ _ _ pair challenge c.loop.counter c.args.rounds c.args.recorder.now c.loop.recorder
+    c.loop-test.true c.loop.invariant.recorded c.interact.new.self c.interact-in-loop.new.self _ c.in_ok-interact.ensures.ok c.in_err-interact-2.ensures.err).0
 
 pub returns-in_err-interact-clause-only : goal.returns-in_err-interact-clause-only
 returns-in_err-interact-clause-only g c going viable =
@@ -44,18 +39,16 @@ returns-in_err-interact-clause-only g c going viable =
     let challenge = c.of_same_type-challenge.ensures ∙ ap (alike Challenge (codes "fold") Scalar) pair in
     let p = err_from_is_err_and c.from_residual.result c.from_residual.ensures.1 in
     rw (p.1, p.2)
-    (only-first _ _ c.loop.counter c.args.rounds c.args.recorder.now c.loop.recorder c.interact.new.self _
-    c.loop-test.true c.loop.invariant.recorded (c.loop.invariant.going going)
-    (same-viable _ _ _ _ pair challenge c.args.rounds c.args.recorder.now.steps viable) c.in_err-interact.ensures.err)
+    ((stops-first _ _ _ _ pair challenge c.loop.counter c.args.rounds c.args.recorder.now c.loop.recorder
+    c.loop-test.true c.loop.invariant.recorded c.interact.new.self _ c.in_err-interact.ensures.err).1 (c.loop.invariant.going going) viable)
 
 pub returns-in_err-interact-2-clause-only : goal.returns-in_err-interact-2-clause-only
 returns-in_err-interact-2-clause-only g c going viable =
     let pair = c.algebra-pair.ensures in
     let challenge = c.of_same_type-challenge.ensures ∙ ap (alike Challenge (codes "fold") Scalar) pair in
+    let one = c.in_ok-interact.ensures.ok in
     let p = err_from_is_err_and c.from_residual-in_err-interact-2.result
     c.from_residual-in_err-interact-2.ensures.1 in
     rw (p.1, p.2)
-    (only-second _ _ c.loop.counter c.args.rounds c.args.recorder.now c.loop.recorder c.interact.new.self
-    c.interact-in-loop.new.self _ c.loop-test.true c.loop.invariant.recorded c.in_ok-interact.ensures.ok
-    (same-viable _ _ _ _ pair challenge c.args.rounds c.args.recorder.now.steps viable)
-    c.in_err-interact-2.ensures.err)
+    ((stops-second _ _ _ _ pair challenge c.loop.counter c.args.rounds c.args.recorder.now c.loop.recorder
+    c.loop-test.true c.loop.invariant.recorded c.interact.new.self c.interact-in-loop.new.self _ one c.in_err-interact-2.ensures.err).1 (ap (λ r. r.finished) one.recorded) viable)
