@@ -1,12 +1,9 @@
 -- Calls made one after another.
 use Rattle.std.proofs.Common.{◌≡◌, ℕ, ◌+◌, ◌<◌, ◌≤◌, List, [], ◌∷◌, length, drop, get_or, sym, ap, ◌∙◌, inl, inr, subst}
-use Rattle.std.proofs.Common.{add-one}
-use Rattle.std.proofs.Math.ListN.{drop_of_length-le}
-use Rattle.std.proofs.Math.Seq.{drop-cons}
+use Rattle.std.proofs.{Common.add-one, Math.ListN.drop_of_length-le, Math.Seq.drop-cons}
 use Rattle.p3_challenger_core.specs.Observation.{observed_all, LeavesInCalls, RefusesObserve}
 use Rattle.p3_challenger_core.specs.declared.error.ChallengerError.{ChallengerError}
-use Rattle.p3_challenger_core.specs.declared.error.ChallengerError.TheVariants.{OutOfMemory, DrawLimit, NoWitness}
-use Rattle.p3_challenger_core.specs.declared.error.ChallengerError.TheVariants.{TooLong}
+use Rattle.p3_challenger_core.specs.declared.error.ChallengerError.TheVariants.{OutOfMemory}
 
 -- from here on, the calls that are left lead where all of them lead from the start
 pub record GoesOn {S T : Type 0} (step : S → T → S) (MayLeave : S → T → S → Type 0) (start : S) (values : List T)
@@ -31,9 +28,7 @@ module _ {S T : Type 0} (step : S → T → S) (MayLeave : S → T → S → Typ
       → GoesOn step MayLeave start values here (x ∷ rest)
       → RefusesObserve (LeavesInCalls step MayLeave start values) e t
   call-refused here t x rest OutOfMemory h on = on.refused t (inl h)
-  call-refused here t x rest DrawLimit h on = absurd h
-  call-refused here t x rest NoWitness h on = absurd h
-  call-refused here t x rest TooLong h on = absurd h
+  call-refused here t x rest e h on = absurd h
 
   -- the same of the values after place i
   module _ (here : S) (i : ℕ) where

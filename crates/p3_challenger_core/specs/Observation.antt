@@ -1,8 +1,6 @@
 -- What observing a value does to a challenger.
-use Rattle.std.specs.Prelude.{◌≡◌, ℕ, List, [], ◌∷◌, ◌++◌, ◌⊎◌, take}
-use Rattle.std.specs.List.{flat_map}
-use Rattle.p3_challenger_core.specs.Sponge.{IsFed}
-use Rattle.p3_challenger_core.specs.declared.error.ChallengerError.{ChallengerError}
+use Rattle.std.specs.{Prelude.{◌≡◌, ℕ, List, [], ◌∷◌, ◌++◌, ◌⊎◌, take}, List.flat_map}
+use Rattle.p3_challenger_core.specs.{Sponge.IsFed, declared.error.ChallengerError.ChallengerError}
 use Rattle.p3_challenger_core.specs.declared.error.ChallengerError.TheVariants.{OutOfMemory}
 
 -- what a value feeds, the state after it, and what may be left of a state where it is refused
@@ -49,12 +47,6 @@ LeavesInCalls step MayLeave s (x ∷ xs) t = MayLeave s x t ⊎ LeavesInCalls st
 -- what is left of a state where one of the values is refused whole: those before it were observed
 abbrev pub LeavesBeginning : {S T : Type 0} → (S → T → S) → S → List T → S → Type 0
 LeavesBeginning observed s xs t = LeavesInCalls observed (λ u _ v. v ≡ u) s xs t
-
--- what is left of a state where one of the values is refused: a front of the values was observed, and
--- then a front of what the next one feeds was fed
-abbrev pub LeavesFront : {S Symbol T : Type 0} → (S → List Symbol → S) → Observation S Symbol T → S
-    → List T → S → Type 0
-LeavesFront fed o s xs t = LeavesInCalls o.observed (λ u x v. LeavesFed fed u (o.symbols x) v) s xs t
 
 -- what an observe that answers this error leaves: it is refused for memory alone
 abbrev pub RefusesObserve : {S : Type 0} → (S → Type 0) → ChallengerError → S → Type 0

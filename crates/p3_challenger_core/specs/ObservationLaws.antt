@@ -1,19 +1,12 @@
 -- Laws of what is observed: what is fed, one value and several in a row.
-use Rattle.std.proofs.Common.{◌≡◌, ℕ, zero, suc, ◌⊎◌, inl, inr, List, [], ◌∷◌, ◌++◌, take, Result, Ok, Err}
-use Rattle.std.proofs.Common.{refl, sym, ap, ◌∙◌, append_assoc, append-nil, subst}
-use Rattle.std.specs.List.{flat_map}
+use Rattle.std.proofs.Common.{◌≡◌, ℕ, zero, suc, inl, inr, List, [], ◌∷◌, ◌++◌, take, Result, Ok, Err}
+use Rattle.std.{proofs.Common.{refl, sym, ap, ◌∙◌, append_assoc, append-nil, subst}, specs.List.flat_map}
 use Rattle.std.specs.Result.{OnOk}
-use Rattle.p3_challenger_core.specs.Sponge.{IsNonEmpty, IsFed}
+use Rattle.p3_challenger_core.specs.{Sponge.{IsNonEmpty, IsFed}, Observation.{in_slice, observed_as}}
 use Rattle.p3_challenger_core.specs.Observation.{Observation, IsObservation, LeavesFed, LeavesAfter, LeavesInCalls}
-use Rattle.p3_challenger_core.specs.Observation.{LeavesFront, RefusesObserve, observed_all, unrefused_observe, in_row}
-use Rattle.p3_challenger_core.specs.Observation.{in_slice, observed_as}
+use Rattle.p3_challenger_core.specs.Observation.{RefusesObserve, observed_all, unrefused_observe, in_row}
 use Rattle.p3_challenger_core.specs.declared.error.ChallengerError.{ChallengerError}
-use Rattle.p3_challenger_core.specs.declared.error.ChallengerError.TheVariants.{OutOfMemory, DrawLimit, NoWitness}
-use Rattle.p3_challenger_core.specs.declared.error.ChallengerError.TheVariants.{TooLong}
-
-pub empty_or_not : {S : Type 0} (xs : List S) → (xs ≡ []) ⊎ IsNonEmpty xs
-empty_or_not [] = inl refl
-empty_or_not (x ∷ xs) = inr tt
+use Rattle.p3_challenger_core.specs.declared.error.ChallengerError.TheVariants.{OutOfMemory}
 
 -- what follows of an observation that was not refused
 pub on_ok : {T E : Type 0} (result : Result T E) {A B : Type 0} → (A → B) → OnOk result A → OnOk result B
@@ -30,14 +23,6 @@ pub after_append : {X : Type 0} (n : ℕ) (a b : List X) → (m : ℕ) × (take 
 after_append n [] b = (n, refl)
 after_append n (x ∷ a) b = let rest = after_append n a b in (suc rest.0, ap (λ ys. x ∷ ys) rest.1)
 
--- what a refused call leaves, seen in another way
-pub leaves-map : {S T : Type 0} {A B : S → T → S → Type 0} (step : S → T → S)
-    → ((u : S) (x : T) (v : S) → A u x v → B u x v) → (s : S) (xs : List T) (t : S) → LeavesInCalls step A s xs t
-    → LeavesInCalls step B s xs t
-leaves-map step f s [] t h = absurd h
-leaves-map step f s (x ∷ xs) t (inl here) = inl (f s x t here)
-leaves-map step f s (x ∷ xs) t (inr later) = inr (leaves-map step f (step s x) xs t later)
-
 -- observations of which none is refused are not refused in a row
 no_leaving : {S T : Type 0} (step : S → T → S) (s : S) (xs : List T) (t : S)
     → LeavesInCalls step (λ _ _ _. ⊥) s xs t → ⊥
@@ -48,9 +33,7 @@ no_leaving step s (x ∷ xs) t (inr later) = no_leaving step (step s x) xs t lat
 pub row-not_refused : {S T : Type 0} (step : S → T → S) (xs : List T) (e : ChallengerError) (s t : S)
     → RefusesObserve (LeavesInCalls step (λ _ _ _. ⊥) s xs) e t → ⊥
 row-not_refused step xs OutOfMemory s t h = no_leaving step s xs t h
-row-not_refused step xs DrawLimit s t h = h
-row-not_refused step xs NoWitness s t h = h
-row-not_refused step xs TooLong s t h = h
+row-not_refused step xs e s t h = h
 
 module _ {S Symbol : Type 0} (fed : S → List Symbol → S) (fed_nothing : (s : S) → fed s [] ≡ s)
     (fed_more : (s : S) (a b : List Symbol) → fed (fed s a) b ≡ fed s (a ++ b)) where
@@ -190,8 +173,7 @@ module _ {S Symbol : Type 0} (fed : S → List Symbol → S) (fed_nothing : (s :
           observes = all-fed;
           observes_after = all-following;
           leaves = calls-leave;
-          leaves_after =
-              calls-following;
+          leaves_after = calls-following;
         }
 
     pub observed_as-is_observation : {U : Type 0} (f : U → T) → IsObservation fed (observed_as f o)
@@ -213,8 +195,3 @@ module _ {S Symbol : Type 0} (fed : S → List Symbol → S) (fed_nothing : (s :
           leaves = λ s xs t h. calls-leave s xs t (slice_leaves s xs t h);
           leaves_after = λ s y ys xs t h. calls-following s y ys xs t (slice_leaves (fed s (y ∷ ys)) xs t h);
         }
-
-    -- a front of the values was observed, and then a front of what the next one feeds was fed
-    pub calls-front : (s : S) (xs : List T) (t : S) → LeavesInCalls o.observed o.may_leave s xs t
-        → LeavesFront fed o s xs t
-    calls-front s xs t h = leaves-map o.observed laws.leaves s xs t h

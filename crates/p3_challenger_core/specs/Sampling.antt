@@ -1,9 +1,7 @@
 -- Drawing values from a challenger.
 use Rattle.std.specs.Prelude.{◌≡◌, ℕ, zero, suc, List, ◌∷◌, [], ◌⊎◌, Option, Some, None, option_and_then, IsSome}
-use Rattle.std.specs.Prelude.{is_some, if◌then◌else◌}
-use Rattle.std.specs.Option.{option_map}
-use Rattle.p3_challenger_core.specs.Sponge.{IsStepsOn}
-use Rattle.p3_challenger_core.specs.Observation.{RefusesObserve}
+use Rattle.std.specs.{Prelude.{is_some, if◌then◌else◌}, Option.option_map}
+use Rattle.p3_challenger_core.specs.{Sponge.IsStepsOn, Observation.RefusesObserve}
 use Rattle.p3_challenger_core.specs.declared.error.ChallengerError.{ChallengerError}
 use Rattle.p3_challenger_core.specs.declared.error.ChallengerError.TheVariants.{OutOfMemory, DrawLimit}
 

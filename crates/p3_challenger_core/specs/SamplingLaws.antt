@@ -1,13 +1,9 @@
 -- Laws of draws, one by one and in a row.
 use Rattle.std.specs.Prelude.{◌≡◌, ℕ, zero, suc, ◌+◌, List, ◌∷◌, Option, Some, None, IsSome, is_some, option_and_then}
-use Rattle.std.specs.Prelude.{if◌then◌else◌, refl}
-use Rattle.std.proofs.Common.{ap, sym, ◌∙◌, inl, inr}
+use Rattle.std.{specs.Prelude.{if◌then◌else◌, refl}, proofs.Common.{ap, sym, ◌∙◌, inl, inr}, specs.Option.option_map}
 use Rattle.std.proofs.Math.Nat.{zero-add, suc-add}
-use Rattle.std.specs.Option.{option_map}
-use Rattle.p3_challenger_core.specs.declared.error.ChallengerError.{ChallengerError}
-use Rattle.p3_challenger_core.specs.declared.error.ChallengerError.TheVariants.{OutOfMemory, DrawLimit, NoWitness}
-use Rattle.p3_challenger_core.specs.declared.error.ChallengerError.TheVariants.{TooLong}
-use Rattle.p3_challenger_core.specs.Sponge.{after_steps, IsStepsOn}
+use Rattle.p3_challenger_core.specs.{declared.error.ChallengerError.ChallengerError, Sponge.{after_steps, IsStepsOn}}
+use Rattle.p3_challenger_core.specs.declared.error.ChallengerError.TheVariants.{OutOfMemory, DrawLimit}
 use Rattle.p3_challenger_core.specs.Sampling.{Sampling, IsSampling, unrefused_draw, draws, after_draws, SomeDraw}
 use Rattle.p3_challenger_core.specs.Sampling.{RefusesDraw, RefusesDraws, in_row, made_of}
 
@@ -50,16 +46,14 @@ pub made_of-refuses : {S T U : Type 0} (f : T → U) (d : Sampling S T) (e : Cha
     → RefusesDraw (made_of f d) e s t → RefusesDraw d e s t
 made_of-refuses f d OutOfMemory s t h = h
 made_of-refuses f d DrawLimit s t h = h
-made_of-refuses f d NoWitness s t h = h
-made_of-refuses f d TooLong s t h = h
+made_of-refuses f d e s t h = h
 
 -- a draw that is never refused is not refused
 not_refused : {S T : Type 0} (sampled : S → Option T) (after : S → S) (e : ChallengerError) (s t : S)
     → RefusesDraw (unrefused_draw sampled after) e s t → ⊥
 not_refused sampled after OutOfMemory s t h = h
 not_refused sampled after DrawLimit s t h = h.0
-not_refused sampled after NoWitness s t h = h
-not_refused sampled after TooLong s t h = h
+not_refused sampled after e s t h = h
 
 -- nor are such draws in a row
 pub draws-not_refused : {S T : Type 0} (sampled : S → Option T) (after : S → S) (n : ℕ) (e : ChallengerError) (s t : S)
@@ -81,8 +75,7 @@ pub in_row-not_refused : {S T : Type 0} (sampled : S → Option T) (after : S �
     → RefusesDraw (in_row (unrefused_draw sampled after) n) e s t → ⊥
 in_row-not_refused sampled after n OutOfMemory s t h = no_draw (unrefused_draw sampled after) n s h
 in_row-not_refused sampled after n DrawLimit s t h = no_draw (unrefused_draw sampled after) n s h.0
-in_row-not_refused sampled after n NoWitness s t h = h
-in_row-not_refused sampled after n TooLong s t h = h
+in_row-not_refused sampled after n e s t h = h
 
 -- ---- draws in a row as one draw
 
@@ -139,16 +132,14 @@ module _ {S T : Type 0} (next : S → S) (d : Sampling S T) (laws : IsSampling n
   unfolding SomeDraw
   here_refused n OutOfMemory s t h = inl h
   here_refused n DrawLimit s t h = (inl h.0, stops_at n s t (laws.limit_gives_none s h.0) h.1)
-  here_refused n NoWitness s t h = absurd h
-  here_refused n TooLong s t h = absurd h
+  here_refused n e s t h = absurd h
 
   later_refused : (n : ℕ) (e : ChallengerError) (s t : S) → IsSome (d.sampled s)
       → RefusesDraw (in_row d n) e (d.after s) t → RefusesDraw (in_row d (suc n)) e s t
   unfolding SomeDraw
   later_refused n OutOfMemory s t gives h = inr (gives, h)
   later_refused n DrawLimit s t gives h = (inr (gives, h.0), goes_after n s t gives h.1)
-  later_refused n NoWitness s t gives h = absurd h
-  later_refused n TooLong s t gives h = absurd h
+  later_refused n e s t gives h = absurd h
 
   -- draws of which one is refused are a draw that is refused
   pub refused-in_row : (n : ℕ) (e : ChallengerError) (s t : S) → RefusesDraws d n e s t → RefusesDraw (in_row d n) e s t

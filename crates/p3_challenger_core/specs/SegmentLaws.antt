@@ -1,8 +1,7 @@
 -- Laws of segments: a list of calls has one cut, and what the calls do one by one is what its segments do,
 -- wherever each step of a segment does what one call does.
 use Rattle.std.proofs.Common.{◌≡◌, ℕ, zero, suc, ◌<◌, List, [], ◌∷◌, ◌++◌, inl, inr, map, replicate, refl, sym, ap, ◌∙◌}
-use Rattle.std.proofs.Common.{append_assoc, append-nil, arith}
-use Rattle.std.specs.List.{All}
+use Rattle.std.{proofs.Common.{append_assoc, append-nil, arith}, specs.List.All}
 use Rattle.std.proofs.lemmas.List.Elements.{All-nil, All-cons, All-head, All-tail}
 use Rattle.p3_challenger_core.specs.Sponge.{IsNonEmpty}
 use Rattle.p3_challenger_core.specs.Segments.{Call, observe, observe_empty_array, draw, Segment, nothing, value_before}

@@ -1,11 +1,8 @@
 -- Laws of what values feed a challenger.
 use Rattle.std.proofs.Common.{◌≡◌, ℕ, zero, suc, ◌<◌, ◌⊎◌, inl, inr, lit<, List, [], ◌∷◌, ◌++◌, length, refl, sym, ap}
-use Rattle.std.proofs.Common.{◌∙◌, append_assoc, arith}
-use Rattle.std.specs.List.{flat_map}
-use Rattle.p3_field_core.specs.Residues.{Residues, IsResidues}
-use Rattle.p3_field_core.specs.ResidueLaws.{of-injective}
-use Rattle.p3_challenger_core.specs.Sponge.{IsNonEmpty}
-use Rattle.p3_challenger_core.specs.Reading.{IsPrefixCode, IsPrefixCodeOn, IsByte, AreBytes}
+use Rattle.std.{proofs.Common.{◌∙◌, append_assoc, arith}, specs.List.flat_map}
+use Rattle.p3_field_core.specs.{Residues.{Residues, IsResidues}, ResidueLaws.of-injective}
+use Rattle.p3_challenger_core.specs.{Sponge.IsNonEmpty, Reading.{IsPrefixCode, IsPrefixCodeOn, IsByte, AreBytes}}
 
 -- ---- one value
 
@@ -71,22 +68,30 @@ bytes-feed symbols each (byte ∷ bytes) are some =
     append-non_empty (symbols byte) (flat_map symbols bytes) (each byte (are zero))
 
 -- as many values in a row are a prefix code, where the values are
-module _ {T S : Type 0} (encoding : T → List S) where
-  after_one : (x : T) (xs : List T) (a : List S)
-      → flat_map encoding (x ∷ xs) ++ a ≡ encoding x ++ (flat_map encoding xs ++ a)
-  after_one x xs a = append_assoc (encoding x) (flat_map encoding xs) a
+rows-prefix_code : {T S : Type 0} (IsValue : T → Type 0) (AreValues : List T → Type 0) (encoding : T → List S)
+    → IsPrefixCodeOn IsValue encoding
+    → ((x : T) (xs : List T) → AreValues (x ∷ xs) → IsValue x × AreValues xs)
+    → (xs ys : List T) (a b : List S) → AreValues xs → AreValues ys → length xs ≡ length ys
+    → flat_map encoding xs ++ a ≡ flat_map encoding ys ++ b → (xs ≡ ys) × (a ≡ b)
+rows-prefix_code IsValue AreValues encoding prefix_code each [] [] a b p q same e = (refl, e)
+rows-prefix_code IsValue AreValues encoding prefix_code each [] (y ∷ ys) a b p q same e = absurd (omega arith)
+rows-prefix_code IsValue AreValues encoding prefix_code each (x ∷ xs) [] a b p q same e = absurd (omega arith)
+rows-prefix_code IsValue AreValues encoding prefix_code each (x ∷ xs) (y ∷ ys) a b p q same e =
+    let x_is = each x xs p in
+    let y_is = each y ys q in
+    let first = prefix_code x y _ _ x_is.0 y_is.0
+    (sym (append_assoc (encoding x) (flat_map encoding xs) a) ∙ e
+    ∙ append_assoc (encoding y) (flat_map encoding ys) b) in
+    let others = rows-prefix_code IsValue AreValues encoding prefix_code each xs ys a b x_is.1 y_is.1 (omega arith)
+    first.1 in
+    (ap (λ z. z ∷ xs) first.0 ∙ ap (λ zs. y ∷ zs) others.0, others.1)
 
+module _ {T S : Type 0} (encoding : T → List S) where
   pub row-prefix_code : IsPrefixCode encoding → (xs ys : List T) (a b : List S) → length xs ≡ length ys
       → flat_map encoding xs ++ a ≡ flat_map encoding ys ++ b → (xs ≡ ys) × (a ≡ b)
-  row-prefix_code prefix_code [] [] a b same e = (refl, e)
-  row-prefix_code prefix_code [] (y ∷ ys) a b same e = absurd (omega (arith, same))
-  row-prefix_code prefix_code (x ∷ xs) [] a b same e = absurd (omega (arith, same))
-  row-prefix_code prefix_code (x ∷ xs) (y ∷ ys) a b same e =
-      let first = prefix_code x y (flat_map encoding xs ++ a) (flat_map encoding ys ++ b)
-      (sym (after_one x xs a) ∙ e ∙ after_one y ys b) in
-      let fewer : length xs ≡ length ys = omega (arith, same) in
-      let others = row-prefix_code prefix_code xs ys a b fewer first.1 in
-      (ap (λ z. z ∷ xs) first.0 ∙ ap (λ zs. y ∷ zs) others.0, others.1)
+  row-prefix_code prefix_code xs ys a b same e =
+      rows-prefix_code (λ _. Unit {0}) (λ _. Unit {0}) encoding (λ x y c d _ _ f. prefix_code x y c d f)
+      (λ _ _ _. (tt, tt)) xs ys a b tt tt same e
 
 -- lists of one length are a prefix code
 pub as_many-prefix_code : {S : Type 0} (xs ys a b : List S) → length xs ≡ length ys → xs ++ a ≡ ys ++ b
@@ -118,13 +123,6 @@ pub bytes-prefix_code : {S : Type 0} (symbols : ℕ → List S) → IsPrefixCode
     → (xs ys : List ℕ) (a b : List S)
     → AreBytes xs → AreBytes ys → length xs ≡ length ys → flat_map symbols xs ++ a ≡ flat_map symbols ys ++ b
     → (xs ≡ ys) × (a ≡ b)
-bytes-prefix_code symbols prefix_code [] [] a b x_are y_are same e = (refl, e)
-bytes-prefix_code symbols prefix_code [] (y ∷ ys) a b x_are y_are same e = absurd (omega (arith, same))
-bytes-prefix_code symbols prefix_code (x ∷ xs) [] a b x_are y_are same e = absurd (omega (arith, same))
-bytes-prefix_code symbols prefix_code (x ∷ xs) (y ∷ ys) a b x_are y_are same e =
-    let first = prefix_code x y (flat_map symbols xs ++ a) (flat_map symbols ys ++ b) (x_are zero) (y_are zero)
-    (sym (after_one symbols x xs a) ∙ e ∙ after_one symbols y ys b) in
-    let fewer : length xs ≡ length ys = omega (arith, same) in
-    let others = bytes-prefix_code symbols prefix_code xs ys a b (λ i. x_are (suc i)) (λ i. y_are (suc i)) fewer first.1
-    in
-    (ap (λ z. z ∷ xs) first.0 ∙ ap (λ zs. y ∷ zs) others.0, others.1)
+bytes-prefix_code symbols prefix_code xs ys a b x_are y_are same e =
+    rows-prefix_code IsByte AreBytes symbols prefix_code (λ x xs are. (are zero, λ i. are (suc i))) xs ys a b x_are
+    y_are same e

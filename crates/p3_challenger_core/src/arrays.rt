@@ -17,8 +17,7 @@ pub fn sample_array<T: Copy, C: CanSample<T>, const N: usize>(
     ensures after { OnOk result (
         C.state challenger.new ≡ after_draws C.sampling N (C.state challenger.old)) }
     ensures err { IfErr result (λ e.
-        RefusesDraws C.sampling N e
-        (C.state challenger.old) (C.state challenger.new)) }
+        RefusesDraws C.sampling N e (C.state challenger.old) (C.state challenger.new)) }
 {
     if N == 0 {
         return drawn_array(empty_array());

@@ -7,12 +7,10 @@
 //! observe x:   s  ->  fed s (symbols of x)
 //! sample:      s  ->  sampled s, and the state after so many of the smallest draws
 //! ```
-ghost use Rattle.std.specs.Prelude.{◌≡◌, List, [], ◌∷◌, ◌++◌, Option, Some, OnOk, IfOk, IfErr, ◌<◌, ◌≤◌, ◌^◌, ℕ};
-ghost use Rattle.std.specs.Prelude.{length};
+ghost use Rattle.std.specs.Prelude.{◌≡◌, List, [], ◌++◌, Some, OnOk, IfOk, IfErr, ◌<◌, ◌≤◌, ◌^◌, ℕ, length};
 ghost use Rattle.p3_challenger_core.specs.Observation.{Observation, IsObservation, observed_all, LeavesInCalls};
-ghost use Rattle.p3_challenger_core.specs.Observation.{RefusesObserve};
+ghost use Rattle.p3_challenger_core.specs.{Observation.RefusesObserve, Sampling.{RefusesDraws, RefusesDrawVec}};
 ghost use Rattle.p3_challenger_core.specs.Sampling.{Sampling, IsSampling, draws, after_draws, RefusesDraw};
-ghost use Rattle.p3_challenger_core.specs.Sampling.{RefusesDraws, RefusesDrawVec};
 
 use crate::ChallengerError;
 use std::alloc::Global;
@@ -39,7 +37,8 @@ pub trait Sponge {
     // Feeding nothing changes nothing, and feeding two lists in turn is feeding both as one.
     ghost fed_nothing: { (s : Self.State) → fed s [] ≡ s };
 
-    ghost fed_more: { (s : Self.State) (a b : List Self.Symbol) → fed (fed s a) b ≡ fed s (a ++ b) };
+    ghost fed_more: { (s : Self.State) (a b : List Self.Symbol) →
+        fed (fed s a) b ≡ fed s (a ++ b) };
 }
 
 /// A challenger that observes values of a type.
@@ -57,9 +56,10 @@ pub trait CanObserve<T>: Sponge {
     /// The one error is [`ChallengerError::OutOfMemory`]. After it some front of the value's symbols is fed, maybe
     /// none; each challenger says which.
     fn observe(&mut self, value: T) -> Result<(), ChallengerError>
-        ensures ok { OnOk result (Self.state self.new ≡ observation.observed (Self.state self.old) value) }
-        ensures err { IfErr result (λ e.
-            RefusesObserve (observation.may_leave (Self.state self.old) value) e (Self.state self.new)) };
+        ensures ok { OnOk result
+            (Self.state self.new ≡ observation.observed (Self.state self.old) value) }
+        ensures err { IfErr result (λ e. RefusesObserve
+            (observation.may_leave (Self.state self.old) value) e (Self.state self.new)) };
 
     /// Observes values in order, as [`observe`](CanObserve::observe) of each would. Here each challenger writes it,
     /// for values of any type.
@@ -67,10 +67,10 @@ pub trait CanObserve<T>: Sponge {
     /// The one error is [`ChallengerError::OutOfMemory`]. After it some front of the values is observed, and some
     /// front of the next one's symbols is fed.
     fn observe_slice(&mut self, values: &[T]) -> Result<(), ChallengerError>
-        ensures ok { OnOk result
-            (Self.state self.new ≡ observed_all observation.observed (Self.state self.old) values.now) }
-        ensures err { IfErr result (λ e.
-            RefusesObserve (slice_may_leave (Self.state self.old) values.now) e (Self.state self.new)) };
+        ensures ok { OnOk result (Self.state self.new
+            ≡ observed_all observation.observed (Self.state self.old) values.now) }
+        ensures err { IfErr result (λ e. RefusesObserve
+            (slice_may_leave (Self.state self.old) values.now) e (Self.state self.new)) };
 
     // What is observed is what is fed, and a refused value has fed a front of it.
     ghost observes: { IsObservation Self.fed observation };
@@ -96,7 +96,8 @@ pub trait CanSample<T: Drop>: Sponge {
     fn sample(&mut self) -> Result<T, ChallengerError>
         ensures drawn { IfOk result (λ x. sampling.sampled (Self.state self.old) ≡ Some x) }
         ensures after { OnOk result (Self.state self.new ≡ sampling.after (Self.state self.old)) }
-        ensures err { IfErr result (λ e. RefusesDraw sampling e (Self.state self.old) (Self.state self.new)) };
+        ensures err { IfErr result (λ e.
+            RefusesDraw sampling e (Self.state self.old) (Self.state self.new)) };
 
     /// Draws a value for each place, in order, as [`sample`](CanSample::sample) for each would.
     ///
@@ -107,9 +108,8 @@ pub trait CanSample<T: Drop>: Sponge {
             draws sampling (length values.old) (Self.state self.old) ≡ Some values.new) }
         ensures after { OnOk result (
             Self.state self.new ≡ after_draws sampling (length values.old) (Self.state self.old)) }
-        ensures err { IfErr result (λ e.
-            RefusesDraws sampling (length values.old) e
-            (Self.state self.old) (Self.state self.new)) }
+        ensures err { IfErr result (λ e. RefusesDraws
+            sampling (length values.old) e (Self.state self.old) (Self.state self.new)) }
     {
         for i in 0..values.len() {
             values[i] = self.sample()?;
@@ -127,8 +127,7 @@ pub trait CanSample<T: Drop>: Sponge {
         ensures after { OnOk result (
             Self.state self.new ≡ after_draws sampling n (Self.state self.old)) }
         ensures err { IfErr result (λ e.
-            RefusesDrawVec sampling n e
-            (Self.state self.old) (Self.state self.new)) }
+            RefusesDrawVec sampling n e (Self.state self.old) (Self.state self.new)) }
     {
         let mut values = Vec::with_capacity(alloc, n)?;
         for _ in 0..n {
@@ -178,8 +177,10 @@ pub trait CanSampleBits<T>: Sponge {
     /// The errors are those of [`CanSample::sample`], and leave what they leave there.
     fn sample_bits(&mut self, bits: usize) -> Result<T, ChallengerError>
         requires { bits ≤ most_bits }
-        ensures drawn { IfOk result (λ x. (bits_sampling bits).sampled (Self.state self.old) ≡ Some x) }
-        ensures after { OnOk result (Self.state self.new ≡ (bits_sampling bits).after (Self.state self.old)) }
+        ensures drawn { IfOk result (λ x.
+            (bits_sampling bits).sampled (Self.state self.old) ≡ Some x) }
+        ensures after { OnOk result
+            (Self.state self.new ≡ (bits_sampling bits).after (Self.state self.old)) }
         ensures err { IfErr result (λ e.
             RefusesDraw (bits_sampling bits) e (Self.state self.old) (Self.state self.new)) };
 

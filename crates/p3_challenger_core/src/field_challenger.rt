@@ -1,7 +1,7 @@
 //! Elements of vector spaces over a challenger's field: each is observed and drawn by its coefficients, coefficient 0
 //! first.
 ghost use Rattle.std.specs.Prelude.{◌≡◌, ◌-◌, ◌∷◌, Some, OnOk, IfOk, IfErr, replicate};
-ghost use Rattle.p3_challenger_core.specs.Observation.{observed_all, in_row, LeavesInCalls, RefusesObserve};
+ghost use Rattle.p3_challenger_core.specs.Observation.{observed_all, observed_as, in_row, in_slice, RefusesObserve};
 ghost use Rattle.p3_challenger_core.specs.Sampling.{draws, after_draws, RefusesDraws};
 
 use crate::{CanObserve, CanSample, CanSampleBits, ChallengerError};
@@ -19,11 +19,10 @@ pub trait FieldChallenger<F: Field>: CanObserve<F> + CanSample<F> + CanSampleBit
         &mut self,
         element: A,
     ) -> Result<(), ChallengerError>
-        ensures ok { OnOk result (Self.state self.new
-            ≡ observed_all Self.CanObserve.observation.observed (Self.state self.old) (A.coefficients element)) }
-        ensures err { IfErr result (λ e.
-            RefusesObserve (Self.CanObserve.slice_may_leave (Self.state self.old) (A.coefficients element)) e
-            (Self.state self.new)) }
+        ensures ok { OnOk result (Self.state self.new ≡ observed_all Self.observation.observed
+            (Self.state self.old) (A.coefficients element)) }
+        ensures err { IfErr result (λ e. RefusesObserve (Self.slice_may_leave
+            (Self.state self.old) (A.coefficients element)) e (Self.state self.new)) }
     {
         self.observe_slice(element.as_basis_coefficients_slice())
     }
@@ -37,12 +36,11 @@ pub trait FieldChallenger<F: Field>: CanObserve<F> + CanSample<F> + CanSampleBit
         &mut self,
         elements: &[A],
     ) -> Result<(), ChallengerError>
-        ensures ok { OnOk result (Self.state self.new ≡ observed_all
-            (λ s element. observed_all Self.CanObserve.observation.observed s (A.coefficients element))
+        ensures ok { OnOk result (Self.state self.new ≡ (in_row (observed_as A.coefficients
+            (in_slice Self.observation Self.slice_may_leave))).observed
             (Self.state self.old) elements.now) }
-        ensures err { IfErr result (λ e. RefusesObserve (LeavesInCalls
-            (λ s element. observed_all Self.CanObserve.observation.observed s (A.coefficients element))
-            (λ s element. Self.CanObserve.slice_may_leave s (A.coefficients element))
+        ensures err { IfErr result (λ e. RefusesObserve ((in_row (observed_as A.coefficients
+            (in_slice Self.observation Self.slice_may_leave))).may_leave
             (Self.state self.old) elements.now) e (Self.state self.new)) }
     {
         for i in 0..elements.len() {
@@ -57,12 +55,11 @@ pub trait FieldChallenger<F: Field>: CanObserve<F> + CanSample<F> + CanSampleBit
     /// refused are done.
     fn sample_algebra_element<A: BasedVectorSpace<F>>(&mut self) -> Result<A, ChallengerError>
         ensures drawn { IfOk result (λ element.
-            draws Self.CanSample.sampling A.DIMENSION (Self.state self.old)
-            ≡ Some (A.coefficients element)) }
-        ensures after { OnOk result (Self.state self.new
-            ≡ after_draws Self.CanSample.sampling A.DIMENSION (Self.state self.old)) }
-        ensures err { IfErr result (λ e.
-            RefusesDraws Self.CanSample.sampling A.DIMENSION e (Self.state self.old) (Self.state self.new)) }
+            draws Self.sampling A.DIMENSION (Self.state self.old) ≡ Some (A.coefficients element)) }
+        ensures after { OnOk result (
+            Self.state self.new ≡ after_draws Self.sampling A.DIMENSION (Self.state self.old)) }
+        ensures err { IfErr result (λ e. RefusesDraws
+            Self.sampling A.DIMENSION e (Self.state self.old) (Self.state self.new)) }
     {
         let mut element = A::zero();
         for i in 0..A::DIMENSION {
@@ -80,10 +77,9 @@ pub trait FieldChallenger<F: Field>: CanObserve<F> + CanSample<F> + CanSampleBit
         &mut self,
         value: F,
     ) -> Result<(), ChallengerError>
-        ensures ok { OnOk result
-            (Self.state self.new ≡ observed_all Self.CanObserve.observation.observed (Self.state self.old)
-            (value ∷ replicate (A.DIMENSION - 1) (F.residues.of 0))) }
-        ensures err { IfErr result (λ e. RefusesObserve (Self.CanObserve.slice_may_leave (Self.state self.old)
+        ensures ok { OnOk result (Self.state self.new ≡ observed_all Self.observation.observed
+            (Self.state self.old) (value ∷ replicate (A.DIMENSION - 1) (F.residues.of 0))) }
+        ensures err { IfErr result (λ e. RefusesObserve (Self.slice_may_leave (Self.state self.old)
             (value ∷ replicate (A.DIMENSION - 1) (F.residues.of 0))) e (Self.state self.new)) }
     {
         self.observe_algebra_element(A::from(value))

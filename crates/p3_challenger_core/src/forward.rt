@@ -1,5 +1,4 @@
 //! A challenger through a reference is that challenger: each call is passed on.
-ghost use Rattle.std.specs.Prelude.{◌≡◌};
 
 use crate::{CanObserve, CanSample, CanSampleBits, ChallengerError, FieldChallenger, Sponge};
 use p3_field_core::Field;

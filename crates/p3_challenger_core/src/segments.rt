@@ -7,5 +7,6 @@ ghost use Rattle.p3_challenger_core.specs.Segments.{Call, Segments, IsCutOf, seg
 /// A law: the body is empty, and a caller cites the clauses.
 pub fn calls_have_one_cut<T>()
     ensures cut { (calls : List (Call T)) → IsCutOf calls (segments calls) }
-    ensures only { (calls : List (Call T)) (cut : Segments T) → IsCutOf calls cut → cut ≡ segments calls }
+    ensures only { (calls : List (Call T)) (cut : Segments T) →
+        IsCutOf calls cut → cut ≡ segments calls }
 {}

@@ -2,14 +2,13 @@
 use Rattle.std.proofs.Common.{◌≡◌, ℕ, ◌<◌, ◌+◌, List, [], ◌∷◌, length, refl, ap, ◌∙◌}
 use Rattle.p3_field_core.specs.Residues.{Residues}
 use Rattle.p3_challenger_core.specs.Observation.{observed_all}
-use Rattle.p3_sponge.specs.SpongeCalls as calls
 use Rattle.p3_sponge.specs.SpongeListLaws.{with_values, all-pending, all-absorbed}
 use Rattle.p3_duplex.specs.DuplexState.{DuplexState, rule_of, observed, fed}
+use Rattle.p3_sponge.specs.SpongeCalls as calls
 
 module _ {F P : Type 0} (r : Residues F) (permute : P → List F → List F) (rate : ℕ) where
   -- a challenger feeds its sponge
-  sponge-fed : (c : DuplexState F P) (xs : List F)
-      → fed r permute rate c xs
+  sponge-fed : (c : DuplexState F P) (xs : List F) → fed r permute rate c xs
       ≡ record c { sponge = observed_all (calls.observed (rule_of r permute rate c)) c.sponge xs }
   sponge-fed c [] = refl
   sponge-fed c (x ∷ xs) = sponge-fed (observed r permute rate c x) xs

@@ -1,9 +1,8 @@
 -- What methods do is what calls do.
 use Rattle.std.proofs.Common.{◌≡◌, ℕ, zero, suc, List, [], ◌∷◌, map, replicate, refl, ap}
 use Rattle.p3_field_core.specs.Residues.{Residues}
-use Rattle.p3_challenger_core.specs.Sponge.{after_steps}
-use Rattle.p3_challenger_core.specs.Segments.{observe, draw}
 use Rattle.p3_duplex.specs.DuplexState.{DuplexState, fed, observed, sampled, after_sampled, drawn, run, after_calls}
+use Rattle.p3_challenger_core.specs.{Sponge.after_steps, Segments.{observe, draw}}
 
 module _ {F P : Type 0} (r : Residues F) (permute : P → List F → List F) (rate : ℕ) where
   pub fed-is_calls : (c : DuplexState F P) (xs : List F)

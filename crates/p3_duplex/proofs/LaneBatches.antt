@@ -1,10 +1,8 @@
 -- A batch of candidates, one in each lane.
 use Rattle.std.proofs.Common.{◌≡◌, ℕ, ◌+◌, ◌-◌, ◌*◌, ◌^◌, ◌<◌, ◌≤◌, inl, inr, subst, Fits, w64, arith}
-use Rattle.std.proofs.lemmas.Bool.{cases_lt}
-use Rattle.std.proofs.Math.Nat.{mul-le-mul_right}
-use Rattle.p3_field_core.specs.Residues.{Residues, IsResidues}
-use Rattle.p3_field_core.specs.ResidueLaws.{number_of-below}
+use Rattle.std.proofs.{lemmas.Bool.cases_lt, Math.Nat.mul-le-mul_right}
 use Rattle.p3_duplex.specs.LaneSearch.{candidate, IsLeastOf}
+use Rattle.p3_field_core.specs.{Residues.{Residues, IsResidues}, ResidueLaws.number_of-below}
 
 module _ {F : Type 0} (r : Residues F) (laws : IsResidues r) (Passes : F → Type 0) (first : ℕ) (before : first < r.order)
     (none : (n : ℕ) → n < first → ¬ (Passes (r.of n))) where

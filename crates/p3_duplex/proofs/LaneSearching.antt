@@ -1,21 +1,16 @@
 -- A prepared state: what an element in its cell gives is what is drawn after its observation.
 use Rattle.std.proofs.Common.{◌≡◌, ℕ, zero, suc, ◌+◌, ◌-◌, ◌*◌, ◌%◌, ◌^◌, ◌<◌, ◌≤◌, ◌∙◌, List, [], ◌∷◌, ◌++◌, length, drop}
 use Rattle.std.proofs.Common.{replicate, take, Bool, true, false, Some, if◌then◌else◌, slice_set, slice_index_or}
-use Rattle.std.proofs.Common.{refl, sym, ap, ap₂, append_assoc, arith, rules}
-use Rattle.std.specs.Prelude.{◌==◌}
-use Rattle.std.proofs.Math.Nat.{mul-le-mul}
-use Rattle.std.proofs.lemmas.Bool.{ne_eqb, eq-eqb, eqb-true}
 use Rattle.std.proofs.lemmas.List.{length-append, length-take-le, take_more, set-append_left}
-use Rattle.std.proofs.Math.Seq.{set-append_seam}
 use Rattle.p3_field_core.specs.Residues.{Residues, plus}
 use Rattle.p3_grinding.specs.Checks.{IsLeast, NonePasses}
 use Rattle.p3_duplex.specs.LaneSearch.{given_by, HasZeros, IsLeastOf, NoneOfAll, PassesAt, PassesCheck, check}
-use Rattle.p3_sponge.specs.Cells.{cell, overwritten}
-use Rattle.p3_sponge.specs.SpongeCalls as calls
-use Rattle.p3_sponge.specs.SpongeCalls.{SpongeRule, CellSponge, permutation_input}
 use Rattle.p3_sponge.specs.SpongeStepLaws.{permutation_input-snoc}
-use Rattle.p3_duplex.specs.DuplexCalls.{duplex}
-use Rattle.p3_duplex.specs.DuplexState.{DuplexState, observed, sampled}
+use Rattle.std.{proofs.Common.{refl, sym, ap, ap₂, append_assoc, arith, rules}, specs.Prelude.◌==◌}
+use Rattle.std.proofs.{Math.Nat.mul-le-mul, lemmas.Bool.{ne_eqb, eq-eqb, eqb-true}, Math.Seq.set-append_seam}
+use Rattle.p3_duplex.specs.{DuplexCalls.duplex, DuplexState.{DuplexState, observed, sampled}}
+use Rattle.p3_sponge.specs.{Cells.{cell, overwritten}, SpongeCalls.{SpongeRule, CellSponge, permutation_input}}
+use Rattle.p3_sponge.specs.SpongeCalls as calls
 
 module _ {F : Type 0} (r : Residues F) (rate : ℕ) (cells : List F) where
   abbrev zeros : ℕ → List F
@@ -71,8 +66,7 @@ module _ {F P : Type 0} (r : Residues F) (permute : P → List F → List F) (ra
 -- the same of the fields that a challenger has
 pub passes-prepared : {F P : Type 0} (r : Residues F) (permute : P → List F → List F) (rate : ℕ) → 0 < rate
     → (c : DuplexState F P) (cells buffer : List F) (inputs outputs_left draw_limit : ℕ) (permutation : P)
-    → inputs < length buffer
-    → record {
+    → inputs < length buffer → record {
       sponge = record { cells = cells; pending = take inputs buffer; outputs_left = outputs_left };
       permutation = permutation;
       draw_limit = draw_limit;

@@ -1,21 +1,18 @@
 -- What is permuted tells what was observed, or shows a collision.
 use Rattle.std.proofs.Common.{◌≡◌, ℕ, suc, ◌+◌, ◌-◌, ◌<◌, ◌≤◌, ◌⊎◌, inl, inr, List, [], ◌∷◌, ◌++◌, length, Option}
 use Rattle.std.proofs.Common.{take, drop, replicate, refl, sym, ap, ap₂, subst, ◌∙◌, append_assoc, arith, length-append}
-use Rattle.std.proofs.Common.{slice_get}
-use Rattle.std.proofs.lemmas.Bool.{cases_lt}
+use Rattle.std.proofs.{Common.slice_get, lemmas.Bool.cases_lt}
 use Rattle.std.proofs.lemmas.List.{take_at, drop_at, get_or_at, length-replicate}
 use Rattle.p3_field_core.specs.Residues.{Residues, IsResidues, plus}
 use Rattle.p3_challenger_core.specs.Segments.{run_calls}
 use Rattle.p3_read_back.specs.Queries.{observed_values, CollideAtSomePlace}
 use Rattle.p3_read_back.specs.QueriesLaws.{list-decides, collide-first, collide-later}
 use Rattle.p3_read_back.specs.SumLaws.{element-decides, plus-zero, counts-told, difference-of_sums}
-use Rattle.p3_sponge.specs.Cells.{cell}
-use Rattle.p3_sponge.specs.SpongeCalls.{SpongeRule, permutation_input}
-use Rattle.p3_sponge.specs.SpongeStepLaws.{Fits}
-use Rattle.p3_sponge.specs.SpongeReadBackLaws as sponge
 use Rattle.p3_sponge.specs.SpongeReadBackLaws.{AreReadFrom, reads}
 use Rattle.p3_duplex.specs.DuplexCalls.{DuplexSponge, duplex, duplex_by_calls}
 use Rattle.p3_duplex.specs.DuplexReadBack.{Collide, ReadsBack, ReadsBackToDigest, ReadsBackOrCollides}
+use Rattle.p3_sponge.specs.{Cells.cell, SpongeCalls.{SpongeRule, permutation_input}, SpongeStepLaws.Fits}
+use Rattle.p3_sponge.specs.SpongeReadBackLaws as sponge
 
 module _ {F : Type 0} (r : Residues F) (laws : IsResidues r) (permute : List F → List F) (rate : ℕ)
     (below : rate < r.order) where
@@ -76,8 +73,7 @@ module _ {F : Type 0} (r : Residues F) (laws : IsResidues r) (permute : List F �
       counts-told r laws (cell r cells rate) (length one) (length other) (omega (arith, one_within, below))
       (omega (arith, other_within, below)) counts in
       sym (block-front cells one)
-      ∙ ap₂ (λ n state. take n state) long e
-      ∙ block-front cells other
+      ∙ ap₂ (λ n state. take n state) long e ∙ block-front cells other
 
   -- cells over which two blocks come to the same
   near-cells : (c d one other : List F) → length one ≤ rate → length other ≤ rate

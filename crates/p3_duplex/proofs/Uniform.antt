@@ -1,16 +1,13 @@
 -- Elements below a bound, and bits in two halves.
 use Rattle.std.proofs.Common.{◌≡◌, ℕ, ◌<◌, ◌≤◌, ◌+◌, ◌-◌, ◌*◌, ◌/◌, ◌%◌, ◌^◌, true, false, nat_lt, arith, sym, ap}
-use Rattle.std.proofs.Common.{◌∙◌, lit<, subst}
-use Rattle.std.proofs.Math.Nat.{mod-eq_of_lt, one-le-pow, mul_comm}
-use Rattle.std.proofs.lemmas.Nat.{pow-add, pow_below}
-use Rattle.std.proofs.lemmas.Bool.Decides.{nat_tests}
 use Rattle.std.specs.Prelude.{Bool, Some, Result, Ok, Err, IfOk, IfErr, OnOk}
-use Rattle.p3_challenger_core.specs.declared.error.ChallengerError.{ChallengerError}
 use Rattle.p3_challenger_core.specs.declared.error.ChallengerError.TheVariants.{OutOfMemory, DrawLimit, NoWitness}
 use Rattle.p3_challenger_core.specs.declared.error.ChallengerError.TheVariants.{TooLong}
-use Rattle.p3_challenger_core.specs.Sampling.{Sampling, RefusesDraw}
 use Rattle.p3_grinding.specs.Candidates.{first_accepted, after_first_accepted, accepted_of, accepted_within}
 use Rattle.p3_grinding.specs.CandidateLaws.{Seeks, seeks-start, seeks-next, seeks-gives, seeks-reached}
+use Rattle.std.proofs.{Common.{◌∙◌, lit<, subst}, Math.Nat.{mod-eq_of_lt, one-le-pow, mul_comm}}
+use Rattle.std.proofs.lemmas.{Nat.{pow-add, pow_below}, Bool.Decides.nat_tests}
+use Rattle.p3_challenger_core.specs.{declared.error.ChallengerError.ChallengerError, Sampling.{Sampling, RefusesDraw}}
 
 pub below-true : (n m bound : ℕ) → n ≡ m → n < bound → nat_lt m bound ≡ true
 below-true n m bound same below = grind (arith, nat_tests)
@@ -57,8 +54,7 @@ module _ {S T : Type 0} (d : Sampling S T) (accepts : T → Bool) (allowed : S �
         (seeks-next d accepts (allowed start) start 0 start here x some drawn after
         (seeks-start d accepts (allowed start) start) refused)
 
-    pub rest-gives : {E : Type 0} (result : Result T E)
-        → IfOk result (λ y. first_accepted d accepts left here ≡ Some y)
+    pub rest-gives : {E : Type 0} (result : Result T E) → IfOk result (λ y. first_accepted d accepts left here ≡ Some y)
         → IfOk result (λ y. first_accepted d accepts (allowed start) start ≡ Some y)
     rest-gives (Ok y) given = so_far.gives ∙ given
     rest-gives (Err e) _ = tt

@@ -2,10 +2,10 @@
 use Rattle.std.specs.Prelude.{◌≡◌, ℕ, ◌+◌, ◌-◌, ◌≤◌, ◌⊎◌, List, length, drop, slice_get, Option}
 use Rattle.p3_field_core.specs.Residues.{Residues, plus}
 use Rattle.p3_challenger_core.specs.Segments.{Call, run_calls, run_calls_to_digest}
-use Rattle.p3_read_back.specs.Queries as queries
 use Rattle.p3_read_back.specs.Queries.{LeaveSamePending}
 use Rattle.p3_sponge.specs.Cells.{cell}
 use Rattle.p3_duplex.specs.DuplexCalls.{DuplexSponge, duplex_by_calls}
+use Rattle.p3_read_back.specs.Queries as queries
 
 module _ {F : Type 0} (r : Residues F) (permute : List F → List F) (rate : ℕ) where
   -- one element is the other and a count up to the rate

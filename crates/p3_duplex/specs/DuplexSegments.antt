@@ -3,9 +3,9 @@
 use Rattle.std.specs.Prelude.{ℕ, List, take}
 use Rattle.p3_field_core.specs.Residues.{Residues}
 use Rattle.p3_challenger_core.specs.Segments.{BySegments}
-use Rattle.p3_sponge.specs.Outputs as outputs
 use Rattle.p3_sponge.specs.SpongeSegments.{outputs_of, run_values, opened_cells, sponge_by_segments}
 use Rattle.p3_duplex.specs.DuplexCalls.{DuplexSponge, duplex}
+use Rattle.p3_sponge.specs.Outputs as outputs
 
 abbrev pub DuplexSegments : Type 0 → Type 0
 DuplexSegments F = BySegments F F (List F) (List F) (DuplexSponge F)

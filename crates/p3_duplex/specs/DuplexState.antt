@@ -1,13 +1,14 @@
 -- A duplex challenger as contracts see it.
-use Rattle.std.specs.Prelude.{◌≡◌, ℕ, ◌<◌, ◌≤◌, List, take}
+use Rattle.std.specs.{Prelude.{◌≡◌, ℕ, ◌<◌, ◌≤◌, List, take, map}, List.All}
 use Rattle.p3_field_core.specs.Residues.{Residues}
-use Rattle.p3_challenger_core.specs.Observation.{observed_all}
-use Rattle.p3_challenger_core.specs.Segments.{Call, run_calls}
-use Rattle.p3_challenger_core.specs.Sponge.{after_steps}
-use Rattle.p3_sponge.specs.Drawing as drawing
-use Rattle.p3_sponge.specs.SpongeCalls as calls
+use Rattle.p3_challenger_core.specs.Observation.{Observation, observed_all}
+use Rattle.p3_challenger_core.specs.Segments.{Call, observe, Segments, Run, run_calls, run_calls_to_digest}
 use Rattle.p3_sponge.specs.SpongeCalls.{SpongeRule}
 use Rattle.p3_duplex.specs.DuplexCalls.{DuplexSponge, DuplexRun, duplex, duplex_by_calls}
+use Rattle.p3_duplex.specs.DuplexSegments.{duplex_by_segments}
+use Rattle.p3_challenger_core.specs.{Segments.{run_segments, run_segments_to_digest}, Sponge.after_steps}
+use Rattle.p3_sponge.specs.Drawing as drawing
+use Rattle.p3_sponge.specs.SpongeCalls as calls
 
 -- what a challenger keeps of its numbers: the rate is some cells but not all of them, and their number
 -- is below 256; fewer values are pending than it has cells, no more outputs are left than that, and
@@ -43,6 +44,10 @@ module _ {F P : Type 0} (r : Residues F) (permute : P → List F → List F) (ra
   abbrev pub fed : DuplexState F P → List F → DuplexState F P
   fed c xs = observed_all observed c xs
 
+  -- what a list of parts feeds: the values of each part, in order
+  abbrev pub fed_parts : {X : Type 0} → (X → List F) → DuplexState F P → List X → DuplexState F P
+  fed_parts items c parts = observed_all (λ u part. fed u (items part)) c parts
+
   abbrev pub sampled : DuplexState F P → F
   sampled c = calls.sampled (rule_of c) c.sponge
 
@@ -68,3 +73,18 @@ module _ {F P : Type 0} (r : Residues F) (permute : P → List F → List F) (ra
   -- the challenger after calls
   abbrev pub after_calls : DuplexState F P → List (Call F) → DuplexState F P
   after_calls c calls = record c { sponge = (run c calls).after }
+
+  -- calls that end in a digest
+  abbrev pub run_to_digest : DuplexState F P → List (Call F) → Run F (List F) (List F)
+  run_to_digest c calls = run_calls_to_digest (duplex_by_calls r (permute c.permutation) rate) c.sponge calls
+
+  -- what segments of calls do, and segments that end in a digest
+  abbrev pub segments_run : DuplexState F P → Segments F → DuplexRun F
+  segments_run c cut = run_segments (duplex_by_segments r (permute c.permutation) rate) c.sponge cut
+
+  abbrev pub segments_run_to_digest : DuplexState F P → Segments F → Run F (List F) (List F)
+  segments_run_to_digest c cut = run_segments_to_digest (duplex_by_segments r (permute c.permutation) rate) c.sponge cut
+
+  -- whatever is observed, each of its values is, in order
+  abbrev pub ObservesEach : {X : Type 0} → Observation (DuplexState F P) F X → (X → List F) → Type 0
+  ObservesEach {X} o values = (c : DuplexState F P) (x : X) → o.observed c x ≡ after_calls c (map observe (values x))

@@ -1,11 +1,10 @@
 -- Laws of a duplex challenger call by call.
-use Rattle.std.proofs.Common.{◌≡◌, ℕ, List, [], ◌∷◌, ◌++◌, ◌∙◌, refl}
-use Rattle.std.specs.List.{flat_map}
+use Rattle.std.{proofs.Common.{◌≡◌, ℕ, List, [], ◌∷◌, ◌++◌, ◌∙◌, refl}, specs.List.flat_map}
 use Rattle.p3_field_core.specs.Residues.{Residues}
 use Rattle.p3_challenger_core.specs.Observation.{IsObservation, observed_all, unrefused_observe}
 use Rattle.p3_challenger_core.specs.ObservationLaws.{unrefused_observe-is_observation}
 use Rattle.p3_sponge.specs.SpongeListLaws.{observed_all-append}
-use Rattle.p3_duplex.specs.DuplexState.{DuplexState, observed, fed}
+use Rattle.p3_duplex.specs.DuplexState.{DuplexState, observed, fed, fed_parts}
 
 module _ {F P : Type 0} (r : Residues F) (permute : P → List F → List F) (rate : ℕ) where
   pub fed-append : (c : DuplexState F P) (xs ys : List F)
@@ -25,3 +24,10 @@ module _ {F P : Type 0} (r : Residues F) (permute : P → List F → List F) (ra
       → IsObservation (fed r permute rate) (unrefused_observe symbols observed_value)
   is_observation symbols observed_value feeds =
       unrefused_observe-is_observation (fed r permute rate) (λ _. refl) fed-append symbols observed_value feeds
+
+  -- what is observed part by part is what all parts feed
+  pub parts-are_observation : {X Y : Type 0} (items : Y → List F) (parts : X → List Y)
+      → IsObservation (fed r permute rate)
+      (unrefused_observe (λ x. flat_map items (parts x)) (λ c x. fed_parts r permute rate items c (parts x)))
+  parts-are_observation items parts =
+      is_observation (λ x. flat_map items (parts x)) _ (λ c x. fed-flat_map items c (parts x))

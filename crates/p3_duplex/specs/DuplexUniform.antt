@@ -1,13 +1,11 @@
 -- Uniform bits that are drawn from a duplex challenger.
 use Rattle.std.specs.Prelude.{◌≡◌, ◌↔◌, ℕ, zero, suc, ◌-◌, ◌/◌, List, Option, Some, None, Bool, true, false, nat_eq}
-use Rattle.std.specs.Prelude.{nat_lt, if◌then◌else◌}
-use Rattle.std.specs.List.{count_by, range_with_len}
-use Rattle.p3_field_core.specs.Residues.{Residues}
-use Rattle.p3_field_core.specs.UniformBounds.{uniform_bound}
+use Rattle.p3_field_core.specs.{Residues.Residues, UniformBounds.uniform_bound}
 use Rattle.p3_challenger_core.specs.Sampling.{Sampling, unrefused_draw}
 use Rattle.p3_grinding.specs.Candidates.{first_accepted, MeetsLimitExactly}
 use Rattle.p3_grinding.specs.UniformDraws.{UniformDraw, no_bits, is_below, low_bits, bits_of_one, in_halves}
 use Rattle.p3_duplex.specs.DuplexState.{DuplexState, sampled, after_sampled}
+use Rattle.std.specs.{Prelude.{nat_lt, if◌then◌else◌}, List.{count_by, range_with_len}}
 
 -- a draw of one element
 abbrev pub base_draw : {F P : Type 0} → Residues F → (P → List F → List F) → ℕ → Sampling (DuplexState F P) F
@@ -43,8 +41,7 @@ taken_element r permute rate false bits c =
 module _ {F P : Type 0} (r : Residues F) (permute : P → List F → List F) (rate : ℕ) (resample : Bool) where
   -- so many bits of one element
   abbrev pub single : ℕ → UniformDraw (DuplexState F P)
-  single bits =
-      bits_of_one r (base_draw r permute rate) draws_allowed resample (uniform_bound r.order bits) bits
+  single bits = bits_of_one r (base_draw r permute rate) draws_allowed resample (uniform_bound r.order bits) bits
 
   -- a low half of the bits, and then a high one
   abbrev pub halved : ℕ → UniformDraw (DuplexState F P)

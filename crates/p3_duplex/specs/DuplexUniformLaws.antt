@@ -1,24 +1,13 @@
 -- Laws of uniform bits that are drawn from a duplex challenger.
 use Rattle.std.proofs.Common.{◌≡◌, ℕ, zero, suc, ◌<◌, ◌≤◌, ◌+◌, ◌-◌, ◌/◌, ◌%◌, ◌^◌, Bool, true, false, List, [], ◌∷◌}
 use Rattle.std.proofs.Common.{Some, None, inl, inr, nat_eq, nat_lt, if◌then◌else◌, refl, sym, ap, ap₂, ◌∙◌, subst}
-use Rattle.std.proofs.Common.{arith, rules, cond}
-use Rattle.std.proofs.Math.Nat.{mod-eq_of_lt}
-use Rattle.std.specs.List.{count_by, range_with_len}
-use Rattle.std.proofs.lemmas.List.Sums.{sum_by-cons}
-use Rattle.p3_field_core.specs.UniformBoundLaws.{bound-within, bound-shared}
-use Rattle.p3_field_core.specs.Residues.{Residues, IsResidues}
+use Rattle.std.{proofs.lemmas.List.Sums.sum_by-cons, proofs.lemmas.Bool.Decides.nat_tests, specs.Option.option_map}
 use Rattle.p3_field_core.specs.UniformBounds.{uniform_bound}
-use Rattle.p3_challenger_core.specs.BitLaws.{low_bits-below}
-use Rattle.p3_challenger_core.specs.Sampling.{IsSampling}
-use Rattle.p3_challenger_core.specs.SamplingLaws.{one_step, unrefused_draw-is_sampling}
-use Rattle.p3_challenger_core.specs.Observation.{unrefused_observe}
-use Rattle.p3_challenger_core.specs.Sampling.{RefusesDraw}
+use Rattle.p3_challenger_core.specs.{BitLaws.low_bits-below, Sampling.IsSampling, Observation.unrefused_observe}
 use Rattle.p3_challenger_core.specs.declared.error.ChallengerError.{ChallengerError}
 use Rattle.p3_challenger_core.specs.declared.error.ChallengerError.TheVariants.{OutOfMemory, DrawLimit, NoWitness}
 use Rattle.p3_challenger_core.specs.declared.error.ChallengerError.TheVariants.{TooLong}
 use Rattle.p3_grinding.specs.CandidateLaws.{none_left_behind, accepted-is, limit-met_exactly}
-use Rattle.std.proofs.lemmas.Bool.Decides.{nat_tests}
-use Rattle.std.specs.Option.{option_map}
 use Rattle.p3_grinding.specs.Checks.{check_of, draws_nothing, zero_and_uniform}
 use Rattle.p3_grinding.specs.UniformDraws.{UniformDraw, IsUniformDraw, bits_of_one, is_below, low_bits}
 use Rattle.p3_grinding.specs.UniformDrawLaws.{no_bits-is_uniform, bits_of_one-is_uniform, bits_of_one-below}
@@ -26,6 +15,9 @@ use Rattle.p3_grinding.specs.UniformDrawLaws.{in_halves-is_uniform, both-below}
 use Rattle.p3_duplex.specs.DuplexState.{DuplexState, observed, sampled, after_sampled}
 use Rattle.p3_duplex.specs.DuplexUniform.{how_many_give, base_draw, draws_allowed, taken_element, single, in_parts}
 use Rattle.p3_duplex.specs.DuplexUniform.{uniform_bits, SameDraw, halved, MeetsElementLimit}
+use Rattle.std.{proofs.Common.{arith, rules, cond}, proofs.Math.Nat.mod-eq_of_lt, specs.List.{count_by, range_with_len}}
+use Rattle.p3_field_core.specs.{UniformBoundLaws.{bound-within, bound-shared}, Residues.{Residues, IsResidues}}
+use Rattle.p3_challenger_core.specs.{SamplingLaws.{one_step, unrefused_draw-is_sampling}, Sampling.RefusesDraw}
 
 under : (n bound : ℕ) → nat_lt n bound ≡ true → n < bound
 under n bound h = grind (arith, nat_tests)
@@ -237,8 +229,7 @@ module _ {F P : Type 0} (r : Residues F) (permute : P → List F → List F) (ra
       (zero_and_uniform (uniform_bits r permute rate false most_of_one bits)) bits witness) e c d)
   check-not_refused most_of_one bits witness OutOfMemory c d h =
       check-takes_no_memory false most_of_one bits witness c d h
-  check-not_refused most_of_one bits witness DrawLimit c d h =
-      check-meets_no_limit most_of_one bits witness c h.0
+  check-not_refused most_of_one bits witness DrawLimit c d h = check-meets_no_limit most_of_one bits witness c h.0
   check-not_refused most_of_one bits witness NoWitness c d h = h
   check-not_refused most_of_one bits witness TooLong c d h = h
 

@@ -1,10 +1,9 @@
 -- A search that tries one candidate in each lane: what a candidate gives, and the least one that passes.
 use Rattle.std.specs.Prelude.{◌≡◌, ℕ, ◌+◌, ◌-◌, ◌%◌, ◌^◌, ◌<◌, Bool, List, [], ◌∷◌, Some, slice_index_or, slice_set, min}
 use Rattle.p3_field_core.specs.Residues.{Residues}
-use Rattle.p3_challenger_core.specs.Observation.{unrefused_observe}
-use Rattle.p3_challenger_core.specs.Sampling.{Sampling, unrefused_draw}
 use Rattle.p3_grinding.specs.Checks.{all_zero, check_of, draws_nothing}
 use Rattle.p3_duplex.specs.DuplexState.{DuplexState, observed, sampled, after_sampled}
+use Rattle.p3_challenger_core.specs.{Observation.unrefused_observe, Sampling.{Sampling, unrefused_draw}}
 
 -- what an element gives at a place of prepared cells: an output cell of the permuted cells
 abbrev pub given_by : {F : Type 0} → Residues F → (List F → List F) → List F → ℕ → ℕ → F → F

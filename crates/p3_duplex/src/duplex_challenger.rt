@@ -12,14 +12,11 @@
 //! ```
 //!
 //! An observe drops the outputs that are left. Where nothing is pending, the cells are permuted as they are.
-ghost use Rattle.std.specs.Prelude.{◌≡◌, ◌<◌, ◌≤◌, ◌+◌, ℕ, List, [], Some, length, replicate, take};
-ghost use Rattle.std.specs.List.{All};
-ghost use Rattle.p3_challenger_core.specs.Segments.{Call, segments, run_calls, run_calls_to_digest};
-ghost use Rattle.p3_challenger_core.specs.Segments.{run_segments, run_segments_to_digest};
-ghost use Rattle.p3_duplex.specs.DuplexSegments.{duplex_by_segments};
+ghost use Rattle.std.specs.Prelude.{◌≡◌, ◌<◌, ◌≤◌, ◌+◌, List, [], Some, length, take};
+ghost use Rattle.p3_challenger_core.specs.Segments.{Call, segments};
 ghost use Rattle.p3_duplex.specs.DuplexReadBack.{ReadsBack, ReadsBackToDigest, ReadsBackOrCollides};
-ghost use Rattle.p3_sponge.specs.SpongeCalls.{permutation_input};
-ghost use Rattle.p3_duplex.specs.DuplexCalls.{duplex, fresh, outputs, duplex_by_calls};
+ghost use Rattle.p3_duplex.specs.DuplexCalls.{duplex, fresh, outputs};
+ghost use Rattle.p3_sponge.specs.{SpongeCalls.permutation_input, CallPromises.QueriesDecide};
 
 mod bits;
 mod calls;
@@ -106,7 +103,8 @@ impl<
     const WIDTH: usize,
     const RATE: usize,
 > DuplexChallenger<F, P, WIDTH, RATE> {
-    ghost use Rattle.p3_duplex.specs.DuplexState as duplex_state;
+    ghost use Rattle.p3_duplex.specs.DuplexState.{run, run_to_digest, segments_run, segments_run_to_digest, duplexed};
+    ghost use Rattle.p3_duplex.specs.DuplexState.{observed, fed, sampled, after_sampled};
 
     /// A challenger of zeros, with nothing pending and no output.
     ///
@@ -152,28 +150,16 @@ impl<
     ///
     /// A law: the body does nothing, and a caller cites the clauses.
     pub fn follows_segments(&self)
-        ensures calls { (calls : List (Call F)) →
-            let permute = P.permutation self.now.permutation in
-            run_calls (duplex_by_calls F.residues permute RATE) self.now.sponge calls
-            ≡ run_segments (duplex_by_segments F.residues permute RATE) self.now.sponge
-            (segments calls) }
+        ensures calls { (calls : List (Call F)) → run F.residues P.permutation RATE self.now calls
+            ≡ segments_run F.residues P.permutation RATE self.now (segments calls) }
         ensures digest { (calls : List (Call F)) →
-            let permute = P.permutation self.now.permutation in
-            run_calls_to_digest (duplex_by_calls F.residues permute RATE) self.now.sponge calls
-            ≡ run_segments_to_digest (duplex_by_segments F.residues permute RATE) self.now.sponge
-            (segments calls) }
-        ensures queries { (calls : List (Call F)) (other : List F → List F) →
-            let permute = P.permutation self.now.permutation in
-            let run = run_calls (duplex_by_calls F.residues permute RATE) self.now.sponge calls in
-            All (λ state. other state ≡ permute state) run.queries
-            → run_calls (duplex_by_calls F.residues other RATE) self.now.sponge calls ≡ run }
-        ensures queries_to_digest { (calls : List (Call F)) (other : List F → List F) →
-            let permute = P.permutation self.now.permutation in
-            let run = run_calls_to_digest
-            (duplex_by_calls F.residues permute RATE) self.now.sponge calls in
-            All (λ state. other state ≡ permute state) run.queries
-            → run_calls_to_digest (duplex_by_calls F.residues other RATE) self.now.sponge calls
-            ≡ run }
+            run_to_digest F.residues P.permutation RATE self.now calls
+            ≡ segments_run_to_digest F.residues P.permutation RATE self.now (segments calls) }
+        ensures queries { (calls : List (Call F)) → QueriesDecide (P.permutation self.now.permutation)
+            (λ permute. run F.residues (λ _. permute) RATE self.now calls) }
+        ensures queries_to_digest { (calls : List (Call F)) → QueriesDecide
+            (P.permutation self.now.permutation)
+            (λ permute. run_to_digest F.residues (λ _. permute) RATE self.now calls) }
     {
         let _ = &self.outputs_left;
     }
@@ -233,7 +219,7 @@ impl<
 
     // Absorbs what is pending, or only permutes where nothing is. All outputs are left.
     fn duplex(&mut self)
-        ensures { self.new ≡ duplex_state.duplexed F.residues P.permutation RATE self.old }
+        ensures { self.new ≡ duplexed F.residues P.permutation RATE self.old }
     {
         absorb::<F, P, WIDTH, RATE>(
             &mut self.sponge_state,
@@ -246,9 +232,8 @@ impl<
 
     // Draws a value: the last output left, after a permutation where none is.
     fn draw(&mut self) -> F
-        ensures value { result ≡ duplex_state.sampled F.residues P.permutation RATE self.old }
-        ensures after { self.new
-            ≡ duplex_state.after_sampled F.residues P.permutation RATE self.old }
+        ensures value { result ≡ sampled F.residues P.permutation RATE self.old }
+        ensures after { self.new ≡ after_sampled F.residues P.permutation RATE self.old }
     {
         if self.outputs_left == 0 {
             self.duplex();
@@ -268,8 +253,7 @@ impl<
     // Makes values pending that at most fill the rate, and absorbs what is pending if they do.
     fn push_within(&mut self, values: &[F])
         requires { length self.old.sponge.pending + length values.now ≤ RATE }
-        ensures fed { self.new
-            ≡ duplex_state.fed F.residues P.permutation RATE self.old values.now }
+        ensures fed { self.new ≡ fed F.residues P.permutation RATE self.old values.now }
         ensures full { length self.old.sponge.pending + length values.now ≡ RATE →
             self.new.sponge.pending ≡ [] }
     {
@@ -294,7 +278,7 @@ impl<
 
     // Makes a value pending, and absorbs what is pending if it fills the rate.
     fn push(&mut self, value: F)
-        ensures { self.new ≡ duplex_state.observed F.residues P.permutation RATE self.old value }
+        ensures { self.new ≡ observed F.residues P.permutation RATE self.old value }
     {
         prove!(self.room() > 0);
         self.push_within(&[value]);
@@ -304,7 +288,7 @@ impl<
     fn absorb_block(&mut self, block: &[F])
         requires none { self.old.sponge.pending ≡ [] }
         requires whole { length block.now ≡ RATE }
-        ensures fed { self.new ≡ duplex_state.fed F.residues P.permutation RATE self.old block.now }
+        ensures fed { self.new ≡ fed F.residues P.permutation RATE self.old block.now }
         ensures none_left { self.new.sponge.pending ≡ [] }
     {
         overwrite(&mut self.sponge_state[..], block, RATE);
@@ -315,7 +299,7 @@ impl<
     // Makes values pending in order, and absorbs each block that they fill. The first values fill up what is
     // pending, and the blocks after them are not copied into it.
     pub(crate) fn push_all(&mut self, values: &[F])
-        ensures { self.new ≡ duplex_state.fed F.residues P.permutation RATE self.old values.now }
+        ensures { self.new ≡ fed F.residues P.permutation RATE self.old values.now }
     {
         let (front, mut rest) = values.split_at(self.room().min(values.len()));
         self.push_within(front);
@@ -367,13 +351,12 @@ impl<
     ghost use Rattle.p3_duplex.specs.DuplexState as duplex_state;
 
     // An observation takes no memory: it is never refused.
-    ghost observation = { unrefused_observe (λ x. x ∷ [])
-        (λ s x. duplex_state.observed F.residues P.permutation RATE s x) };
+    ghost observation = { unrefused_observe
+        (λ x. x ∷ []) (duplex_state.observed F.residues P.permutation RATE) };
 
     ghost slice_may_leave = { λ _ _ _. ⊥ };
 
-    ghost observes = { is_observation F.residues P.permutation RATE (λ x. x ∷ [])
-        (λ s x. duplex_state.observed F.residues P.permutation RATE s x) (λ _ _. refl) };
+    ghost observes = { is_observation F.residues P.permutation RATE (λ x. x ∷ []) _ (λ _ _. refl) };
 
     ghost slice_leaves = { λ _ _ _ h. absurd h };
 
@@ -405,8 +388,7 @@ impl<
 
     ghost slice_may_leave = { λ _ _ _. ⊥ };
 
-    ghost observes = { is_observation F.residues P.permutation RATE (λ xs. xs)
-        (λ s xs. duplex_state.fed F.residues P.permutation RATE s xs) (λ _ _. refl) };
+    ghost observes = { is_observation F.residues P.permutation RATE (λ xs. xs) _ (λ _ _. refl) };
 
     ghost slice_leaves = { λ _ _ _ h. absurd h };
 

@@ -1,8 +1,7 @@
 //! What a duplex challenger feeds is a prefix code: the premises of the laws on symbols.
 ghost use Rattle.std.specs.Prelude.{◌≡◌, List, length, ◌++◌};
 ghost use Rattle.p3_challenger_core.specs.Reading.{IsPrefixCode, IsPrefixCodeOn};
-ghost use Rattle.p3_symmetric.specs.declared.hash.Hash.{Hash};
-ghost use Rattle.p3_symmetric.specs.HashValues.{values_of};
+ghost use Rattle.p3_symmetric.specs.{declared.hash.Hash.Hash, HashValues.values_of};
 
 use crate::DuplexChallenger;
 use p3_challenger_core::CanObserve;
@@ -43,6 +42,5 @@ pub fn duplex_arrays_are_prefix_code<
         ⟦<DuplexChallenger<F, P, WIDTH, RATE> as CanObserve<Hash<M, F, N>>>⟧.observation.symbols
         digest ++ a
         ≡ ⟦<DuplexChallenger<F, P, WIDTH, RATE> as CanObserve<[F; N]>>⟧.observation.symbols
-        values ++ b
-        → (values_of digest ≡ values) × (a ≡ b) }
+        values ++ b → (values_of digest ≡ values) × (a ≡ b) }
 {}

@@ -1,14 +1,10 @@
 -- Elements packed into one, the last of them first.
 use Rattle.std.proofs.Common.{◌≡◌, ℕ, suc, ◌<◌, ◌≤◌, ◌+◌, ◌-◌, ◌*◌, ◌%◌, ◌^◌, List, length, map, drop, get_or}
-use Rattle.std.proofs.Common.{sym, ap, ap₂, ◌∙◌, arith}
+use Rattle.std.proofs.{Common.{sym, ap, ap₂, ◌∙◌, arith}, Math.Pow.pow-lt, Math.Seq.drop-cons}
 use Rattle.std.proofs.Math.Nat.{add-mod-mod, mod-add-mod, mod-eq_of_lt, mul_comm, pow-suc}
-use Rattle.std.proofs.Math.Pow.{pow-lt}
-use Rattle.std.proofs.Math.Seq.{drop-cons}
 use Rattle.std.proofs.lemmas.Nat.{mul-mod_first, mul-mod_second}
-use Rattle.p3_field_core.specs.Residues.{Residues, IsResidues, sum_of, product_of}
-use Rattle.p3_field_core.specs.ResidueLaws.{of-same}
-use Rattle.p3_field_bridge.specs.Digits.{number_in}
-use Rattle.p3_field_bridge.specs.DigitLaws.{number_in-cons}
+use Rattle.p3_field_core.specs.{Residues.{Residues, IsResidues, sum_of, product_of}, ResidueLaws.of-same}
+use Rattle.p3_field_bridge.specs.{Digits.number_in, DigitLaws.number_in-cons}
 
 module _ {P : Type 0} (r : Residues P) (laws : IsResidues r) where
   -- the sum and the product of the elements of numbers are those of their sum and product

@@ -1,7 +1,6 @@
 -- Worked rows, computed on the definitions.
 use Rattle.std.proofs.Common.{◌≡◌, ℕ, [], ◌∷◌, List, map, refl}
-use Rattle.p3_small_primes.specs.BabyBearResidues.{residues as baby_bear}
-use Rattle.p3_small_primes.specs.F257Residues.{residues as f257}
+use Rattle.p3_small_primes.specs.{BabyBearResidues.residues as baby_bear, F257Residues.residues as f257}
 use Rattle.p3_goldilocks.specs.GoldilocksResidues.{residues as goldilocks}
 use Rattle.p3_field_bridge.specs.Bridges.{packed, digit_of}
 

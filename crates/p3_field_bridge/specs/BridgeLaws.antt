@@ -1,18 +1,13 @@
 -- Laws of bridges between fields.
 use Rattle.std.proofs.Common.{◌≡◌, ◌↔◌, ℕ, zero, suc, ◌<◌, ◌≤◌, ◌+◌, ◌*◌, ◌/◌, ◌%◌, ◌^◌, List, [], ◌∷◌, length}
-use Rattle.std.proofs.Common.{map, get_or, refl, sym, ap, ap₂, ◌∙◌, subst, inl, inr, arith, pow_mono}
+use Rattle.std.{proofs.Common.{map, get_or, refl, sym, ap, ap₂, ◌∙◌, subst, inl, inr, arith, pow_mono}, specs.List.All}
 use Rattle.std.proofs.Math.Nat.{pow-zero, pow-succ', pow-le-pow_left, mod-eq_of_lt, mod-lt, mul-le-mul_left}
-use Rattle.std.proofs.Math.Nat.{mul-le-mul_right, pow-le-pow_right}
-use Rattle.std.proofs.lemmas.Nat.{pow-add}
-use Rattle.std.proofs.lemmas.Bool.{cases_lt}
-use Rattle.std.proofs.lemmas.List.{length-map, get_or-map}
-use Rattle.std.proofs.lemmas.List.Elements.{All-map}
-use Rattle.std.specs.List.{All}
+use Rattle.std.proofs.{Math.Nat.{mul-le-mul_right, pow-le-pow_right}, lemmas.Nat.pow-add, lemmas.Bool.cases_lt}
+use Rattle.std.proofs.lemmas.{List.{length-map, get_or-map}, List.Elements.All-map}
 use Rattle.p3_field_core.specs.Residues.{Residues, IsResidues}
 use Rattle.p3_field_core.specs.ResidueLaws.{number-injective, number_of-below, of-injective}
-use Rattle.p3_field_bridge.specs.Digits.{number_in, digit_at}
+use Rattle.p3_field_bridge.specs.{Digits.{number_in, digit_at}, DigitLaws.digit_at-number_in}
 use Rattle.p3_field_bridge.specs.DigitLaws.{number_in-below, number_in-injective, same_digits, digits_same}
-use Rattle.p3_field_bridge.specs.DigitLaws.{digit_at-number_in}
 use Rattle.p3_field_bridge.specs.Bridges.{packed, digit_of, AreRadixBits, AreCounts}
 
 -- ---- counts of bits

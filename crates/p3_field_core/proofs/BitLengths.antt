@@ -1,7 +1,6 @@
 -- Bit lengths.
 use Rattle.std.proofs.Common.{◌≡◌, ℕ, suc, ◌+◌, ◌*◌, ◌-◌, ◌^◌, ◌<◌, ◌≤◌, inl, inr, subst, pow-suc, pow_mono, arith}
-use Rattle.std.proofs.lemmas.Bool.{cases_lt}
-use Rattle.std.proofs.lemmas.Nat.{leading_length}
+use Rattle.std.proofs.lemmas.{Bool.cases_lt, Nat.leading_length}
 use lib.Count.{count_leading_zeros}
 
 -- a power of two that reaches a number is no less than one at most twice what is below the number

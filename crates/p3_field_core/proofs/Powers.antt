@@ -2,8 +2,7 @@
 use Rattle.std.proofs.Common.{◌≡◌, ◌≢◌, ℕ, suc, ◌+◌, ◌*◌, ◌/◌, ◌%◌, ◌^◌, ◌∙◌, sym, ap, ap₂, arith}
 use Rattle.std.proofs.Math.Nat.{pow-suc, pow-zero, mul_comm, mul_assoc, mul-one}
 use Rattle.std.proofs.lemmas.Nat.{mul-mod_first, mul-mod_second, pow-mod, pow-add, mul-pow}
-use Rattle.p3_field_core.specs.Residues.{Residues, IsResidues}
-use Rattle.p3_field_core.specs.ResidueLaws.{of-is}
+use Rattle.p3_field_core.specs.{Residues.{Residues, IsResidues}, ResidueLaws.of-is}
 
 -- a square to half a power is the power
 square-half : (s p h : ℕ) → p ≡ h + h → (s * s) ^ h ≡ s ^ p

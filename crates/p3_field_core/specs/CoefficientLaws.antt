@@ -1,14 +1,10 @@
 -- What holds of the coefficients of an element: of an array of them, and of an element of the base field.
-use Rattle.std.specs.Prelude.{◌≡◌, ℕ, ◌≤◌, Bool, List, [], ◌∷◌, length, replicate, refl}
-use Rattle.std.proofs.Common.{◌∙◌, ap, arith}
-use Rattle.std.proofs.lemmas.List.{take-append-le, take_all}
-use Rattle.std.proofs.Math.Nat.{ℕ_set}
-use mathlib.Core.HLevel.{is_prop→PathP}
+use Rattle.std.{specs.Prelude.{◌≡◌, ℕ, ◌≤◌, Bool, List, [], ◌∷◌, length, replicate, refl}, proofs.Math.Nat.ℕ_set}
+use Rattle.std.proofs.{Common.{◌∙◌, ap, arith}, lemmas.List.{take-append-le, take_all}}
 use Rattle.std.specs.Cmp.Lexicographic.{pointwise, pointwise_decides}
-use Rattle.p3_field_core.specs.Equality.{IsExact, exact-by}
-use Rattle.p3_field_core.specs.Coefficients.{element_of_one}
-use Rattle.p3_field_core.specs.CoeffsCoefficients.{coefficients_of, element_of}
-use Rattle.p3_field_core.specs.declared.coeffs.Coeffs.{Coeffs}
+use mathlib.Core.HLevel.{is_prop→PathP}
+use Rattle.p3_field_core.specs.{Equality.{IsExact, exact-by}, Coefficients.element_of_one}
+use Rattle.p3_field_core.specs.{CoeffsCoefficients.{coefficients_of, element_of}, declared.coeffs.Coeffs.Coeffs}
 
 pub length-coefficients : {F : Type 0} {D : ℕ} (x : Coeffs F D) → length (coefficients_of x) ≡ D
 length-coefficients x = x.full

@@ -1,7 +1,6 @@
 -- Comparisons that find equal exactly what is one value. Lists compare so where their items do, by std's
 -- `pointwise_decides`.
-use Rattle.std.specs.Prelude.{◌≡◌, Bool, true, ◌↔◌}
-use Rattle.std.proofs.Common.{ap}
+use Rattle.std.{specs.Prelude.{◌≡◌, Bool, true, ◌↔◌}, proofs.Common.ap}
 
 -- what compares equal is one value, and each value compares equal with itself
 abbrev pub IsExact : {A : Type 0} → (A → A → Bool) → Type 0

@@ -1,6 +1,5 @@
 -- What follows of residues, for proofs here and above.
-use Rattle.std.proofs.Common.{◌≡◌, ℕ, ◌%◌, ◌<◌, ◌∙◌, sym, ap}
-use Rattle.std.proofs.Math.Nat.{mod-eq_of_lt}
+use Rattle.std.proofs.{Common.{◌≡◌, ℕ, ◌%◌, ◌<◌, ◌∙◌, sym, ap}, Math.Nat.mod-eq_of_lt}
 use Rattle.p3_field_core.specs.Residues.{Residues, IsResidues}
 
 -- numbers below an order that tell the elements apart are residues

@@ -4,8 +4,7 @@ use Rattle.std.proofs.Math.Nat.{mod-add-mod, add-mod-mod, add-mod_right, add_com
 use Rattle.std.proofs.Math.Nat.{mul-add, mul-one, mul-zero, mul_comm, mul_assoc}
 use Rattle.std.proofs.lemmas.Nat.{mul-mod_first, mul-mod_second, pow-mod}
 use Rattle.p3_field_core.specs.Residues.{Residues, IsResidues, sum_of, difference_of, product_of, power_of}
-use Rattle.p3_field_core.specs.ResidueLaws.{of-same}
-use Rattle.p3_field_core.specs.Rings.{IsRing}
+use Rattle.p3_field_core.specs.{ResidueLaws.of-same, Rings.IsRing}
 
 module _ {F : Type 0} (r : Residues F) (laws : IsResidues r) where
   -- in a sum, the element of a number counts as the number

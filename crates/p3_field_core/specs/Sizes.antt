@@ -1,8 +1,7 @@
 -- The room that an element takes.
 use Rattle.std.specs.Prelude.{◌≤◌, ◌^◌}
 use prog.Memory.{size}
-use denote.RattleType.{RattleType}
-use denote.Param.{layout}
+use denote.{RattleType.RattleType, Param.layout}
 
 -- a value of the type takes at most 2 ^ 16 bytes
 abbrev pub IsSmall : RattleType → Type 0

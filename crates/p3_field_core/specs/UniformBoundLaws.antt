@@ -1,11 +1,8 @@
 -- Laws of the bounds of uniform bits.
-use Rattle.std.proofs.Common.{◌≡◌, ℕ, ◌<◌, ◌≤◌, ◌+◌, ◌*◌, ◌/◌, ◌%◌, ◌^◌, ap, ◌∙◌, inl, inr}
-use Rattle.std.proofs.Common.{arith, pow_mono}
-use Rattle.std.proofs.lemmas.Bool.{cases_lt}
+use Rattle.std.proofs.{Common.{◌≡◌, ℕ, ◌<◌, ◌≤◌, ◌+◌, ◌*◌, ◌/◌, ◌%◌, ◌^◌, ap, ◌∙◌, inl, inr}, Common.{arith, pow_mono}}
+use Rattle.std.proofs.lemmas.{Bool.cases_lt, Nat.pow_pos}
 use Rattle.std.proofs.Math.Nat.{mul-div-le, mul-mod_right, div-eq_of_lt, lt-mul-div-succ, mul-le-mul_left}
-use Rattle.std.proofs.lemmas.Nat.{pow_pos}
-use Rattle.p3_field_core.specs.UniformBounds.{uniform_bound, how_many_have}
-use Rattle.p3_field_core.specs.RemainderLaws.{counted-whole}
+use Rattle.p3_field_core.specs.{UniformBounds.{uniform_bound, how_many_have}, RemainderLaws.counted-whole}
 
 pub bound-within : (order bits : ℕ) → uniform_bound order bits ≤ order
 bound-within order bits = mul-div-le order (2 ^ bits)

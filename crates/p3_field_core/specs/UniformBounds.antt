@@ -1,6 +1,5 @@
 -- Numbers whose low bits are uniform.
-use Rattle.std.specs.Prelude.{ℕ, ◌*◌, ◌/◌, ◌%◌, ◌^◌, nat_eq}
-use Rattle.std.specs.List.{count_by, range_with_len}
+use Rattle.std.specs.{Prelude.{ℕ, ◌*◌, ◌/◌, ◌%◌, ◌^◌, nat_eq}, List.{count_by, range_with_len}}
 
 -- the greatest multiple of a power of two that is at most an order: below it each value of so many low bits is that of
 -- equally many numbers

@@ -87,8 +87,7 @@ pub trait BinomiallyExtendable<const D: usize>: Field {
 }
 
 impl<F: Field> BasedVectorSpace<F> for F {
-    ghost use Rattle.std.specs.Prelude.{[], refl};
-    ghost use Rattle.std.proofs.Common.{lit<, lit≤};
+    ghost use Rattle.std.{specs.Prelude.{[], refl}, proofs.Common.{lit<, lit≤}};
     ghost use Rattle.p3_field_core.specs.Coefficients.{element_of_one};
     ghost use Rattle.p3_field_core.specs.CoefficientLaws.{one_coefficient, coefficients-element_of_one};
 

@@ -29,8 +29,7 @@ impl<F: Copy, const D: usize> Copy for Coeffs<F, D> {}
 
 impl<F: Field, const D: usize> Coeffs<F, D> {
     ghost use Rattle.std.specs.Prelude.{◌≡◌};
-    ghost use Rattle.p3_field_core.specs.CoeffsCoefficients.{coefficients_of};
-    ghost use Rattle.p3_field_core.specs.Equality.{IsExact};
+    ghost use Rattle.p3_field_core.specs.{CoeffsCoefficients.coefficients_of, Equality.IsExact};
 
     /// The element with these coefficients.
     pub fn new(coefficients: [F; D]) -> Self

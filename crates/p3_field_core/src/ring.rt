@@ -1,8 +1,7 @@
 //! Rings whose elements are residues modulo their order.
-ghost use Rattle.std.specs.Prelude.{◌≡◌, ℕ, ◌-◌};
-ghost use Rattle.p3_field_core.specs.Equality.{IsExact};
+ghost use Rattle.std.specs.Prelude.{◌≡◌, ◌-◌};
+ghost use Rattle.p3_field_core.specs.{Equality.IsExact, Rings.IsRing};
 ghost use Rattle.p3_field_core.specs.Residues.{Residues, IsResidues, sum_of, difference_of, product_of, power_of};
-ghost use Rattle.p3_field_core.specs.Rings.{IsRing};
 
 use crate::exponentiation::power;
 use std::ops::{Add, Mul, Sub};

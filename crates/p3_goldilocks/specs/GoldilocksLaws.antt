@@ -1,14 +1,9 @@
 -- What holds of the field of order 2 ^ 64 - 2 ^ 32 + 1 as residues.
-use Rattle.std.specs.Prelude.{◌≡◌, ◌<◌, ◌%◌, nat_eq}
-use Rattle.std.proofs.Common.{lit<}
-use Rattle.std.proofs.lemmas.Bool.{eqb-true, eq-eqb}
+use Rattle.std.{specs.Prelude.{◌≡◌, ◌<◌, ◌%◌, nat_eq}, proofs.Common.lit<, proofs.lemmas.Bool.{eqb-true, eq-eqb}}
 use Rattle.std.proofs.Math.Bridge.{le_prop}
 use mathlib.Core.HLevel.{is_prop→PathP}
-use Rattle.p3_field_core.specs.Equality.{IsExact, exact-by}
-use Rattle.p3_field_core.specs.Residues.{IsResidues}
-use Rattle.p3_field_core.specs.ResidueLaws.{laws-of-injective}
-use Rattle.p3_goldilocks.specs.GoldilocksResidues.{order, number, residues}
-use Rattle.p3_goldilocks.specs.declared.goldilocks.Goldilocks.{Goldilocks}
+use Rattle.p3_field_core.specs.{Equality.{IsExact, exact-by}, Residues.IsResidues, ResidueLaws.laws-of-injective}
+use Rattle.p3_goldilocks.specs.{GoldilocksResidues.{order, number, residues}, declared.goldilocks.Goldilocks.Goldilocks}
 
 -- elements of one number are one element
 pub number-injective : (x y : Goldilocks) → number x ≡ number y → x ≡ y

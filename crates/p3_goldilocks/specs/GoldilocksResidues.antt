@@ -1,7 +1,5 @@
 -- The field of order 2 ^ 64 - 2 ^ 32 + 1 as residues.
-use Rattle.std.specs.Prelude.{ℕ, ◌<◌, ◌%◌}
-use Rattle.std.proofs.Common.{lit<}
-use Rattle.std.proofs.Math.Nat.{mod-lt}
+use Rattle.std.{specs.Prelude.{ℕ, ◌<◌, ◌%◌}, proofs.Common.lit<, proofs.Math.Nat.mod-lt}
 use Rattle.p3_field_core.specs.Residues.{Residues}
 use Rattle.p3_goldilocks.specs.declared.goldilocks.Goldilocks.{Goldilocks}
 

@@ -39,8 +39,7 @@ impl Goldilocks {
 }
 
 impl Goldilocks {
-    ghost use Rattle.std.specs.Prelude.{◌≡◌, Some};
-    ghost use Rattle.std.specs.Ordering.{nat_cmp};
+    ghost use Rattle.std.specs.{Prelude.{◌≡◌, Some}, Ordering.nat_cmp};
     ghost use Rattle.std.specs.Hash as fed;
     ghost use Rattle.p3_goldilocks.specs.GoldilocksResidues.{number};
 
@@ -212,8 +211,7 @@ impl PrimeField for Goldilocks {
 }
 
 impl PrimeField64 for Goldilocks {
-    ghost use Rattle.std.specs.Prelude.{refl};
-    ghost use Rattle.std.proofs.Common.{lit<};
+    ghost use Rattle.std.{specs.Prelude.refl, proofs.Common.lit<};
 
     const ORDER_U64: u64 = ORDER;
 

@@ -1,16 +1,12 @@
 -- A check whose first draw was done before: what it answers, and leaves, is what is left of it from there.
 use Rattle.std.proofs.Common.{◌≡◌, ℕ, zero, suc, ◌==◌, ◌<◌, ◌⊎◌, Bool, true, false, Option, Some, None, refl, sym, ap}
-use Rattle.std.proofs.Common.{◌∙◌, inl, inr, subst, rules, is_some, option_and_then, if◌then◌else◌, IsSome}
-use Rattle.std.proofs.Math.Nat.{mod-le}
+use Rattle.std.proofs.{Common.{◌∙◌, inl, inr, subst, rules, is_some, option_and_then, IsSome}, Math.Nat.mod-le}
 use Rattle.p3_field_core.specs.Residues.{Residues, IsResidues}
-use Rattle.p3_challenger_core.specs.Observation.{Observation}
-use Rattle.p3_challenger_core.specs.Sampling.{Sampling, RefusesDraw}
+use Rattle.p3_challenger_core.specs.{Observation.Observation, Sampling.{Sampling, RefusesDraw}}
 use Rattle.p3_challenger_core.specs.declared.error.ChallengerError.{ChallengerError}
 use Rattle.p3_challenger_core.specs.declared.error.ChallengerError.TheVariants.{OutOfMemory, DrawLimit, NoWitness}
-use Rattle.p3_challenger_core.specs.declared.error.ChallengerError.TheVariants.{TooLong}
 use Rattle.p3_grinding.specs.Checks.{draws_nothing, checked, check_of, IsLeast, MayRunOut, RefusesReady}
-use Rattle.p3_grinding.specs.Checks.{RefusesSearch}
-use Rattle.p3_grinding.proofs.Searching.{none_not_some, nothing_below, below_least}
+use Rattle.p3_grinding.{specs.Checks.RefusesSearch, proofs.Searching.{none_not_some, nothing_below, below_least}}
 
 not_both : true ≡ false → ⊥
 not_both e = search (rules, e)
@@ -56,21 +52,16 @@ module _ {S Symbol W : Type 0} (before : Sampling S (Unit {0})) (o : Observation
         (test.sampled (o.observed (before.after start) (r.of n))) h) ∙ passes),
     refl,
   )
-  not_ready-refused clones_may_fail (suc bits) DrawLimit more h = absurd h
-  not_ready-refused clones_may_fail (suc bits) TooLong more h = absurd h
+  not_ready-refused clones_may_fail (suc bits) e more h = absurd h
 
   module _ (ready : S) (drawn : before.sampled start ≡ Some tt) (at : ready ≡ before.after start) where
     same_answer : (witness : W) → (checked before o test witness).sampled start
         ≡ (checked draws_nothing o test witness).sampled ready
-    same_answer witness =
-        ap (option_and_then (λ _. test.sampled (o.observed (before.after start) witness))) drawn
-        ∙ ap (λ s. test.sampled (o.observed s witness)) (sym at)
+    same_answer witness = rw (drawn, at) refl
 
     same_after : (witness : W) → (checked before o test witness).after start
         ≡ (checked draws_nothing o test witness).after ready
-    same_after witness =
-        ap (λ x. if is_some x then test.after (o.observed (before.after start) witness) else before.after start) drawn
-        ∙ ap (λ s. test.after (o.observed s witness)) (sym at)
+    same_after witness = rw (drawn, at) refl
 
     is_drawn : IsSome (before.sampled start)
     is_drawn = ap is_some drawn
@@ -113,8 +104,7 @@ module _ {S Symbol W : Type 0} (before : Sampling S (Unit {0})) (o : Observation
         (inr (left.0, left.1, may_leave_later left.0 left.1 left.2), refl)
     prepared-refused clones_may_fail (suc bits) NoWitness t more h =
         (λ n below passes. h.0 n below (sym (same_answer (r.of n)) ∙ passes), refl)
-    prepared-refused clones_may_fail (suc bits) DrawLimit t more h = absurd h
-    prepared-refused clones_may_fail (suc bits) TooLong t more h = absurd h
+    prepared-refused clones_may_fail (suc bits) e t more h = absurd h
 
     -- one check, whose first draw was done
     pub prepared-check_refused : (bits : ℕ) (witness : W) (e : ChallengerError) (t : S) → (bits == 0) ≡ false
@@ -127,5 +117,4 @@ module _ {S Symbol W : Type 0} (before : Sampling S (Unit {0})) (o : Observation
       inr (is_drawn, subst (λ s. test.meets_limit (o.observed s witness)) at later.1),
       is ∙ sym (same_after witness),
     )
-    prepared-check_refused (suc bits) witness NoWitness t more h = absurd h
-    prepared-check_refused (suc bits) witness TooLong t more h = absurd h
+    prepared-check_refused (suc bits) witness e t more h = absurd h

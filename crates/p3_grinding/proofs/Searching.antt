@@ -1,13 +1,10 @@
 -- A search that tries the numbers in order.
-use Rattle.std.proofs.Common.{◌≡◌, ℕ, ◌+◌, ◌<◌, ◌≤◌, ◌⊎◌, Bool, true, false, Some, None, refl, sym, ap, ◌∙◌, inl, inr}
-use Rattle.std.proofs.Common.{subst, arith, rules}
-use Rattle.std.proofs.Math.Nat.{mod-le}
-use Rattle.std.proofs.lemmas.Bool.{cases_lt}
+use Rattle.std.proofs.Common.{◌≡◌, ℕ, ◌+◌, ◌<◌, ◌≤◌, Bool, true, false, Some, None, refl, sym, ap, ◌∙◌, inr}
+use Rattle.std.proofs.{Common.{subst, arith, rules}, Math.Nat.mod-le}
+use borrow.Author.Count.{below_more}
 use Rattle.p3_field_core.specs.Residues.{Residues, IsResidues}
-use Rattle.p3_challenger_core.specs.Sampling.{Sampling, RefusesDraw}
-use Rattle.p3_challenger_core.specs.declared.error.ChallengerError.{ChallengerError}
-use Rattle.p3_challenger_core.specs.declared.error.ChallengerError.TheVariants.{OutOfMemory, DrawLimit, NoWitness}
-use Rattle.p3_challenger_core.specs.declared.error.ChallengerError.TheVariants.{TooLong}
+use Rattle.p3_challenger_core.specs.{Sampling.{Sampling, RefusesDraw}, declared.error.ChallengerError.ChallengerError}
+use Rattle.p3_challenger_core.specs.declared.error.ChallengerError.TheVariants.{OutOfMemory, DrawLimit}
 use Rattle.p3_grinding.specs.Checks.{Passes, PassesAt, IsLeast, NonePasses, MayRunOut, RefusesSearch}
 use Rattle.p3_grinding.specs.CheckLaws.{LimitGivesNone}
 
@@ -41,13 +38,6 @@ module _ {S W : Type 0} (r : Residues W) (check : W → Sampling S Bool) (start 
   searched-start challenger trial kept ready =
       record { kept = kept; ready = ready; none = λ k h _. absurd (nothing_below k h) }
 
-  one_more_by : (n k : ℕ) → ((j : ℕ) → j < n → ¬ (Passes r check start j)) → ¬ (Passes r check start n) → k < n + 1
-      → (k < n) ⊎ (n ≤ k) → ¬ (Passes r check start k)
-  one_more_by n k none fails h (inl below) = none k below
-  one_more_by n k none fails h (inr above) =
-      let is : n ≡ k = omega arith in
-      λ passes. fails (subst (λ m. Passes r check start m) (sym is) passes)
-
   module _ (challenger trial : S) (n : ℕ) (so_far : Searched r check start challenger trial n) where
     -- the number n does not pass, and the copy is set back
     next : (there : S) → there ≡ challenger → ¬ (Passes r check start n)
@@ -56,7 +46,7 @@ module _ {S W : Type 0} (r : Residues W) (check : W → Sampling S Bool) (start 
         record {
           kept = so_far.kept;
           ready = back ∙ so_far.kept;
-          none = λ k h. one_more_by n k so_far.none fails h (cases_lt k n);
+          none = below_more (λ k. ¬ (Passes r check start k)) n so_far.none fails;
         }
 
     at_start : (check (r.of n)).sampled trial ≡ (check (r.of n)).sampled start
@@ -89,24 +79,17 @@ module _ {S W : Type 0} (r : Residues W) (check : W → Sampling S Bool) (start 
     searched-refused clones_may_fail OutOfMemory after other h =
         (inr (r.of n, after, subst (λ s. (check (r.of n)).may_leave s after) so_far.ready h), so_far.kept)
     searched-refused clones_may_fail DrawLimit after other h = absurd (other refl)
-    searched-refused clones_may_fail NoWitness after other h = absurd h
-    searched-refused clones_may_fail TooLong after other h = absurd h
+    searched-refused clones_may_fail e after other h = absurd h
 
     -- all of them were tried
     pub searched-none : r.order ≤ n → NonePasses r check start × (challenger ≡ start)
     searched-none all = (λ k h. so_far.none k (below_least k h all), so_far.kept)
 
 module _ {S : Type 0} (check : ℕ → Sampling S Bool) (start trial : S) (n : ℕ) (so_far : Tried check start trial n) where
-  tried_by : (k : ℕ) → ¬ (PassesAt check start n) → k < n + 1 → (k < n) ⊎ (n ≤ k) → ¬ (PassesAt check start k)
-  tried_by k fails h (inl below) = so_far.none k below
-  tried_by k fails h (inr above) =
-      let is : n ≡ k = omega arith in
-      λ passes. fails (subst (λ m. PassesAt check start m) (sym is) passes)
-
   -- candidate n does not pass, and the copy is set back
   pub tried-next : (there : S) → there ≡ start → ¬ (PassesAt check start n) → Tried check start there (n + 1)
   tried-next there back fails =
-      record { ready = back; none = λ k h. tried_by k fails h (cases_lt k n) }
+      record { ready = back; none = below_more (λ k. ¬ (PassesAt check start k)) n so_far.none fails }
 
   pub tried-failed : (there : S) → there ≡ start → (check n).sampled trial ≡ Some false
       → Tried check start there (n + 1)

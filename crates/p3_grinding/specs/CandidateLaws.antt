@@ -1,12 +1,10 @@
 -- Laws of drawing candidates until one is accepted.
 use Rattle.std.proofs.Common.{◌≡◌, ℕ, zero, suc, ◌+◌, ◌-◌, ◌<◌, ◌≤◌, Bool, true, false, Option, Some, None}
 use Rattle.std.proofs.Common.{option_and_then, if◌then◌else◌, refl, sym, ap, ◌∙◌, inl, inr, subst, arith, rules}
-use Rattle.std.proofs.Common.{IsSome, ◌↔◌}
-use Rattle.std.specs.Option.{option_map}
-use Rattle.p3_challenger_core.specs.declared.error.ChallengerError.{ChallengerError}
+use Rattle.std.{proofs.Common.{IsSome, ◌↔◌}, specs.Option.option_map}
+use Rattle.p3_challenger_core.specs.{declared.error.ChallengerError.ChallengerError, Sponge.{IsStepsOn, after_steps}}
 use Rattle.p3_challenger_core.specs.declared.error.ChallengerError.TheVariants.{OutOfMemory, DrawLimit, NoWitness}
 use Rattle.p3_challenger_core.specs.declared.error.ChallengerError.TheVariants.{TooLong}
-use Rattle.p3_challenger_core.specs.Sponge.{IsStepsOn, after_steps}
 use Rattle.p3_challenger_core.specs.Sampling.{Sampling, IsSampling, RefusesDraw, made_of}
 use Rattle.p3_challenger_core.specs.SamplingLaws.{no_steps, steps-then}
 use Rattle.p3_grinding.specs.Candidates.{after_refused, first_accepted, after_first_accepted, MeetsLimit, MayLeave}
@@ -58,11 +56,7 @@ module _ {S T : Type 0} (d : Sampling S T) (accepts : T → Bool) where
 
     pub accepted_of-is_sampling : (limit : ℕ) → IsSampling next (accepted_of d accepts limit)
     accepted_of-is_sampling limit =
-        record {
-          limit_gives_none = limit-none limit;
-          steps = accepted-steps limit;
-          leaves = accepted-leaves limit;
-        }
+        record { limit_gives_none = limit-none limit; steps = accepted-steps limit; leaves = accepted-leaves limit }
 
     pub accepted_within-is_sampling : (limit : S → ℕ) → IsSampling next (accepted_within d accepts limit)
     accepted_within-is_sampling limit =
@@ -260,8 +254,7 @@ module _ {S T : Type 0} (d : Sampling S T) (accepts : T → Bool) where
     each_refused zero s h k below = absurd (omega (arith, below))
     each_refused (suc more) s (inl here) k below = absurd (unlimited s here)
     each_refused (suc more) s (inr later) zero below = (later.0, later.1, later.2)
-    each_refused (suc more) s (inr later) (suc k) below =
-        each_refused more (d.after s) later.3 k (earlier k more below)
+    each_refused (suc more) s (inr later) (suc k) below = each_refused more (d.after s) later.3 k (earlier k more below)
 
     refused_each : (limit : ℕ) (s : S) → EachRefused d accepts limit s → MeetsLimit d accepts limit s
     unfolding MeetsLimit

@@ -1,8 +1,7 @@
 -- Drawing candidates until one is accepted, so many at most.
 use Rattle.std.specs.Prelude.{◌≡◌, ◌↔◌, ◌<◌, ℕ, zero, suc, Bool, false, ◌⊎◌, Option, Some, None, option_and_then}
 use Rattle.std.specs.Prelude.{if◌then◌else◌}
-use Rattle.p3_challenger_core.specs.Sampling.{Sampling}
-use Rattle.p3_challenger_core.specs.Sponge.{after_steps}
+use Rattle.p3_challenger_core.specs.{Sampling.Sampling, Sponge.after_steps}
 
 -- the state after a candidate, where it was drawn and refused: that after the candidates that follow it
 abbrev pub after_refused : {S T : Type 0} → (T → Bool) → (S → S) → Option T → S → S

@@ -1,18 +1,14 @@
 -- Laws of checks.
 use Rattle.std.proofs.Common.{◌≡◌, ℕ, zero, suc, ◌==◌, Bool, true, false, List, Option, Some, None, IsSome, is_some}
-use Rattle.std.proofs.Common.{refl, sym, ap, ◌∙◌, inl, inr, subst, rules}
-use Rattle.std.proofs.Common.{option_and_then, if◌then◌else◌}
+use Rattle.std.proofs.{Common.{refl, sym, ap, ◌∙◌, inl, inr, subst, rules}, Common.{option_and_then, if◌then◌else◌}}
 use Rattle.std.specs.Option.{option_map}
-use Rattle.p3_challenger_core.specs.Observation.{Observation}
+use Rattle.p3_challenger_core.specs.{Observation.Observation, SamplingLaws.unrefused_draw-is_sampling}
 use Rattle.p3_challenger_core.specs.Sampling.{Sampling, IsSampling, RefusesDraw, RefusesDraws, in_row, made_of}
 use Rattle.p3_challenger_core.specs.SamplingLaws.{refused-in_row, in_row-is_sampling, no_steps}
-use Rattle.p3_challenger_core.specs.SamplingLaws.{unrefused_draw-is_sampling}
 use Rattle.p3_challenger_core.specs.declared.error.ChallengerError.{ChallengerError}
-use Rattle.p3_challenger_core.specs.declared.error.ChallengerError.TheVariants.{OutOfMemory, DrawLimit, NoWitness}
-use Rattle.p3_challenger_core.specs.declared.error.ChallengerError.TheVariants.{TooLong}
-use Rattle.p3_grinding.specs.UniformDraws.{UniformDraw, IsUniformDraw}
+use Rattle.p3_challenger_core.specs.declared.error.ChallengerError.TheVariants.{OutOfMemory, DrawLimit}
+use Rattle.p3_grinding.specs.{UniformDraws.{UniformDraw, IsUniformDraw}, Checks.{byte_check, MayRunOut, RefusesSearch}}
 use Rattle.p3_grinding.specs.Checks.{all_zero, zero_and_uniform, draws_nothing, checked, check_of}
-use Rattle.p3_grinding.specs.Checks.{byte_check, MayRunOut, RefusesSearch}
 use Rattle.p3_field_core.specs.Residues.{Residues}
 
 -- where a draw meets its limit it gives nothing
@@ -49,8 +45,7 @@ pub made_of-refused : {S T U : Type 0} (f : T → U) (d : Sampling S T) (e : Cha
     → RefusesDraw d e s t → RefusesDraw (made_of f d) e s t
 made_of-refused f d OutOfMemory s t h = h
 made_of-refused f d DrawLimit s t h = h
-made_of-refused f d NoWitness s t h = h
-made_of-refused f d TooLong s t h = h
+made_of-refused f d e s t h = h
 
 module _ {S Symbol W : Type 0} (before : Sampling S (Unit {0})) (o : Observation S Symbol W)
     (test : Sampling S Bool) where
@@ -80,8 +75,7 @@ module _ {S Symbol W : Type 0} (before : Sampling S (Unit {0})) (o : Observation
     h.1 ∙ sym (tested_after (before.sampled s) (test.after (o.observed (before.after s) witness))
         (before.after s) ready),
   )
-  checked-refused witness NoWitness s t ready h = absurd h
-  checked-refused witness TooLong s t ready h = absurd h
+  checked-refused witness e s t ready h = absurd h
 
 module _ {S Symbol : Type 0} (next : S → S) (o : Observation S Symbol (List ℕ)) (d : Sampling S ℕ)
     (laws : IsSampling next d) (size : ℕ) (encoded : ℕ → List ℕ) (accepted : List ℕ → Bool) (n : ℕ) where
@@ -105,6 +99,4 @@ pub search-takes_no_memory : {S W : Type 0} (r : Residues W) (check : W → Samp
     → RefusesSearch r (MayRunOut ⊥ check) check e s t → RefusesSearch r (λ _. ⊥) check e s t
 search-takes_no_memory r check never OutOfMemory s t (inl copied, is) = (copied, is)
 search-takes_no_memory r check never OutOfMemory s t (inr left, is) = (never left.0 s left.1 left.2, is)
-search-takes_no_memory r check never NoWitness s t h = h
-search-takes_no_memory r check never DrawLimit s t h = h
-search-takes_no_memory r check never TooLong s t h = h
+search-takes_no_memory r check never e s t h = h

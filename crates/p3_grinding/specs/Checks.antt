@@ -1,13 +1,11 @@
 -- Proof of work: when a witness passes, what its check leaves, and the least witness that passes.
 use Rattle.std.specs.Prelude.{◌≡◌, ℕ, zero, suc, ◌==◌, ◌<◌, ◌⊎◌, Bool, true, false, List, Option, Some, None, IsSome}
-use Rattle.std.specs.Prelude.{is_some, option_and_then, if◌then◌else◌}
-use Rattle.std.specs.Option.{option_map}
+use Rattle.std.specs.{Prelude.{is_some, option_and_then, if◌then◌else◌}, Option.option_map}
 use Rattle.p3_field_core.specs.Residues.{Residues}
-use Rattle.p3_challenger_core.specs.Observation.{Observation}
-use Rattle.p3_challenger_core.specs.Sampling.{Sampling, unrefused_draw, made_of}
-use Rattle.p3_grinding.specs.UniformDraws.{UniformDraw}
+use Rattle.p3_challenger_core.specs.{Observation.Observation, Sampling.{Sampling, unrefused_draw, made_of}}
 use Rattle.p3_challenger_core.specs.declared.error.ChallengerError.{ChallengerError}
 use Rattle.p3_challenger_core.specs.declared.error.ChallengerError.TheVariants.{OutOfMemory, NoWitness}
+use Rattle.p3_grinding.specs.UniformDraws.{UniformDraw}
 
 -- ---- a check
 
@@ -55,6 +53,22 @@ abbrev pub check_of : {S Symbol W : Type 0} → Sampling S (Unit {0}) → Observ
 check_of before o test zero witness = passed
 check_of before o test (suc more) witness = checked before o test witness
 
+module _ {S Symbol W : Type 0} (o : Observation S Symbol W) where
+  -- a check of so many bits, by how the bits are drawn
+  abbrev pub bits_check : Sampling S (Unit {0}) → (ℕ → Sampling S ℕ) → ℕ → W → Sampling S Bool
+  bits_check before sampling bits = check_of before o (all_zero (sampling bits)) bits
+
+  -- the same where what comes before the witness is drawn already, and there are bits
+  abbrev pub ready_check : (ℕ → Sampling S ℕ) → ℕ → W → Sampling S Bool
+  ready_check sampling bits = checked draws_nothing o (all_zero (sampling bits))
+
+  -- both of uniform bits, where another value is drawn in the place of a rejected one, or is not
+  abbrev pub uniform_check : Sampling S (Unit {0}) → (Bool → ℕ → UniformDraw S) → Bool → ℕ → W → Sampling S Bool
+  uniform_check before uniform resample bits = check_of before o (zero_and_uniform (uniform resample bits)) bits
+
+  abbrev pub ready_uniform_check : (Bool → ℕ → UniformDraw S) → Bool → ℕ → W → Sampling S Bool
+  ready_uniform_check uniform resample bits = checked draws_nothing o (zero_and_uniform (uniform resample bits))
+
 -- A check of a candidate that feeds bytes as one slice, and tests as many bytes as are drawn then.
 abbrev pub byte_check : {S Symbol : Type 0} → Observation S Symbol (List ℕ) → Sampling S (List ℕ) → (ℕ → List ℕ)
     → (List ℕ → Bool) → ℕ → Sampling S Bool
@@ -96,8 +110,7 @@ NonePasses r check s = (n : ℕ) → n < r.order → ¬ (Passes r check s n)
 
 -- a search for a witness may be refused for memory: a copy may be, or the check of a witness
 abbrev pub MayRunOut : {S W : Type 0} → Type 0 → (W → Sampling S Bool) → S → Type 0
-MayRunOut {S} {W} clones_may_fail check s =
-    clones_may_fail ⊎ ((witness : W) × (t : S) × (check witness).may_leave s t)
+MayRunOut {S} {W} clones_may_fail check s = clones_may_fail ⊎ ((witness : W) × (t : S) × (check witness).may_leave s t)
 
 -- what a search that answers this error leaves: the challenger as it was; there is no witness, or memory was refused
 abbrev pub RefusesSearch : {S W : Type 0} → Residues W → (S → Type 0) → (W → Sampling S Bool) → ChallengerError → S → S
@@ -105,6 +118,10 @@ abbrev pub RefusesSearch : {S W : Type 0} → Residues W → (S → Type 0) → 
 RefusesSearch r may_run_out check OutOfMemory s t = may_run_out s × (t ≡ s)
 RefusesSearch r may_run_out check NoWitness s t = NonePasses r check s × (t ≡ s)
 RefusesSearch r may_run_out check _ s t = ⊥
+
+-- the same of a search that tests each candidate on a copy of the challenger
+abbrev pub RefusesTrials : {S W : Type 0} → Residues W → Type 0 → (W → Sampling S Bool) → ChallengerError → S → S → Type 0
+RefusesTrials r clones_may_fail check = RefusesSearch r (MayRunOut clones_may_fail check) check
 
 -- why no copy of a challenger is made ready for witnesses: memory was refused, or what is drawn before a witness
 -- meets a limit, so that there is no witness

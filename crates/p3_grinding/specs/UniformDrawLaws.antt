@@ -1,25 +1,19 @@
 -- Laws of draws of uniform bits.
 use Rattle.std.proofs.Common.{◌≡◌, ℕ, ◌+◌, ◌*◌, ◌<◌, ◌≤◌, ◌%◌, ◌^◌, ◌⊎◌, Bool, true, false, Option, Some, None, IsSome}
 use Rattle.std.proofs.Common.{is_some, option_and_then, if◌then◌else◌, refl, sym, ap, inl, inr, subst, arith, rules}
-use Rattle.std.proofs.Common.{◌∙◌}
-use Rattle.std.proofs.Common.{nat_lt}
-use Rattle.std.proofs.lemmas.Nat.{pow-add}
-use Rattle.std.proofs.lemmas.Bool.Decides.{nat_tests}
+use Rattle.std.proofs.{Common.◌∙◌, Common.nat_lt, lemmas.Nat.pow-add, lemmas.Bool.Decides.nat_tests}
 use Rattle.std.specs.Option.{option_map}
 use Rattle.p3_field_core.specs.Residues.{Residues}
-use Rattle.p3_challenger_core.specs.BitLaws.{low_bits-below}
-use Rattle.p3_challenger_core.specs.Sponge.{IsStepsOn}
+use Rattle.p3_challenger_core.specs.{BitLaws.low_bits-below, Sponge.IsStepsOn}
 use Rattle.p3_challenger_core.specs.Sampling.{Sampling, IsSampling, RefusesDraw, unrefused_draw}
 use Rattle.p3_challenger_core.specs.declared.error.ChallengerError.{ChallengerError}
 use Rattle.p3_challenger_core.specs.declared.error.ChallengerError.TheVariants.{OutOfMemory, DrawLimit, NoWitness}
 use Rattle.p3_challenger_core.specs.declared.error.ChallengerError.TheVariants.{TooLong}
 use Rattle.p3_challenger_core.specs.SamplingLaws.{no_steps, steps-then, made_of-is_sampling, unrefused_draw-is_sampling}
-use Rattle.p3_grinding.specs.Candidates.{accepted_within}
-use Rattle.p3_grinding.specs.CandidateLaws.{accepted_within-is_sampling}
+use Rattle.p3_grinding.specs.{Candidates.accepted_within, CandidateLaws.accepted_within-is_sampling}
 use Rattle.p3_grinding.specs.UniformDraws.{UniformDraw, IsUniformDraw, never_rejects, no_bits, is_below, low_bits}
 use Rattle.p3_grinding.specs.UniformDraws.{rejected, bits_of_next, bits_of_first, bits_of_one, in_halves}
-use Rattle.p3_grinding.specs.UniformDraws.{RefusesUniform}
-use Rattle.p3_grinding.specs.declared.error.ResamplingError.{ResamplingError}
+use Rattle.p3_grinding.specs.{UniformDraws.RefusesUniform, declared.error.ResamplingError.ResamplingError}
 use Rattle.p3_grinding.specs.declared.error.UniformBitsError.{UniformBitsError}
 use Rattle.p3_grinding.specs.declared.error.UniformBitsError.TheVariants.{Resampling, Challenger}
 

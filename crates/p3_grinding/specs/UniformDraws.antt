@@ -1,11 +1,9 @@
 -- Draws of uniform bits.
 use Rattle.std.specs.Prelude.{◌≡◌, ℕ, ◌+◌, ◌*◌, ◌^◌, ◌%◌, ◌≤◌, ◌⊎◌, Bool, true, false, Option, Some, None, IsSome}
-use Rattle.std.specs.Prelude.{is_some, option_and_then, if◌then◌else◌, nat_lt}
-use Rattle.std.specs.Option.{option_map}
+use Rattle.std.specs.{Prelude.{is_some, option_and_then, if◌then◌else◌, nat_lt}, Option.option_map}
 use Rattle.p3_field_core.specs.Residues.{Residues}
 use Rattle.p3_challenger_core.specs.Sampling.{Sampling, IsSampling, RefusesDraw, made_of, unrefused_draw}
-use Rattle.p3_grinding.specs.Candidates.{accepted_within}
-use Rattle.p3_grinding.specs.declared.error.ResamplingError.{ResamplingError}
+use Rattle.p3_grinding.specs.{Candidates.accepted_within, declared.error.ResamplingError.ResamplingError}
 use Rattle.p3_grinding.specs.declared.error.UniformBitsError.{UniformBitsError}
 use Rattle.p3_grinding.specs.declared.error.UniformBitsError.TheVariants.{Resampling, Challenger}
 
@@ -50,8 +48,7 @@ low_bits r bits x = r.number x % 2 ^ bits
 -- an element that is not below the bound is rejected
 abbrev pub rejected : {F : Type 0} → Residues F → ℕ → Option F → Option ResamplingError
 rejected r bound None = None
-rejected r bound (Some x) =
-    if is_below r bound x then None else Some (record { value = r.number x; m = bound })
+rejected r bound (Some x) = if is_below r bound x then None else Some (record { value = r.number x; m = bound })
 
 -- the bits of the next element, where it is below the bound: another one is not drawn
 abbrev pub bits_of_next : {S F : Type 0} → Residues F → Sampling S F → ℕ → ℕ → UniformDraw S

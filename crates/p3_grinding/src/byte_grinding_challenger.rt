@@ -1,7 +1,6 @@
 //! Candidates of bytes: each is observed on a copy of the challenger, and passes by the bytes that are drawn after it.
 ghost use Rattle.std.specs.Prelude.{◌≡◌, ◌<◌, ◌^◌, ℕ, List, Bool, Some, IfOk, IfErr};
-ghost use Rattle.p3_challenger_core.specs.Observation.{in_slice};
-ghost use Rattle.p3_challenger_core.specs.Reading.{IsByte, IsPrefixCodeOn};
+ghost use Rattle.p3_challenger_core.specs.{Observation.in_slice, Reading.{IsByte, IsPrefixCodeOn}};
 ghost use Rattle.p3_challenger_core.specs.Sampling.{in_row, RefusesDraw};
 ghost use Rattle.p3_challenger_core.specs.declared.error.ChallengerError.TheVariants.{OutOfMemory};
 ghost use Rattle.p3_grinding.specs.Checks.{byte_check, Finds, MayRunOut};
@@ -51,14 +50,12 @@ pub trait ByteGrindingChallenger<const W: usize, const S: usize>: TryClone
         num_candidates: u64,
         candidates: &K,
     ) -> Result<Option<u64>, ChallengerError>
-        ensures found { IfOk result (Finds (byte_check
-            (in_slice Self.CanObserve.observation Self.CanObserve.slice_may_leave)
-            (in_row Self.CanSample.sampling S) (K.encoded candidates.now) (K.accepted candidates.now))
-            (Self.state self.now) num_candidates) }
-        ensures err { IfErr result (λ e. (e ≡ OutOfMemory) × MayRunOut Self.TryClone.clones_may_fail (byte_check
-            (in_slice Self.CanObserve.observation Self.CanObserve.slice_may_leave)
-            (in_row Self.CanSample.sampling S) (K.encoded candidates.now) (K.accepted candidates.now))
-            (Self.state self.now)) }
+        ensures found { IfOk result (Finds (byte_check (in_slice Self.observation
+            Self.slice_may_leave) (in_row Self.sampling S) (K.encoded candidates.now)
+            (K.accepted candidates.now)) (Self.state self.now) num_candidates) }
+        ensures err { IfErr result (λ e. (e ≡ OutOfMemory) × MayRunOut Self.clones_may_fail
+            (byte_check (in_slice Self.observation Self.slice_may_leave) (in_row Self.sampling S)
+            (K.encoded candidates.now) (K.accepted candidates.now)) (Self.state self.now)) }
     {
         find_witness_plainly(self, num_candidates, candidates)
     }
@@ -103,12 +100,12 @@ fn check_bytes<
     const W: usize,
     const S: usize,
 >(challenger: &mut C, candidates: &K, candidate: u64) -> Result<bool, ChallengerError>
-    ensures answered { IfOk result (λ passes. (byte_check (in_slice C.observation C.slice_may_leave)
-        (in_row C.sampling S) (K.encoded candidates.now) (K.accepted candidates.now) candidate).sampled
-        (C.state challenger.old) ≡ Some passes) }
-    ensures err { IfErr result (λ e. RefusesDraw (byte_check (in_slice C.observation C.slice_may_leave)
-        (in_row C.sampling S) (K.encoded candidates.now) (K.accepted candidates.now) candidate) e
-        (C.state challenger.old) (C.state challenger.new)) }
+    ensures answered { IfOk result (λ passes. (byte_check
+        (in_slice C.observation C.slice_may_leave) (in_row C.sampling S) (K.encoded candidates.now)
+        (K.accepted candidates.now) candidate).sampled (C.state challenger.old) ≡ Some passes) }
+    ensures err { IfErr result (λ e. RefusesDraw (byte_check (in_slice C.observation
+        C.slice_may_leave) (in_row C.sampling S) (K.encoded candidates.now) (K.accepted
+        candidates.now) candidate) e (C.state challenger.old) (C.state challenger.new)) }
 {
     let bytes = candidates.encode(candidate);
     challenger.observe_slice(&bytes[..])?;

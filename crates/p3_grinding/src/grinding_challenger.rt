@@ -5,9 +5,8 @@
 //! verifier  check_witness(bits, w)  ->  whether w passes; the challenger is the same
 //! ```
 ghost use Rattle.std.specs.Prelude.{◌≡◌, ◌≤◌, ℕ, Some, OnOk, IfOk, IfErr, IsOk};
-ghost use Rattle.p3_challenger_core.specs.Reading.{IsPrefixFree};
-ghost use Rattle.p3_challenger_core.specs.Sampling.{RefusesDraw};
-ghost use Rattle.p3_grinding.specs.Checks.{all_zero, check_of, IsLeast, RefusesSearch};
+ghost use Rattle.p3_challenger_core.specs.{Reading.IsPrefixFree, Sampling.RefusesDraw};
+ghost use Rattle.p3_grinding.specs.Checks.{bits_check, IsLeast, RefusesSearch};
 
 use crate::BeforeWitness;
 use crate::search::check_plainly;
@@ -32,14 +31,12 @@ pub trait GrindingChallenger: BeforeWitness + CanObserve<Self::Witness> + CanSam
     /// passes, and ends the process where none does.
     fn grind(&mut self, bits: usize) -> Result<Self::Witness, ChallengerError>
         requires { bits ≤ Self.most_bits }
-        ensures least { IfOk result (λ witness. IsLeast Self.Witness.residues (check_of Self.before_witness
-            Self.observation (all_zero (Self.bits_sampling bits)) bits)
-            (Self.state self.old) witness) }
-        ensures after { IfOk result (λ witness. Self.state self.new ≡ (check_of Self.before_witness
-            Self.observation (all_zero (Self.bits_sampling bits)) bits witness).after
-            (Self.state self.old)) }
-        ensures err { IfErr result (λ e. RefusesSearch Self.Witness.residues may_run_out (check_of Self.before_witness
-            Self.observation (all_zero (Self.bits_sampling bits)) bits) e
+        ensures least { IfOk result (IsLeast Self.Witness.residues (bits_check Self.observation
+            Self.before_witness Self.bits_sampling bits) (Self.state self.old)) }
+        ensures after { IfOk result (λ witness. Self.state self.new ≡ (bits_check Self.observation
+            Self.before_witness Self.bits_sampling bits witness).after (Self.state self.old)) }
+        ensures err { IfErr result (λ e. RefusesSearch Self.Witness.residues may_run_out
+            (bits_check Self.observation Self.before_witness Self.bits_sampling bits) e
             (Self.state self.old) (Self.state self.new)) }
         ensures free { bits ≡ 0 → IsOk result };
 
@@ -55,13 +52,12 @@ pub trait GrindingChallenger: BeforeWitness + CanObserve<Self::Witness> + CanSam
         witness: Self::Witness,
     ) -> Result<bool, ChallengerError>
         requires { bits ≤ Self.most_bits }
-        ensures answered { IfOk result (λ passes. (check_of Self.before_witness Self.observation
-            (all_zero (Self.bits_sampling bits)) bits witness).sampled (Self.state self.old)
-            ≡ Some passes) }
-        ensures after { OnOk result (Self.state self.new ≡ (check_of Self.before_witness Self.observation
-            (all_zero (Self.bits_sampling bits)) bits witness).after (Self.state self.old)) }
-        ensures err { IfErr result (λ e. RefusesDraw (check_of Self.before_witness Self.observation
-            (all_zero (Self.bits_sampling bits)) bits witness) e
+        ensures answered { IfOk result (λ passes. (bits_check Self.observation Self.before_witness
+            Self.bits_sampling bits witness).sampled (Self.state self.old) ≡ Some passes) }
+        ensures after { OnOk result (Self.state self.new ≡ (bits_check Self.observation
+            Self.before_witness Self.bits_sampling bits witness).after (Self.state self.old)) }
+        ensures err { IfErr result (λ e. RefusesDraw
+            (bits_check Self.observation Self.before_witness Self.bits_sampling bits witness) e
             (Self.state self.old) (Self.state self.new)) }
     {
         check_plainly(self, bits, witness)

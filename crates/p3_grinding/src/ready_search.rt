@@ -1,7 +1,6 @@
 //! Searches for the least witness by challengers that have a search of their own, for when they are ready for a witness.
 ghost use Rattle.std.specs.Prelude.{◌≡◌, ◌≤◌, IfOk, IfErr, IsOk};
-ghost use Rattle.p3_grinding.specs.Checks.{all_zero, draws_nothing, checked, check_of, IsLeast};
-ghost use Rattle.p3_grinding.specs.Checks.{RefusesSearch, MayRunOut};
+ghost use Rattle.p3_grinding.specs.Checks.{bits_check, ready_check, IsLeast, RefusesTrials};
 
 use crate::search::prepared_clone;
 use crate::{BeforeWitness, TryClone};
@@ -22,15 +21,12 @@ pub trait ReadySearch<W: PrimeField64>: CanObserve<W> + CanSampleBits<usize> + T
     /// `bits` is at most `max_bits`.
     fn least_when_ready(&mut self, bits: usize) -> Result<W, ChallengerError>
         requires { bits ≤ Self.most_bits }
-        ensures least { IfOk result (λ witness. IsLeast W.residues
-            (checked draws_nothing Self.observation (all_zero (Self.bits_sampling bits)))
-            (Self.state self.old) witness) }
-        ensures after { IfOk result (λ witness. Self.state self.new
-            ≡ (checked draws_nothing Self.observation (all_zero (Self.bits_sampling bits)) witness).after
-            (Self.state self.old)) }
-        ensures err { IfErr result (λ e.
-            let check = checked draws_nothing Self.observation (all_zero (Self.bits_sampling bits)) in
-            RefusesSearch W.residues (MayRunOut Self.clones_may_fail check) check e
+        ensures least { IfOk result (IsLeast W.residues
+            (ready_check Self.observation Self.bits_sampling bits) (Self.state self.old)) }
+        ensures after { IfOk result (λ witness. Self.state self.new ≡ (ready_check
+            Self.observation Self.bits_sampling bits witness).after (Self.state self.old)) }
+        ensures err { IfErr result (λ e. RefusesTrials W.residues Self.clones_may_fail
+            (ready_check Self.observation Self.bits_sampling bits) e
             (Self.state self.old) (Self.state self.old)) };
 }
 
@@ -43,15 +39,12 @@ pub fn least_witness_by_own_search<W: PrimeField64, C: BeforeWitness + ReadySear
     bits: usize,
 ) -> Result<W, ChallengerError>
     requires { bits ≤ C.most_bits }
-    ensures least { IfOk result (λ witness. IsLeast W.residues
-        (check_of C.before_witness C.observation (all_zero (C.bits_sampling bits)) bits)
-        (C.state challenger.old) witness) }
-    ensures after { IfOk result (λ witness. C.state challenger.new
-        ≡ (check_of C.before_witness C.observation (all_zero (C.bits_sampling bits)) bits witness).after
-        (C.state challenger.old)) }
-    ensures err { IfErr result (λ e.
-        let check = check_of C.before_witness C.observation (all_zero (C.bits_sampling bits)) bits in
-        RefusesSearch W.residues (MayRunOut C.clones_may_fail check) check e
+    ensures least { IfOk result (IsLeast W.residues (bits_check C.observation C.before_witness
+        C.bits_sampling bits) (C.state challenger.old)) }
+    ensures after { IfOk result (λ witness. C.state challenger.new ≡ (bits_check C.observation
+        C.before_witness C.bits_sampling bits witness).after (C.state challenger.old)) }
+    ensures err { IfErr result (λ e. RefusesTrials W.residues C.clones_may_fail
+        (bits_check C.observation C.before_witness C.bits_sampling bits) e
         (C.state challenger.old) (C.state challenger.new)) }
     ensures free { bits ≡ 0 → IsOk result }
 {

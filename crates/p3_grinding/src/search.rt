@@ -2,8 +2,7 @@
 //! candidate in order is tested on a copy of that one, which is set back for the next. The copy that passed takes the
 //! challenger's place.
 ghost use Rattle.std.specs.Prelude.{◌≡◌, ◌≤◌, Some, OnOk, IfOk, IfErr, IsOk};
-ghost use Rattle.p3_grinding.specs.Checks.{all_zero, draws_nothing, checked, check_of, IsLeast};
-ghost use Rattle.p3_grinding.specs.Checks.{RefusesReady, RefusesSearch, MayRunOut};
+ghost use Rattle.p3_grinding.specs.Checks.{bits_check, ready_check, IsLeast, RefusesReady, RefusesTrials};
 ghost use Rattle.p3_challenger_core.specs.Sampling.{RefusesDraw};
 
 use crate::{BeforeWitness, TryClone};
@@ -23,15 +22,12 @@ pub fn least_witness<
     C: BeforeWitness + CanObserve<W> + CanSampleBits<usize> + TryClone,
 >(challenger: &mut C, bits: usize) -> Result<W, ChallengerError>
     requires { bits ≤ C.most_bits }
-    ensures least { IfOk result (λ witness. IsLeast W.residues
-        (check_of C.before_witness C.observation (all_zero (C.bits_sampling bits)) bits)
-        (C.state challenger.old) witness) }
-    ensures after { IfOk result (λ witness. C.state challenger.new
-        ≡ (check_of C.before_witness C.observation (all_zero (C.bits_sampling bits)) bits witness).after
-        (C.state challenger.old)) }
-    ensures err { IfErr result (λ e.
-        let check = check_of C.before_witness C.observation (all_zero (C.bits_sampling bits)) bits in
-        RefusesSearch W.residues (MayRunOut C.clones_may_fail check) check e
+    ensures least { IfOk result (IsLeast W.residues (bits_check C.observation C.before_witness
+        C.bits_sampling bits) (C.state challenger.old)) }
+    ensures after { IfOk result (λ witness. C.state challenger.new ≡ (bits_check C.observation
+        C.before_witness C.bits_sampling bits witness).after (C.state challenger.old)) }
+    ensures err { IfErr result (λ e. RefusesTrials W.residues C.clones_may_fail
+        (bits_check C.observation C.before_witness C.bits_sampling bits) e
         (C.state challenger.old) (C.state challenger.new)) }
     ensures free { bits ≡ 0 → IsOk result }
 {
@@ -70,15 +66,12 @@ fn least_prepared<W: PrimeField64, C: CanObserve<W> + CanSampleBits<usize> + Try
     bits: usize,
 ) -> Result<W, ChallengerError>
     requires { bits ≤ C.most_bits }
-    ensures least { IfOk result (λ witness. IsLeast W.residues
-        (checked draws_nothing C.observation (all_zero (C.bits_sampling bits)))
-        (C.state challenger.old) witness) }
-    ensures after { IfOk result (λ witness. C.state challenger.new
-        ≡ (checked draws_nothing C.observation (all_zero (C.bits_sampling bits)) witness).after
-        (C.state challenger.old)) }
-    ensures err { IfErr result (λ e.
-        let check = checked draws_nothing C.observation (all_zero (C.bits_sampling bits)) in
-        RefusesSearch W.residues (MayRunOut C.clones_may_fail check) check e
+    ensures least { IfOk result (IsLeast W.residues
+        (ready_check C.observation C.bits_sampling bits) (C.state challenger.old)) }
+    ensures after { IfOk result (λ witness. C.state challenger.new ≡ (ready_check
+        C.observation C.bits_sampling bits witness).after (C.state challenger.old)) }
+    ensures err { IfErr result (λ e. RefusesTrials W.residues C.clones_may_fail
+        (ready_check C.observation C.bits_sampling bits) e
         (C.state challenger.old) (C.state challenger.new)) }
 {
     let mut trial = challenger.try_clone()?;
@@ -105,12 +98,12 @@ pub(crate) fn check_plainly<
     C: BeforeWitness + CanObserve<W> + CanSampleBits<usize>,
 >(challenger: &mut C, bits: usize, witness: W) -> Result<bool, ChallengerError>
     requires { bits ≤ C.most_bits }
-    ensures answered { IfOk result (λ passes. (check_of C.before_witness C.observation
-        (all_zero (C.bits_sampling bits)) bits witness).sampled (C.state challenger.old) ≡ Some passes) }
-    ensures after { OnOk result (C.state challenger.new ≡ (check_of C.before_witness C.observation
-        (all_zero (C.bits_sampling bits)) bits witness).after (C.state challenger.old)) }
-    ensures err { IfErr result (λ e. RefusesDraw (check_of C.before_witness C.observation
-        (all_zero (C.bits_sampling bits)) bits witness) e (C.state challenger.old) (C.state challenger.new)) }
+    ensures answered { IfOk result (λ passes. (bits_check C.observation C.before_witness
+        C.bits_sampling bits witness).sampled (C.state challenger.old) ≡ Some passes) }
+    ensures after { OnOk result (C.state challenger.new ≡ (bits_check C.observation
+        C.before_witness C.bits_sampling bits witness).after (C.state challenger.old)) }
+    ensures err { IfErr result (λ e. RefusesDraw (bits_check C.observation C.before_witness
+        C.bits_sampling bits witness) e (C.state challenger.old) (C.state challenger.new)) }
 {
     if bits == 0 {
         return Ok(true);
@@ -126,12 +119,12 @@ fn passes<W: PrimeField64, C: CanObserve<W> + CanSampleBits<usize>>(
     witness: W,
 ) -> Result<bool, ChallengerError>
     requires { bits ≤ C.most_bits }
-    ensures answered { IfOk result (λ passes. (checked draws_nothing C.observation
-        (all_zero (C.bits_sampling bits)) witness).sampled (C.state challenger.old) ≡ Some passes) }
-    ensures after { OnOk result (C.state challenger.new ≡ (checked draws_nothing C.observation
-        (all_zero (C.bits_sampling bits)) witness).after (C.state challenger.old)) }
-    ensures err { IfErr result (λ e. RefusesDraw (checked draws_nothing C.observation
-        (all_zero (C.bits_sampling bits)) witness) e (C.state challenger.old) (C.state challenger.new)) }
+    ensures answered { IfOk result (λ passes. (ready_check C.observation
+        C.bits_sampling bits witness).sampled (C.state challenger.old) ≡ Some passes) }
+    ensures after { OnOk result (C.state challenger.new
+        ≡ (ready_check C.observation C.bits_sampling bits witness).after (C.state challenger.old)) }
+    ensures err { IfErr result (λ e. RefusesDraw (ready_check C.observation
+        C.bits_sampling bits witness) e (C.state challenger.old) (C.state challenger.new)) }
 {
     challenger.observe(witness)?;
     Ok(challenger.sample_bits(bits)? == 0)

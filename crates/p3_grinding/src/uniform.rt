@@ -25,18 +25,21 @@ pub trait CanSampleUniformBits<F>: CanSampleBits<usize> {
         bits: usize,
         resample: bool,
     ) -> Result<usize, UniformBitsError>
-        requires { bits ≤ Self.CanSampleBits.most_bits }
-        ensures drawn { IfOk result (λ x. (uniform resample bits).draw.sampled (Self.state self.old) ≡ Some x) }
-        ensures after { OnOk result (Self.state self.new ≡ (uniform resample bits).draw.after (Self.state self.old)) }
+        requires { bits ≤ Self.most_bits }
+        ensures drawn { IfOk result (λ x.
+            (uniform resample bits).draw.sampled (Self.state self.old) ≡ Some x) }
+        ensures after { OnOk result
+            (Self.state self.new ≡ (uniform resample bits).draw.after (Self.state self.old)) }
         ensures err { IfErr result (λ e.
             RefusesUniform (uniform resample bits) e (Self.state self.old) (Self.state self.new)) };
 
     // Each of these draws is made of the smallest ones; a value is rejected only where no other is to be drawn.
-    ghost draws_uniform: { (resample : Bool) (bits : ℕ) → IsUniformDraw Self.next resample (uniform resample bits) };
+    ghost draws_uniform: { (resample : Bool) (bits : ℕ) →
+        IsUniformDraw Self.next resample (uniform resample bits) };
 
     // A draw of so many bits is below that power of two.
     ghost uniform_below: { (resample : Bool) (bits : ℕ) (s : Self.State) (x : ℕ) →
-        bits ≤ Self.CanSampleBits.most_bits → (uniform resample bits).draw.sampled s ≡ Some x → x < 2 ^ bits };
+        bits ≤ Self.most_bits → (uniform resample bits).draw.sampled s ≡ Some x → x < 2 ^ bits };
 }
 
 impl<F, C: CanSampleUniformBits<F>> CanSampleUniformBits<F> for &mut C {

@@ -1,7 +1,7 @@
 //! Proof of work by uniform bits.
-ghost use Rattle.std.specs.Prelude.{◌≡◌, ◌≤◌, Bool, true, false, Some, OnOk, IfOk, IfErr, IsOk};
+ghost use Rattle.std.specs.Prelude.{◌≡◌, ◌≤◌, true, false, Some, OnOk, IfOk, IfErr, IsOk};
 ghost use Rattle.p3_challenger_core.specs.Sampling.{RefusesDraw};
-ghost use Rattle.p3_grinding.specs.Checks.{zero_and_uniform, check_of, IsLeast, RefusesSearch};
+ghost use Rattle.p3_grinding.specs.Checks.{uniform_check, IsLeast, RefusesSearch};
 
 use crate::uniform_search::check_uniformly;
 use crate::{CanSampleUniformBits, GrindingChallenger};
@@ -21,12 +21,13 @@ pub trait UniformGrindingChallenger: GrindingChallenger + CanSampleUniformBits<S
     /// either the challenger is as it was. With 0 bits there is neither.
     fn grind_uniform(&mut self, bits: usize) -> Result<Self::Witness, ChallengerError>
         requires { bits ≤ Self.most_bits }
-        ensures least { IfOk result (λ witness. IsLeast Self.Witness.residues (check_of Self.before_witness
-            Self.observation (zero_and_uniform (Self.uniform true bits)) bits) (Self.state self.old) witness) }
-        ensures after { IfOk result (λ witness. Self.state self.new ≡ (check_of Self.before_witness Self.observation
-            (zero_and_uniform (Self.uniform true bits)) bits witness).after (Self.state self.old)) }
-        ensures err { IfErr result (λ e. RefusesSearch Self.Witness.residues Self.may_run_out (check_of
-            Self.before_witness Self.observation (zero_and_uniform (Self.uniform true bits)) bits) e
+        ensures least { IfOk result (IsLeast Self.Witness.residues (uniform_check Self.observation
+            Self.before_witness Self.uniform true bits) (Self.state self.old)) }
+        ensures after { IfOk result (λ witness. Self.state self.new ≡ (uniform_check
+            Self.observation Self.before_witness Self.uniform true bits witness).after
+            (Self.state self.old)) }
+        ensures err { IfErr result (λ e. RefusesSearch Self.Witness.residues Self.may_run_out
+            (uniform_check Self.observation Self.before_witness Self.uniform true bits) e
             (Self.state self.old) (Self.state self.new)) }
         ensures free { bits ≡ 0 → IsOk result };
 
@@ -37,12 +38,13 @@ pub trait UniformGrindingChallenger: GrindingChallenger + CanSampleUniformBits<S
     /// The errors are those of [`grind_uniform`](UniformGrindingChallenger::grind_uniform).
     fn grind_uniform_may_error(&mut self, bits: usize) -> Result<Self::Witness, ChallengerError>
         requires { bits ≤ Self.most_bits }
-        ensures least { IfOk result (λ witness. IsLeast Self.Witness.residues (check_of Self.before_witness
-            Self.observation (zero_and_uniform (Self.uniform false bits)) bits) (Self.state self.old) witness) }
-        ensures after { IfOk result (λ witness. Self.state self.new ≡ (check_of Self.before_witness Self.observation
-            (zero_and_uniform (Self.uniform false bits)) bits witness).after (Self.state self.old)) }
-        ensures err { IfErr result (λ e. RefusesSearch Self.Witness.residues Self.may_run_out (check_of
-            Self.before_witness Self.observation (zero_and_uniform (Self.uniform false bits)) bits) e
+        ensures least { IfOk result (IsLeast Self.Witness.residues (uniform_check Self.observation
+            Self.before_witness Self.uniform false bits) (Self.state self.old)) }
+        ensures after { IfOk result (λ witness. Self.state self.new ≡ (uniform_check
+            Self.observation Self.before_witness Self.uniform false bits witness).after
+            (Self.state self.old)) }
+        ensures err { IfErr result (λ e. RefusesSearch Self.Witness.residues Self.may_run_out
+            (uniform_check Self.observation Self.before_witness Self.uniform false bits) e
             (Self.state self.old) (Self.state self.new)) }
         ensures free { bits ≡ 0 → IsOk result };
 
@@ -58,12 +60,13 @@ pub trait UniformGrindingChallenger: GrindingChallenger + CanSampleUniformBits<S
         witness: Self::Witness,
     ) -> Result<bool, ChallengerError>
         requires { bits ≤ Self.most_bits }
-        ensures answered { IfOk result (λ passes. (check_of Self.before_witness Self.observation
-            (zero_and_uniform (Self.uniform true bits)) bits witness).sampled (Self.state self.old) ≡ Some passes) }
-        ensures after { OnOk result (Self.state self.new ≡ (check_of Self.before_witness Self.observation
-            (zero_and_uniform (Self.uniform true bits)) bits witness).after (Self.state self.old)) }
-        ensures err { IfErr result (λ e. RefusesDraw (check_of Self.before_witness Self.observation
-            (zero_and_uniform (Self.uniform true bits)) bits witness) e
+        ensures answered { IfOk result (λ passes. (uniform_check Self.observation
+            Self.before_witness Self.uniform true bits witness).sampled (Self.state self.old)
+            ≡ Some passes) }
+        ensures after { OnOk result (Self.state self.new ≡ (uniform_check Self.observation
+            Self.before_witness Self.uniform true bits witness).after (Self.state self.old)) }
+        ensures err { IfErr result (λ e. RefusesDraw (uniform_check Self.observation
+            Self.before_witness Self.uniform true bits witness) e
             (Self.state self.old) (Self.state self.new)) }
     {
         check_uniformly(self, bits, true, witness)
@@ -78,12 +81,13 @@ pub trait UniformGrindingChallenger: GrindingChallenger + CanSampleUniformBits<S
         witness: Self::Witness,
     ) -> Result<bool, ChallengerError>
         requires { bits ≤ Self.most_bits }
-        ensures answered { IfOk result (λ passes. (check_of Self.before_witness Self.observation
-            (zero_and_uniform (Self.uniform false bits)) bits witness).sampled (Self.state self.old) ≡ Some passes) }
-        ensures after { OnOk result (Self.state self.new ≡ (check_of Self.before_witness Self.observation
-            (zero_and_uniform (Self.uniform false bits)) bits witness).after (Self.state self.old)) }
-        ensures err { IfErr result (λ e. RefusesDraw (check_of Self.before_witness Self.observation
-            (zero_and_uniform (Self.uniform false bits)) bits witness) e
+        ensures answered { IfOk result (λ passes. (uniform_check Self.observation
+            Self.before_witness Self.uniform false bits witness).sampled (Self.state self.old)
+            ≡ Some passes) }
+        ensures after { OnOk result (Self.state self.new ≡ (uniform_check Self.observation
+            Self.before_witness Self.uniform false bits witness).after (Self.state self.old)) }
+        ensures err { IfErr result (λ e. RefusesDraw (uniform_check Self.observation
+            Self.before_witness Self.uniform false bits witness) e
             (Self.state self.old) (Self.state self.new)) }
     {
         check_uniformly(self, bits, false, witness)

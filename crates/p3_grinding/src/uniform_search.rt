@@ -1,7 +1,7 @@
 //! The search for the least witness by uniform bits: as `search` has it for plain ones.
 ghost use Rattle.std.specs.Prelude.{◌≡◌, ◌≤◌, Some, OnOk, IfOk, IfErr, IsOk};
-ghost use Rattle.p3_grinding.specs.Checks.{zero_and_uniform, draws_nothing, checked, check_of, IsLeast};
-ghost use Rattle.p3_grinding.specs.Checks.{RefusesSearch, MayRunOut};
+ghost use Rattle.p3_grinding.specs.Checks.{zero_and_uniform, uniform_check, IsLeast, ready_uniform_check};
+ghost use Rattle.p3_grinding.specs.Checks.{RefusesTrials};
 ghost use Rattle.p3_challenger_core.specs.Sampling.{RefusesDraw};
 
 use crate::search::prepared_clone;
@@ -21,15 +21,12 @@ pub fn least_uniform_witness<
     C: BeforeWitness + CanObserve<W> + CanSampleUniformBits<W> + TryClone,
 >(challenger: &mut C, bits: usize, resample: bool) -> Result<W, ChallengerError>
     requires { bits ≤ C.most_bits }
-    ensures least { IfOk result (λ witness. IsLeast W.residues
-        (check_of C.before_witness C.observation (zero_and_uniform (C.uniform resample bits)) bits)
-        (C.state challenger.old) witness) }
-    ensures after { IfOk result (λ witness. C.state challenger.new
-        ≡ (check_of C.before_witness C.observation (zero_and_uniform (C.uniform resample bits)) bits witness).after
-        (C.state challenger.old)) }
-    ensures err { IfErr result (λ e.
-        let check = check_of C.before_witness C.observation (zero_and_uniform (C.uniform resample bits)) bits in
-        RefusesSearch W.residues (MayRunOut C.clones_may_fail check) check e
+    ensures least { IfOk result (IsLeast W.residues (uniform_check C.observation C.before_witness
+        C.uniform resample bits) (C.state challenger.old)) }
+    ensures after { IfOk result (λ witness. C.state challenger.new ≡ (uniform_check C.observation
+        C.before_witness C.uniform resample bits witness).after (C.state challenger.old)) }
+    ensures err { IfErr result (λ e. RefusesTrials W.residues C.clones_may_fail
+        (uniform_check C.observation C.before_witness C.uniform resample bits) e
         (C.state challenger.old) (C.state challenger.new)) }
     ensures free { bits ≡ 0 → IsOk result }
 {
@@ -49,15 +46,12 @@ fn least_prepared<W: PrimeField64, C: CanObserve<W> + CanSampleUniformBits<W> + 
     resample: bool,
 ) -> Result<W, ChallengerError>
     requires { bits ≤ C.most_bits }
-    ensures least { IfOk result (λ witness. IsLeast W.residues
-        (checked draws_nothing C.observation (zero_and_uniform (C.uniform resample bits)))
-        (C.state challenger.old) witness) }
-    ensures after { IfOk result (λ witness. C.state challenger.new
-        ≡ (checked draws_nothing C.observation (zero_and_uniform (C.uniform resample bits)) witness).after
-        (C.state challenger.old)) }
-    ensures err { IfErr result (λ e.
-        let check = checked draws_nothing C.observation (zero_and_uniform (C.uniform resample bits)) in
-        RefusesSearch W.residues (MayRunOut C.clones_may_fail check) check e
+    ensures least { IfOk result (IsLeast W.residues
+        (ready_uniform_check C.observation C.uniform resample bits) (C.state challenger.old)) }
+    ensures after { IfOk result (λ witness. C.state challenger.new ≡ (ready_uniform_check
+        C.observation C.uniform resample bits witness).after (C.state challenger.old)) }
+    ensures err { IfErr result (λ e. RefusesTrials W.residues C.clones_may_fail
+        (ready_uniform_check C.observation C.uniform resample bits) e
         (C.state challenger.old) (C.state challenger.new)) }
 {
     let mut trial = challenger.try_clone()?;
@@ -84,13 +78,12 @@ pub(crate) fn check_uniformly<
     C: BeforeWitness + CanObserve<W> + CanSampleUniformBits<W>,
 >(challenger: &mut C, bits: usize, resample: bool, witness: W) -> Result<bool, ChallengerError>
     requires { bits ≤ C.most_bits }
-    ensures answered { IfOk result (λ passes. (check_of C.before_witness C.observation
-        (zero_and_uniform (C.uniform resample bits)) bits witness).sampled (C.state challenger.old) ≡ Some passes) }
-    ensures after { OnOk result (C.state challenger.new ≡ (check_of C.before_witness C.observation
-        (zero_and_uniform (C.uniform resample bits)) bits witness).after (C.state challenger.old)) }
-    ensures err { IfErr result (λ e. RefusesDraw (check_of C.before_witness C.observation
-        (zero_and_uniform (C.uniform resample bits)) bits witness) e
-        (C.state challenger.old) (C.state challenger.new)) }
+    ensures answered { IfOk result (λ passes. (uniform_check C.observation C.before_witness
+        C.uniform resample bits witness).sampled (C.state challenger.old) ≡ Some passes) }
+    ensures after { OnOk result (C.state challenger.new ≡ (uniform_check C.observation
+        C.before_witness C.uniform resample bits witness).after (C.state challenger.old)) }
+    ensures err { IfErr result (λ e. RefusesDraw (uniform_check C.observation C.before_witness
+        C.uniform resample bits witness) e (C.state challenger.old) (C.state challenger.new)) }
 {
     if bits == 0 {
         return Ok(true);
@@ -107,13 +100,12 @@ fn passes<W: PrimeField64, C: CanObserve<W> + CanSampleUniformBits<W>>(
     witness: W,
 ) -> Result<bool, ChallengerError>
     requires { bits ≤ C.most_bits }
-    ensures answered { IfOk result (λ passes. (checked draws_nothing C.observation
-        (zero_and_uniform (C.uniform resample bits)) witness).sampled (C.state challenger.old) ≡ Some passes) }
-    ensures after { OnOk result (C.state challenger.new ≡ (checked draws_nothing C.observation
-        (zero_and_uniform (C.uniform resample bits)) witness).after (C.state challenger.old)) }
-    ensures err { IfErr result (λ e. RefusesDraw (checked draws_nothing C.observation
-        (zero_and_uniform (C.uniform resample bits)) witness) e
-        (C.state challenger.old) (C.state challenger.new)) }
+    ensures answered { IfOk result (λ passes. (ready_uniform_check C.observation
+        C.uniform resample bits witness).sampled (C.state challenger.old) ≡ Some passes) }
+    ensures after { OnOk result (C.state challenger.new ≡ (ready_uniform_check C.observation
+        C.uniform resample bits witness).after (C.state challenger.old)) }
+    ensures err { IfErr result (λ e. RefusesDraw (ready_uniform_check C.observation
+        C.uniform resample bits witness) e (C.state challenger.old) (C.state challenger.new)) }
 {
     challenger.observe(witness)?;
     zero_uniform_bits::<W, C>(challenger, bits, resample)
@@ -128,8 +120,8 @@ fn zero_uniform_bits<F, C: CanSampleUniformBits<F>>(
     requires { bits ≤ C.most_bits }
     ensures answered { IfOk result (λ passes. (zero_and_uniform (C.uniform resample bits)).sampled
         (C.state challenger.old) ≡ Some passes) }
-    ensures after { OnOk result
-        (C.state challenger.new ≡ (zero_and_uniform (C.uniform resample bits)).after (C.state challenger.old)) }
+    ensures after { OnOk result (C.state challenger.new
+        ≡ (zero_and_uniform (C.uniform resample bits)).after (C.state challenger.old)) }
     ensures err { IfErr result (λ e. RefusesDraw (zero_and_uniform (C.uniform resample bits)) e
         (C.state challenger.old) (C.state challenger.new)) }
 {

@@ -1,6 +1,5 @@
 -- A batch of candidates, whose checks are those of its digests.
-use Rattle.std.proofs.Common.{◌≡◌, ℕ, ◌+◌, ◌-◌, ◌<◌, ◌≤◌, ◌∙◌, sym, ap, inl, inr, Bool, arith}
-use Rattle.std.proofs.lemmas.Bool.{cases_lt}
+use Rattle.std.proofs.{Common.{◌≡◌, ℕ, ◌+◌, ◌-◌, ◌<◌, ◌≤◌, ◌∙◌, sym, ap, inl, inr, Bool, arith}, lemmas.Bool.cases_lt}
 use Rattle.p3_challenger_core.specs.Sampling.{Sampling}
 use Rattle.p3_grinding.specs.Checks.{PassesAt, IsFirst, NoneOf}
 

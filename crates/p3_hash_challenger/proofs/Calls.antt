@@ -1,18 +1,14 @@
 -- What methods do is what calls do, and what place a draw has.
 use Rattle.std.proofs.Common.{◌≡◌, ◌<◌, ◌≤◌, ℕ, zero, suc, ◌+◌, ◌-◌, List, [], ◌∷◌, ◌++◌, map, replicate, refl, sym}
-use Rattle.std.proofs.Common.{ap, ◌∙◌, inl, append-nil, arith}
-use Rattle.std.specs.List.{range_with_len}
-use Rattle.p3_challenger_core.specs.Sponge.{after_steps}
 use Rattle.p3_challenger_core.specs.Segments.{Call, observe, observe_empty_array, draw, Segment, nothing, segments}
-use Rattle.p3_challenger_core.specs.Segments.{run_calls, run_segments}
 use Rattle.p3_challenger_core.specs.SegmentLaws.{cut-only, run_calls-segments}
 use Rattle.p3_hash_challenger.specs.HashCalls.{HashFunction, HashSponge, with_pending, hash_by_calls}
-use Rattle.p3_sponge.specs.Outputs.{outputs_from}
 use Rattle.p3_hash_challenger.specs.HashSegments.{outputs_of, output_at, run_draws, hash_by_segments}
 use Rattle.p3_hash_challenger.specs.HashState.{HashState, fed, observed, array_observed, after_calls, calls_of_array}
-use Rattle.p3_hash_challenger.specs.HashState.{after_sampled}
-use Rattle.p3_hash_challenger.specs.HashStateLaws.{fed-append}
-use Rattle.p3_hash_challenger.proofs.HashSteps.{hash_steps}
+use Rattle.p3_hash_challenger.{specs.{HashState.after_sampled, HashStateLaws.fed-append}, proofs.HashSteps.hash_steps}
+use Rattle.p3_sponge.specs.Outputs.{outputs_from}
+use Rattle.std.{proofs.Common.{ap, ◌∙◌, inl, append-nil, arith}, specs.List.range_with_len}
+use Rattle.p3_challenger_core.specs.{Sponge.after_steps, Segments.{run_calls, run_segments}}
 
 module _ {T H : Type 0} (function : H → HashFunction T) where
   pub fed-is_calls : (s : HashState T H) (xs : List T) → fed s xs ≡ after_calls function s (map observe xs)
@@ -50,8 +46,7 @@ module _ {T : Type 0} (h : HashFunction T) where
 
   module _ (positive : 0 < h.out_len) (s : HashSponge T) (left : s.outputs_left ≤ h.out_len) where
     -- answers segment by segment
-    answers-cut : (calls : List (Call T))
-        → (run_calls (hash_by_calls h) s calls).answers
+    answers-cut : (calls : List (Call T)) → (run_calls (hash_by_calls h) s calls).answers
         ≡ (run_segments (hash_by_segments h) s (segments calls)).answers
     answers-cut calls =
         ap (λ run. run.answers)
@@ -67,8 +62,7 @@ module _ {T : Type 0} (h : HashFunction T) where
         let first : Segment T = record { values = x ∷ xs; draws = n } in
         answers-cut calls
         ∙ sym (ap (λ cut. (run_segments (hash_by_segments h) s cut).answers) (cut-only calls first [] refl))
-        ∙ append-nil (run_draws h (with_pending chain) n).answers
-        ∙ anew-places chain n
+        ∙ append-nil (run_draws h (with_pending chain) n).answers ∙ anew-places chain n
 
     pub draws-places_after_array : (n : ℕ)
         → (run_calls (hash_by_calls h) s (observe_empty_array ∷ replicate n draw)).answers
@@ -80,5 +74,4 @@ module _ {T : Type 0} (h : HashFunction T) where
         answers-cut calls
         ∙ sym (ap (λ cut. (run_segments (hash_by_segments h) s cut).answers)
         (cut-only calls nothing (second ∷ []) (draws, inl refl, refl)))
-        ∙ append-nil (run_draws h (with_pending s.pending) n).answers
-        ∙ anew-places s.pending n
+        ∙ append-nil (run_draws h (with_pending s.pending) n).answers ∙ anew-places s.pending n

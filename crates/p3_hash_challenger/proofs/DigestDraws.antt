@@ -1,16 +1,13 @@
 -- What is drawn after a candidate: outputs of one digest.
 use Rattle.std.proofs.Common.{◌≡◌, ℕ, zero, suc, ◌+◌, ◌-◌, ◌<◌, ◌≤◌, Bool, List, [], ◌∷◌, ◌++◌, Option, Some, length}
 use Rattle.std.proofs.Common.{take, drop, reverse, slice_index_or, if◌then◌else◌, refl, sym, ap, ◌∙◌, arith}
-use Rattle.std.proofs.lemmas.List.{get_or-reverse, length-reverse}
-use Rattle.std.proofs.Math.Seq.{drop-cons}
-use Rattle.std.specs.Option.{option_map}
 use Rattle.p3_challenger_core.specs.Sampling.{Sampling, unrefused_draw, draws}
 use Rattle.p3_hash_challenger.specs.HashCalls.{HashFunction, HashSponge, with_pending, flushed, last_output, one_taken}
 use Rattle.p3_hash_challenger.specs.HashState.{HashState, fed, function_of, sampled, after_sampled}
-use Rattle.p3_hash_challenger.specs.HashStateLaws.{observed_all-fed}
+use Rattle.p3_hash_challenger.specs.{HashStateLaws.observed_all-fed, WitnessSearch.IsDigestOf}
 use Rattle.p3_hash_challenger.specs.WitnessSearch.{first_outputs, candidate_check, digest_check}
-use Rattle.p3_hash_challenger.specs.WitnessSearch.{IsDigestOf}
 use Rattle.p3_sponge.specs.SpongeStepLaws.{not_zero}
+use Rattle.std.{proofs.lemmas.List.{get_or-reverse, length-reverse}, proofs.Math.Seq.drop-cons, specs.Option.option_map}
 
 module _ {H : Type 0} (function : H → HashFunction ℕ) (hasher : H) where
   abbrev h : HashFunction ℕ
@@ -74,8 +71,7 @@ module _ {H : Type 0} (function : H → HashFunction ℕ) (hasher : H) where
       ∙ left-drawn digest (suc n) (suc (h.out_len - 1)) (omega (arith, fits)) (omega (arith, whole, fits))
       ∙ ap (λ k. Some (take (suc n) (drop k (reverse digest)))) none
 
-  fed-pending : (s : HashSponge ℕ) (xs : List ℕ) → 0 < length xs
-      → fed (of s) xs ≡ of (with_pending (s.pending ++ xs))
+  fed-pending : (s : HashSponge ℕ) (xs : List ℕ) → 0 < length xs → fed (of s) xs ≡ of (with_pending (s.pending ++ xs))
   fed-pending s [] more = absurd (omega (arith, more))
   fed-pending s (x ∷ xs) more = refl
 

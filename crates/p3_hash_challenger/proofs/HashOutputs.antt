@@ -1,11 +1,10 @@
 -- A draw takes one of the outputs left, which are places of what is pending.
 use Rattle.std.proofs.Common.{◌≡◌, ℕ, zero, suc, ◌<◌, ◌≤◌, ◌-◌, List, [], ◌∷◌, length, if◌then◌else◌, Bool}
-use Rattle.std.proofs.Common.{slice_index_or, refl, sym, ap, subst, arith}
-use Rattle.std.proofs.lemmas.List.{get_or_default}
 use Rattle.p3_challenger_core.specs.Segments.{Call, observe, observe_empty_array, draw}
 use Rattle.p3_hash_challenger.specs.HashCalls.{HashFunction, HashSponge, flushed, one_taken}
 use Rattle.p3_hash_challenger.specs.HashCalls.{sampled, queries_by_draw, after_sampled, run_call}
 use Rattle.p3_sponge.specs.SpongeStepLaws.{not_zero}
+use Rattle.std.proofs.{Common.{slice_index_or, refl, sym, ap, subst, arith}, lemmas.List.get_or_default}
 
 -- the outputs left are places of what is pending
 abbrev pub HasOutputs : {T : Type 0} → HashSponge T → Type 0
@@ -36,8 +35,7 @@ module _ {T : Type 0} (h : HashFunction T) (other : T) (positive : 0 < h.out_len
       subst (λ b. taken other (s b) ≡ taken h.filler (s b)) (sym (not_zero m))
       (get_or_default pending (suc m - 1) other h.filler inside)
 
-  drawn-outputs : (pending : List T) (left : ℕ) → left ≤ length pending
-      → HasOutputs (after_sampled h (of pending left))
+  drawn-outputs : (pending : List T) (left : ℕ) → left ≤ length pending → HasOutputs (after_sampled h (of pending left))
   drawn-outputs pending zero fits = omega (arith, whole pending)
   drawn-outputs pending (suc m) fits =
       let inside : suc m - 1 ≤ length pending = omega arith in
@@ -51,8 +49,7 @@ module _ {T : Type 0} (h : HashFunction T) (other : T) (positive : 0 < h.out_len
       ap (λ x. record { answers = x ∷ []; queries = queries_by_draw s; after = after_sampled h s })
       (same_draw s.pending s.outputs_left fits)
 
-  pub call_outputs : (s : HashSponge T) → HasOutputs s → (call : Call T)
-      → HasOutputs (run_call h s call).after
+  pub call_outputs : (s : HashSponge T) → HasOutputs s → (call : Call T) → HasOutputs (run_call h s call).after
   call_outputs s fits (observe x) = omega arith
   call_outputs s fits observe_empty_array = omega arith
   call_outputs s fits draw = drawn-outputs s.pending s.outputs_left fits

@@ -1,6 +1,5 @@
 -- Hash functions that give the same on what a hash challenger queries make it do the same.
-use Rattle.std.proofs.Common.{◌≡◌, List, [], ◌∷◌, Bool, true, false, ◌==◌, if◌then◌else◌, refl, ap}
-use Rattle.std.specs.List.{All}
+use Rattle.std.{proofs.Common.{◌≡◌, List, [], ◌∷◌, Bool, true, false, ◌==◌, if◌then◌else◌, refl, ap}, specs.List.All}
 use Rattle.std.proofs.lemmas.List.Elements.{All-head}
 use Rattle.p3_challenger_core.specs.Segments.{Call, observe, observe_empty_array, draw}
 use Rattle.p3_hash_challenger.specs.HashCalls.{HashFunction, HashSponge, flushed, last_output, one_taken}

@@ -3,11 +3,10 @@ use Rattle.std.proofs.Common.{◌≡◌, ℕ, zero, suc, ◌<◌, ◌≤◌, ◌
 use Rattle.std.proofs.Common.{sym, ap, ◌∙◌, append_assoc, append-nil, arith}
 use Rattle.p3_challenger_core.specs.Segments.{Call, observe, observe_empty_array, draw, stays, run_before}
 use Rattle.p3_challenger_core.specs.SegmentLaws.{StepsAgree}
-use Rattle.p3_sponge.specs.OutputsLaws.{draws-left, draws-next}
-use Rattle.p3_sponge.specs.SpongeStepLaws.{not_zero}
 use Rattle.p3_hash_challenger.specs.HashCalls.{HashFunction, HashSponge, HashRun, with_pending, observed, flushed}
 use Rattle.p3_hash_challenger.specs.HashCalls.{last_output, one_taken, after_sampled, run_call, hash_by_calls}
 use Rattle.p3_hash_challenger.specs.HashSegments.{outputs_of, holding, run_values, run_draws, hash_by_segments}
+use Rattle.p3_sponge.specs.{OutputsLaws.{draws-left, draws-next}, SpongeStepLaws.not_zero}
 
 -- a value and then a list are fed as one list
 run_values-next : {T : Type 0} (s : HashSponge T) (x : T) (xs : List T)
@@ -17,12 +16,11 @@ run_values-next s x (y ∷ ys) = ap (λ p. stays (with_pending p)) (sym (append_
 
 module _ {T : Type 0} (h : HashFunction T) (positive : 0 < h.out_len) where
   -- with outputs left nothing is hashed
-  drawn-left : (chain : List T) (m : ℕ)
-      → run_call h (record { pending = chain; outputs_left = suc m }) draw ≡ record {
-        answers = slice_index_or chain (suc m - 1) h.filler ∷ [];
-        queries = [];
-        after = record { pending = chain; outputs_left = suc m - 1 };
-      }
+  drawn-left : (chain : List T) (m : ℕ) → run_call h (record { pending = chain; outputs_left = suc m }) draw ≡ record {
+    answers = slice_index_or chain (suc m - 1) h.filler ∷ [];
+    queries = [];
+    after = record { pending = chain; outputs_left = suc m - 1 };
+  }
   drawn-left chain m =
       let s : HashSponge T = record { pending = chain; outputs_left = suc m } in
       ap (λ b. let t = if b then flushed h s else s in record {

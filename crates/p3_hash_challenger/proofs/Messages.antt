@@ -1,13 +1,11 @@
 -- Messages of one length that stand one after another.
 use Rattle.std.proofs.Common.{◌≡◌, ℕ, suc, ◌+◌, ◌-◌, ◌*◌, ◌<◌, ◌≤◌, List, ◌++◌, length, take, drop, slice_range}
 use Rattle.std.proofs.Common.{[], ◌∷◌, add-one, append_assoc, sym, ap, subst, ◌∙◌, inl, inr, arith}
-use Rattle.std.proofs.lemmas.Bool.{cases_lt}
-use Rattle.std.proofs.lemmas.List.{drop-append-le, take-append-le, take-append-drop}
-use Rattle.std.proofs.lemmas.List.{length-append, length-drop, length-take-le}
 use Rattle.std.proofs.lemmas.Slice.{between_is, take-put_mid_below, take-put_mid, drop-put_mid}
-use Rattle.std.proofs.Math.Nat.{mul-le-mul_right, suc-mul}
 use Rattle.std.proofs.Math.Seq.{drop-append_seam, take-append_seam}
 use Rattle.p3_hash_challenger.specs.WitnessSearch.{BeginWith, IsMessageOf}
+use Rattle.std.proofs.lemmas.{Bool.cases_lt, List.{drop-append-le, take-append-le, take-append-drop}}
+use Rattle.std.proofs.{lemmas.List.{length-append, length-drop, length-take-le}, Math.Nat.{mul-le-mul_right, suc-mul}}
 
 -- a message ends where a later one begins, or before
 pub ends_before : (j l each : ℕ) → j < l → j * each + each ≤ l * each
@@ -25,8 +23,7 @@ module _ {T : Type 0} where
       → slice_range (written a k xs ys) i j ≡ slice_range xs i j
   range-before a k xs ys i j h inside =
       between_is (written a k xs ys) i j
-      ∙ ap (drop i) (take-put_mid_below a k xs ys j h inside)
-      ∙ sym (between_is xs i j)
+      ∙ ap (drop i) (take-put_mid_below a k xs ys j h inside) ∙ sym (between_is xs i j)
 
   range-after : (a k : ℕ) (xs ys : List T) (i j : ℕ) → a + k ≤ i → a ≤ length xs → length ys ≡ k
       → slice_range (written a k xs ys) i j ≡ slice_range xs i j
@@ -41,8 +38,7 @@ module _ {T : Type 0} where
       ∙ ap (λ v. v ++ ys) (sym (between_is xs i a))
 
   range-front : (xs ys : List T) (i j : ℕ) → j ≤ length xs → slice_range (xs ++ ys) i j ≡ slice_range xs i j
-  range-front xs ys i j h =
-      between_is (xs ++ ys) i j ∙ ap (drop i) (take-append-le j xs ys h) ∙ sym (between_is xs i j)
+  range-front xs ys i j h = between_is (xs ++ ys) i j ∙ ap (drop i) (take-append-le j xs ys h) ∙ sym (between_is xs i j)
 
   -- a range of a front is one of the whole
   pub range-of_front : (xs : List T) (end i j : ℕ) → j ≤ end → end ≤ length xs
@@ -74,9 +70,7 @@ module _ (prefix fillers messages : List ℕ) (count bytes : ℕ) (size : length
   more-room =
       let each = length prefix + bytes in
       more-length
-      ∙ ap (λ n. n + each) room
-      ∙ sym (suc-mul count each)
-      ∙ ap (λ n. n * each) (sym (add-one count))
+      ∙ ap (λ n. n + each) room ∙ sym (suc-mul count each) ∙ ap (λ n. n * each) (sym (add-one count))
 
   pub more-begin : BeginWith prefix (length prefix + bytes) more
   more-begin j fits =

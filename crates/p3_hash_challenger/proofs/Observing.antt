@@ -1,10 +1,8 @@
 -- Values observed one after another.
 use Rattle.std.proofs.Common.{◌≡◌, ℕ, ◌+◌, ◌<◌, ◌≤◌, List, ◌∷◌, [], ◌++◌, length, drop, get_or, refl, sym, ap, ◌∙◌, inl}
-use Rattle.std.proofs.Common.{inr, subst, add-one}
-use Rattle.std.proofs.Math.ListN.{drop_of_length-le}
-use Rattle.std.specs.List.{flat_map}
 use Rattle.std.proofs.Math.Seq.{drop-cons}
 use Rattle.p3_challenger_core.specs.Observation.{observed_all, LeavesBeginning}
+use Rattle.std.{proofs.Common.{inr, subst, add-one}, proofs.Math.ListN.drop_of_length-le, specs.List.flat_map}
 
 -- from here on, the rest of the values leads where all of them lead from the start
 pub record LeadsOn {S T : Type 0} (observed : S → T → S) (start : S) (values : List T) (here : S)

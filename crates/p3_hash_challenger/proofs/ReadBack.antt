@@ -84,8 +84,7 @@ module _ {T : Type 0} (h : HashFunction T) where
   reads_back s calls others queries pending =
       (run-tells s calls).read_are
       ∙ ap (λ messages. read s.pending messages (run s calls).after.pending) queries
-      ∙ ap (λ p. read s.pending (run s others).queries p) pending
-      ∙ sym (run-tells s others).read_are
+      ∙ ap (λ p. read s.pending (run s others).queries p) pending ∙ sym (run-tells s others).read_are
 
   pub reads_back_to_digest : (s : HashSponge T) → ReadsBackToDigest h s
   reads_back_to_digest s calls others queries =

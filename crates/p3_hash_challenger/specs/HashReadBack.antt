@@ -1,9 +1,9 @@
 -- What a hash challenger hashes tells what it observed, or shows a collision of its hash function.
 use Rattle.std.specs.Prelude.{◌≡◌, List}
 use Rattle.p3_challenger_core.specs.Segments.{run_calls, run_calls_to_digest}
-use Rattle.p3_read_back.specs.Queries as queries
 use Rattle.p3_read_back.specs.Queries.{LeaveSamePending}
 use Rattle.p3_hash_challenger.specs.HashCalls.{HashFunction, HashSponge, hash_by_calls}
+use Rattle.p3_read_back.specs.Queries as queries
 
 -- two different strings with one digest
 pub record Collide {T : Type 0} (h : HashFunction T) (one other : List T) : Type 0 where

@@ -2,9 +2,9 @@
 -- of whole segments.
 use Rattle.std.specs.Prelude.{ℕ, List, [], ◌∷◌, ◌++◌, slice_index_or}
 use Rattle.p3_challenger_core.specs.Segments.{stays, BySegments}
-use Rattle.p3_sponge.specs.Outputs as outputs
 use Rattle.p3_sponge.specs.Outputs.{Outputs}
 use Rattle.p3_hash_challenger.specs.HashCalls.{HashFunction, HashSponge, HashRun, with_pending}
+use Rattle.p3_sponge.specs.Outputs as outputs
 
 -- ---- what is observed
 

@@ -1,15 +1,14 @@
 -- Laws of a hash challenger call by call.
 use Rattle.std.proofs.Common.{◌≡◌, ℕ, Some, List, [], ◌∷◌, ◌++◌, ◌⊎◌, inl, inr, length, take, ◌==◌, false, refl, sym}
-use Rattle.std.proofs.Common.{ap, subst, ◌∙◌, append_assoc, append-nil}
-use Rattle.std.specs.List.{flat_map}
-use Rattle.p3_challenger_core.specs.Sponge.{IsNonEmpty}
-use Rattle.p3_challenger_core.specs.Observation.{Observation, IsObservation, LeavesFed, LeavesAfter, LeavesBeginning}
-use Rattle.p3_challenger_core.specs.Observation.{LeavesInCalls, observed_all}
+use Rattle.p3_challenger_core.specs.Observation.{IsObservation, LeavesFed, LeavesAfter, LeavesBeginning}
 use Rattle.p3_challenger_core.specs.ObservationLaws.{nothing-fed, exact-observation, unchanged-front, after_append}
 use Rattle.p3_challenger_core.specs.Sampling.{IsSampling, unrefused_draw}
 use Rattle.p3_challenger_core.specs.SamplingLaws.{unrefused_draw-is_sampling, one_step}
-use Rattle.p3_hash_challenger.specs.HashCalls.{HashFunction, with_pending}
-use Rattle.p3_hash_challenger.specs.HashState.{HashState, observed, fed, array_observed, sampled, after_sampled}
+use Rattle.p3_hash_challenger.specs.HashState.{HashState, observed, fed, array_observed, sampled, after_sampled, LeavesParts}
+use Rattle.p3_hash_challenger.specs.HashState.{observation_of_value, observation_of_array, observation_of_list}
+use Rattle.std.{proofs.Common.{ap, subst, ◌∙◌, append_assoc, append-nil}, specs.List.flat_map}
+use Rattle.p3_challenger_core.specs.{Sponge.IsNonEmpty, Observation.{LeavesInCalls, observed_all}}
+use Rattle.p3_hash_challenger.specs.{HashCalls.{HashFunction, with_pending}, HashState.observation_of_parts}
 
 -- feeding a list and then another is feeding both
 pub fed-append : {T H : Type 0} (s : HashState T H) (xs ys : List T) → fed (fed s xs) ys ≡ fed s (xs ++ ys)
@@ -54,22 +53,15 @@ module _ {T H : Type 0} where
   unchanged-following s before t symbols is = (0, is ∙ ap (fed s) (sym (append-nil before)))
 
 -- one value, or a slice of them
-abbrev pub of_value : {T H : Type 0} → Observation (HashState T H) T T
-of_value = record { symbols = λ x. x ∷ []; observed = λ s x. observed s x; may_leave = λ s _ t. t ≡ s }
-
-pub values-observed : {T H : Type 0} → IsObservation fed (of_value {T = T} {H = H})
+pub values-observed : {T H : Type 0} → IsObservation fed (observation_of_value {T = T} {H = H})
 values-observed =
-    exact-observation fed (λ _. refl) fed-append of_value (λ _ _. refl)
+    exact-observation fed (λ _. refl) fed-append observation_of_value (λ _ _. refl)
     (λ s x t is. unchanged-front fed (λ _. refl) fed-append s t (x ∷ []) is)
 
 pub values-front : {T H : Type 0} (s : HashState T H) (xs : List T) (t : HashState T H) → IsNonEmpty xs × (t ≡ s)
     → LeavesBeginning observed s xs t
 values-front s [] t left = absurd left.0
 values-front s (x ∷ xs) t left = inl left.1
-
--- an array
-abbrev pub of_array : {T H : Type 0} → Observation (HashState T H) T (List T)
-of_array = record { symbols = λ xs. xs; observed = λ s xs. array_observed s xs; may_leave = λ s _ t. t ≡ s }
 
 array-traceless : {T H : Type 0} (s : HashState T H) (xs : List T) (y : T) (ys : List T)
     → fed (array_observed s xs) (y ∷ ys) ≡ fed s (xs ++ y ∷ ys)
@@ -82,7 +74,7 @@ array-following : {T H : Type 0} (s : HashState T H) (y : T) (ys xs : List T)
 array-following s y ys xs =
     ap (λ p. record { sponge = with_pending p; hasher = s.hasher }) (append_assoc s.sponge.pending (y ∷ ys) xs)
 
-pub arrays-observed : {T H : Type 0} → IsObservation fed (of_array {T = T} {H = H})
+pub arrays-observed : {T H : Type 0} → IsObservation fed (observation_of_array {T = T} {H = H})
 arrays-observed =
     record {
       observes = λ s xs. record { exactly = array_observed-fed s xs; traceless = array-traceless s xs };
@@ -92,29 +84,15 @@ arrays-observed =
     }
 
 -- a value that is fed as one list
-abbrev pub of_list : {T H X : Type 0} → (X → List T) → Observation (HashState T H) T X
-of_list values = record { symbols = values; observed = λ s x. fed s (values x); may_leave = λ s _ t. t ≡ s }
-
-pub lists-observed : {T H X : Type 0} (values : X → List T) → IsObservation fed (of_list {H = H} values)
+pub lists-observed : {T H X : Type 0} (values : X → List T) → IsObservation fed (observation_of_list {H = H} values)
 lists-observed values =
-    exact-observation fed (λ _. refl) fed-append (of_list values) (λ _ _. refl)
+    exact-observation fed (λ _. refl) fed-append (observation_of_list values) (λ _ _. refl)
     (λ s x t is. unchanged-front fed (λ _. refl) fed-append s t (values x) is)
 
 -- a value of parts that are fed one after another
 module _ {T H X U : Type 0} (parts : X → List U) (items : U → List T) where
-  abbrev pub part_fed : HashState T H → U → HashState T H
-  part_fed s part = fed s (items part)
-
-  abbrev pub of_parts : Observation (HashState T H) T X
-  of_parts =
-      record {
-        symbols = λ x. flat_map items (parts x);
-        observed = λ s x. fed s (flat_map items (parts x));
-        may_leave = λ s x t. LeavesBeginning part_fed s (parts x) t;
-      }
-
   -- where a part is refused, a front of what they feed was fed
-  beginning-fed : (s : HashState T H) (ps : List U) (t : HashState T H) → LeavesBeginning part_fed s ps t
+  beginning-fed : (s : HashState T H) (ps : List U) (t : HashState T H) → LeavesParts items s ps t
       → (n : ℕ) × (t ≡ fed s (take n (flat_map items ps)))
   beginning-fed s [] t h = absurd h
   beginning-fed s (p ∷ ps) t (inl is) = (0, is)
@@ -123,13 +101,13 @@ module _ {T H X U : Type 0} (parts : X → List U) (items : U → List T) where
       let front = after_append left.0 (items p) (flat_map items ps) in
       (front.0, left.1 ∙ fed-append s (items p) (take left.0 (flat_map items ps)) ∙ ap (fed s) (sym front.1))
 
-  pub parts-observed : IsObservation fed of_parts
+  pub parts-observed : IsObservation fed (observation_of_parts {H = H} parts items)
   parts-observed =
-      exact-observation fed (λ _. refl) fed-append of_parts (λ _ _. refl) (λ s x t h. beginning-fed s (parts x) t h)
+      exact-observation fed (λ _. refl) fed-append (observation_of_parts parts items) (λ _ _. refl) (λ s x t h. beginning-fed s (parts x) t h)
 
   -- the parts of the first value, or of those after it
-  beginning-split : (s : HashState T H) (ps qs : List U) (t : HashState T H) → LeavesBeginning part_fed s (ps ++ qs) t
-      → LeavesBeginning part_fed s ps t ⊎ LeavesBeginning part_fed (observed_all part_fed s ps) qs t
+  beginning-split : (s : HashState T H) (ps qs : List U) (t : HashState T H) → LeavesParts items s (ps ++ qs) t
+      → LeavesParts items s ps t ⊎ LeavesParts items (observed_all (λ u part. fed u (items part)) s ps) qs t
   beginning-split s [] qs t h = inr h
   beginning-split s (p ∷ ps) qs t (inl is) = inl (inl is)
   beginning-split s (p ∷ ps) qs t (inr later) = elim (beginning-split (fed s (items p)) ps qs t later) [
@@ -138,12 +116,12 @@ module _ {T H X U : Type 0} (parts : X → List U) (items : U → List T) where
   ]
 
   pub parts-front : (s : HashState T H) (xs : List X) (t : HashState T H)
-      → LeavesBeginning part_fed s (flat_map parts xs) t → LeavesInCalls of_parts.observed of_parts.may_leave s xs t
+      → LeavesParts items s (flat_map parts xs) t → LeavesInCalls (observation_of_parts {H = H} parts items).observed (observation_of_parts parts items).may_leave s xs t
   parts-front s [] t h = absurd h
   parts-front s (x ∷ xs) t h = elim (beginning-split s (parts x) (flat_map parts xs) t h) [
     | inl here ↦ inl here
     | inr following ↦
-        let moved = subst (λ u. LeavesBeginning part_fed u (flat_map parts xs) t) (all_fed items s (parts x)) following
+        let moved = subst (λ u. LeavesParts items u (flat_map parts xs) t) (all_fed items s (parts x)) following
         in
         inr (parts-front (fed s (flat_map items (parts x))) xs t moved)
   ]

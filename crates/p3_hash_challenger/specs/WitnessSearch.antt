@@ -1,13 +1,10 @@
 -- A search for a witness by batches of messages.
 use Rattle.std.specs.Prelude.{◌≡◌, ℕ, ◌+◌, ◌*◌, ◌≤◌, Bool, List, ◌++◌, length, take, reverse, slice_get, slice_range}
-use Rattle.std.specs.Prelude.{Some}
-use Rattle.std.specs.Option.{option_map}
-use Rattle.p3_challenger_core.specs.Observation.{in_slice}
-use Rattle.p3_challenger_core.specs.Sampling.{Sampling, unrefused_draw, in_row}
+use Rattle.std.specs.{Prelude.Some, Option.option_map}
 use Rattle.p3_challenger_core.specs.Sponge.{IsNonEmpty}
 use Rattle.p3_grinding.specs.Checks.{byte_check}
-use Rattle.p3_hash_challenger.specs.HashState.{HashState, function_of, sampled, after_sampled}
-use Rattle.p3_hash_challenger.specs.HashStateLaws.{of_value}
+use Rattle.p3_hash_challenger.specs.HashState.{HashState, function_of, observation_of_value, sampled, after_sampled}
+use Rattle.p3_challenger_core.specs.{Observation.in_slice, Sampling.{Sampling, unrefused_draw, in_row}}
 
 -- the first outputs of a digest, so many: its last places, the last of them first
 abbrev pub first_outputs : {T : Type 0} → ℕ → List T → List T
@@ -27,7 +24,7 @@ abbrev pub candidate_check : {H : Type 0} → (H → List ℕ → List ℕ) → 
     → Sampling (HashState ℕ H) Bool
 candidate_check hash out_len filler size encoded accepted =
     let function = function_of hash out_len filler in
-    byte_check (in_slice of_value (λ s xs t. IsNonEmpty xs × (t ≡ s)))
+    byte_check (in_slice observation_of_value (λ s xs t. IsNonEmpty xs × (t ≡ s)))
     (in_row (unrefused_draw (λ s. Some (sampled function s)) (after_sampled function)) size) encoded accepted
 
 -- the check of a digest of a batch: whether its first outputs are accepted

@@ -12,18 +12,14 @@
 //!
 //! An observe drops the outputs that are left.
 ghost use Rattle.std.specs.Prelude.{◌≡◌, ◌<◌, ℕ, List, Some, OnOk, OnErr, IfOk, IfErr};
-ghost use Rattle.std.specs.List.{All};
-ghost use Rattle.p3_challenger_core.specs.Segments.{Call, segments, run_calls, run_calls_to_digest};
-ghost use Rattle.p3_challenger_core.specs.Segments.{run_segments, run_segments_to_digest};
-ghost use Rattle.p3_hash_challenger.specs.HashSegments.{hash_by_segments};
-ghost use Rattle.p3_hash_challenger.specs.HashReadBack.{ReadsBack, ReadsBackToDigest, ReadsBackOrCollides};
-ghost use Rattle.p3_read_back.specs.Queries.{Decides};
-ghost use Rattle.p3_hash_challenger.specs.HashState.{function_of, pending_of};
-ghost use Rattle.p3_hash_challenger.specs.HashCalls.{with_pending, outputs, hash_by_calls};
-ghost use Rattle.p3_challenger_core.specs.Observation.{RefusesObserve};
-ghost use Rattle.p3_challenger_core.specs.Sponge.{IsNonEmpty};
-ghost use Rattle.p3_challenger_core.specs.Sampling.{RefusesDraws};
+ghost use Rattle.p3_challenger_core.specs.Segments.{Call, segments, run_segments, run_segments_to_digest};
+ghost use Rattle.p3_challenger_core.specs.{Observation.RefusesObserve, Sponge.IsNonEmpty, Sampling.RefusesDraws};
 ghost use Rattle.p3_challenger_core.specs.declared.error.ChallengerError.{ChallengerError};
+ghost use Rattle.p3_hash_challenger.specs.{HashSegments.hash_by_segments, HashCalls.{with_pending, outputs}};
+ghost use Rattle.p3_hash_challenger.specs.HashReadBack.{ReadsBack, ReadsBackToDigest, ReadsBackOrCollides};
+ghost use Rattle.p3_hash_challenger.specs.HashState.{function_of, pending_of, run, run_to_digest};
+ghost use Rattle.p3_sponge.specs.CallPromises.{QueriesDecide};
+ghost use Rattle.p3_read_back.specs.Queries.{Decides};
 
 mod calls;
 mod digests;
@@ -69,8 +65,7 @@ impl<T, H, const OUT_LEN: usize> Model for HashChallenger<T, H, OUT_LEN> {
     ghost view = { λ c. record {
       sponge = record {
         pending = pending_of c.digest c.input_buffer.items;
-        outputs_left =
-            c.outputs_left;
+        outputs_left = c.outputs_left;
       };
       hasher = c.hasher;
     } };
@@ -137,25 +132,16 @@ impl<T: Copy, H: CryptographicHasher<T, [T; OUT_LEN]>, const OUT_LEN: usize> Has
     ///
     /// A law: the body does nothing, and a caller cites the clauses.
     pub fn follows_segments(&self)
-        ensures calls { (calls : List (Call T)) →
-            let h = function_of H.hash OUT_LEN H.filler self.now.hasher in
-            run_calls (hash_by_calls h) self.now.sponge calls
-            ≡ run_segments (hash_by_segments h) self.now.sponge (segments calls) }
-        ensures digest { (calls : List (Call T)) →
-            let h = function_of H.hash OUT_LEN H.filler self.now.hasher in
-            run_calls_to_digest (hash_by_calls h) self.now.sponge calls
-            ≡ run_segments_to_digest (hash_by_segments h) self.now.sponge (segments calls) }
-        ensures queries { (calls : List (Call T)) (other : List T → List T) →
-            let h = function_of H.hash OUT_LEN H.filler self.now.hasher in
-            let run = run_calls (hash_by_calls h) self.now.sponge calls in
-            All (λ message. other message ≡ h.digest message) run.queries
-            → run_calls (hash_by_calls (record h { digest = other })) self.now.sponge calls ≡ run }
-        ensures queries_to_digest { (calls : List (Call T)) (other : List T → List T) →
-            let h = function_of H.hash OUT_LEN H.filler self.now.hasher in
-            let run = run_calls_to_digest (hash_by_calls h) self.now.sponge calls in
-            All (λ message. other message ≡ h.digest message) run.queries
-            → run_calls_to_digest
-            (hash_by_calls (record h { digest = other })) self.now.sponge calls ≡ run }
+        ensures calls { (calls : List (Call T)) → let h = function_of H.hash OUT_LEN H.filler in
+            run h self.now calls
+            ≡ run_segments (hash_by_segments (h self.now.hasher)) self.now.sponge (segments calls) }
+        ensures digest { (calls : List (Call T)) → let h = function_of H.hash OUT_LEN H.filler in
+            run_to_digest h self.now calls ≡ run_segments_to_digest
+            (hash_by_segments (h self.now.hasher)) self.now.sponge (segments calls) }
+        ensures queries { (calls : List (Call T)) → QueriesDecide (H.hash self.now.hasher)
+            (λ hash. run (function_of (λ _. hash) OUT_LEN H.filler) self.now calls) }
+        ensures queries_to_digest { (calls : List (Call T)) → QueriesDecide (H.hash self.now.hasher)
+            (λ hash. run_to_digest (function_of (λ _. hash) OUT_LEN H.filler) self.now calls) }
     {
         let _ = &self.outputs_left;
     }
@@ -166,9 +152,8 @@ impl<T: Copy, H: CryptographicHasher<T, [T; OUT_LEN]>, const OUT_LEN: usize> Has
     /// A law: the body does nothing, and a caller cites the clause.
     pub fn draws_are_outputs(&self)
         ensures { (calls : List (Call T)) (other : T) →
-            let h = function_of H.hash OUT_LEN H.filler self.now.hasher in
-            run_calls (hash_by_calls (record h { filler = other })) self.now.sponge calls
-            ≡ run_calls (hash_by_calls h) self.now.sponge calls }
+            run (function_of H.hash OUT_LEN other) self.now calls
+            ≡ run (function_of H.hash OUT_LEN H.filler) self.now calls }
     {
         let _ = &self.outputs_left;
     }
@@ -273,8 +258,7 @@ impl<T: Copy, H: CryptographicHasher<T, [T; OUT_LEN]>, const OUT_LEN: usize> Spo
 
     ghost fed = { λ s xs. hash_state.fed s xs };
 
-    ghost next = { λ s. hash_state.after_sampled
-        (hash_state.function_of H.hash OUT_LEN H.filler) s };
+    ghost next = { hash_state.after_sampled (hash_state.function_of H.hash OUT_LEN H.filler) };
 
     ghost fed_nothing = { λ _. refl };
 
@@ -283,17 +267,13 @@ impl<T: Copy, H: CryptographicHasher<T, [T; OUT_LEN]>, const OUT_LEN: usize> Spo
 
 impl<T: Copy, H: CryptographicHasher<T, [T; OUT_LEN]>, const OUT_LEN: usize> CanObserve<T>
     for HashChallenger<T, H, OUT_LEN> {
-    ghost use Rattle.std.specs.Prelude.{◌≡◌, [], ◌∷◌};
+    ghost use Rattle.std.specs.Prelude.{◌≡◌, []};
     ghost use Rattle.p3_challenger_core.specs.Sponge.{IsNonEmpty};
     ghost use Rattle.p3_hash_challenger.specs.HashState as hash_state;
     ghost use Rattle.p3_hash_challenger.specs.HashStateLaws.{values-observed, values-front};
 
     // A refused call changes nothing.
-    ghost observation = { record {
-      symbols = λ x. x ∷ [];
-      observed = λ s x. hash_state.observed s x;
-      may_leave = λ s _ t. t ≡ s;
-    } };
+    ghost observation = { hash_state.observation_of_value };
 
     // A slice of no values is not refused.
     ghost slice_may_leave = { λ s xs t. IsNonEmpty xs × (t ≡ s) };
@@ -328,7 +308,7 @@ impl<T: Copy, H: CryptographicHasher<T, [T; OUT_LEN]>, const OUT_LEN: usize> Can
     // A draw takes no memory and has no limit: it is never refused, and it always gives a value.
     ghost sampling = { unrefused_draw
         (λ s. Some (hash_state.sampled (hash_state.function_of H.hash OUT_LEN H.filler) s))
-        (λ s. hash_state.after_sampled (hash_state.function_of H.hash OUT_LEN H.filler) s) };
+        (hash_state.after_sampled (hash_state.function_of H.hash OUT_LEN H.filler)) };
 
     ghost samples = { values-sampled (hash_state.function_of H.hash OUT_LEN H.filler) };
 
@@ -370,14 +350,10 @@ impl<
     ghost use Rattle.p3_hash_challenger.specs.HashStateLaws.{arrays-observed};
 
     // A refused call changes nothing.
-    ghost observation = { record {
-      symbols = λ xs. xs;
-      observed = λ s xs. hash_state.array_observed s xs;
-      may_leave = λ s _ t. t ≡ s;
-    } };
+    ghost observation = { hash_state.observation_of_array };
 
     // A refused slice has observed the arrays before the refused one.
-    ghost slice_may_leave = { λ s xss t. LeavesBeginning hash_state.array_observed s xss t };
+    ghost slice_may_leave = { LeavesBeginning hash_state.array_observed };
 
     ghost observes = { arrays-observed };
 

@@ -1,8 +1,7 @@
 //! What a hash challenger feeds is a prefix code: the premises of the laws on symbols.
 ghost use Rattle.std.specs.Prelude.{◌≡◌, List, length, ◌++◌};
 ghost use Rattle.p3_challenger_core.specs.Reading.{IsPrefixCode, IsPrefixCodeOn};
-ghost use Rattle.p3_symmetric.specs.declared.hash.Hash.{Hash};
-ghost use Rattle.p3_symmetric.specs.HashValues.{values_of};
+ghost use Rattle.p3_symmetric.specs.{declared.hash.Hash.Hash, HashValues.values_of};
 
 use crate::HashChallenger;
 use p3_challenger_core::CanObserve;
@@ -36,8 +35,7 @@ pub fn hash_arrays_are_prefix_code<
     ensures digests { IsPrefixCode
         ⟦<HashChallenger<T, H, OUT_LEN> as CanObserve<Hash<F, T, N>>>⟧.observation.symbols }
     ensures both { (digest : Hash F T N) (values a b : List T) → length values ≡ N →
-        ⟦<HashChallenger<T, H, OUT_LEN> as CanObserve<Hash<F, T, N>>>⟧.observation.symbols digest ++
-        a
-        ≡ ⟦<HashChallenger<T, H, OUT_LEN> as CanObserve<[T; N]>>⟧.observation.symbols values ++ b
-        → (values_of digest ≡ values) × (a ≡ b) }
+        ⟦<HashChallenger<T, H, OUT_LEN> as CanObserve<Hash<F, T, N>>>⟧.observation.symbols digest
+        ++ a ≡ ⟦<HashChallenger<T, H, OUT_LEN> as CanObserve<[T; N]>>⟧.observation.symbols values
+        ++ b → (values_of digest ≡ values) × (a ≡ b) }
 {}

@@ -1,10 +1,8 @@
 -- The elements of numbers that are put into lanes.
 use Rattle.std.proofs.Common.{◌≡◌, ℕ, ◌<◌, ◌∙◌, Bool, true, false, cond, List, length, nat_eq, slice_index, slice_set, inl, inr, sym, ap, arith}
-use Rattle.std.proofs.lemmas.Bool.{cases_eq, eq-eqb, ne_eqb, cond-true, cond-false}
-use Rattle.std.proofs.lemmas.List.{get_or-set_other}
+use Rattle.std.proofs.lemmas.{Bool.{cases_eq, eq-eqb, ne_eqb, cond-true, cond-false}, List.get_or-set_other}
 use Rattle.std.proofs.lemmas.Grind.{get_or-set_at}
-use Rattle.p3_small_primes.specs.SmallPrimes.{number, element}
-use Rattle.p3_small_primes.specs.SmallPrimeLaws.{of_number}
+use Rattle.p3_small_primes.specs.{SmallPrimes.{number, element}, SmallPrimeLaws.of_number}
 use Rattle.p3_small_primes.specs.declared.small_prime.SmallPrime.{SmallPrime}
 
 module _ {order : ℕ} (above_one : 1 < order) (value : SmallPrime order) where

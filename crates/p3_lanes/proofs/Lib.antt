@@ -1,1 +1,2 @@
 pub mod LaneElements
+pub mod LaneSums

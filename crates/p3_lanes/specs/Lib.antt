@@ -1,4 +1,3 @@
-pub mod LaneSums
 pub mod LaneLaws
 pub mod SmallPrimeLanes
 pub mod GoldilocksLanes

@@ -1,7 +1,6 @@
 -- Numbers side by side in lanes, and the elements that they are.
 use Rattle.std.specs.Prelude.{◌≡◌, ℕ, ◌<◌, List, slice_index}
-use Rattle.p3_small_primes.specs.SmallPrimes.{element}
-use Rattle.p3_small_primes.specs.declared.small_prime.SmallPrime.{SmallPrime}
+use Rattle.p3_small_primes.specs.{SmallPrimes.element, declared.small_prime.SmallPrime.SmallPrime}
 
 -- the element in a lane, by the number there
 abbrev pub element_in : {order : ℕ} → 1 < order → ℕ → List ℕ → SmallPrime order

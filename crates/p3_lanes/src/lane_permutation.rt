@@ -1,6 +1,5 @@
 //! Permutations of states side by side in lanes.
-ghost use Rattle.std.specs.Prelude.{◌≡◌, ◌<◌, ◌*◌, ◌^◌, ℕ, map};
-ghost use Rattle.std.specs.Mem.{type_size};
+ghost use Rattle.std.specs.{Prelude.{◌≡◌, ◌<◌, ◌*◌, ◌^◌, ℕ, map}, Mem.type_size};
 
 use crate::{PackedField, PackedValue};
 use p3_symmetric::CryptographicPermutation;

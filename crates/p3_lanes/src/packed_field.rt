@@ -1,5 +1,5 @@
 //! Fields whose elements are there in lanes too.
-ghost use Rattle.std.specs.Prelude.{ℕ, ◌<◌};
+ghost use Rattle.std.specs.Prelude.{◌<◌};
 ghost use Rattle.p3_field_core.specs.Sizes.{IsSmall};
 
 use crate::PackedValue;

@@ -1,11 +1,10 @@
 -- Scalars that are observed a batch at a time.
 use Rattle.std.proofs.Common.{◌≡◌, ℕ, ◌<◌, ◌+◌, List, [], ◌∷◌, length, refl, ap, ◌∙◌}
 use Rattle.p3_challenger_core.specs.Observation.{observed_all}
-use Rattle.p3_sponge.specs.SpongeCalls as sponge
-use Rattle.p3_sponge.specs.SpongeCalls.{SpongeRule}
-use Rattle.p3_sponge.specs.SpongeListLaws.{with_values, all-pending, all-absorbed}
 use Rattle.p3_multi_field.specs.MultiFieldCalls.{FieldPair, batch_of, scalars_rule}
 use Rattle.p3_multi_field.specs.MultiFieldState.{MultiFieldState, scalar_observed, scalars_observed}
+use Rattle.p3_sponge.specs.{SpongeCalls.SpongeRule, SpongeListLaws.{with_values, all-pending, all-absorbed}}
+use Rattle.p3_sponge.specs.SpongeCalls as sponge
 
 module _ {F PF P : Type 0} (pair : FieldPair F PF) (permute : P → List PF → List PF) (rate : ℕ) where
   abbrev rule : MultiFieldState F PF P → SpongeRule (List PF) F

@@ -1,20 +1,15 @@
 -- What methods do is what calls do, and what place a draw has.
 use Rattle.std.proofs.Common.{◌≡◌, ◌<◌, ℕ, zero, suc, List, [], ◌∷◌, ◌++◌, map, replicate, refl, sym, ap, ◌∙◌}
 use Rattle.std.proofs.Common.{append-nil, subst}
-use Rattle.p3_challenger_core.specs.Sponge.{after_steps}
 use Rattle.p3_challenger_core.specs.Segments.{observe, draw, Segment, run_calls, run_segments, run_before}
-use Rattle.p3_challenger_core.specs.SegmentLaws.{cut-only, run_calls-segments}
-use Rattle.p3_sponge.specs.SpongeCalls.{SpongeRule, SpongeRun}
-use Rattle.p3_sponge.specs.SpongeSegments.{run_values, run_draws, opened_cells}
-use Rattle.p3_sponge.specs.SpongePlaceLaws.{first_outputs, opened-places}
-use Rattle.p3_sponge.specs.SpongeStepLaws.{Fits}
 use Rattle.p3_multi_field.specs.MultiFieldCalls.{FieldPair, Symbol, scalar, digest, MultiFieldSponge, batch_of, row_of}
-use Rattle.p3_multi_field.specs.MultiFieldCalls.{scalars_rule, multi_field_by_calls}
 use Rattle.p3_multi_field.specs.MultiFieldSegments.{Stretches, stretches, run_stretches, run_symbols, absorbed_cells}
-use Rattle.p3_multi_field.specs.MultiFieldSegments.{multi_field_by_segments}
 use Rattle.p3_multi_field.specs.MultiFieldState.{MultiFieldState, fed, observed, sampled, after_sampled, drawn, run}
-use Rattle.p3_multi_field.specs.MultiFieldState.{after_calls}
-use Rattle.p3_multi_field.proofs.MultiFieldSteps.{multi_field_steps}
+use Rattle.p3_multi_field.{specs.MultiFieldSegments.multi_field_by_segments, proofs.MultiFieldSteps.multi_field_steps}
+use Rattle.p3_challenger_core.specs.{Sponge.after_steps, SegmentLaws.{cut-only, run_calls-segments}}
+use Rattle.p3_sponge.specs.{SpongeCalls.{SpongeRule, SpongeRun}, SpongeSegments.{run_values, run_draws, opened_cells}}
+use Rattle.p3_sponge.specs.{SpongePlaceLaws.{first_outputs, opened-places}, SpongeStepLaws.Fits}
+use Rattle.p3_multi_field.specs.{MultiFieldCalls.{scalars_rule, multi_field_by_calls}, MultiFieldState.after_calls}
 
 module _ {F PF P : Type 0} (pair : FieldPair F PF) (permute : P → List PF → List PF) (rate : ℕ) where
   pub fed-is_calls : (c : MultiFieldState F PF P) (symbols : List (Symbol F PF))

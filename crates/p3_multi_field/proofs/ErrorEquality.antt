@@ -1,14 +1,13 @@
 -- Errors compare equal exactly where they say the same.
-use Rattle.std.proofs.Common.{◌≡◌, ◌↔◌, ℕ, true, List, Bor}
-use Rattle.std.proofs.lemmas.Bool.Decides.{Decides-and, Decides-eqb}
+use Rattle.std.proofs.{Common.{◌≡◌, ◌↔◌, ℕ, true, List, Bor}, lemmas.Bool.Decides.{Decides-and, Decides-eqb}}
 use Rattle.std.specs.Cmp.Lexicographic.{bytes_decides}
-use Rattle.std.specs.contracts.prelude.RefStrPartialEq.TheImpl as texts
-use Rattle.std.specs.contracts.prelude.UsizePartialEq.TheImpl as numbers
 use Rattle.p3_multi_field.specs.declared.error.MultiField32ChallengerError.{MultiField32ChallengerError}
 use Rattle.p3_multi_field.specs.declared.error.MultiField32ChallengerError.TheVariants.{FieldOrderNotIncreasing}
 use Rattle.p3_multi_field.specs.declared.error.MultiField32ChallengerError.TheVariants.{AbsorbLengthTagOverflow}
-use Rattle.p3_multi_field.specs.contracts.error.MultiField32ChallengerErrorPartialEq.TheImpl as errors
 use Rattle.p3_multi_field.specs.Refusals.{SaySame}
+use Rattle.std.specs.contracts.prelude.RefStrPartialEq.TheImpl as texts
+use Rattle.std.specs.contracts.prelude.UsizePartialEq.TheImpl as numbers
+use Rattle.p3_multi_field.specs.contracts.error.MultiField32ChallengerErrorPartialEq.TheImpl as errors
 
 equal_texts : (a b : Bor (List ℕ)) → (texts.ghosts.eq a b ≡ true ↔ a.now ≡ b.now)
 equal_texts a b = bytes_decides a.now b.now

@@ -1,14 +1,12 @@
 -- Permutations that give the same on what a multi-field challenger queries make it do the same.
-use Rattle.std.proofs.Common.{◌≡◌, ℕ, List, [], ◌∷◌, ◌++◌, refl, ap, ◌∙◌}
-use Rattle.std.specs.List.{All}
+use Rattle.std.{proofs.Common.{◌≡◌, ℕ, List, [], ◌∷◌, ◌++◌, refl, ap, ◌∙◌}, specs.List.All}
 use Rattle.std.proofs.lemmas.List.Elements.{All-head, All-tail}
 use Rattle.p3_challenger_core.specs.Segments.{Call, observe, observe_empty_array, draw}
-use Rattle.p3_sponge.specs.Cells.{overwritten}
-use Rattle.p3_sponge.specs.SpongeCalls.{SpongeRule, emptied, permuting}
 use Rattle.p3_sponge.specs.SpongeQueryLaws.{Agree, same_value, same_draw}
 use Rattle.p3_multi_field.specs.MultiFieldCalls.{FieldPair, Symbol, scalar, digest, MultiFieldSponge, scalars_rule}
 use Rattle.p3_multi_field.specs.MultiFieldCalls.{scalars_over, blocks, absorbed_pending, words_absorbed}
 use Rattle.p3_multi_field.specs.MultiFieldCalls.{queries_by_pending, queries_by_words, run_call}
+use Rattle.p3_sponge.specs.{Cells.overwritten, SpongeCalls.{SpongeRule, emptied, permuting}}
 
 all-second : {X : Type 0} (P : X → Type 0) (xs ys : List X) → All P (xs ++ ys) → All P ys
 all-second P [] ys h = h

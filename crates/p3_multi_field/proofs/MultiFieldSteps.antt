@@ -1,15 +1,8 @@
 -- A multi-field challenger does over segments what the calls do one by one.
 use Rattle.std.proofs.Common.{◌≡◌, ℕ, zero, suc, ◌<◌, ◌≤◌, ◌+◌, ◌-◌, ◌/◌, List, [], ◌∷◌, ◌++◌, length, take, drop}
-use Rattle.std.proofs.Common.{refl, sym, ap, ◌∙◌, append_assoc, inl, inr, min, arith}
-use Rattle.std.proofs.lemmas.Bool.{cases_lt}
-use Rattle.std.proofs.lemmas.List.{length-drop, length-take}
-use Rattle.std.proofs.Math.Nat.{div-eq_of_lt}
 use Rattle.p3_challenger_core.specs.Segments.{Call, observe, observe_empty_array, draw, Run, run_before}
 use Rattle.p3_challenger_core.specs.SegmentLaws.{StepsAgree}
-use Rattle.p3_sponge.specs.Cells.{overwritten}
-use Rattle.p3_sponge.specs.OutputsLaws.{further-div}
 use Rattle.p3_sponge.specs.SpongeCalls.{SpongeRule, SpongeRun, emptied, permuting, run_value}
-use Rattle.p3_sponge.specs.SpongeSegments.{opened, run_values}
 use Rattle.p3_sponge.specs.SpongeStepLaws.{Fits, run_values-next, run_draws-next, emptied-fits, observed-fits}
 use Rattle.p3_sponge.specs.SpongeStepLaws.{sampled-fits}
 use Rattle.p3_multi_field.specs.MultiFieldCalls.{FieldPair, Symbol, scalar, digest, MultiFieldSponge, batch_of, row_of}
@@ -18,6 +11,9 @@ use Rattle.p3_multi_field.specs.MultiFieldCalls.{queries_by_pending, queries_by_
 use Rattle.p3_multi_field.specs.MultiFieldSegments.{block_count, absorbed_words, word_queries, run_words, run_digest}
 use Rattle.p3_multi_field.specs.MultiFieldSegments.{stretches, run_stretches, run_symbols, multi_field_by_segments}
 use Rattle.p3_multi_field.specs.MultiFieldState.{KeepsNumbers}
+use Rattle.std.proofs.{Common.{refl, sym, ap, ◌∙◌, append_assoc, inl, inr, min, arith}, lemmas.Bool.cases_lt}
+use Rattle.std.proofs.{lemmas.List.{length-drop, length-take}, Math.Nat.div-eq_of_lt}
+use Rattle.p3_sponge.specs.{Cells.overwritten, OutputsLaws.further-div, SpongeSegments.{opened, run_values}}
 
 -- what a challenger keeps of its numbers, its sponge keeps
 pub kept-fits : {F PF : Type 0} (pair : FieldPair F PF) (permute : List PF → List PF)

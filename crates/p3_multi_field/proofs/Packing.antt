@@ -1,10 +1,9 @@
 -- Scalars packed into cells one cell after another.
 use Rattle.std.proofs.Common.{◌≡◌, ℕ, zero, suc, ◌+◌, ◌-◌, ◌<◌, ◌≤◌, List, [], ◌∷◌, ◌++◌, length, take, drop, refl, sym}
-use Rattle.std.proofs.Common.{ap, ◌∙◌, subst, append_assoc, append-nil, arith}
-use Rattle.std.proofs.Math.ListN.{set}
 use Rattle.std.proofs.lemmas.List.{take_more_set, take_all}
 use Rattle.p3_field_bridge.specs.Bridges.{packed}
 use Rattle.p3_multi_field.specs.MultiFieldCalls.{FieldPair, packed_cells}
+use Rattle.std.proofs.{Common.{ap, ◌∙◌, subst, append_assoc, append-nil, arith}, Math.ListN.set}
 
 -- as many cells pack scalars as are asked for
 pub length-packed_cells : {F PF : Type 0} (pair : FieldPair F PF) (n : ℕ) (scalars : List F)

@@ -3,20 +3,17 @@ use Rattle.std.proofs.Common.{◌≡◌, ℕ, zero, suc, ◌+◌, ◌*◌, ◌<�
 use Rattle.std.proofs.Common.{sym, ap, ap₂, subst, ◌∙◌, arith}
 use Rattle.std.proofs.lemmas.List.{get_or_at, length-take, length-drop, take-append-drop}
 use Rattle.p3_field_core.specs.Residues.{IsResidues, plus}
-use Rattle.p3_field_bridge.specs.Bridges.{packed, AreRadixBits, AreCounts}
-use Rattle.p3_field_bridge.specs.BridgeLaws.{packed-injective}
 use Rattle.p3_challenger_core.specs.Segments.{Call, observe, observe_empty_array, draw, Run, run_before, run_calls}
 use Rattle.p3_challenger_core.specs.SymbolLaws.{as_many-prefix_code}
-use Rattle.p3_read_back.specs.Queries as queries
 use Rattle.p3_read_back.specs.SumLaws.{plus-zero, counts-told}
-use Rattle.p3_sponge.specs.Cells.{cell}
+use Rattle.p3_sponge.specs.{Cells.cell, SpongeStepLaws.Fits}
 use Rattle.p3_sponge.specs.SpongeCalls.{SpongeRule, permutation_input, run_value, run_draw, sponge_by_calls}
-use Rattle.p3_sponge.specs.SpongeStepLaws.{Fits}
-use Rattle.p3_sponge.specs.SpongeReadBackLaws as sponge_laws
 use Rattle.p3_multi_field.specs.MultiFieldCalls.{FieldPair, MultiFieldSponge, batch_of, row_of, packed_cells}
-use Rattle.p3_multi_field.specs.MultiFieldCalls.{scalars_rule}
-use Rattle.p3_multi_field.specs.MultiFieldReadBack.{run_scalar_calls, ReadsBack}
 use Rattle.p3_multi_field.proofs.Packing.{length-packed_cells}
+use Rattle.p3_field_bridge.specs.{Bridges.{packed, AreRadixBits, AreCounts}, BridgeLaws.packed-injective}
+use Rattle.p3_multi_field.specs.{MultiFieldCalls.scalars_rule, MultiFieldReadBack.{run_scalar_calls, ReadsBack}}
+use Rattle.p3_read_back.specs.Queries as queries
+use Rattle.p3_sponge.specs.SpongeReadBackLaws as sponge_laws
 
 module _ {F PF : Type 0} (pair : FieldPair F PF) (inner_laws : IsResidues pair.inner)
     (outer_laws : IsResidues pair.outer) (radix : AreRadixBits pair.inner.order pair.bits)

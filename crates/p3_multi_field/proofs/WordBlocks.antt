@@ -1,6 +1,5 @@
 -- Words of a digest that are absorbed a block at a time.
-use Rattle.std.proofs.Common.{◌≡◌, ℕ, zero, suc, ◌<◌, ◌≤◌, List, [], ◌∷◌, length, take, drop, refl, ap}
-use Rattle.std.proofs.Common.{arith}
+use Rattle.std.proofs.{Common.{◌≡◌, ℕ, zero, suc, ◌<◌, ◌≤◌, List, [], ◌∷◌, length, take, drop, refl, ap}, Common.arith}
 use Rattle.std.proofs.lemmas.List.{length-drop}
 use Rattle.p3_sponge.specs.SpongeCalls.{permutation_input, permuting}
 use Rattle.p3_multi_field.specs.MultiFieldCalls.{FieldPair, scalars_rule, blocks_within, blocks, absorbed_pending}

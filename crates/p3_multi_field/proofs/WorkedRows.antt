@@ -10,12 +10,12 @@ use Rattle.p3_challenger_core.specs.Segments.{Call, observe, draw, ByCalls, BySe
 use Rattle.p3_challenger_core.specs.Segments.{run_calls, run_calls_to_digest, run_segments, run_segments_to_digest}
 use Rattle.p3_sponge.specs.Outputs.{stepped, step_queries, outputs_from}
 use Rattle.p3_sponge.specs.SpongeSegments.{absorbed_blocks, block_queries}
-use Rattle.p3_multi_field.specs.MultiFieldCalls.{FieldPair, pair_of, Symbol, scalar, digest, MultiFieldSponge, fresh}
+use Rattle.p3_multi_field.specs.MultiFieldCalls.{FieldPair, Symbol, scalar, digest, MultiFieldSponge, fresh}
 use Rattle.p3_multi_field.specs.MultiFieldCalls.{packed_cells, multi_field_by_calls}
 use Rattle.p3_multi_field.specs.MultiFieldSegments.{multi_field_by_segments, absorbed_words, word_queries}
 
 abbrev pair : FieldPair F257 BabyBear
-pair = pair_of f257 baby_bear 9 3 2
+pair = record { inner = f257; outer = baby_bear; bits = 9; absorb = 3; squeeze = 2 }
 
 abbrev start : MultiFieldSponge F257 BabyBear
 start = fresh pair 3

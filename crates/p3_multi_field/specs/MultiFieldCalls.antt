@@ -5,10 +5,9 @@ use Rattle.std.specs.Prelude.{if◌then◌else◌, Option, Some, None}
 use Rattle.p3_field_core.specs.Residues.{Residues}
 use Rattle.p3_field_bridge.specs.Bridges.{packed, digit_of}
 use Rattle.p3_challenger_core.specs.Segments.{Call, observe, observe_empty_array, draw, stays, ByCalls}
-use Rattle.p3_sponge.specs.Cells.{cell, counted_over, overwritten}
-use Rattle.p3_sponge.specs.SpongeCalls as sponge
 use Rattle.p3_sponge.specs.SpongeCalls.{SpongeRule, CellSponge, SpongeRun, emptied, permuting, run_value, run_draw}
-use Rattle.p3_sponge.specs.SpongeCalls.{run_end}
+use Rattle.p3_sponge.specs.{Cells.{cell, counted_over, overwritten}, SpongeCalls.run_end}
+use Rattle.p3_sponge.specs.SpongeCalls as sponge
 
 -- Two fields: that of the scalars, which are observed and drawn, and that of the cells; in how many bits a
 -- scalar is packed, how many scalars a cell packs, and how many digits are drawn from a cell.
@@ -18,10 +17,6 @@ pub record FieldPair (F PF : Type 0) : Type 0 where
   pub bits : ℕ
   pub absorb : ℕ
   pub squeeze : ℕ
-
-abbrev pub pair_of : {F PF : Type 0} → Residues F → Residues PF → ℕ → ℕ → ℕ → FieldPair F PF
-pair_of inner outer bits absorb squeeze =
-    record { inner = inner; outer = outer; bits = bits; absorb = absorb; squeeze = squeeze }
 
 -- what is observed at once: a scalar, or a digest with all its words
 pub data Symbol (F PF : Type 0) : Type 0 where

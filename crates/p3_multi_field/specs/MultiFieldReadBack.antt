@@ -1,8 +1,8 @@
 -- What a multi-field challenger permutes tells which scalars it observed, where it observes scalars alone.
 use Rattle.std.specs.Prelude.{ℕ, List, map}
 use Rattle.p3_challenger_core.specs.Segments.{Call, observe, observe_empty_array, draw, Run, run_calls}
-use Rattle.p3_read_back.specs.Queries as queries
 use Rattle.p3_multi_field.specs.MultiFieldCalls.{FieldPair, Symbol, scalar, MultiFieldSponge, multi_field_by_calls}
+use Rattle.p3_read_back.specs.Queries as queries
 
 -- a call with a scalar as one with a symbol
 abbrev pub scalar_call : {F PF : Type 0} → Call F → Call (Symbol F PF)

@@ -2,10 +2,9 @@
 -- function of whole segments.
 use Rattle.std.specs.Prelude.{ℕ, zero, suc, ◌+◌, ◌-◌, ◌/◌, List, [], ◌∷◌, length, take, drop}
 use Rattle.p3_challenger_core.specs.Segments.{stays, run_before, BySegments}
-use Rattle.p3_sponge.specs.Cells.{overwritten}
-use Rattle.p3_sponge.specs.SpongeCalls.{SpongeRule, SpongeRun, emptied, run_end}
 use Rattle.p3_sponge.specs.SpongeSegments.{run_values, opened, run_draws, opened_cells}
 use Rattle.p3_multi_field.specs.MultiFieldCalls.{FieldPair, Symbol, scalar, digest, MultiFieldSponge, scalars_rule}
+use Rattle.p3_sponge.specs.{Cells.overwritten, SpongeCalls.{SpongeRule, SpongeRun, emptied, run_end}}
 
 -- ---- the symbols of a segment
 
@@ -19,17 +18,12 @@ pub record Stretches (F PF : Type 0) : Type 0 where
   pub scalars : List F
   pub digests : List (Stretch F PF)
 
-abbrev pub scalar_before : {F PF : Type 0} → F → Stretches F PF → Stretches F PF
-scalar_before x cut = record cut { scalars = x ∷ cut.scalars }
-
-abbrev pub digest_before : {F PF : Type 0} → List PF → Stretches F PF → Stretches F PF
-digest_before words cut =
-    record { scalars = []; digests = record { words = words; scalars = cut.scalars } ∷ cut.digests }
-
 abbrev pub stretches : {F PF : Type 0} → List (Symbol F PF) → Stretches F PF
 stretches [] = record { scalars = []; digests = [] }
-stretches (scalar x ∷ symbols) = scalar_before x (stretches symbols)
-stretches (digest words ∷ symbols) = digest_before words (stretches symbols)
+stretches (scalar x ∷ symbols) = let cut = stretches symbols in record cut { scalars = x ∷ cut.scalars }
+stretches (digest words ∷ symbols) =
+    let cut = stretches symbols in
+    record { scalars = []; digests = record { words = words; scalars = cut.scalars } ∷ cut.digests }
 
 -- how many blocks of a size values fill, the last one perhaps in part
 abbrev pub block_count : ℕ → ℕ → ℕ

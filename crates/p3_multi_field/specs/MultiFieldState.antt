@@ -1,14 +1,15 @@
 -- A multi-field challenger as contracts see it.
-use Rattle.std.specs.Prelude.{◌≡◌, ℕ, ◌<◌, ◌≤◌, ◌*◌, List, take}
-use Rattle.p3_challenger_core.specs.Observation.{observed_all}
-use Rattle.p3_challenger_core.specs.Segments.{Call, Run, run_calls}
+use Rattle.std.specs.{Prelude.{◌≡◌, ℕ, ◌<◌, ◌≤◌, ◌*◌, List, ◌++◌, take, map, replicate}, List.{All, range_with_len}}
+use Rattle.p3_challenger_core.specs.{Observation.observed_all, Segments.{run_segments, run_segments_to_digest}}
+use Rattle.p3_challenger_core.specs.Segments.{Call, observe, draw, segments, Run, run_calls, run_calls_to_digest}
 use Rattle.p3_challenger_core.specs.Sponge.{after_steps}
-use Rattle.p3_sponge.specs.Drawing as in_order
-use Rattle.p3_sponge.specs.SpongeCalls as sponge
-use Rattle.p3_sponge.specs.SpongeCalls.{SpongeRule}
-use Rattle.p3_multi_field.specs.MultiFieldCalls as calls
+use Rattle.p3_sponge.specs.{Outputs.output_at, SpongeSegments.outputs_of, SpongeCalls.SpongeRule}
 use Rattle.p3_multi_field.specs.MultiFieldCalls.{FieldPair, Symbol, MultiFieldSponge, scalars_rule}
 use Rattle.p3_multi_field.specs.MultiFieldCalls.{multi_field_by_calls}
+use Rattle.p3_multi_field.specs.MultiFieldSegments.{absorbed_cells, multi_field_by_segments}
+use Rattle.p3_sponge.specs.Drawing as in_order
+use Rattle.p3_sponge.specs.SpongeCalls as sponge
+use Rattle.p3_multi_field.specs.MultiFieldCalls as calls
 
 -- What a challenger keeps of its numbers: the rate is some cells but not all of them; the order of the scalars is
 -- below that of the cells; a cell packs some scalars and gives some digits; the rate packs at most 255 scalars, and
@@ -24,6 +25,10 @@ pub record KeepsNumbers (width rate order greater absorb squeeze scalars outputs
   pub left : outputs_left ≤ rate * squeeze
   pub none_left : 0 < scalars → outputs_left ≡ 0
 
+-- values in order, each observed as another value
+abbrev pub each_observed : {S T X : Type 0} → (X → T) → (S → T → S) → S → List X → S
+each_observed value_of observed s xs = observed_all (λ u x. observed u (value_of x)) s xs
+
 -- its sponge, and the permutation, which stays
 pub record MultiFieldState (F PF P : Type 0) : Type 0 where
   pub sponge : MultiFieldSponge F PF
@@ -31,7 +36,7 @@ pub record MultiFieldState (F PF P : Type 0) : Type 0 where
 
 module _ {F PF P : Type 0} (pair : FieldPair F PF) (permute : P → List PF → List PF) (rate : ℕ) where
   -- how scalars are absorbed and digits drawn, under the function that each permutation is
-  abbrev rule : MultiFieldState F PF P → SpongeRule (List PF) F
+  abbrev pub rule : MultiFieldState F PF P → SpongeRule (List PF) F
   rule c = scalars_rule pair (permute c.permutation) rate
 
   -- each step
@@ -56,10 +61,6 @@ module _ {F PF P : Type 0} (pair : FieldPair F PF) (permute : P → List PF → 
   abbrev pub scalars_observed : MultiFieldState F PF P → List F → MultiFieldState F PF P
   scalars_observed c xs = observed_all scalar_observed c xs
 
-  -- digests, observed in order
-  abbrev pub digests_observed : MultiFieldState F PF P → List (List PF) → MultiFieldState F PF P
-  digests_observed c digests = observed_all digest_observed c digests
-
   abbrev pub sampled : MultiFieldState F PF P → F
   sampled c = sponge.sampled (rule c) c.sponge
 
@@ -82,6 +83,31 @@ module _ {F PF P : Type 0} (pair : FieldPair F PF) (permute : P → List PF → 
   abbrev pub run : MultiFieldState F PF P → List (Call (Symbol F PF)) → Run F (List PF) (MultiFieldSponge F PF)
   run c calls = run_calls (multi_field_by_calls pair (permute c.permutation) rate) c.sponge calls
 
+  -- what calls that end in a digest do
+  abbrev pub run_to_digest : MultiFieldState F PF P → List (Call (Symbol F PF)) → Run F (List PF) (List PF)
+  run_to_digest c calls = run_calls_to_digest (multi_field_by_calls pair (permute c.permutation) rate) c.sponge calls
+
+  -- the same over the segments of the calls
+  abbrev pub run_by_segments : MultiFieldState F PF P → List (Call (Symbol F PF)) → Run F (List PF) (MultiFieldSponge F PF)
+  run_by_segments c calls =
+      run_segments (multi_field_by_segments pair (permute c.permutation) rate) c.sponge (segments calls)
+
+  abbrev pub run_by_segments_to_digest : MultiFieldState F PF P → List (Call (Symbol F PF)) → Run F (List PF) (List PF)
+  run_by_segments_to_digest c calls =
+      run_segments_to_digest (multi_field_by_segments pair (permute c.permutation) rate) c.sponge (segments calls)
+
   -- the challenger after calls
   abbrev pub after_calls : MultiFieldState F PF P → List (Call (Symbol F PF)) → MultiFieldState F PF P
   after_calls c calls = record c { sponge = (run c calls).after }
+
+  -- what a value does to each challenger is what calls do
+  abbrev pub ActsAsCalls : {X : Type 0} → (MultiFieldState F PF P → X → MultiFieldState F PF P)
+      → (X → List (Call (Symbol F PF))) → Type 0
+  ActsAsCalls {X} act calls = (c : MultiFieldState F PF P) (x : X) → act c x ≡ after_calls c (calls x)
+
+  -- each draw after symbols answers its output, counted from the cells that they leave when they are all absorbed
+  abbrev pub DrawsHavePlaces : MultiFieldState F PF P → List (Symbol F PF) → ℕ → Type 0
+  DrawsHavePlaces c symbols n =
+      let cells = absorbed_cells pair (permute c.permutation) rate c.sponge symbols in
+      (run c (map observe symbols ++ replicate n draw)).answers
+      ≡ map (output_at (outputs_of (rule c)) cells) (range_with_len 0 n)

@@ -1,13 +1,12 @@
 -- Laws of a multi-field challenger call by call.
-use Rattle.std.proofs.Common.{◌≡◌, ℕ, List, [], ◌∷◌, ◌++◌, ◌∙◌, refl, map}
-use Rattle.std.specs.List.{flat_map}
-use Rattle.p3_challenger_core.specs.Observation as observation
+use Rattle.std.{proofs.Common.{◌≡◌, ℕ, List, [], ◌∷◌, ◌++◌, ◌∙◌, refl, map}, specs.List.flat_map}
 use Rattle.p3_challenger_core.specs.Observation.{IsObservation, observed_all}
 use Rattle.p3_challenger_core.specs.ObservationLaws.{unrefused_observe-is_observation}
 use Rattle.p3_sponge.specs.SpongeListLaws.{observed_all-append}
 use Rattle.p3_multi_field.specs.MultiFieldCalls.{FieldPair, Symbol, scalar, digest}
 use Rattle.p3_multi_field.specs.MultiFieldState.{MultiFieldState, fed, observed, scalar_observed, scalars_observed}
-use Rattle.p3_multi_field.specs.MultiFieldState.{digests_observed}
+use Rattle.p3_multi_field.specs.MultiFieldState.{digest_observed, each_observed}
+use Rattle.p3_challenger_core.specs.Observation as observation
 
 module _ {F PF P : Type 0} (pair : FieldPair F PF) (permute : P → List PF → List PF) (rate : ℕ) where
   pub fed-append : (c : MultiFieldState F PF P) (xs ys : List (Symbol F PF))
@@ -27,13 +26,13 @@ module _ {F PF P : Type 0} (pair : FieldPair F PF) (permute : P → List PF → 
 
   -- and so are digests
   pub digests-fed : (c : MultiFieldState F PF P) (digests : List (List PF))
-      → digests_observed pair permute rate c digests ≡ fed pair permute rate c (map digest digests)
+      → observed_all (digest_observed pair permute rate) c digests ≡ fed pair permute rate c (map digest digests)
   digests-fed c [] = refl
   digests-fed c (words ∷ others) = digests-fed (observed pair permute rate c (digest words)) others
 
   -- lists of scalars, observed one after another, are fed as all their scalars
   pub lists-fed : {X : Type 0} (items : X → List F) (c : MultiFieldState F PF P) (xs : List X)
-      → observed_all (λ u x. scalars_observed pair permute rate u (items x)) c xs
+      → each_observed items (scalars_observed pair permute rate) c xs
       ≡ fed pair permute rate c (flat_map (λ x. map scalar (items x)) xs)
   lists-fed items c [] = refl
   lists-fed items c (x ∷ xs) =

@@ -13,8 +13,11 @@ pub trait HasFieldPair<F> {
 }
 
 impl<F: PrimeField64, PF: PrimeField64 + FieldBridge<F, PF>> HasFieldPair<F> for PF {
-    ghost use Rattle.p3_multi_field.specs.MultiFieldCalls.{pair_of};
-
-    ghost field_pair = { pair_of F.residues PF.residues
-        PF.RADIX_BITS PF.ABSORB_COUNT PF.SQUEEZE_COUNT };
+    ghost field_pair = { record {
+      inner = F.residues;
+      outer = PF.residues;
+      bits = PF.RADIX_BITS;
+      absorb = PF.ABSORB_COUNT;
+      squeeze = PF.SQUEEZE_COUNT;
+    } };
 }

@@ -11,15 +11,13 @@
 //! ```
 //!
 //! A digest of cells is absorbed at once: its words are written over the rate, and their number is added.
-ghost use Rattle.std.specs.Prelude.{◌≡◌, ◌*◌, ◌<◌, ◌≤◌, ◌+◌, ℕ, List, [], IfOk, IfErr, length, take};
-ghost use Rattle.std.specs.List.{All};
-ghost use Rattle.p3_multi_field.specs.MultiFieldCalls.{fresh, queued};
-ghost use Rattle.p3_challenger_core.specs.Segments.{Call, segments, run_calls, run_calls_to_digest};
-ghost use Rattle.p3_challenger_core.specs.Segments.{run_segments, run_segments_to_digest};
-ghost use Rattle.p3_multi_field.specs.MultiFieldCalls.{Symbol, multi_field_by_calls};
-ghost use Rattle.p3_multi_field.specs.MultiFieldReadBack.{ReadsBack};
-ghost use Rattle.p3_multi_field.specs.MultiFieldSegments.{multi_field_by_segments};
-ghost use Rattle.p3_multi_field.specs.Refusals.{MakeChallenger, Refuses};
+ghost use Rattle.std.specs.Prelude.{◌≡◌, ◌*◌, ◌<◌, ◌≤◌, ◌+◌, List, [], IfOk, IfErr, length, take};
+ghost use Rattle.p3_multi_field.specs.{MultiFieldCalls.{fresh, queued, Symbol}, MultiFieldReadBack.ReadsBack};
+ghost use Rattle.p3_multi_field.specs.MultiFieldState.{duplexed, scalar_observed, scalars_observed, sampled};
+ghost use Rattle.p3_multi_field.specs.MultiFieldState.{after_sampled, run, run_to_digest, run_by_segments};
+ghost use Rattle.p3_multi_field.specs.{MultiFieldState.run_by_segments_to_digest, Refusals.{MakeChallenger, Refuses}};
+ghost use Rattle.p3_sponge.specs.CallPromises.{QueriesDecide};
+ghost use Rattle.p3_challenger_core.specs.Segments.{Call};
 
 mod bits;
 mod calls;
@@ -147,15 +145,14 @@ impl<
         ensures made { IfOk result (λ _.
             MakeChallenger F.residues.order PF.residues.order (PF.ABSORB_COUNT * RATE)) }
         ensures fresh { IfOk result (λ c. c ≡ record {
-          sponge = fresh ⟦<PF as HasFieldPair<F>>⟧.field_pair WIDTH;
           permutation = permutation;
+          sponge = fresh ⟦<PF as HasFieldPair<F>>⟧.field_pair WIDTH;
         }) }
-        ensures reads_back { PF.ABSORB_COUNT * RATE < PF.residues.order → IfOk result (λ c.
-            ReadsBack ⟦<PF as HasFieldPair<F>>⟧.field_pair (P.permutation permutation) RATE
-            c.sponge) }
-        ensures refused { IfErr result (λ e.
-            Refuses F.residues.order PF.residues.order (PF.ABSORB_COUNT * RATE)
-            F.name_bytes PF.name_bytes e) }
+        ensures reads_back { PF.ABSORB_COUNT * RATE < PF.residues.order →
+            IfOk result (λ c. ReadsBack ⟦<PF as HasFieldPair<F>>⟧.field_pair
+            (P.permutation permutation) RATE c.sponge) }
+        ensures refused { IfErr result (λ e. Refuses F.residues.order PF.residues.order
+            (PF.ABSORB_COUNT * RATE) F.name_bytes PF.name_bytes e) }
     {
         if F::ORDER_U64 >= PF::ORDER_U64 {
             return Err(MultiField32ChallengerError::FieldOrderNotIncreasing {
@@ -187,8 +184,6 @@ impl<
     const WIDTH: usize,
     const RATE: usize,
 > MultiField32Challenger<F, PF, P, WIDTH, RATE> {
-    ghost use Rattle.p3_multi_field.specs.MultiFieldState as multi_state;
-
     /// The segments of calls, whole: from this challenger on, every list of calls gives the answers,
     /// makes the queries to the permutation, and leaves the sponge, that its segments name; and so
     /// do calls that end in a digest. No state is left out: a permutation that gives the same on those
@@ -197,32 +192,19 @@ impl<
     /// A law: the body does nothing, and a caller cites the clauses.
     pub fn follows_segments(&self)
         ensures calls { (calls : List (Call (Symbol F PF))) →
-            let pair = ⟦<PF as HasFieldPair<F>>⟧.field_pair in
-            let permute = P.permutation self.now.permutation in
-            run_calls (multi_field_by_calls pair permute RATE) self.now.sponge calls
-            ≡ run_segments (multi_field_by_segments pair permute RATE) self.now.sponge
-            (segments calls) }
+            run ⟦<PF as HasFieldPair<F>>⟧.field_pair P.permutation RATE self.now calls
+            ≡ run_by_segments
+            ⟦<PF as HasFieldPair<F>>⟧.field_pair P.permutation RATE self.now calls }
         ensures digest { (calls : List (Call (Symbol F PF))) →
-            let pair = ⟦<PF as HasFieldPair<F>>⟧.field_pair in
-            let permute = P.permutation self.now.permutation in
-            run_calls_to_digest (multi_field_by_calls pair permute RATE) self.now.sponge calls
-            ≡ run_segments_to_digest (multi_field_by_segments pair permute RATE) self.now.sponge
-            (segments calls) }
-        ensures queries { (calls : List (Call (Symbol F PF))) (other : List PF → List PF) →
-            let pair = ⟦<PF as HasFieldPair<F>>⟧.field_pair in
-            let permute = P.permutation self.now.permutation in
-            let run = run_calls (multi_field_by_calls pair permute RATE) self.now.sponge calls in
-            All (λ state. other state ≡ permute state) run.queries
-            → run_calls (multi_field_by_calls pair other RATE) self.now.sponge calls ≡ run }
-        ensures queries_to_digest { (calls : List (Call (Symbol F PF)))
-            (other : List PF → List PF) →
-            let pair = ⟦<PF as HasFieldPair<F>>⟧.field_pair in
-            let permute = P.permutation self.now.permutation in
-            let by_calls = multi_field_by_calls pair permute RATE in
-            let run = run_calls_to_digest by_calls self.now.sponge calls in
-            All (λ state. other state ≡ permute state) run.queries
-            → run_calls_to_digest (multi_field_by_calls pair other RATE) self.now.sponge calls
-            ≡ run }
+            run_to_digest ⟦<PF as HasFieldPair<F>>⟧.field_pair P.permutation RATE self.now calls
+            ≡ run_by_segments_to_digest
+            ⟦<PF as HasFieldPair<F>>⟧.field_pair P.permutation RATE self.now calls }
+        ensures queries { (calls : List (Call (Symbol F PF))) → QueriesDecide
+            (P.permutation self.now.permutation) (λ permute.
+            run ⟦<PF as HasFieldPair<F>>⟧.field_pair (λ _. permute) RATE self.now calls) }
+        ensures queries_to_digest { (calls : List (Call (Symbol F PF))) → QueriesDecide
+            (P.permutation self.now.permutation) (λ permute. run_to_digest
+            ⟦<PF as HasFieldPair<F>>⟧.field_pair (λ _. permute) RATE self.now calls) }
     {
         let _ = &self.outputs_left;
     }
@@ -310,8 +292,8 @@ impl<
 
     // Absorbs what is pending, or only permutes where nothing is. All outputs are left.
     fn duplex(&mut self)
-        ensures { self.new ≡ multi_state.duplexed
-            ⟦<PF as HasFieldPair<F>>⟧.field_pair P.permutation RATE self.old }
+        ensures { self.new
+            ≡ duplexed ⟦<PF as HasFieldPair<F>>⟧.field_pair P.permutation RATE self.old }
     {
         let row_len = self.row_len();
         absorb::<F, PF, P, WIDTH, RATE>(
@@ -325,10 +307,10 @@ impl<
 
     // Draws a scalar: the last output left, after a permutation where none is.
     fn draw(&mut self) -> F
-        ensures value { result ≡ multi_state.sampled
-            ⟦<PF as HasFieldPair<F>>⟧.field_pair P.permutation RATE self.old }
-        ensures after { self.new ≡ multi_state.after_sampled
-            ⟦<PF as HasFieldPair<F>>⟧.field_pair P.permutation RATE self.old }
+        ensures value { result
+            ≡ sampled ⟦<PF as HasFieldPair<F>>⟧.field_pair P.permutation RATE self.old }
+        ensures after { self.new
+            ≡ after_sampled ⟦<PF as HasFieldPair<F>>⟧.field_pair P.permutation RATE self.old }
     {
         if self.outputs_left == 0 {
             self.duplex();
@@ -348,8 +330,7 @@ impl<
     // Makes scalars pending that the rate packs with what is pending, and absorbs them all if it packs no more.
     fn push_within(&mut self, values: &[F])
         requires { length self.old.sponge.pending + length values.now ≤ PF.ABSORB_COUNT * RATE }
-        ensures fed { self.new
-            ≡ multi_state.scalars_observed
+        ensures fed { self.new ≡ scalars_observed
             ⟦<PF as HasFieldPair<F>>⟧.field_pair P.permutation RATE self.old values.now }
         ensures full { length self.old.sponge.pending + length values.now ≡ PF.ABSORB_COUNT * RATE
             → self.new.sponge.pending ≡ [] }
@@ -377,7 +358,7 @@ impl<
 
     // Makes a scalar pending, and absorbs what is pending if the rate packs no more.
     fn push(&mut self, value: F)
-        ensures { self.new ≡ multi_state.scalar_observed
+        ensures { self.new ≡ scalar_observed
             ⟦<PF as HasFieldPair<F>>⟧.field_pair P.permutation RATE self.old value }
     {
         prove!(self.room() > 0);
@@ -388,8 +369,7 @@ impl<
     fn absorb_batch(&mut self, batch: &[F])
         requires none { self.old.sponge.pending ≡ [] }
         requires whole { length batch.now ≡ PF.ABSORB_COUNT * RATE }
-        ensures fed { self.new
-            ≡ multi_state.scalars_observed
+        ensures fed { self.new ≡ scalars_observed
             ⟦<PF as HasFieldPair<F>>⟧.field_pair P.permutation RATE self.old batch.now }
         ensures none_left { self.new.sponge.pending ≡ [] }
     {
@@ -402,8 +382,7 @@ impl<
     // Makes scalars pending in order, and absorbs each batch that they fill. The first scalars fill up what is
     // pending, and the batches after them are not copied into it.
     pub(crate) fn push_all(&mut self, values: &[F])
-        ensures { self.new
-            ≡ multi_state.scalars_observed
+        ensures { self.new ≡ scalars_observed
             ⟦<PF as HasFieldPair<F>>⟧.field_pair P.permutation RATE self.old values.now }
     {
         let batch_len = self.batch_len();

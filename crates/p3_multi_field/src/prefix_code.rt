@@ -1,5 +1,5 @@
 //! What a multi-field challenger feeds is a prefix code: the premises of the laws on symbols.
-ghost use Rattle.std.specs.Prelude.{◌≡◌, List, length};
+ghost use Rattle.std.specs.Prelude.{◌≡◌, length};
 ghost use Rattle.p3_challenger_core.specs.Reading.{IsPrefixCode, IsPrefixCodeOn};
 
 use crate::MultiField32Challenger;

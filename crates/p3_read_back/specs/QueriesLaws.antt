@@ -1,7 +1,6 @@
 -- Lemmas on what is read back.
 use Rattle.std.proofs.Common.{◌≡◌, ℕ, suc, ◌⊎◌, inl, inr, List, [], ◌∷◌, ◌++◌, length, refl, ap, ap₂}
-use Rattle.std.proofs.Common.{length-append, arith}
-use Rattle.std.proofs.lemmas.Bool.Decides.{eqb_tells}
+use Rattle.std.proofs.{Common.{length-append, arith}, lemmas.Bool.Decides.eqb_tells}
 use Rattle.p3_read_back.specs.Queries.{CollideAtSomePlace, Decides}
 
 -- of two numbers it can be decided, and so of two bytes

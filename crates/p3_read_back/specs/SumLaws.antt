@@ -1,10 +1,7 @@
 -- A count that is added to an element is told by the sum, where it is below the order.
 use Rattle.std.proofs.Common.{◌≡◌, ℕ, ◌<◌, ◌≤◌, ◌+◌, ◌-◌, ◌%◌, ◌⊎◌, inl, inr, sym, ap, ◌∙◌, add-zero, arith}
-use Rattle.std.proofs.Math.Nat.{add-mod_left, mod-eq_of_lt}
-use Rattle.std.proofs.lemmas.Bool.{cases_lt}
-use Rattle.std.proofs.lemmas.Bool.Decides.{eqb_tells}
-use Rattle.p3_field_core.specs.Residues.{Residues, IsResidues, plus}
-use Rattle.p3_field_core.specs.ResidueLaws.{number_of-below, number-injective}
+use Rattle.std.proofs.{Math.Nat.{add-mod_left, mod-eq_of_lt}, lemmas.Bool.cases_lt, lemmas.Bool.Decides.eqb_tells}
+use Rattle.p3_field_core.specs.{Residues.{Residues, IsResidues, plus}, ResidueLaws.{number_of-below, number-injective}}
 use Rattle.p3_read_back.specs.Queries.{Decides}
 
 -- the remainder of a number below two moduli

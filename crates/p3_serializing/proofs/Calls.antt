@@ -1,15 +1,12 @@
 -- What methods are as calls on the inner challenger, and a check as calls of a list.
 use Rattle.std.proofs.Common.{◌≡◌, ℕ, zero, suc, ◌==◌, List, [], ◌∷◌, ◌++◌, Option, Some, None, IsSome, is_some, refl}
-use Rattle.std.proofs.Common.{ap, ◌∙◌, option_and_then, if◌then◌else◌, sym}
-use Rattle.std.specs.List.{flat_map}
 use Rattle.std.specs.Option.{option_map}
 use Rattle.p3_field_core.specs.Coefficients.{element_of_one}
-use Rattle.p3_challenger_core.specs.Observation.{observed_all}
-use Rattle.p3_challenger_core.specs.Sampling.{Sampling, draws, after_draws, made_of}
-use Rattle.p3_challenger_core.specs.Sampling as sampling
-use Rattle.p3_serializing.specs.SerializingState.{SerializingState, after_bytes}
-use Rattle.p3_serializing.specs.SerializingGroups.{Answer, bits}
 use Rattle.p3_serializing.proofs.ReadingGroups.{single-sampled, single-after}
+use Rattle.std.{proofs.Common.{ap, ◌∙◌, option_and_then, if◌then◌else◌, sym}, specs.List.flat_map}
+use Rattle.p3_challenger_core.specs.{Observation.observed_all, Sampling.{Sampling, draws, after_draws, made_of}}
+use Rattle.p3_serializing.specs.{SerializingState.{SerializingState, after_bytes}, SerializingGroups.{Answer, bits}}
+use Rattle.p3_challenger_core.specs.Sampling as sampling
 
 -- ---- bytes
 

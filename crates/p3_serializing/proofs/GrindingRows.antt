@@ -1,17 +1,13 @@
 -- Worked rows of proof of work, computed on the definitions.
 use Rattle.std.proofs.Common.{◌≡◌, ℕ, ◌+◌, ◌%◌, Bool, true, false, [], ◌∷◌, map, sum, Some, refl}
 use Rattle.std.specs.List.{range_with_len}
-use Rattle.p3_challenger_core.specs.Bits.{greatest_below}
-use Rattle.p3_challenger_core.specs.Sampling.{Sampling, unrefused_draw, draws, after_draws}
-use Rattle.p3_hash_challenger.specs.HashCalls.{HashFunction}
-use Rattle.p3_hash_challenger.specs.HashState as hash_state
-use Rattle.p3_hash_challenger.specs.HashState.{HashState}
-use Rattle.p3_grinding.specs.Candidates.{first_accepted}
-use Rattle.p3_grinding.specs.Checks.{NonePasses}
-use Rattle.p3_serializing.specs.Bytes.{bytes_of, number_of}
-use Rattle.p3_serializing.specs.SerializingState.{element_drawn}
+use Rattle.p3_hash_challenger.specs.{HashCalls.HashFunction, HashState.HashState}
+use Rattle.p3_grinding.specs.{Candidates.first_accepted, Checks.NonePasses}
 use Rattle.p3_serializing.specs.SerializingGrinding.{serializing_check}
 use Rattle.p3_serializing.proofs.WorkedRows.{State, over, numbers, observed, drawn}
+use Rattle.p3_challenger_core.specs.{Bits.greatest_below, Sampling.{Sampling, unrefused_draw, draws, after_draws}}
+use Rattle.p3_serializing.specs.{Bytes.{bytes_of, number_of}, SerializingState.element_drawn}
+use Rattle.p3_hash_challenger.specs.HashState as hash_state
 
 -- ---- digests of the length
 

@@ -1,16 +1,13 @@
 -- When a draw of an element meets the draw limit, where the inner challenger always gives a byte.
-use Rattle.std.proofs.Common.{◌≡◌, ℕ, zero, suc, ◌%◌, ◌^◌, nat_lt, Option, Some, None}
+use Rattle.std.{proofs.Common.{◌≡◌, ℕ, zero, suc, ◌%◌, ◌^◌, nat_lt, Option, Some, None}, specs.Option.option_map}
 use Rattle.std.proofs.Common.{IsSome, is_some, sym, ap, ◌∙◌, inl, inr}
-use Rattle.std.specs.Option.{option_map}
-use Rattle.p3_field_core.specs.Residues.{Residues}
-use Rattle.p3_field_core.specs.Coefficients.{element_of_one}
+use Rattle.p3_field_core.specs.{Residues.Residues, Coefficients.element_of_one}
 use Rattle.p3_challenger_core.specs.Sampling.{Sampling, IsSampling, SomeDraw}
-use Rattle.p3_grinding.specs.Candidates.{EachRefused, MeetsLimitExactly}
-use Rattle.p3_grinding.specs.CandidateLaws.{limit-met_exactly}
 use Rattle.p3_serializing.specs.SerializingState.{SerializingState, bits_of_order, low_bits_of_group, element_of_groups}
 use Rattle.p3_serializing.specs.SerializingState.{bits_drawn, element_drawn, space_element_drawn, groups_allowed}
 use Rattle.p3_serializing.specs.SerializingStateLaws.{stepped-steps}
 use Rattle.p3_serializing.proofs.ReadingGroups.{single-sampled, single-after, group-given}
+use Rattle.p3_grinding.specs.{Candidates.{EachRefused, MeetsLimitExactly}, CandidateLaws.limit-met_exactly}
 
 some-none : {T : Type 0} (o : Option T) → IsSome o → o ≡ None → ⊥
 some-none None some none = cc

@@ -1,22 +1,18 @@
 -- Calls on a serializing challenger, read off the groups of its inner challenger.
 use Rattle.std.proofs.Common.{◌≡◌, ℕ, zero, suc, ◌%◌, ◌^◌, Bool, true, false, List, [], ◌∷◌, ◌++◌, length, take, drop}
 use Rattle.std.proofs.Common.{replicate, nat_lt, Option, Some, None, IsSome, is_some, option_and_then, if◌then◌else◌}
-use Rattle.std.proofs.Common.{refl, sym, ap, ◌∙◌, subst}
-use Rattle.std.specs.Option.{option_map}
-use Rattle.p3_field_core.specs.Residues.{Residues}
-use Rattle.p3_field_core.specs.Coefficients.{element_of_one}
-use Rattle.p3_challenger_core.specs.Observation.{Observation, in_slice}
-use Rattle.p3_challenger_core.specs.Sampling.{Sampling, draws, after_draws}
+use Rattle.p3_field_core.specs.{Residues.Residues, Coefficients.element_of_one}
 use Rattle.p3_grinding.specs.Candidates.{after_refused, first_accepted, after_first_accepted}
+use Rattle.p3_grinding.specs.UniformDraws.{never_rejects}
 use Rattle.p3_serializing.specs.SerializingState.{SerializingState, bits_of_order, group, low_bits_of_group}
 use Rattle.p3_serializing.specs.SerializingState.{byte_dropped, element_observed, element_drawn, bits_drawn}
-use Rattle.p3_serializing.specs.SerializingState.{space_element_drawn}
 use Rattle.p3_serializing.specs.SerializingGroups.{SerializingCall, observe, draw, draw_bits, draw_uniform, drop_byte}
-use Rattle.p3_serializing.specs.SerializingGroups.{element, bits}
 use Rattle.p3_serializing.specs.SerializingGroups.{CallByCall, by_calls, AreRead, ByteCall, read, Reads}
-use Rattle.p3_serializing.specs.SerializingGroups.{answers_by_calls, after_calls}
 use Rattle.p3_serializing.specs.SerializingGroups.{taken, first_element, answers_off}
-use Rattle.p3_serializing.specs.SerializingGroups.{byte_calls}
+use Rattle.std.{proofs.Common.{refl, sym, ap, ◌∙◌, subst}, specs.Option.option_map}
+use Rattle.p3_challenger_core.specs.{Observation.{Observation, observed_all}, Sampling.{Sampling, draws, after_draws}}
+use Rattle.p3_serializing.specs.{SerializingState.space_element_drawn, SerializingGroups.{element, bits}}
+use Rattle.p3_serializing.specs.{SerializingGroups.{answers_by_calls, after_calls}, SerializingGroups.byte_calls}
 
 -- ---- a draw of the field is one base draw
 
@@ -176,40 +172,37 @@ module _ {I F : Type 0} (fed : I → List ℕ → I) (past_byte : I → I) (r : 
 
 module _ {I Symbol F : Type 0} (o : Observation I Symbol ℕ) (slice_may_leave : I → List ℕ → I → Type 0)
     (d : Sampling I ℕ) (gives : (i : I) → IsSome (d.sampled i)) (r : Residues F) (n : ℕ) (zero_element : F) where
-  abbrev by : CallByCall (SerializingState I) F
-  by = by_calls (element_observed o slice_may_leave r n).observed
-      (space_element_drawn d n r 1 (element_of_one zero_element)) (bits_drawn d n) (λ resample. bits_drawn d n)
-      (byte_dropped d).after
+  abbrev by : CallByCall (SerializingState I) Symbol F
+  by = by_calls (element_observed o slice_may_leave r n) (space_element_drawn d n r 1 (element_of_one zero_element))
+      (bits_drawn d n) (λ _ bits. never_rejects (bits_drawn d n bits)) (byte_dropped d)
 
   abbrev slice_fed : I → List ℕ → I
-  slice_fed = (in_slice o slice_may_leave).observed
+  slice_fed = observed_all o.observed
+
+  -- a draw of bits, and then other calls
+  bits-read : (k : ℕ) (calls : List (SerializingCall F)) (s : SerializingState I)
+      → (words : List ℕ) × AreRead o d r n by calls ((bits_drawn d n k).after s) words
+      → (words : List ℕ) × AreRead o d r n by (draw_bits k ∷ calls) s words
+  bits-read k calls s later =
+      let first = group-given d gives n s.inner in (
+        first.0 ∷ later.0,
+        record {
+          reads = (first.1, later.1.reads);
+          answers = λ j. bits (option_map (λ w. w % 2 ^ k) (first.1 j)) ∷ later.1.answers j;
+          limit = later.1.limit;
+        },
+      )
 
   pub calls-read : (calls : List (SerializingCall F)) (s : SerializingState I)
-      → (words : List ℕ) × AreRead slice_fed (group d n) d.after r n by calls s words
+      → (words : List ℕ) × AreRead o d r n by calls s words
   calls-read [] s = ([], record { reads = refl; answers = refl; limit = refl })
   calls-read (observe x ∷ calls) s =
       let later = calls-read calls ((element_observed o slice_may_leave r n).observed s x) in
       (later.0, record { reads = later.1.reads; answers = later.1.answers; limit = later.1.limit })
-  calls-read (draw_bits k ∷ calls) s =
-      let first = group-given d gives n s.inner in
-      let later = calls-read calls ((bits_drawn d n k).after s) in (
-        first.0 ∷ later.0,
-        record {
-          reads = (first.1, later.1.reads);
-          answers = λ j. bits (option_map (λ w. w % 2 ^ k) (first.1 j)) ∷ later.1.answers j;
-          limit = later.1.limit;
-        },
-      )
+  calls-read (draw_bits k ∷ calls) s = bits-read k calls s (calls-read calls ((bits_drawn d n k).after s))
   calls-read (draw_uniform resample k ∷ calls) s =
-      let first = group-given d gives n s.inner in
-      let later = calls-read calls ((bits_drawn d n k).after s) in (
-        first.0 ∷ later.0,
-        record {
-          reads = (first.1, later.1.reads);
-          answers = λ j. bits (option_map (λ w. w % 2 ^ k) (first.1 j)) ∷ later.1.answers j;
-          limit = later.1.limit;
-        },
-      )
+      let read = bits-read k calls s (calls-read calls ((bits_drawn d n k).after s)) in
+      (read.0, record { reads = read.1.reads; answers = read.1.answers; limit = read.1.limit })
   calls-read (drop_byte ∷ calls) s =
       let later = calls-read calls ((byte_dropped d).after s) in
       (later.0, record { reads = later.1.reads; answers = later.1.answers; limit = later.1.limit })

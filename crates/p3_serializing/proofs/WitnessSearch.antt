@@ -1,21 +1,16 @@
 -- A search for the least witness, by one for the first candidate of bytes.
 use Rattle.std.proofs.Common.{◌≡◌, ℕ, ◌==◌, ◌%◌, ◌^◌, ◌<◌, Bool, true, List, Option, Some, None, refl, sym, subst, ◌∙◌}
-use Rattle.std.proofs.Common.{inl, inr, arith, rules}
-use Rattle.std.specs.Option.{option_map}
-use Rattle.p3_field_core.specs.Residues.{Residues, IsResidues}
-use Rattle.p3_field_core.specs.ResidueLaws.{number_of-below}
 use Rattle.p3_challenger_core.specs.Observation.{Observation, RefusesObserve, in_slice, observed_all}
 use Rattle.p3_challenger_core.specs.Sampling.{Sampling, IsSampling, RefusesDraw, draws, in_row}
 use Rattle.p3_challenger_core.specs.declared.error.ChallengerError.{ChallengerError}
-use Rattle.p3_challenger_core.specs.declared.error.ChallengerError.TheVariants.{OutOfMemory, DrawLimit, NoWitness}
-use Rattle.p3_challenger_core.specs.declared.error.ChallengerError.TheVariants.{TooLong}
+use Rattle.p3_challenger_core.specs.declared.error.ChallengerError.TheVariants.{OutOfMemory, DrawLimit}
 use Rattle.p3_grinding.specs.Checks.{all_zero, draws_nothing, checked, byte_check, IsFirst, NoneOf, IsLeast, NonePasses}
-use Rattle.p3_grinding.specs.Checks.{MayRunOut, RefusesSearch}
-use Rattle.p3_grinding.specs.CheckLaws.{checked-limit, all_zero-limit}
-use Rattle.p3_serializing.specs.Bytes.{number_of}
-use Rattle.p3_serializing.specs.SerializingGrinding.{witness_bytes, low_bits_zero}
 use Rattle.p3_serializing.specs.SerializingState.{SerializingState, element_observed, bits_drawn}
 use Rattle.p3_serializing.specs.SerializingStateLaws.{bits-drawn}
+use Rattle.std.{proofs.Common.{inl, inr, arith, rules}, specs.Option.option_map}
+use Rattle.p3_field_core.specs.{Residues.{Residues, IsResidues}, ResidueLaws.number_of-below}
+use Rattle.p3_grinding.specs.{Checks.{MayRunOut, RefusesSearch}, CheckLaws.{checked-limit, all_zero-limit}}
+use Rattle.p3_serializing.specs.{Bytes.number_of, SerializingGrinding.{witness_bytes, low_bits_zero}}
 
 none_not_some : None ≡ Some true → ⊥
 none_not_some e = search (rules, e)
@@ -77,9 +72,7 @@ module _ {I Symbol F : Type 0} (o : Observation I Symbol ℕ) (slice_may_leave :
         → RefusesObserve ((element_observed o slice_may_leave r n).may_leave s witness) e t
         → RefusesSearch r (MayRunOut clones_may_fail ready_check) ready_check e s s
     observe-refused witness OutOfMemory t h = (inr (witness, t, inr (refl, inl h)), refl)
-    observe-refused witness DrawLimit t h = absurd h
-    observe-refused witness NoWitness t h = absurd h
-    observe-refused witness TooLong t h = absurd h
+    observe-refused witness _ t h = absurd h
 
     -- the draw after it is, which has met no limit before
     pub draw-refused : (next : I → I) → IsSampling next d → (witness : F) (e : ChallengerError)
@@ -94,5 +87,4 @@ module _ {I Symbol F : Type 0} (o : Observation I Symbol ℕ) (slice_may_leave :
         (all_zero-limit (bits_drawn d n bits) (bits-drawn next d laws n bits).limit_gives_none) witness s
         (inr (refl, subst (λ v. (bits_drawn d n bits).meets_limit v) is h.0)) in
         absurd (none_not_some (sym limit ∙ passes))
-    draw-refused next laws witness NoWitness u t is passes h = absurd h
-    draw-refused next laws witness TooLong u t is passes h = absurd h
+    draw-refused next laws witness _ u t is passes h = absurd h

@@ -1,9 +1,8 @@
 -- Laws of numbers as bytes.
 use Rattle.std.proofs.Common.{◌≡◌, ℕ, zero, suc, ◌<◌, ◌≤◌, ◌/◌, ◌%◌, ◌^◌, List, [], ◌∷◌, length, refl, sym, ap}
-use Rattle.std.proofs.Common.{◌∙◌, arith, pow-suc}
-use Rattle.std.proofs.Math.Nat.{div-one, div-div-eq-div-mul}
 use Rattle.std.specs.Int.{w32, w64, byte_at, bytes_low_first, to_le_bytes, from_le_bytes}
 use Rattle.p3_serializing.specs.Bytes.{bytes_of, number_of}
+use Rattle.std.proofs.{Common.{◌∙◌, arith, pow-suc}, Math.Nat.{div-one, div-div-eq-div-mul}}
 
 -- one byte further up
 next_byte : (i x : ℕ) → x / 256 ^ i / 256 ≡ x / 256 ^ suc i
@@ -52,24 +51,12 @@ bytes_of-injective (suc n) x y x_fits y_fits same =
 pub number_of_4 : (bytes : List ℕ) → length bytes ≡ 4 → from_le_bytes w32 bytes ≡ number_of bytes
 unfolding number_of
 number_of_4 (a ∷ b ∷ c ∷ d ∷ []) whole = omega arith
-number_of_4 [] whole = absurd (omega (arith, whole))
-number_of_4 (a ∷ []) whole = absurd (omega (arith, whole))
-number_of_4 (a ∷ b ∷ []) whole = absurd (omega (arith, whole))
-number_of_4 (a ∷ b ∷ c ∷ []) whole = absurd (omega (arith, whole))
-number_of_4 (a ∷ b ∷ c ∷ d ∷ e ∷ others) whole = absurd (omega (arith, whole))
+number_of_4 _ whole = absurd (omega (arith, whole))
 
 pub number_of_8 : (bytes : List ℕ) → length bytes ≡ 8 → from_le_bytes w64 bytes ≡ number_of bytes
 unfolding number_of
 number_of_8 (a ∷ b ∷ c ∷ d ∷ e ∷ f ∷ g ∷ h ∷ []) whole = omega arith
-number_of_8 [] whole = absurd (omega (arith, whole))
-number_of_8 (a ∷ []) whole = absurd (omega (arith, whole))
-number_of_8 (a ∷ b ∷ []) whole = absurd (omega (arith, whole))
-number_of_8 (a ∷ b ∷ c ∷ []) whole = absurd (omega (arith, whole))
-number_of_8 (a ∷ b ∷ c ∷ d ∷ []) whole = absurd (omega (arith, whole))
-number_of_8 (a ∷ b ∷ c ∷ d ∷ e ∷ []) whole = absurd (omega (arith, whole))
-number_of_8 (a ∷ b ∷ c ∷ d ∷ e ∷ f ∷ []) whole = absurd (omega (arith, whole))
-number_of_8 (a ∷ b ∷ c ∷ d ∷ e ∷ f ∷ g ∷ []) whole = absurd (omega (arith, whole))
-number_of_8 (a ∷ b ∷ c ∷ d ∷ e ∷ f ∷ g ∷ h ∷ i ∷ others) whole = absurd (omega (arith, whole))
+number_of_8 _ whole = absurd (omega (arith, whole))
 
 -- ---- the order of a field
 

@@ -1,8 +1,7 @@
 -- Proof of work on a serializing challenger.
 use Rattle.std.specs.Prelude.{ℕ, ◌==◌, ◌%◌, ◌^◌, Bool, List}
 use Rattle.p3_field_core.specs.Residues.{Residues}
-use Rattle.p3_challenger_core.specs.Observation.{Observation}
-use Rattle.p3_challenger_core.specs.Sampling.{Sampling}
+use Rattle.p3_challenger_core.specs.{Observation.Observation, Sampling.Sampling}
 use Rattle.p3_grinding.specs.Checks.{all_zero, check_of, MayRunOut}
 use Rattle.p3_serializing.specs.Bytes.{bytes_of, number_of}
 use Rattle.p3_serializing.specs.SerializingState.{SerializingState, element_observed, byte_dropped, bits_drawn}

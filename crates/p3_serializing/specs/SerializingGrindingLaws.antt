@@ -1,10 +1,8 @@
 -- Laws of proof of work on a serializing challenger.
 use Rattle.std.specs.Prelude.{ℕ, List}
 use Rattle.p3_field_core.specs.Residues.{Residues}
-use Rattle.p3_challenger_core.specs.declared.error.ChallengerError.{ChallengerError}
-use Rattle.p3_challenger_core.specs.declared.error.ChallengerError.TheVariants.{OutOfMemory, DrawLimit, NoWitness}
-use Rattle.p3_challenger_core.specs.declared.error.ChallengerError.TheVariants.{TooLong}
-use Rattle.p3_challenger_core.specs.Observation.{Observation}
+use Rattle.p3_challenger_core.specs.{declared.error.ChallengerError.ChallengerError, Observation.Observation}
+use Rattle.p3_challenger_core.specs.declared.error.ChallengerError.TheVariants.{OutOfMemory, NoWitness}
 use Rattle.p3_challenger_core.specs.Sampling.{Sampling}
 use Rattle.p3_grinding.specs.Checks.{MayRunOut, RefusesSearch}
 use Rattle.p3_serializing.specs.SerializingState.{SerializingState}
@@ -20,5 +18,4 @@ module _ {I Symbol F : Type 0} (o : Observation I Symbol ℕ) (slice_may_leave :
       (serializing_check o slice_may_leave d r n bits) e s t
   refused-search OutOfMemory s t h = ((bits, h.0), h.1)
   refused-search NoWitness s t h = h
-  refused-search DrawLimit s t h = h
-  refused-search TooLong s t h = h
+  refused-search _ s t h = h

@@ -3,9 +3,9 @@
 use Rattle.std.specs.Prelude.{◌≡◌, ℕ, zero, suc, ◌%◌, ◌^◌, Bool, List, [], ◌∷◌, ◌++◌, take, drop, replicate, nat_lt}
 use Rattle.std.specs.Prelude.{Option, Some, None, if◌then◌else◌}
 use Rattle.p3_field_core.specs.Residues.{Residues}
-use Rattle.p3_challenger_core.specs.Sampling.{Sampling}
-use Rattle.p3_serializing.specs.Bytes.{bytes_of}
-use Rattle.p3_serializing.specs.SerializingState.{SerializingState, bits_of_order}
+use Rattle.p3_challenger_core.specs.{Observation.{Observation, observed_all}, Sampling.Sampling}
+use Rattle.p3_serializing.specs.{Bytes.bytes_of, SerializingState.{SerializingState, bits_of_order, group}}
+use Rattle.p3_grinding.specs.{Checks.{all_zero, check_of}, UniformDraws.UniformDraw}
 
 -- a call: an element is observed; an element, or a number of so many bits, plain or uniform, is drawn; and, before a
 -- witness is observed, a byte is drawn and dropped. Where a value is rejected another one may be drawn, or not.
@@ -24,44 +24,42 @@ pub data Answer (F : Type 0) : Type 0 where
 -- ---- call by call
 
 -- what each call does to a state
-pub record CallByCall (S F : Type 0) : Type 1 where
-  pub observed : S → F → S
+pub record CallByCall (S Symbol F : Type 0) : Type 1 where
+  pub observation : Observation S Symbol F
   pub drawn : Sampling S F
   pub bits_drawn : ℕ → Sampling S ℕ
-  pub uniform_drawn : Bool → ℕ → Sampling S ℕ
-  pub byte_dropped : S → S
+  pub uniform : Bool → ℕ → UniformDraw S
+  pub before_witness : Sampling S (Unit {0})
 
-abbrev pub by_calls : {S F : Type 0} → (S → F → S) → Sampling S F → (ℕ → Sampling S ℕ) → (Bool → ℕ → Sampling S ℕ) →
-    (S → S) → CallByCall S F
-by_calls observed drawn bits_drawn uniform_drawn byte_dropped =
-    record {
-      observed = observed;
-      drawn = drawn;
-      bits_drawn = bits_drawn;
-      uniform_drawn = uniform_drawn;
-      byte_dropped = byte_dropped;
-    }
+abbrev pub by_calls : {S Symbol F : Type 0} → Observation S Symbol F → Sampling S F → (ℕ → Sampling S ℕ)
+    → (Bool → ℕ → UniformDraw S) → Sampling S (Unit {0}) → CallByCall S Symbol F
+by_calls o drawn bits_drawn uniform before =
+    record { observation = o; drawn = drawn; bits_drawn = bits_drawn; uniform = uniform; before_witness = before }
 
-module _ {S F : Type 0} (by : CallByCall S F) where
+module _ {S Symbol F : Type 0} (by : CallByCall S Symbol F) where
+  -- a check of a witness by so many bits
+  abbrev pub check_by : ℕ → F → Sampling S Bool
+  check_by n witness = check_of by.before_witness by.observation (all_zero (by.bits_drawn n)) n witness
+
   -- what calls answer, each draw in order
   abbrev pub answers_by_calls : List (SerializingCall F) → S → List (Answer F)
   answers_by_calls [] s = []
-  answers_by_calls (observe x ∷ calls) s = answers_by_calls calls (by.observed s x)
+  answers_by_calls (observe x ∷ calls) s = answers_by_calls calls (by.observation.observed s x)
   answers_by_calls (draw ∷ calls) s = element (by.drawn.sampled s) ∷ answers_by_calls calls (by.drawn.after s)
   answers_by_calls (draw_bits n ∷ calls) s =
       bits ((by.bits_drawn n).sampled s) ∷ answers_by_calls calls ((by.bits_drawn n).after s)
   answers_by_calls (draw_uniform resample n ∷ calls) s =
-      bits ((by.uniform_drawn resample n).sampled s) ∷ answers_by_calls calls ((by.uniform_drawn resample n).after s)
-  answers_by_calls (drop_byte ∷ calls) s = answers_by_calls calls (by.byte_dropped s)
+      let d = (by.uniform resample n).draw in bits (d.sampled s) ∷ answers_by_calls calls (d.after s)
+  answers_by_calls (drop_byte ∷ calls) s = answers_by_calls calls (by.before_witness.after s)
 
   -- the state after them
   abbrev pub after_calls : List (SerializingCall F) → S → S
   after_calls [] s = s
-  after_calls (observe x ∷ calls) s = after_calls calls (by.observed s x)
+  after_calls (observe x ∷ calls) s = after_calls calls (by.observation.observed s x)
   after_calls (draw ∷ calls) s = after_calls calls (by.drawn.after s)
   after_calls (draw_bits n ∷ calls) s = after_calls calls ((by.bits_drawn n).after s)
-  after_calls (draw_uniform resample n ∷ calls) s = after_calls calls ((by.uniform_drawn resample n).after s)
-  after_calls (drop_byte ∷ calls) s = after_calls calls (by.byte_dropped s)
+  after_calls (draw_uniform resample n ∷ calls) s = after_calls calls ((by.uniform resample n).draw.after s)
+  after_calls (drop_byte ∷ calls) s = after_calls calls (by.before_witness.after s)
 
 -- ---- over the groups
 
@@ -130,10 +128,10 @@ module _ {F : Type 0} (r : Residues F) where
 
 -- Calls, done one by one, are calls on the inner challenger that read these groups: the answers are read off the
 -- groups, the inner challenger ends where its calls lead, and the draw limit stays.
-pub record AreRead {I F : Type 0} (fed : I → List ℕ → I) (group : Sampling I ℕ) (past_byte : I → I) (r : Residues F)
-    (n : ℕ) (by : CallByCall (SerializingState I) F) (calls : List (SerializingCall F)) (s : SerializingState I)
+pub record AreRead {I Symbol F : Type 0} (o : Observation I Symbol ℕ) (d : Sampling I ℕ) (r : Residues F) (n : ℕ)
+    (by : CallByCall (SerializingState I) Symbol F) (calls : List (SerializingCall F)) (s : SerializingState I)
     (words : List ℕ) : Type 0 where
-  pub reads :
-      Reads fed group past_byte s.inner (byte_calls r n s.draw_limit calls words) words (after_calls by calls s).inner
+  pub reads : Reads (observed_all o.observed) (group d n) d.after s.inner (byte_calls r n s.draw_limit calls words)
+      words (after_calls by calls s).inner
   pub answers : answers_by_calls by calls s ≡ answers_off r s.draw_limit calls words
   pub limit : (after_calls by calls s).draw_limit ≡ s.draw_limit

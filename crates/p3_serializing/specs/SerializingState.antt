@@ -1,13 +1,13 @@
 -- A serializing challenger as contracts see it: what reaches the inner challenger, and what is drawn from it.
-use Rattle.std.specs.Prelude.{◌≡◌, ℕ, ◌+◌, ◌%◌, ◌^◌, List, nat_lt}
+use Rattle.std.specs.Prelude.{◌≡◌, ℕ, ◌+◌, ◌%◌, ◌^◌, List, IsSome, nat_lt}
 use Rattle.p3_field_core.specs.Residues.{Residues}
-use Rattle.p3_challenger_core.specs.Bits.{most_bits_of}
-use Rattle.p3_challenger_core.specs.Observation.{Observation, observed_as, in_slice}
-use Rattle.p3_challenger_core.specs.Observation as observation
+use Rattle.p3_challenger_core.specs.{Bits.most_bits_of, declared.error.ChallengerError.ChallengerError}
+use Rattle.p3_challenger_core.specs.Observation.{Observation, RefusesObserve, observed_as, in_slice}
 use Rattle.p3_challenger_core.specs.Sampling.{Sampling, made_of}
-use Rattle.p3_challenger_core.specs.Sampling as sampling
 use Rattle.p3_serializing.specs.Bytes.{bytes_of, number_of}
 use Rattle.p3_grinding.specs.Candidates.{accepted_of}
+use Rattle.p3_challenger_core.specs.Observation as observation
+use Rattle.p3_challenger_core.specs.Sampling as sampling
 
 -- the inner challenger's state, and the draw limit, which stays
 pub record SerializingState (I : Type 0) : Type 0 where
@@ -41,6 +41,16 @@ passed_on o =
 abbrev pub after_bytes : {I : Type 0} → (I → ℕ → I) → SerializingState I → List ℕ → SerializingState I
 after_bytes inner_observed s bytes = stepped (λ i. observation.observed_all inner_observed i bytes) s
 
+-- where an observation is refused with this error, what it leaves
+abbrev pub RefusesValue : {S Symbol T : Type 0} → Observation S Symbol T → T → ChallengerError → S → S → Type 0
+RefusesValue o x e s t = RefusesObserve (o.may_leave s x) e t
+
+-- what is observed of a value is its bytes, which the inner challenger observes one after another
+abbrev pub FeedsBytes : {I Symbol T : Type 0} → Observation I Symbol ℕ → Observation (SerializingState I) Symbol T
+    → (T → List ℕ) → Type 0
+FeedsBytes {I} {Symbol} {T} inner o bytes =
+    (s : SerializingState I) (x : T) → o.observed s x ≡ after_bytes inner.observed s (bytes x)
+
 -- values in order, each observed as another value
 abbrev pub each_as : {S Symbol T U : Type 0} → (U → T) → Observation S Symbol T → Observation S Symbol (List U)
 each_as f o = observation.in_row (observed_as f o)
@@ -63,6 +73,14 @@ module _ {I Symbol : Type 0} (o : Observation I Symbol ℕ) (slice_may_leave : I
   words_observed = observation.in_row (number_observed 8)
 
 -- ---- what is drawn
+
+-- each draw gives a value
+abbrev pub AlwaysGives : {S T : Type 0} → Sampling S T → Type 0
+AlwaysGives {S} d = (s : S) → IsSome (d.sampled s)
+
+-- and meets no limit
+abbrev pub MeetsNoLimit : {S T : Type 0} → Sampling S T → Type 0
+MeetsNoLimit {S} d = (s : S) → IsSome (d.sampled s) × ¬ (d.meets_limit s)
 
 -- a draw from the inner challenger, under the draw limit
 abbrev pub under_limit : {I T : Type 0} → (ℕ → Sampling I T) → Sampling (SerializingState I) T

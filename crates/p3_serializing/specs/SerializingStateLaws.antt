@@ -1,27 +1,22 @@
 -- Laws of a serializing challenger: what it does is what its inner challenger does.
 use Rattle.std.proofs.Common.{◌≡◌, ℕ, zero, suc, ◌<◌, ◌%◌, ◌^◌, List, [], ◌++◌, take, nat_lt, refl, sym, ap, ◌∙◌}
-use Rattle.std.proofs.Common.{Option, Some, None}
-use Rattle.std.specs.Option.{option_map}
 use Rattle.p3_field_core.specs.Residues.{Residues}
-use Rattle.p3_challenger_core.specs.Sponge.{IsFed, IsStepsOn, after_steps}
-use Rattle.p3_challenger_core.specs.Observation as observation
 use Rattle.p3_challenger_core.specs.Observation.{Observation, IsObservation, LeavesInCalls, in_slice, observed_as}
 use Rattle.p3_challenger_core.specs.ObservationLaws.{in_slice-is_observation, in_row-is_observation}
-use Rattle.p3_challenger_core.specs.ObservationLaws.{observed_as-is_observation}
-use Rattle.p3_challenger_core.specs.Sampling as sampling
-use Rattle.p3_challenger_core.specs.BitLaws.{low_bits-below}
+use Rattle.p3_challenger_core.specs.{BitLaws.low_bits-below, declared.error.ChallengerError.ChallengerError}
 use Rattle.p3_challenger_core.specs.Sampling.{Sampling, IsSampling, RefusesDraw, RefusesDraws, made_of}
-use Rattle.p3_challenger_core.specs.declared.error.ChallengerError.{ChallengerError}
-use Rattle.p3_challenger_core.specs.declared.error.ChallengerError.TheVariants.{OutOfMemory, DrawLimit, NoWitness}
-use Rattle.p3_challenger_core.specs.declared.error.ChallengerError.TheVariants.{TooLong}
+use Rattle.p3_challenger_core.specs.declared.error.ChallengerError.TheVariants.{OutOfMemory, DrawLimit}
 use Rattle.p3_challenger_core.specs.SamplingLaws.{in_row-is_sampling, made_of-is_sampling, refused-in_row}
 use Rattle.p3_serializing.specs.Bytes.{bytes_of, number_of}
-use Rattle.p3_grinding.specs.Candidates.{accepted_of}
-use Rattle.p3_grinding.specs.CandidateLaws.{accepted_of-is_sampling}
 use Rattle.p3_serializing.specs.SerializingState.{SerializingState, stepped, fed, passed_on, bytes_observed}
 use Rattle.p3_serializing.specs.SerializingState.{number_observed, element_observed, words_observed, under_limit, group}
 use Rattle.p3_serializing.specs.SerializingState.{low_bits_of_group, element_of_groups, element_drawn, bits_drawn}
 use Rattle.p3_serializing.specs.SerializingState.{space_element_drawn, bits_of_order, byte_dropped}
+use Rattle.p3_grinding.specs.{Candidates.accepted_of, CandidateLaws.accepted_of-is_sampling}
+use Rattle.std.{proofs.Common.{Option, Some, None}, specs.Option.option_map}
+use Rattle.p3_challenger_core.specs.{Sponge.{IsFed, IsStepsOn, after_steps}, ObservationLaws.observed_as-is_observation}
+use Rattle.p3_challenger_core.specs.Observation as observation
+use Rattle.p3_challenger_core.specs.Sampling as sampling
 
 -- ---- what is observed is what is fed
 
@@ -101,16 +96,14 @@ pub refused-made_of : {S T U : Type 0} (f : T → U) (d : Sampling S T) (e : Cha
     → RefusesDraw d e s t → RefusesDraw (made_of f d) e s t
 refused-made_of f d OutOfMemory s t h = h
 refused-made_of f d DrawLimit s t h = h
-refused-made_of f d NoWitness s t h = h
-refused-made_of f d TooLong s t h = h
+refused-made_of f d _ s t h = h
 
 -- so is a draw from the inner challenger
 pub refused-under_limit : {I T : Type 0} (d : ℕ → Sampling I T) (e : ChallengerError) (s t : SerializingState I)
     → t.draw_limit ≡ s.draw_limit → RefusesDraw (d s.draw_limit) e s.inner t.inner → RefusesDraw (under_limit d) e s t
 refused-under_limit d OutOfMemory s t same h = (h, same)
 refused-under_limit d DrawLimit s t same h = (h.0, λ i. record { inner = h.1 i; draw_limit = same i })
-refused-under_limit d NoWitness s t same h = h
-refused-under_limit d TooLong s t same h = h
+refused-under_limit d _ s t same h = h
 
 -- the low bits of a number that may be drawn
 low_bits-below_all : (word : Option ℕ) (bits x : ℕ) → option_map (λ n. n % 2 ^ bits) word ≡ Some x → x < 2 ^ bits

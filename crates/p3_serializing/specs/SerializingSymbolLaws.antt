@@ -1,14 +1,10 @@
 -- What a serializing challenger feeds is a prefix code, where the bytes of its inner challenger are.
-use Rattle.std.proofs.Common.{◌≡◌, ℕ, zero, suc, ◌<◌, ◌≤◌, ◌/◌, ◌^◌, List, [], ◌∷◌, ◌++◌, length}
-use Rattle.std.proofs.Common.{refl, sym, ap, ◌∙◌, append_assoc, lit<, arith}
-use Rattle.std.proofs.lemmas.Nat.{mod_below}
-use Rattle.std.specs.List.{flat_map}
+use Rattle.std.{proofs.Common.{◌≡◌, ℕ, zero, suc, ◌<◌, ◌≤◌, ◌/◌, ◌^◌, List, [], ◌∷◌, ◌++◌, length}, specs.List.flat_map}
+use Rattle.std.proofs.{Common.{refl, sym, ap, ◌∙◌, append_assoc, lit<, arith}, lemmas.Nat.mod_below}
 use Rattle.p3_field_core.specs.Residues.{Residues, IsResidues}
-use Rattle.p3_challenger_core.specs.Sponge.{IsNonEmpty}
-use Rattle.p3_challenger_core.specs.Reading.{IsPrefixCodeOn, IsByte, AreBytes, IsPrefixFree}
 use Rattle.p3_challenger_core.specs.SymbolLaws.{byte-feeds, bytes-feed, bytes-prefix_code, row-prefix_code}
-use Rattle.p3_serializing.specs.Bytes.{bytes_of, IsWord, AreWords}
-use Rattle.p3_serializing.specs.BytesLaws.{length-bytes_of, bytes_of-injective}
+use Rattle.p3_challenger_core.specs.{Sponge.IsNonEmpty, Reading.{IsPrefixCodeOn, IsByte, AreBytes, IsPrefixFree}}
+use Rattle.p3_serializing.specs.{Bytes.{bytes_of, IsWord, AreWords}, BytesLaws.{length-bytes_of, bytes_of-injective}}
 
 bytes_of-are_bytes : (n x : ℕ) → AreBytes (bytes_of n x)
 unfolding bytes_of
@@ -73,8 +69,6 @@ module _ {Symbol : Type 0} (symbols : ℕ → List Symbol) (prefix_code : IsPref
       ≡ flat_map (λ w. flat_map symbols (bytes_of 8 w)) ys ++ b
       → (xs ≡ ys) × (a ≡ b)
   words-read [] [] a b x_are y_are same e = (refl, e)
-  words-read [] (y ∷ ys) a b x_are y_are same e = absurd (omega (arith, same))
-  words-read (x ∷ xs) [] a b x_are y_are same e = absurd (omega (arith, same))
   words-read (x ∷ xs) (y ∷ ys) a b x_are y_are same e =
       let word = λ (w : ℕ). flat_map symbols (bytes_of 8 w) in
       let first = number-read 8 x y (flat_map word xs ++ a) (flat_map word ys ++ b) (word-fits x (x_are zero))
@@ -82,4 +76,5 @@ module _ {Symbol : Type 0} (symbols : ℕ → List Symbol) (prefix_code : IsPref
       (sym (append_assoc (word x) (flat_map word xs) a) ∙ e ∙ append_assoc (word y) (flat_map word ys) b) in
       let fewer : length xs ≡ length ys = omega (arith, same) in
       let others = words-read xs ys a b (λ i. x_are (suc i)) (λ i. y_are (suc i)) fewer first.1 in
-      (ap (λ z. z ∷ xs) first.0 ∙ ap (λ zs. y ∷ zs) others.0, others.1)
+      (λ i. first.0 i ∷ others.0 i, others.1)
+  words-read _ _ a b x_are y_are same e = absurd (omega (arith, same))

@@ -7,7 +7,8 @@
 //!
 //! It keeps nothing of its own: its state is the inner challenger's.
 ghost use Rattle.std.specs.Prelude.{◌≡◌, ◌≤◌, OnOk, IfErr};
-ghost use Rattle.p3_challenger_core.specs.Observation.{RefusesObserve, in_row};
+ghost use Rattle.p3_challenger_core.specs.Observation.{in_row};
+ghost use Rattle.p3_serializing.specs.SerializingState.{RefusesValue};
 ghost use Rattle.p3_hash_challenger.specs.HashCalls.{with_pending};
 
 mod calls;
@@ -117,8 +118,8 @@ impl<F, H: CryptographicHasher<u8, [u8; 32]>, const BYTES: usize> SerializingCha
     pub fn from_hasher(initial_state: Vec<u8>, hasher: H, draw_limit: u64) -> Self
         requires { 1 ≤ draw_limit }
         ensures { result ≡ record {
-          inner = record { sponge = with_pending initial_state.items; hasher = hasher };
           draw_limit = draw_limit;
+          inner = record { sponge = with_pending initial_state.items; hasher = hasher };
         } }
     {
         SerializingChallenger::new(HashChallenger::new(initial_state, hasher), draw_limit)
@@ -153,10 +154,9 @@ impl<F, Inner: CanObserve<u8>, const BYTES: usize> SerializingChallenger<F, Inne
         ensures ok { OnOk result (state_of Inner.state self.new
             ≡ (bytes_observed Inner.observation Inner.slice_may_leave).observed
             (state_of Inner.state self.old) bytes.now) }
-        ensures err { IfErr result (λ e. RefusesObserve
-            ((bytes_observed Inner.observation Inner.slice_may_leave).may_leave
-            (state_of Inner.state self.old) bytes.now) e
-            (state_of Inner.state self.new)) }
+        ensures err { IfErr result (λ e. RefusesValue
+            (bytes_observed Inner.observation Inner.slice_may_leave) bytes.now e
+            (state_of Inner.state self.old) (state_of Inner.state self.new)) }
     {
         self.inner.observe_slice(bytes)
     }
@@ -167,17 +167,15 @@ impl<F: SerializedIn<BYTES>, Inner: CanObserve<u8>, const BYTES: usize> Serializ
     Inner,
     BYTES,
 > {
-    ghost use Rattle.p3_serializing.specs.SerializingState.{state_of, element_observed, each_as};
+    ghost use Rattle.p3_serializing.specs.SerializingState.{state_of, each_as};
 
     // Passes an element on as its bytes.
     fn feed_element(&mut self, value: F) -> Result<(), ChallengerError>
         ensures ok { OnOk result (state_of Inner.state self.new
-            ≡ (element_observed Inner.observation Inner.slice_may_leave F.residues BYTES).observed
+            ≡ ⟦<Self as CanObserve<F>>⟧.observation.observed
             (state_of Inner.state self.old) value) }
-        ensures err { IfErr result (λ e. RefusesObserve
-            ((element_observed Inner.observation Inner.slice_may_leave F.residues BYTES).may_leave
-            (state_of Inner.state self.old) value) e
-            (state_of Inner.state self.new)) }
+        ensures err { IfErr result (λ e. RefusesValue ⟦<Self as CanObserve<F>>⟧.observation value e
+            (state_of Inner.state self.old) (state_of Inner.state self.new)) }
     {
         self.feed(&value.to_unique_bytes())
     }
@@ -185,12 +183,10 @@ impl<F: SerializedIn<BYTES>, Inner: CanObserve<u8>, const BYTES: usize> Serializ
     // Passes elements on in order, each by one call.
     fn feed_elements(&mut self, values: &[F]) -> Result<(), ChallengerError>
         ensures ok { OnOk result (state_of Inner.state self.new
-            ≡ (in_row (element_observed Inner.observation Inner.slice_may_leave F.residues
-            BYTES)).observed (state_of Inner.state self.old) values.now) }
-        ensures err { IfErr result (λ e. RefusesObserve
-            ((in_row (element_observed Inner.observation Inner.slice_may_leave F.residues
-            BYTES)).may_leave (state_of Inner.state self.old) values.now) e
-            (state_of Inner.state self.new)) }
+            ≡ (in_row ⟦<Self as CanObserve<F>>⟧.observation).observed
+            (state_of Inner.state self.old) values.now) }
+        ensures err { IfErr result (λ e. RefusesValue (in_row ⟦<Self as CanObserve<F>>⟧.observation)
+            values.now e (state_of Inner.state self.old) (state_of Inner.state self.new)) }
     {
         for i in 0..values.len() {
             self.feed_element(values[i])?;
@@ -204,12 +200,11 @@ impl<F: SerializedIn<BYTES>, Inner: CanObserve<u8>, const BYTES: usize> Serializ
         lists: &[Part],
     ) -> Result<(), ChallengerError>
         ensures ok { OnOk result (state_of Inner.state self.new
-            ≡ (each_as Part.items (in_row (element_observed Inner.observation Inner.slice_may_leave
-            F.residues BYTES))).observed (state_of Inner.state self.old) lists.now) }
-        ensures err { IfErr result (λ e. RefusesObserve
-            ((each_as Part.items (in_row (element_observed Inner.observation Inner.slice_may_leave
-            F.residues BYTES))).may_leave (state_of Inner.state self.old) lists.now) e
-            (state_of Inner.state self.new)) }
+            ≡ (each_as Part.items (in_row ⟦<Self as CanObserve<F>>⟧.observation)).observed
+            (state_of Inner.state self.old) lists.now) }
+        ensures err { IfErr result (λ e. RefusesValue
+            (each_as Part.items (in_row ⟦<Self as CanObserve<F>>⟧.observation)) lists.now e
+            (state_of Inner.state self.old) (state_of Inner.state self.new)) }
     {
         for i in 0..lists.len() {
             self.feed_elements(lists[i].as_slice())?;
@@ -221,10 +216,10 @@ impl<F: SerializedIn<BYTES>, Inner: CanObserve<u8>, const BYTES: usize> Serializ
 impl<F: SerializedIn<BYTES>, Inner: CanObserve<u8>, const BYTES: usize> CanObserve<F>
     for SerializingChallenger<F, Inner, BYTES> {
     ghost use Rattle.p3_challenger_core.specs.Observation.{in_row};
-    ghost use Rattle.p3_serializing.specs.SerializingState.{element_observed};
-    ghost use Rattle.p3_serializing.specs.SerializingStateLaws.{element-observed};
+    ghost use Rattle.p3_serializing.specs.{SerializingState.element_observed, SerializingStateLaws.element-observed};
 
-    ghost observation = { element_observed Inner.observation Inner.slice_may_leave F.residues BYTES };
+    ghost observation = { element_observed
+        Inner.observation Inner.slice_may_leave F.residues BYTES };
 
     // A refused slice has fed the elements before the refused one, and of that one what the inner challenger leaves.
     ghost slice_may_leave = { (in_row (element_observed Inner.observation Inner.slice_may_leave
@@ -248,16 +243,14 @@ impl<F: SerializedIn<BYTES>, Inner: CanObserve<u8>, const BYTES: usize, const N:
     [F; N],
 > for SerializingChallenger<F, Inner, BYTES> {
     ghost use Rattle.p3_challenger_core.specs.Observation.{in_row};
-    ghost use Rattle.p3_serializing.specs.SerializingState.{element_observed};
     ghost use Rattle.p3_serializing.specs.SerializingStateLaws.{elements-observed};
 
     // Its elements in order, each by one call. An array of no places feeds nothing.
-    ghost observation = { in_row (element_observed Inner.observation Inner.slice_may_leave F.residues BYTES) };
+    ghost observation = { in_row ⟦<Self as CanObserve<F>>⟧.observation };
 
-    ghost slice_may_leave = { (in_row (in_row
-        (element_observed Inner.observation Inner.slice_may_leave F.residues BYTES))).may_leave };
+    ghost slice_may_leave = { (in_row (in_row ⟦<Self as CanObserve<F>>⟧.observation)).may_leave };
 
-    ghost observes = { elements-observed Inner.fed Inner.fed_nothing Inner.fed_more Inner.observation
+    ghost observes = { elements-observed Inner.fed Inner.fed_nothing Inner.fed_more _
         Inner.slice_may_leave Inner.observes Inner.slice_leaves F.residues BYTES };
 
     ghost slice_leaves = { λ _ _ _ h. h };

@@ -1,7 +1,6 @@
 //! A serializing challenger over whole lists of calls.
-ghost use Rattle.std.specs.Prelude.{ℕ, List, IsSome};
-ghost use Rattle.p3_challenger_core.specs.Observation.{in_slice};
-ghost use Rattle.p3_serializing.specs.SerializingState.{group};
+ghost use Rattle.std.specs.Prelude.{ℕ, List};
+ghost use Rattle.p3_serializing.specs.SerializingState.{AlwaysGives};
 ghost use Rattle.p3_serializing.specs.SerializingGroups.{SerializingCall, by_calls, AreRead};
 
 use crate::{SerializedIn, SerializingChallenger, SerializingState};
@@ -25,14 +24,12 @@ impl<
     ///
     /// A law: the body is empty, and a caller cites the clause.
     pub fn follows_groups()
-        ensures { ((i : Inner.State) → IsSome (Inner.CanSample.sampling.sampled i))
-            → (calls : List (SerializingCall F)) (s : SerializingState Inner.State) →
-            (words : List ℕ) × AreRead
-            (in_slice Inner.CanObserve.observation Inner.CanObserve.slice_may_leave).observed
-            (group Inner.CanSample.sampling BYTES) Inner.CanSample.sampling.after F.residues BYTES
-            (by_calls ⟦<Self as CanObserve<F>>⟧.observation.observed
-            ⟦<Self as CanSample<F>>⟧.sampling ⟦<Self as CanSampleBits<usize>>⟧.bits_sampling
-            (λ resample bits. (⟦<Self as CanSampleUniformBits<F>>⟧.uniform resample bits).draw)
-            ⟦<Self as BeforeWitness>⟧.before_witness.after) calls s words }
+        ensures { AlwaysGives Inner.CanSample.sampling → (calls : List (SerializingCall F))
+            (s : SerializingState Inner.State) → (words : List ℕ) × AreRead
+            Inner.CanObserve.observation Inner.CanSample.sampling F.residues BYTES
+            (by_calls ⟦<Self as CanObserve<F>>⟧.observation ⟦<Self as CanSample<F>>⟧.sampling
+            ⟦<Self as CanSampleBits<usize>>⟧.bits_sampling
+            ⟦<Self as CanSampleUniformBits<F>>⟧.uniform ⟦<Self as BeforeWitness>⟧.before_witness)
+            calls s words }
     {}
 }

@@ -19,8 +19,7 @@ pub fn serialized_elements_are_prefix_code<
     const BYTES: usize,
     const N: usize,
 >()
-    ensures elements { IsPrefixCodeOn IsByte Inner.observation.symbols
-        → IsPrefixFree
+    ensures elements { IsPrefixCodeOn IsByte Inner.observation.symbols → IsPrefixFree
         ⟦<SerializingChallenger<F, Inner, BYTES> as CanObserve<F>>⟧.observation.symbols }
     ensures arrays { IsPrefixCodeOn IsByte Inner.observation.symbols
         → IsPrefixCodeOn (λ values. length values ≡ N)
@@ -37,8 +36,7 @@ pub fn serialized_digests_are_prefix_code<
     const BYTES: usize,
     const N: usize,
 >()
-    ensures bytes { IsPrefixCode Inner.observation.symbols
-        → IsPrefixCode
+    ensures bytes { IsPrefixCode Inner.observation.symbols → IsPrefixCode
         ⟦<SerializingChallenger<F, Inner, BYTES> as CanObserve<Hash<F, u8, N>>>⟧.observation.symbols }
     ensures known_bytes { IsPrefixCodeOn IsByte Inner.observation.symbols
         → IsPrefixCodeOn (λ digest. AreBytes (values_of digest))

@@ -1,8 +1,7 @@
 -- The field of order 15 * 2 ^ 27 + 1 as residues.
 use Rattle.std.proofs.Common.{lit<}
 use Rattle.p3_field_core.specs.Residues.{Residues}
-use Rattle.p3_small_primes.specs.SmallPrimes.{residues_below}
-use Rattle.p3_small_primes.specs.declared.small_prime.SmallPrime.{SmallPrime}
+use Rattle.p3_small_primes.specs.{SmallPrimes.residues_below, declared.small_prime.SmallPrime.SmallPrime}
 
 -- its elements
 abbrev pub BabyBear : Type 0

@@ -1,13 +1,8 @@
 -- What holds of the numbers below an order as residues.
-use Rattle.std.specs.Prelude.{◌≡◌, ℕ, ◌-◌, ◌<◌, ◌%◌, ◌^◌, nat_eq}
-use Rattle.std.proofs.Common.{sym, arith}
-use Rattle.std.proofs.Math.Nat.{mod-eq_of_lt}
-use Rattle.std.proofs.lemmas.Bool.{eqb-true, eq-eqb}
-use Rattle.std.proofs.Math.Bridge.{le_prop}
+use Rattle.std.{specs.Prelude.{◌≡◌, ℕ, ◌-◌, ◌<◌, ◌%◌, ◌^◌, nat_eq}, proofs.Common.{sym, arith}}
+use Rattle.std.proofs.{Math.Nat.mod-eq_of_lt, lemmas.Bool.{eqb-true, eq-eqb}, Math.Bridge.le_prop}
 use mathlib.Core.HLevel.{is_prop→PathP}
-use Rattle.p3_field_core.specs.Equality.{IsExact, exact-by}
-use Rattle.p3_field_core.specs.Residues.{IsResidues}
-use Rattle.p3_field_core.specs.ResidueLaws.{laws-of-injective}
+use Rattle.p3_field_core.specs.{Equality.{IsExact, exact-by}, Residues.IsResidues, ResidueLaws.laws-of-injective}
 use Rattle.p3_small_primes.specs.SmallPrimes.{number, element, residues_below}
 use Rattle.p3_small_primes.specs.declared.small_prime.SmallPrime.{SmallPrime}
 

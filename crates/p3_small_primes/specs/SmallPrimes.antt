@@ -1,7 +1,5 @@
 -- The numbers below an order as residues.
-use Rattle.std.specs.Prelude.{ℕ, ◌<◌, ◌%◌}
-use Rattle.std.proofs.Common.{arith}
-use Rattle.std.proofs.Math.Nat.{mod-lt}
+use Rattle.std.{specs.Prelude.{ℕ, ◌<◌, ◌%◌}, proofs.Common.arith, proofs.Math.Nat.mod-lt}
 use Rattle.p3_field_core.specs.Residues.{Residues}
 use Rattle.p3_small_primes.specs.declared.small_prime.SmallPrime.{SmallPrime}
 

@@ -7,8 +7,7 @@ use crate::{SmallOrder, SmallPrime};
 pub type F257 = SmallPrime<257>;
 
 impl SmallOrder<257> for F257 {
-    ghost use Rattle.std.specs.Prelude.{codes};
-    ghost use Rattle.std.proofs.Common.{lit<, lit≤};
+    ghost use Rattle.std.{specs.Prelude.codes, proofs.Common.{lit<, lit≤}};
 
     ghost above_one = { lit< tt };
 

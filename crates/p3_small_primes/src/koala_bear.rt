@@ -8,8 +8,7 @@ use p3_field_core::BinomiallyExtendable;
 pub type KoalaBear = SmallPrime<2130706433>;
 
 impl SmallOrder<2130706433> for KoalaBear {
-    ghost use Rattle.std.specs.Prelude.{codes};
-    ghost use Rattle.std.proofs.Common.{lit<, lit≤};
+    ghost use Rattle.std.{specs.Prelude.codes, proofs.Common.{lit<, lit≤}};
 
     ghost above_one = { lit< tt };
 

@@ -112,8 +112,7 @@ where
 }
 
 impl<const ORDER: u32> SmallPrime<ORDER> {
-    ghost use Rattle.std.specs.Prelude.{◌≡◌, Some};
-    ghost use Rattle.std.specs.Ordering.{nat_cmp};
+    ghost use Rattle.std.specs.{Prelude.{◌≡◌, Some}, Ordering.nat_cmp};
     ghost use Rattle.std.specs.Hash as fed;
     ghost use Rattle.p3_small_primes.specs.SmallPrimes.{number};
 

@@ -1,8 +1,7 @@
 -- Writing a block over the rate, as the code does it.
 use Rattle.std.proofs.Common.{◌≡◌, ℕ, suc, ◌<◌, ◌≤◌, ◌+◌, ◌-◌, List, [], ◌∷◌, ◌++◌, length, take, drop, replicate, set}
-use Rattle.std.proofs.Common.{refl, sym, ap, ◌∙◌, append_assoc, add-one, arith}
 use Rattle.std.proofs.lemmas.List.{take_at, drop_at, set_at, drop-drop, length-replicate, replicate_more}
-use Rattle.std.proofs.Math.Seq.{drop-cons}
+use Rattle.std.proofs.{Common.{refl, sym, ap, ◌∙◌, append_assoc, add-one, arith}, Math.Seq.drop-cons}
 
 -- a loop that fills with one value, at its next place
 pub filled_more : {X : Type 0} (cells : List X) (i : ℕ) (y : X) → i < length cells

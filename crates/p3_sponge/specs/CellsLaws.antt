@@ -1,10 +1,9 @@
 -- Lemmas on cells with the rate written over.
 use Rattle.std.proofs.Common.{◌≡◌, ℕ, suc, ◌<◌, ◌+◌, List, ◌∷◌, ◌++◌, length, take, drop, set, get_or, sym, ap}
-use Rattle.std.proofs.Common.{◌∙◌, add-one, arith}
 use Rattle.std.proofs.lemmas.List.{take_at, drop_at, set_at, get_or_at, length-take-le, take-append-drop, drop-drop}
-use Rattle.std.proofs.Math.Seq.{drop-cons}
 use Rattle.p3_field_core.specs.Residues.{Residues, plus}
 use Rattle.p3_sponge.specs.Cells.{cell, counted_over}
+use Rattle.std.proofs.{Common.{◌∙◌, add-one, arith}, Math.Seq.drop-cons}
 
 module _ {F : Type 0} (r : Residues F) where
   -- where the rate stays, one cell is set

@@ -1,12 +1,10 @@
 -- Lemmas on values drawn one after another.
-use Rattle.std.proofs.Common.{◌≡◌, ℕ, suc, ◌+◌, ◌-◌, ◌<◌, ◌≤◌, List, [], ◌∷◌, ◌++◌, length, take, Some, refl, sym, ap}
-use Rattle.std.proofs.Common.{◌∙◌, subst, append_assoc, append-nil, arith}
-use Rattle.std.proofs.Math.ListN.{set}
+use Rattle.std.proofs.Common.{◌≡◌, ℕ, suc, ◌+◌, ◌-◌, ◌<◌, ◌≤◌, List, [], ◌∷◌, ◌++◌, length, take, Some, refl, sym}
 use Rattle.std.proofs.lemmas.List.{take_more_set, take_all}
-use Rattle.p3_challenger_core.specs.Sponge.{after_steps}
-use Rattle.p3_challenger_core.specs.Sampling.{IsSampling, unrefused_draw}
 use Rattle.p3_challenger_core.specs.SamplingLaws.{one_step, unrefused_draw-is_sampling}
 use Rattle.p3_sponge.specs.Drawing.{drawn}
+use Rattle.std.proofs.{Common.{◌∙◌, append_assoc, append-nil, arith}, Math.ListN.set}
+use Rattle.p3_challenger_core.specs.{Sponge.after_steps, Sampling.{IsSampling, unrefused_draw}}
 
 module _ {S T : Type 0} (sampled : S → T) (next : S → S) where
   -- what is made of values drawn in order is drawn
@@ -28,9 +26,7 @@ module _ {S T : Type 0} (sampled : S → T) (next : S → S) where
       pub reached : after_steps next n start ≡ after_steps next left here
 
     pub has_drawn-none : HasDrawn [] (n - 0) start
-    has_drawn-none =
-        let all : n ≡ n - 0 = omega arith in
-        subst (λ left. HasDrawn [] left start) all (record { values = refl; reached = refl })
+    has_drawn-none = let all : n - 0 ≡ n = omega arith in rw all (record { values = refl; reached = refl })
 
     -- the value of place i is drawn
     pub has_drawn-next : (xs ys : List T) (i : ℕ) (here there : S) (x : T) → i < n → length xs ≡ n → x ≡ sampled here
@@ -38,35 +34,21 @@ module _ {S T : Type 0} (sampled : S → T) (next : S → S) where
         → HasDrawn (take (i + 1) ys) (n - (i + 1)) there
     has_drawn-next xs ys i here there x more long is reached wrote so_far =
         let left : n - i ≡ suc (n - (i + 1)) = omega arith in
-        let in_range : i < length xs = omega (arith, more, long) in
-        let following : HasDrawn (take i xs) (suc (n - (i + 1))) here =
-        subst (λ k. HasDrawn (take i xs) k here) left so_far in
-        let longer : take i xs ++ x ∷ [] ≡ take (i + 1) ys =
-        sym (ap (take (i + 1)) wrote ∙ take_more_set xs i x in_range) in
-        let rest = n - (i + 1) in
-        record {
-          values =
-              following.values
-              ∙ (λ j. take i xs ++ (sym is j ∷ drawn sampled next rest (sym reached j)))
-              ∙ sym (append_assoc (take i xs) (x ∷ []) (drawn sampled next rest there))
-              ∙ ap (λ zs. zs ++ drawn sampled next rest there) longer;
-          reached = following.reached ∙ ap (after_steps next rest) (sym reached);
-        }
-
-    none_left : (i : ℕ) → n ≤ i → n - i ≡ 0
-    none_left i all = omega arith
+        let in_range : i < length xs = omega arith in
+        let longer = take_more_set xs i x in_range in
+        let following = rw left at so_far in
+        rw (wrote, longer, is, reached) (record {
+          values = following.values ∙ sym (append_assoc (take i xs) (sampled here ∷ []) _);
+          reached = following.reached;
+        })
 
     -- all of them
     pub has_drawn-values : (xs : List T) (i : ℕ) (here : S) → n ≤ i → length xs ≡ n
         → HasDrawn (take i xs) (n - i) here → drawn sampled next n start ≡ xs
     has_drawn-values xs i here all long so_far =
-        let whole : length xs ≤ i = omega (arith, all, long) in
-        so_far.values
-        ∙ ap (λ k. take i xs ++ drawn sampled next k here) (none_left i all)
-        ∙ append-nil (take i xs)
-        ∙ take_all i xs whole
+        let none : n - i ≡ 0 = omega arith in
+        (rw none at so_far).values ∙ append-nil (take i xs) ∙ take_all i xs (omega arith)
 
     pub has_drawn-state : (xs : List T) (i : ℕ) (here : S) → n ≤ i → HasDrawn xs (n - i) here
         → here ≡ after_steps next n start
-    has_drawn-state xs i here all so_far =
-        sym (so_far.reached ∙ ap (λ k. after_steps next k here) (none_left i all))
+    has_drawn-state xs i here all so_far = let none : n - i ≡ 0 = omega arith in sym (rw none at so_far).reached

@@ -1,3 +1,4 @@
+pub mod CallPromises
 pub mod Cells
 pub mod CellsLaws
 pub mod Drawing

@@ -1,11 +1,10 @@
 -- Laws of outputs in a row: what one draw gives, and what is left then.
 use Rattle.std.proofs.Common.{◌≡◌, ℕ, zero, suc, ◌<◌, ◌≤◌, ◌+◌, ◌-◌, ◌/◌, ◌%◌, [], ◌∷◌, map, refl, sym, ap, ◌∙◌}
-use Rattle.std.proofs.Common.{add-one, arith}
-use Rattle.std.specs.List.{range_with_len}
 use Rattle.std.proofs.Math.Nat.{add-div_left, add-mod_left, div-eq_of_lt, mod-eq_of_lt}
 use Rattle.p3_challenger_core.specs.Segments.{Run}
 use Rattle.p3_sponge.specs.Outputs.{Outputs, stepped, step_queries, output_at, outputs_from, left_after, draws_from}
 use Rattle.p3_sponge.specs.Outputs.{run_draws}
+use Rattle.std.{proofs.Common.{add-one, arith}, specs.List.range_with_len}
 
 -- one row more of places
 pub further-div : (n q : ℕ) → 0 < n → (n + q) / n ≡ suc (q / n)

@@ -1,15 +1,12 @@
 -- What place a draw has among the outputs, where all that is pending is absorbed first.
 use Rattle.std.proofs.Common.{◌≡◌, ℕ, zero, suc, ◌<◌, ◌-◌, List, [], ◌∷◌, ◌++◌, map, replicate, refl, sym, ap, ◌∙◌}
-use Rattle.std.proofs.Common.{append-nil, arith}
-use Rattle.std.specs.List.{range_with_len}
 use Rattle.p3_challenger_core.specs.Segments.{Segment, observe, draw, run_calls, run_segments}
 use Rattle.p3_challenger_core.specs.SegmentLaws.{cut-only, run_calls-segments}
-use Rattle.p3_sponge.specs.Outputs.{output_at, outputs_from}
-use Rattle.p3_sponge.specs.OutputsLaws.{outputs-places}
-use Rattle.p3_sponge.specs.SpongeCalls.{SpongeRule, CellSponge, sponge_by_calls}
 use Rattle.p3_sponge.specs.SpongeSegments.{outputs_after, outputs_of, run_values, run_draws, opened_cells}
-use Rattle.p3_sponge.specs.SpongeSegments.{sponge_by_segments}
 use Rattle.p3_sponge.specs.SpongeStepLaws.{Fits, sponge_steps}
+use Rattle.std.{proofs.Common.{append-nil, arith}, specs.List.range_with_len}
+use Rattle.p3_sponge.specs.{Outputs.{output_at, outputs_from}, OutputsLaws.outputs-places}
+use Rattle.p3_sponge.specs.{SpongeCalls.{SpongeRule, CellSponge, sponge_by_calls}, SpongeSegments.sponge_by_segments}
 
 module _ {C T : Type 0} (rule : SpongeRule C T) where
   -- the outputs of cells, from the first of them on
@@ -25,8 +22,7 @@ module _ {C T : Type 0} (rule : SpongeRule C T) where
 
   -- a sponge that values were just absorbed into
   abbrev pub after_values : C → List T → CellSponge C T
-  after_values cells pending =
-      record { cells = cells; pending = pending; outputs_left = outputs_after rule pending }
+  after_values cells pending = record { cells = cells; pending = pending; outputs_left = outputs_after rule pending }
 
   -- its draws begin at place 0
   pub opened-places : (cells : C) (pending : List T) (n : ℕ)

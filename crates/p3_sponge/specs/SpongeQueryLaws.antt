@@ -1,13 +1,10 @@
 -- Permutations that give the same on what a sponge queries make it do the same.
 use Rattle.std.proofs.Common.{◌≡◌, [], ◌∷◌, ◌++◌, length, Bool, true, false, ◌==◌, if◌then◌else◌, refl, sym, ap}
-use Rattle.std.proofs.Common.{subst}
-use Rattle.std.specs.List.{All}
-use Rattle.std.proofs.lemmas.List.Elements.{All-head}
+use Rattle.std.{proofs.Common.subst, specs.List.All, proofs.lemmas.List.Elements.All-head}
 use Rattle.p3_challenger_core.specs.Segments.{Call, observe, observe_empty_array, draw}
 use Rattle.p3_sponge.specs.SpongeCalls.{SpongeRule, CellSponge, emptied, appended, one_taken, permutation_input, duplexed}
 use Rattle.p3_sponge.specs.SpongeCalls.{last_output, queries_by_value, queries_by_draw, queries_by_end, run_value, run_draw}
-use Rattle.p3_sponge.specs.SpongeCalls.{run_call, run_end}
-use Rattle.p3_sponge.specs.SpongeStepLaws.{permutation_input-snoc}
+use Rattle.p3_sponge.specs.{SpongeCalls.{run_call, run_end}, SpongeStepLaws.permutation_input-snoc}
 
 module _ {C T : Type 0} (rule : SpongeRule C T) (other : C → C) where
   abbrev changed : SpongeRule C T

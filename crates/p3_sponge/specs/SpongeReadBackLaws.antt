@@ -6,8 +6,7 @@ use Rattle.p3_read_back.specs.Queries.{observed_values, ReadsBack, ReadsBackToDi
 use Rattle.p3_read_back.specs.BlockLaws.{TellsBlock, AreRead, reads_back-of_blocks, reads_back_to_digest-of_blocks}
 use Rattle.p3_sponge.specs.SpongeCalls.{SpongeRule, CellSponge, SpongeRun, appended, one_taken, permutation_input}
 use Rattle.p3_sponge.specs.SpongeCalls.{duplexed, queries_by_value, queries_by_draw, queries_by_end, run_call}
-use Rattle.p3_sponge.specs.SpongeCalls.{sponge_by_calls}
-use Rattle.p3_sponge.specs.SpongeStepLaws.{Fits, permutation_input-snoc, call-fits}
+use Rattle.p3_sponge.specs.{SpongeCalls.sponge_by_calls, SpongeStepLaws.{Fits, permutation_input-snoc, call-fits}}
 
 module _ {C T : Type 0} (rule : SpongeRule C T) where
   -- values are read from states and a rest

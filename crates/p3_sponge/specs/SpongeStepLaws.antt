@@ -1,20 +1,16 @@
 -- A sponge does over segments what the calls do one by one.
 use Rattle.std.proofs.Common.{◌≡◌, ℕ, zero, suc, ◌<◌, ◌≤◌, ◌+◌, ◌-◌, ◌*◌, ◌/◌, List, [], ◌∷◌, ◌++◌, length, take, drop}
-use Rattle.std.proofs.Common.{Bool, true, false, ◌==◌, if◌then◌else◌, refl, sym, ap, subst, ◌∙◌, append_assoc, append-nil}
-use Rattle.std.proofs.Common.{arith}
-use Rattle.std.proofs.lemmas.Bool.Decides.{nat_tests}
+use Rattle.std.proofs.Common.{Bool, true, false, ◌==◌, refl, sym, ap, subst, ◌∙◌, append_assoc, append-nil}
+use Rattle.std.proofs.{Common.arith, lemmas.Bool.Decides.nat_tests, Math.Nat.div-eq_of_lt}
 use Rattle.std.proofs.lemmas.List.{length-append, take_at, drop_at, drop-drop}
-use Rattle.std.proofs.Math.Nat.{div-eq_of_lt}
 use Rattle.p3_challenger_core.specs.Segments.{Call, observe, observe_empty_array, draw, stays, run_before}
 use Rattle.p3_challenger_core.specs.SegmentLaws.{StepsAgree}
-use Rattle.p3_sponge.specs.Outputs as outputs
-use Rattle.p3_sponge.specs.Outputs.{draws_from}
-use Rattle.p3_sponge.specs.OutputsLaws.{further-div, draws-left, draws-next}
-use Rattle.p3_sponge.specs.SpongeCalls.{SpongeRule, CellSponge, SpongeRun, emptied, appended, one_taken, permutation_input}
-use Rattle.p3_sponge.specs.SpongeCalls.{permuting, duplexed, observed, last_output, after_sampled, run_value, run_draw}
-use Rattle.p3_sponge.specs.SpongeCalls.{run_call, sponge_by_calls}
+use Rattle.p3_sponge.specs.SpongeCalls.{SpongeRule, CellSponge, SpongeRun, emptied, appended, permutation_input}
+use Rattle.p3_sponge.specs.SpongeCalls.{permuting, observed, after_sampled, run_value, run_draw}
 use Rattle.p3_sponge.specs.SpongeSegments.{absorbed_blocks, block_queries, outputs_after, absorbed, run_values, outputs_of}
-use Rattle.p3_sponge.specs.SpongeSegments.{run_draws, sponge_by_segments}
+use Rattle.p3_sponge.specs.{Outputs.draws_from, OutputsLaws.{further-div, draws-left, draws-next}}
+use Rattle.p3_sponge.specs.{SpongeCalls.{run_call, sponge_by_calls}, SpongeSegments.{run_draws, sponge_by_segments}}
+use Rattle.p3_sponge.specs.Outputs as outputs
 
 pub not_zero : (m : ℕ) → (suc m == 0) ≡ false
 not_zero m = grind (arith, nat_tests)
@@ -47,28 +43,12 @@ module _ {C T : Type 0} (rule : SpongeRule C T) where
   pub value-full : (s : CellSponge C T) (x : T) → (length (s.pending ++ x ∷ []) == rule.block_len) ≡ true
       → run_value rule s x ≡ (let state = rule.over s.cells (s.pending ++ x ∷ []) in
       record { answers = []; queries = state ∷ []; after = permuting rule state })
-  value-full s x full =
-      ap (λ b. record {
-        answers = [];
-        queries = if b then rule.over s.cells (s.pending ++ x ∷ []) ∷ [] else [];
-        after = if b then duplexed rule (appended s x) else appended s x;
-      }) full
-      ∙ ap (λ c. record {
-        answers = [];
-        queries = rule.over s.cells (s.pending ++ x ∷ []) ∷ [];
-        after = permuting rule c;
-      })
-      (permutation_input-snoc s.cells s.pending x)
+  value-full s x full = let snoc = permutation_input-snoc s.cells s.pending x in rw (full, snoc) refl
 
   -- one that does not is pending
   pub value-short : (s : CellSponge C T) (x : T) → (length (s.pending ++ x ∷ []) == rule.block_len) ≡ false
       → run_value rule s x ≡ stays (appended s x)
-  value-short s x short =
-      ap (λ b. record {
-        answers = [];
-        queries = if b then rule.over s.cells (s.pending ++ x ∷ []) ∷ [] else [];
-        after = if b then duplexed rule (appended s x) else appended s x;
-      }) short
+  value-short s x short = rw short refl
 
   module _ (some_block : 0 < rule.block_len) (some_row : 0 < rule.row_len) where
     -- ---- what is absorbed
@@ -79,23 +59,9 @@ module _ {C T : Type 0} (rule : SpongeRule C T) where
         ≡ stays (record { cells = cells; pending = values; outputs_left = outputs_after rule values })
     unfolding absorbed_blocks block_queries
     absorbed-short cells values short =
-        let n = rule.block_len in
-        let none : n * 0 ≡ 0 = omega arith in
-        ap (λ k. record {
-          answers = [];
-          queries = block_queries rule k cells values;
-          after =
-              record {
-                cells = absorbed_blocks rule k cells values;
-                pending = drop (n * k) values;
-                outputs_left = outputs_after rule (drop (n * k) values);
-              };
-        }) (div-eq_of_lt short)
-        ∙ ap (λ k. stays (record {
-          cells = cells;
-          pending = drop k values;
-          outputs_left = outputs_after rule (drop k values);
-        })) none
+        let none : rule.block_len * 0 ≡ 0 = omega arith in
+        let blocks : length values / rule.block_len ≡ 0 = div-eq_of_lt short in
+        rw (blocks, none) refl
 
     -- a whole block is absorbed, and then what is after it
     absorbed-block : (cells : C) (block more : List T) → length block ≡ rule.block_len
@@ -221,11 +187,7 @@ module _ {C T : Type 0} (rule : SpongeRule C T) where
     drawn-left : (cells : C) (m : ℕ)
         → run_draw rule (emptied cells (suc m))
         ≡ record { answers = rule.output cells (suc m - 1) ∷ []; queries = []; after = emptied cells (suc m - 1) }
-    drawn-left cells m =
-        let s : CellSponge C T = emptied cells (suc m) in
-        ap (λ b. let t = if b then duplexed rule s else s in
-        record { answers = last_output rule t ∷ []; queries = if b then cells ∷ [] else []; after = one_taken t })
-        (not_zero m)
+    drawn-left cells m = rw (not_zero m) refl
 
     -- a draw and then k draws are one draw more
     next-by : (cells : C) (pending : List T) (left k : ℕ) → left ≤ rule.row_len → (0 < length pending → left ≡ 0)
@@ -243,10 +205,7 @@ module _ {C T : Type 0} (rule : SpongeRule C T) where
     next-by cells (x ∷ xs) zero k h none =
         let state = rule.over cells (x ∷ xs) in
         ap (queries_first state) (taken-next (rule.permute state) rule.row_len k some_row (omega arith))
-    next-by cells (x ∷ xs) (suc m) k h none =
-        let some : 0 < length (x ∷ xs) = omega arith in
-        let no : suc m ≡ 0 = none some in
-        absurd (omega (arith, no))
+    next-by cells (x ∷ xs) (suc m) k h none = absurd (omega arith)
 
     pub run_draws-next : (s : CellSponge C T) → Fits s → (k : ℕ)
         → run_draws rule s (suc k) ≡ (let run = run_draw rule s in run_before run (run_draws rule run.after k))
@@ -259,10 +218,7 @@ module _ {C T : Type 0} (rule : SpongeRule C T) where
     sampled-fits-by cells [] (suc m) h none =
         subst (λ (run : SpongeRun C T). Fits run.after) (sym (drawn-left cells m))
         (emptied-fits cells (suc m - 1) (omega (arith, h)))
-    sampled-fits-by cells (x ∷ xs) (suc m) h none =
-        let some : 0 < length (x ∷ xs) = omega arith in
-        let no : suc m ≡ 0 = none some in
-        absurd (omega (arith, no))
+    sampled-fits-by cells (x ∷ xs) (suc m) h none = absurd (omega arith)
 
     pub sampled-fits : (s : CellSponge C T) → Fits s → Fits (after_sampled rule s)
     sampled-fits s fits = sampled-fits-by s.cells s.pending s.outputs_left fits.left fits.none_left

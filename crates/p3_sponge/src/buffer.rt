@@ -1,12 +1,16 @@
 //! The buffer of what is pending.
-ghost use Rattle.std.specs.Prelude.{◌≡◌, ◌≤◌, ◌+◌, ◌++◌, length, take};
+ghost use Rattle.std.specs.Prelude.{◌≡◌, ◌≤◌, ◌+◌, ◌++◌, length, take, drop};
 
-/// Writes values into a buffer after its first `start` places, which stay. Not in the Rust crate.
+/// Writes values into a buffer after its first `start` places, which stay, as do those behind the values. Not in the
+/// Rust crate.
 ///
 /// Condition: the buffer has room for them.
 pub fn write_after<T: Copy>(buffer: &mut [T], start: usize, values: &[T])
     requires { start + length values.now ≤ length buffer.old }
-    ensures { take (start + length values.now) buffer.new ≡ take start buffer.old ++ values.now }
+    ensures front { take (start + length values.now) buffer.new
+        ≡ take start buffer.old ++ values.now }
+    ensures whole { buffer.new
+        ≡ take start buffer.old ++ values.now ++ drop (start + length values.now) buffer.old }
 {
     buffer[start..start + values.len()].copy_from_slice(values);
 }

@@ -1,10 +1,7 @@
 -- A digest under SHA-256 is one.
-use Rattle.std.specs.Prelude.{ℕ, zero, suc, ◌<◌, List, [], ◌∷◌, ◌++◌, slice_index}
-use Rattle.std.proofs.Common.{lit<}
-use Rattle.std.proofs.Math.Nat.{mod-lt}
-use Rattle.std.specs.Int.{to_be_bytes, w32}
-use Rattle.sha2.specs.Sha256.{sha256, digest_bytes, final_hash, initial_hash_256}
-use Rattle.sha2.proofs.Facts256.{length-sha256}
+use Rattle.std.{specs.Prelude.{ℕ, zero, suc, ◌<◌, List, [], ◌∷◌, ◌++◌, slice_index}, proofs.Common.lit<}
+use Rattle.std.{proofs.Math.Nat.mod-lt, specs.Int.{to_be_bytes, w32}}
+use Rattle.sha2.{specs.Sha256.{sha256, digest_bytes, final_hash, initial_hash_256}, proofs.Facts256.length-sha256}
 use Rattle.p3_symmetric.specs.Digests.{IsDigest}
 
 -- each place of a list is a byte

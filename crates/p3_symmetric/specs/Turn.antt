@@ -1,6 +1,5 @@
 -- A permutation for tests: the cells turn round, and each gets its place and one added.
-use Rattle.std.specs.Prelude.{ℕ, ◌+◌, ◌%◌, List, map, slice_index_or}
-use Rattle.std.specs.List.{range_with_len}
+use Rattle.std.specs.{Prelude.{ℕ, ◌+◌, ◌%◌, List, map, slice_index_or}, List.range_with_len}
 use Rattle.p3_field_core.specs.Residues.{Residues, plus}
 
 -- cell i after a turn by k places; past the last one, the element 0 is turned

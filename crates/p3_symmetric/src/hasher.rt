@@ -1,6 +1,5 @@
 //! Hash functions of lists.
-ghost use Rattle.std.specs.Prelude.{◌≡◌, ◌<◌, ◌+◌, ◌*◌, ◌/◌, ◌%◌, ℕ, List, Some, length};
-ghost use Rattle.std.specs.Prelude.{slice_get, slice_range};
+ghost use Rattle.std.specs.Prelude.{◌≡◌, ◌<◌, ◌+◌, ◌*◌, ◌/◌, ◌%◌, ℕ, List, Some, length, slice_get, slice_range};
 
 /// What a hash function gives: an array of values that are copied.
 ///

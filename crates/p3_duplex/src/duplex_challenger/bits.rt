@@ -1,5 +1,5 @@
 //! Numbers of some bits, drawn from a duplex challenger: the low bits of one element.
-ghost use Rattle.std.specs.Prelude.{◌≡◌, ◌^◌, ◌≤◌, ◌%◌};
+ghost use Rattle.std.specs.Prelude.{◌^◌, ◌%◌};
 
 use crate::DuplexChallenger;
 use p3_challenger_core::{CanSample, CanSampleBits, ChallengerError, FieldChallenger};
@@ -14,8 +14,7 @@ impl<
 > CanSampleBits<usize> for DuplexChallenger<F, P, WIDTH, RATE> {
     ghost use Rattle.std.specs.Prelude.{Some, ◌^◌, ◌%◌};
     ghost use Rattle.p3_duplex.specs.DuplexState as duplex_state;
-    ghost use Rattle.p3_challenger_core.specs.Bits.{most_bits_of};
-    ghost use Rattle.p3_challenger_core.specs.BitLaws.{low_bits-below, most_bits-short};
+    ghost use Rattle.p3_challenger_core.specs.{Bits.most_bits_of, BitLaws.{low_bits-below, most_bits-short}};
     ghost use Rattle.p3_challenger_core.specs.Sampling.{unrefused_draw};
     ghost use Rattle.p3_sponge.specs.DrawingLaws.{value-sampled};
 
@@ -23,8 +22,7 @@ impl<
     ghost most_bits = { most_bits_of F.residues.order };
 
     // A draw takes no memory and has no limit: it is never refused.
-    ghost bits_sampling = { λ bits. unrefused_draw
-        (λ s. Some
+    ghost bits_sampling = { λ bits. unrefused_draw (λ s. Some
         (F.residues.number (duplex_state.sampled F.residues P.permutation RATE s) % 2 ^ bits))
         (λ s. duplex_state.after_sampled F.residues P.permutation RATE s) };
 
@@ -33,9 +31,8 @@ impl<
     ghost number_tells = { λ _ _ same. same };
 
     ghost samples_bits = { λ bits. value-sampled
-        (duplex_state.sampled F.residues P.permutation RATE)
-        (duplex_state.after_sampled F.residues P.permutation RATE)
-        (λ x. F.residues.number x % 2 ^ bits) };
+        (duplex_state.sampled F.residues P.permutation RATE) (duplex_state.after_sampled
+        F.residues P.permutation RATE) (λ x. F.residues.number x % 2 ^ bits) };
 
     ghost bits_below = { λ bits s x _ drawn. low_bits-below
         (F.residues.number (duplex_state.sampled F.residues P.permutation RATE s)) bits x drawn };

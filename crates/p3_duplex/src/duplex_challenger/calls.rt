@@ -1,14 +1,11 @@
 //! What each method is as a list of calls: of the call-by-call definition that `follows_segments` speaks of.
-ghost use Rattle.std.specs.Prelude.{◌≡◌, ◌<◌, ◌≤◌, ◌^◌, ◌%◌, ◌==◌, ◌++◌, ℕ, suc, Bool, List, [], ◌∷◌, Some};
-ghost use Rattle.std.specs.Prelude.{map, replicate};
-ghost use Rattle.std.specs.List.{flat_map, range_with_len};
+ghost use Rattle.std.specs.Prelude.{◌≡◌, ◌<◌, ◌≤◌, ◌^◌, ◌%◌, ◌==◌, ◌++◌, ℕ, suc, Bool, List, [], ◌∷◌, Some, map};
+ghost use Rattle.std.specs.{Prelude.replicate, List.{flat_map, range_with_len}};
 ghost use Rattle.p3_symmetric.specs.HashValues.{values_of};
-ghost use Rattle.p3_challenger_core.specs.Sponge.{after_steps};
-ghost use Rattle.p3_challenger_core.specs.Segments.{observe, draw, run_calls_to_digest};
+ghost use Rattle.p3_challenger_core.specs.{Sponge.after_steps, Segments.{observe, draw}};
 ghost use Rattle.p3_grinding.specs.Checks.{all_zero, check_of};
-ghost use Rattle.p3_duplex.specs.DuplexCalls.{duplex_by_calls};
 ghost use Rattle.p3_duplex.specs.DuplexSegments.{absorbed_cells, output_at};
-ghost use Rattle.p3_duplex.specs.DuplexState.{DuplexState, run, after_calls};
+ghost use Rattle.p3_duplex.specs.DuplexState.{DuplexState, run, run_to_digest, after_calls, ObservesEach};
 
 use crate::DuplexChallenger;
 use p3_challenger_core::{CanFinalizeDigest, CanObserve, CanSample, CanSampleBits, Sponge};
@@ -27,23 +24,17 @@ impl<
     ///
     /// A law: the body is empty, and a caller cites the clauses.
     pub fn observes_are_calls<'a, M, const N: usize>()
-        ensures value { (c : DuplexState F P) (x : F) →
-            ⟦<Self as CanObserve<F>>⟧.observation.observed c x
-            ≡ after_calls F.residues P.permutation RATE c (observe x ∷ []) }
-        ensures array { (c : DuplexState F P) (xs : List F) →
-            ⟦<Self as CanObserve<[F; N]>>⟧.observation.observed c xs
-            ≡ after_calls F.residues P.permutation RATE c (map observe xs) }
-        ensures digest { (c : DuplexState F P) (digest : _) →
-            ⟦<Self as CanObserve<Hash<M, F, N>>>⟧.observation.observed c digest
-            ≡ after_calls F.residues P.permutation RATE c (map observe (values_of digest)) }
-        ensures cap { (c : DuplexState F P) (cap : List (List F)) →
-            ⟦<Self as CanObserve<MerkleCap<M, [F; N]>>>⟧.observation.observed c cap
-            ≡ after_calls F.residues P.permutation RATE c
-            (map observe (flat_map (λ root. root) cap)) }
-        ensures lists { (c : DuplexState F P) (lists : _) →
-            ⟦<Self as CanObserve<Vec<Vec<F>>>>⟧.observation.observed c lists
-            ≡ after_calls F.residues P.permutation RATE c
-            (map observe (flat_map (λ list. list.items) lists.items)) }
+        ensures value { ObservesEach F.residues P.permutation RATE
+            ⟦<Self as CanObserve<F>>⟧.observation (λ x. x ∷ []) }
+        ensures array { ObservesEach F.residues P.permutation RATE
+            ⟦<Self as CanObserve<[F; N]>>⟧.observation (λ xs. xs) }
+        ensures digest { ObservesEach F.residues P.permutation RATE
+            ⟦<Self as CanObserve<Hash<M, F, N>>>⟧.observation values_of }
+        ensures cap { ObservesEach F.residues P.permutation RATE
+            ⟦<Self as CanObserve<MerkleCap<M, [F; N]>>>⟧.observation (flat_map (λ root. root)) }
+        ensures lists { ObservesEach F.residues P.permutation RATE
+            ⟦<Self as CanObserve<Vec<Vec<F>>>>⟧.observation
+            (λ lists. flat_map (λ list. list.items) lists.items) }
     {}
 
     /// Symbols that are fed, as values and steps of a transcript feed them, are observed one after another; and the
@@ -51,11 +42,9 @@ impl<
     ///
     /// A law: the body is empty, and a caller cites the clauses.
     pub fn symbols_are_calls()
-        ensures fed { (c : DuplexState F P) (symbols : List F) →
-            ⟦<Self as Sponge>⟧.fed c symbols
+        ensures fed { (c : DuplexState F P) (symbols : List F) → ⟦<Self as Sponge>⟧.fed c symbols
             ≡ after_calls F.residues P.permutation RATE c (map observe symbols) }
-        ensures drawn { (n : ℕ) (c : DuplexState F P) →
-            after_steps ⟦<Self as Sponge>⟧.next n c
+        ensures drawn { (n : ℕ) (c : DuplexState F P) → after_steps ⟦<Self as Sponge>⟧.next n c
             ≡ after_calls F.residues P.permutation RATE c (replicate n draw) }
     {}
 
@@ -64,12 +53,9 @@ impl<
     ///
     /// A law: the body is empty, and a caller cites the clauses.
     pub fn draws_are_calls<A: BasedVectorSpace<F>>()
-        ensures element { (c : DuplexState F P) →
-            ⟦<Self as CanSample<A>>⟧.sampling.sampled c
-            ≡ Some (A.element
-            (run F.residues P.permutation RATE c (replicate A.DIMENSION draw)).answers) }
-        ensures after { (c : DuplexState F P) →
-            ⟦<Self as CanSample<A>>⟧.sampling.after c
+        ensures element { (c : DuplexState F P) → ⟦<Self as CanSample<A>>⟧.sampling.sampled c ≡ Some
+            (A.element (run F.residues P.permutation RATE c (replicate A.DIMENSION draw)).answers) }
+        ensures after { (c : DuplexState F P) → ⟦<Self as CanSample<A>>⟧.sampling.after c
             ≡ after_calls F.residues P.permutation RATE c (replicate A.DIMENSION draw) }
         ensures bits { (bits : ℕ) (c : DuplexState F P) (x : F) →
             (run F.residues P.permutation RATE c (draw ∷ [])).answers ≡ x ∷ [] →
@@ -78,10 +64,8 @@ impl<
         ensures after_bits { (bits : ℕ) (c : DuplexState F P) →
             (⟦<Self as CanSampleBits<usize>>⟧.bits_sampling bits).after c
             ≡ after_calls F.residues P.permutation RATE c (draw ∷ []) }
-        ensures digest { (c : DuplexState F P) →
-            ⟦<Self as CanFinalizeDigest>⟧.digest_of c
-            ≡ (run_calls_to_digest
-            (duplex_by_calls F.residues (P.permutation c.permutation) RATE) c.sponge []).after }
+        ensures digest { (c : DuplexState F P) → ⟦<Self as CanFinalizeDigest>⟧.digest_of c
+            ≡ (run_to_digest F.residues P.permutation RATE c []).after }
     {}
 
     /// After a value that is observed, and more values, draw `k` answers output `k` of the cells that they leave when
@@ -90,12 +74,11 @@ impl<
     /// A law: the body does nothing, and a caller cites the clause.
     pub fn draws_have_places(&self)
         ensures { (x : F) (xs : List F) (n : ℕ) →
-            let cells = absorbed_cells F.residues
-            (P.permutation self.now.permutation) RATE self.now.sponge (x ∷ xs) in
-            (run F.residues P.permutation RATE self.now
-            (map observe (x ∷ xs) ++ replicate n draw)).answers
-            ≡ map (λ k. output_at F.residues (P.permutation self.now.permutation) RATE cells k)
-            (range_with_len 0 n) }
+            let permute = P.permutation self.now.permutation in
+            let cells = absorbed_cells F.residues permute RATE self.now.sponge (x ∷ xs) in
+            let calls = map observe (x ∷ xs) ++ replicate n draw in
+            (run F.residues P.permutation RATE self.now calls).answers
+            ≡ map (output_at F.residues permute RATE cells) (range_with_len 0 n) }
     {
         let _ = &self.outputs_left;
     }
@@ -113,13 +96,11 @@ impl<
             (run F.residues P.permutation RATE c (observe witness ∷ draw ∷ [])).answers ≡ x ∷ [] →
             (check_of ⟦<Self as BeforeWitness>⟧.before_witness ⟦<Self as CanObserve<F>>⟧.observation
             (all_zero (⟦<Self as CanSampleBits<usize>>⟧.bits_sampling (suc more)))
-            (suc more) witness).sampled c
-            ≡ Some (F.residues.number x % 2 ^ suc more == 0) }
+            (suc more) witness).sampled c ≡ Some (F.residues.number x % 2 ^ suc more == 0) }
         ensures after { (more : ℕ) (witness : F) (c : DuplexState F P) →
             (check_of ⟦<Self as BeforeWitness>⟧.before_witness ⟦<Self as CanObserve<F>>⟧.observation
-            (all_zero (⟦<Self as CanSampleBits<usize>>⟧.bits_sampling (suc more)))
-            (suc more) witness).after c
-            ≡ after_calls F.residues P.permutation RATE c (observe witness ∷ draw ∷ []) }
+            (all_zero (⟦<Self as CanSampleBits<usize>>⟧.bits_sampling (suc more))) (suc more)
+            witness).after c ≡ after_calls F.residues P.permutation RATE c (observe witness ∷ draw ∷ []) }
     {}
 }
 

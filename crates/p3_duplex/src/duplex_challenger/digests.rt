@@ -15,7 +15,7 @@ impl<
     const WIDTH: usize,
     const RATE: usize,
 > DuplexChallenger<F, P, WIDTH, RATE> {
-    ghost use Rattle.p3_duplex.specs.DuplexState as duplex_state;
+    ghost use Rattle.p3_duplex.specs.DuplexState.{DuplexState, fed_parts};
 
     /// A cap that is lent is observed as its contents are, the cap itself: it feeds the same symbols, and leaves
     /// the same state.
@@ -23,26 +23,19 @@ impl<
     /// A law: the body is empty, and a caller cites the clauses.
     pub fn lent_caps_are_caps<'a, M, const N: usize>()
         ensures symbols { (cap : _) →
-            ⟦<DuplexChallenger<F, P, WIDTH, RATE> as CanObserve<&'a MerkleCap<M, [F; N]>>>⟧.observation.symbols cap
-            ≡ ⟦<DuplexChallenger<F, P, WIDTH, RATE> as CanObserve<MerkleCap<M, [F; N]>>>⟧.observation.symbols cap.now }
-        ensures observed { (s : duplex_state.DuplexState F P) (cap : _) →
-            ⟦<DuplexChallenger<F, P, WIDTH, RATE> as CanObserve<&'a MerkleCap<M, [F; N]>>>⟧.observation.observed
-            s cap
-            ≡ ⟦<DuplexChallenger<F, P, WIDTH, RATE> as CanObserve<MerkleCap<M, [F; N]>>>⟧.observation.observed
-            s cap.now }
-        ensures left { (s : duplex_state.DuplexState F P) (cap : _)
-            (t : duplex_state.DuplexState F P) →
-            ⟦<DuplexChallenger<F, P, WIDTH, RATE> as CanObserve<&'a MerkleCap<M, [F; N]>>>⟧.observation.may_leave
-            s cap t
-            ↔ ⟦<DuplexChallenger<F, P, WIDTH, RATE> as CanObserve<MerkleCap<M, [F; N]>>>⟧.observation.may_leave
-            s cap.now t }
+            ⟦<Self as CanObserve<&'a MerkleCap<M, [F; N]>>>⟧.observation.symbols cap
+            ≡ ⟦<Self as CanObserve<MerkleCap<M, [F; N]>>>⟧.observation.symbols cap.now }
+        ensures observed { (s : DuplexState F P) (cap : _) →
+            ⟦<Self as CanObserve<&'a MerkleCap<M, [F; N]>>>⟧.observation.observed s cap
+            ≡ ⟦<Self as CanObserve<MerkleCap<M, [F; N]>>>⟧.observation.observed s cap.now }
+        ensures left { (s : DuplexState F P) (cap : _) (t : DuplexState F P) →
+            ⟦<Self as CanObserve<&'a MerkleCap<M, [F; N]>>>⟧.observation.may_leave s cap t
+            ↔ ⟦<Self as CanObserve<MerkleCap<M, [F; N]>>>⟧.observation.may_leave s cap.now t }
     {}
 
     // Makes the values of parts pending, part by part.
     pub(crate) fn push_parts<Part: AsSlice<F>>(&mut self, parts: &[Part])
-        ensures { self.new ≡ observed_all
-            (λ s part. duplex_state.fed F.residues P.permutation RATE s
-            (Part.items part)) self.old parts.now }
+        ensures { self.new ≡ fed_parts F.residues P.permutation RATE Part.items self.old parts.now }
     {
         for i in 0..parts.len() {
             self.push_all(parts[i].as_slice());
@@ -51,11 +44,8 @@ impl<
 
     // Makes the values of values of parts pending, part by part.
     fn push_values<Part: AsSlice<F>, V: AsSlice<Part>>(&mut self, values: &[V])
-        ensures { self.new ≡ observed_all
-            (λ s value. observed_all
-            (λ u part. duplex_state.fed F.residues P.permutation RATE u (Part.items part)) s
-            (V.items value))
-            self.old values.now }
+        ensures { self.new ≡ observed_all (λ s value. fed_parts
+            F.residues P.permutation RATE Part.items s (V.items value)) self.old values.now }
     {
         for i in 0..values.len() {
             self.push_parts(values[i].as_slice());
@@ -73,9 +63,9 @@ impl<
 > CanObserve<Hash<M, F, N>> for DuplexChallenger<F, P, WIDTH, RATE> {
     ghost use Rattle.std.specs.Prelude.{refl};
     ghost use Rattle.p3_symmetric.specs.HashValues.{values_of};
-    ghost use Rattle.p3_challenger_core.specs.Observation.{unrefused_observe, observed_all};
+    ghost use Rattle.p3_challenger_core.specs.Observation.{unrefused_observe};
     ghost use Rattle.p3_duplex.specs.DuplexState as duplex_state;
-    ghost use Rattle.p3_duplex.specs.DuplexStateLaws.{is_observation, fed-flat_map};
+    ghost use Rattle.p3_duplex.specs.DuplexStateLaws.{is_observation};
 
     // An observation takes no memory: it is never refused.
     ghost observation = { unrefused_observe values_of
@@ -83,9 +73,7 @@ impl<
 
     ghost slice_may_leave = { λ _ _ _. ⊥ };
 
-    ghost observes = { is_observation F.residues P.permutation RATE values_of
-        (λ s digest. duplex_state.fed F.residues P.permutation RATE s (values_of digest))
-        (λ _ _. refl) };
+    ghost observes = { is_observation F.residues P.permutation RATE values_of _ (λ _ _. refl) };
 
     ghost slice_leaves = { λ _ _ _ h. absurd h };
 
@@ -108,24 +96,17 @@ impl<
     const RATE: usize,
     const N: usize,
 > CanObserve<MerkleCap<M, [F; N]>> for DuplexChallenger<F, P, WIDTH, RATE> {
-    ghost use Rattle.std.specs.Prelude.{refl};
-    ghost use Rattle.std.specs.List.{flat_map};
-    ghost use Rattle.p3_challenger_core.specs.Observation.{unrefused_observe, observed_all};
-    ghost use Rattle.p3_duplex.specs.DuplexState as duplex_state;
-    ghost use Rattle.p3_duplex.specs.DuplexStateLaws.{is_observation, fed-flat_map};
+    ghost use Rattle.std.specs.{Prelude.refl, List.flat_map};
+    ghost use Rattle.p3_challenger_core.specs.Observation.{unrefused_observe};
+    ghost use Rattle.p3_duplex.specs.{DuplexState.fed_parts, DuplexStateLaws.parts-are_observation};
 
     // An observation takes no memory: it is never refused.
     ghost observation = { unrefused_observe (λ cap. flat_map (λ root. root) cap)
-        (λ s cap. observed_all
-        (λ u root. duplex_state.fed F.residues P.permutation RATE u root) s cap) };
+        (λ s cap. fed_parts F.residues P.permutation RATE (λ root. root) s cap) };
 
     ghost slice_may_leave = { λ _ _ _. ⊥ };
 
-    ghost observes = { is_observation F.residues P.permutation RATE
-        (λ cap. flat_map (λ root. root) cap)
-        (λ s cap. observed_all
-        (λ u root. duplex_state.fed F.residues P.permutation RATE u root) s cap)
-        (λ s cap. fed-flat_map F.residues P.permutation RATE (λ root. root) s cap) };
+    ghost observes = { parts-are_observation F.residues P.permutation RATE (λ root. root) (λ cap. cap) };
 
     ghost slice_leaves = { λ _ _ _ h. absurd h };
 
@@ -148,24 +129,17 @@ impl<
     const RATE: usize,
     const N: usize,
 > CanObserve<&MerkleCap<M, [F; N]>> for DuplexChallenger<F, P, WIDTH, RATE> {
-    ghost use Rattle.std.specs.Prelude.{refl};
-    ghost use Rattle.std.specs.List.{flat_map};
-    ghost use Rattle.p3_challenger_core.specs.Observation.{unrefused_observe, observed_all};
-    ghost use Rattle.p3_duplex.specs.DuplexState as duplex_state;
-    ghost use Rattle.p3_duplex.specs.DuplexStateLaws.{is_observation, fed-flat_map};
+    ghost use Rattle.std.specs.{Prelude.refl, List.flat_map};
+    ghost use Rattle.p3_challenger_core.specs.Observation.{unrefused_observe};
+    ghost use Rattle.p3_duplex.specs.{DuplexState.fed_parts, DuplexStateLaws.parts-are_observation};
 
     // An observation takes no memory: it is never refused.
     ghost observation = { unrefused_observe (λ cap. flat_map (λ root. root) cap.now)
-        (λ s cap. observed_all
-        (λ u root. duplex_state.fed F.residues P.permutation RATE u root) s cap.now) };
+        (λ s cap. fed_parts F.residues P.permutation RATE (λ root. root) s cap.now) };
 
     ghost slice_may_leave = { λ _ _ _. ⊥ };
 
-    ghost observes = { is_observation F.residues P.permutation RATE
-        (λ cap. flat_map (λ root. root) cap.now)
-        (λ s cap. observed_all
-        (λ u root. duplex_state.fed F.residues P.permutation RATE u root) s cap.now)
-        (λ s cap. fed-flat_map F.residues P.permutation RATE (λ root. root) s cap.now) };
+    ghost observes = { parts-are_observation F.residues P.permutation RATE (λ root. root) (λ cap. cap.now) };
 
     ghost slice_leaves = { λ _ _ _ h. absurd h };
 
@@ -186,26 +160,17 @@ impl<
     const WIDTH: usize,
     const RATE: usize,
 > CanObserve<Vec<Vec<F>>> for DuplexChallenger<F, P, WIDTH, RATE> {
-    ghost use Rattle.std.specs.Prelude.{refl};
-    ghost use Rattle.std.specs.List.{flat_map};
-    ghost use Rattle.p3_challenger_core.specs.Observation.{unrefused_observe, observed_all};
-    ghost use Rattle.p3_duplex.specs.DuplexState as duplex_state;
-    ghost use Rattle.p3_duplex.specs.DuplexStateLaws.{is_observation, fed-flat_map};
+    ghost use Rattle.std.specs.{Prelude.refl, List.flat_map};
+    ghost use Rattle.p3_challenger_core.specs.Observation.{unrefused_observe};
+    ghost use Rattle.p3_duplex.specs.{DuplexState.fed_parts, DuplexStateLaws.parts-are_observation};
 
     // An observation takes no memory: it is never refused.
     ghost observation = { unrefused_observe (λ lists. flat_map (λ list. list.items) lists.items)
-        (λ s lists. observed_all
-        (λ u list. duplex_state.fed F.residues P.permutation RATE u list.items)
-        s lists.items) };
+        (λ s lists. fed_parts F.residues P.permutation RATE (λ list. list.items) s lists.items) };
 
     ghost slice_may_leave = { λ _ _ _. ⊥ };
 
-    ghost observes = { is_observation F.residues P.permutation RATE
-        (λ lists. flat_map (λ list. list.items) lists.items)
-        (λ s lists. observed_all
-        (λ u list. duplex_state.fed F.residues P.permutation RATE u list.items) s lists.items)
-        (λ s lists. fed-flat_map F.residues P.permutation RATE
-        (λ list. list.items) s lists.items) };
+    ghost observes = { parts-are_observation F.residues P.permutation RATE (λ list. list.items) (λ lists. lists.items) };
 
     ghost slice_leaves = { λ _ _ _ h. absurd h };
 

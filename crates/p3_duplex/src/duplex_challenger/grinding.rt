@@ -33,8 +33,7 @@ impl<
     const WIDTH: usize,
     const RATE: usize,
 > BeforeWitness for DuplexChallenger<F, P, WIDTH, RATE> {
-    ghost use Rattle.p3_grinding.specs.Checks.{draws_nothing};
-    ghost use Rattle.p3_grinding.specs.CheckLaws.{draws_nothing-is_sampling};
+    ghost use Rattle.p3_grinding.specs.{Checks.draws_nothing, CheckLaws.draws_nothing-is_sampling};
 
     ghost before_witness = { draws_nothing };
 

@@ -1,11 +1,10 @@
 //! The search for a witness, which tries one candidate in each lane: all start from one state, and differ in one cell.
-ghost use Rattle.std.specs.Prelude.{◌≡◌, ◌<◌, ℕ, ◌+◌, ◌-◌, ◌*◌, ◌^◌, ◌≤◌, ◌↔◌, min};
-ghost use Rattle.std.specs.Prelude.{MatchOption, IfOk, IfErr, IsOk, IsTrue};
-ghost use Rattle.std.specs.Mem.{type_size};
-ghost use Rattle.p3_duplex.specs.LaneSearch.{given_by, HasZeros, candidate, IsLeastOf, NoneOfAll};
+ghost use Rattle.std.specs.Prelude.{◌≡◌, ◌<◌, ℕ, ◌+◌, ◌-◌, ◌*◌, ◌^◌, ◌≤◌, ◌↔◌, min, MatchOption, IfOk, IfErr, IsOk};
+ghost use Rattle.std.specs.{Prelude.IsTrue, Mem.type_size};
+ghost use Rattle.p3_duplex.specs.LaneSearch.{given_by, HasZeros, candidate, IsLeastOf, NoneOfAll, IsFirstLane};
+ghost use Rattle.p3_duplex.specs.LaneSearch.{PassesAt, LanePasses, check};
 ghost use Rattle.p3_challenger_core.specs.Bits.{most_bits_of};
 ghost use Rattle.p3_grinding.specs.Checks.{IsLeast, RefusesSearch};
-ghost use Rattle.p3_duplex.specs.LaneSearch.{IsFirstLane, PassesAt, LanePasses, PassesCheck, check};
 
 use crate::DuplexChallenger;
 use p3_challenger_core::ChallengerError;
@@ -69,11 +68,9 @@ fn least_in_lanes<F: PrimeField64 + PackedField, P: LanePermutation<F, WIDTH>, c
     requires output { output < WIDTH }
     requires room { WIDTH * type_size F.Packing.row < 2 ^ 63 }
     requires bits { bits < 64 }
-    ensures { MatchOption result
-        (NoneOfAll F.residues
-        (PassesAt F.residues (P.permutation permutation.now) cells.now place output bits))
-        (IsLeastOf F.residues
-        (PassesAt F.residues (P.permutation permutation.now) cells.now place output bits)) }
+    ensures { let Passes =
+        PassesAt F.residues (P.permutation permutation.now) cells.now place output bits in
+        MatchOption result (NoneOfAll F.residues Passes) (IsLeastOf F.residues Passes) }
 {
     let mut first = 0;
     'batches: while first < F::ORDER_U64 {
@@ -132,9 +129,8 @@ fn given_in_lanes<F: PrimeField64 + PackedField, P: LanePermutation<F, WIDTH>, c
     requires place { place < WIDTH }
     requires output { output < WIDTH }
     requires room { WIDTH * type_size F.Packing.row < 2 ^ 63 }
-    ensures { (l : ℕ) → l < F.Packing.WIDTH → F.Packing.in_lane l result
-        ≡ given_by F.residues (P.permutation permutation.now) cells.now place output
-        (F.Packing.in_lane l candidates) }
+    ensures { (l : ℕ) → l < F.Packing.WIDTH → F.Packing.in_lane l result ≡ given_by F.residues
+        (P.permutation permutation.now) cells.now place output (F.Packing.in_lane l candidates) }
 {
     let mut lanes = [F::Packing::broadcast(F::ZERO); WIDTH];
     'cells: for i in 0..WIDTH {
@@ -151,10 +147,8 @@ fn first_lane_with_zeros<F: PrimeField64 + PackedField>(
     bits: usize,
 ) -> Option<usize>
     requires { bits < 64 }
-    ensures { MatchOption result
-        ((l : ℕ) → l < F.Packing.WIDTH
-        → ¬ (LanePasses F.residues F.Packing.in_lane bits given l))
-        (IsFirstLane F.Packing.WIDTH (LanePasses F.residues F.Packing.in_lane bits given)) }
+    ensures { let Passes = LanePasses F.residues F.Packing.in_lane bits given in MatchOption result
+        ((l : ℕ) → l < F.Packing.WIDTH → ¬ (Passes l)) (IsFirstLane F.Packing.WIDTH Passes) }
 {
     'lanes: for lane in 0..F::Packing::WIDTH {
         if has_zeros(given.lane(lane), bits) {

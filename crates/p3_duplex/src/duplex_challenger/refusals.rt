@@ -1,10 +1,10 @@
 //! Laws: what is never refused.
-ghost use Rattle.std.specs.Prelude.{◌≡◌, ℕ, Bool, false, List};
-ghost use Rattle.p3_challenger_core.specs.Observation.{LeavesInCalls, RefusesObserve};
+ghost use Rattle.std.specs.Prelude.{ℕ, Bool, false};
 ghost use Rattle.p3_challenger_core.specs.Sampling.{RefusesDraw, RefusesDraws};
 ghost use Rattle.p3_challenger_core.specs.declared.error.ChallengerError.{ChallengerError};
 ghost use Rattle.p3_grinding.specs.Checks.{all_zero, check_of, zero_and_uniform};
 ghost use Rattle.p3_duplex.specs.DuplexState.{DuplexState};
+ghost use Rattle.p3_sponge.specs.CallPromises.{IsNeverRefused};
 
 use crate::DuplexChallenger;
 use p3_challenger_core::{CanObserve, CanSample, CanSampleBits};
@@ -22,9 +22,7 @@ impl<
     ///
     /// A law: the body is empty, and a caller cites the clause.
     pub fn observes_are_not_refused()
-        ensures { (values : List F) (e : ChallengerError) (s t : DuplexState F P) →
-            ¬ (RefusesObserve (LeavesInCalls ⟦<Self as CanObserve<F>>⟧.observation.observed
-            ⟦<Self as CanObserve<F>>⟧.observation.may_leave s values) e t) }
+        ensures { IsNeverRefused ⟦<Self as CanObserve<F>>⟧.observation }
     {}
 
     /// Draws are never refused, whatever is drawn: no number of them leaves any challenger with an error.
@@ -49,21 +47,10 @@ impl<
     ///
     /// A law: the body is empty, and a caller cites the clauses.
     pub fn observes_of_lists_are_not_refused<M, const N: usize>()
-        ensures arrays { (values : _) (e : ChallengerError) (s t : DuplexState F P) →
-            ¬ (RefusesObserve (LeavesInCalls ⟦<Self as CanObserve<[F; N]>>⟧.observation.observed
-            ⟦<Self as CanObserve<[F; N]>>⟧.observation.may_leave s values) e t) }
-        ensures digests { (values : _) (e : ChallengerError) (s t : DuplexState F P) →
-            ¬ (RefusesObserve
-            (LeavesInCalls ⟦<Self as CanObserve<Hash<M, F, N>>>⟧.observation.observed
-            ⟦<Self as CanObserve<Hash<M, F, N>>>⟧.observation.may_leave s values) e t) }
-        ensures caps { (values : _) (e : ChallengerError) (s t : DuplexState F P) →
-            ¬ (RefusesObserve
-            (LeavesInCalls ⟦<Self as CanObserve<MerkleCap<M, [F; N]>>>⟧.observation.observed
-            ⟦<Self as CanObserve<MerkleCap<M, [F; N]>>>⟧.observation.may_leave s values) e t) }
-        ensures lists { (values : _) (e : ChallengerError) (s t : DuplexState F P) →
-            ¬ (RefusesObserve
-            (LeavesInCalls ⟦<Self as CanObserve<Vec<Vec<F>>>>⟧.observation.observed
-            ⟦<Self as CanObserve<Vec<Vec<F>>>>⟧.observation.may_leave s values) e t) }
+        ensures arrays { IsNeverRefused ⟦<Self as CanObserve<[F; N]>>⟧.observation }
+        ensures digests { IsNeverRefused ⟦<Self as CanObserve<Hash<M, F, N>>>⟧.observation }
+        ensures caps { IsNeverRefused ⟦<Self as CanObserve<MerkleCap<M, [F; N]>>>⟧.observation }
+        ensures lists { IsNeverRefused ⟦<Self as CanObserve<Vec<Vec<F>>>>⟧.observation }
     {}
 
     /// Checks of witnesses are never refused, whatever number of bits they test: they take no memory, and meet no
@@ -91,14 +78,11 @@ impl<
     pub fn uniform_checks_take_no_memory()
         ensures memory { (resample : Bool) (bits : ℕ) (witness : F) (c d : DuplexState F P) →
             ¬ ((check_of ⟦<Self as BeforeWitness>⟧.before_witness
-            ⟦<Self as CanObserve<F>>⟧.observation
-            (zero_and_uniform (⟦<Self as CanSampleUniformBits<F>>⟧.uniform resample bits)) bits
-            witness).may_leave
-            c d) }
+            ⟦<Self as CanObserve<F>>⟧.observation (zero_and_uniform
+            (⟦<Self as CanSampleUniformBits<F>>⟧.uniform resample bits)) bits witness).may_leave c d) }
         ensures unrefused { (bits : ℕ) (witness : F) (e : ChallengerError) (c d : DuplexState F P) →
             ¬ (RefusesDraw (check_of ⟦<Self as BeforeWitness>⟧.before_witness
-            ⟦<Self as CanObserve<F>>⟧.observation
-            (zero_and_uniform (⟦<Self as CanSampleUniformBits<F>>⟧.uniform false bits)) bits
-            witness) e c d) }
+            ⟦<Self as CanObserve<F>>⟧.observation (zero_and_uniform
+            (⟦<Self as CanSampleUniformBits<F>>⟧.uniform false bits)) bits witness) e c d) }
     {}
 }

@@ -20,8 +20,7 @@ impl<
 > DuplexChallenger<F, P, WIDTH, RATE> {
     ghost use Rattle.std.specs.Option.{option_map};
     ghost use Rattle.p3_duplex.specs.DuplexUniform.{base_draw, draws_allowed, taken_element, single, halved};
-    ghost use Rattle.p3_duplex.specs.DuplexUniform.{how_many_give, MeetsElementLimit};
-    ghost use Rattle.p3_duplex.specs.DuplexState.{DuplexState};
+    ghost use Rattle.p3_duplex.specs.{DuplexUniform.{how_many_give, MeetsElementLimit}, DuplexState.DuplexState};
 
     /// Bits that are drawn from one element have no bias: they are the low bits of the element that is taken, which is
     /// below the bound for so many, and each value of the bits is that of as many of the elements below the bound as
@@ -30,9 +29,8 @@ impl<
     /// A law: the body is empty, and a caller cites the clauses.
     pub fn uniform_bits_have_no_bias()
         ensures drawn { (resample : Bool) (bits : ℕ) (c : DuplexState F P) → 0 < bits →
-            bits ≤ F.MAX_SINGLE_SAMPLE_BITS →
-            (⟦<Self as CanSampleUniformBits<F>>⟧.uniform resample bits).draw.sampled c
-            ≡ option_map (low_bits F.residues bits)
+            bits ≤ F.MAX_SINGLE_SAMPLE_BITS → (⟦<Self as CanSampleUniformBits<F>>⟧.uniform
+            resample bits).draw.sampled c ≡ option_map (low_bits F.residues bits)
             (taken_element F.residues P.permutation RATE resample bits c) }
         ensures below { (resample : Bool) (bits : ℕ) (c : DuplexState F P) (x : F) →
             taken_element F.residues P.permutation RATE resample bits c ≡ Some x →
@@ -47,11 +45,9 @@ impl<
     /// A law: the body is empty, and a caller cites the clauses.
     pub fn uniform_draws_take_no_memory()
         ensures memory { (resample : Bool) (bits : ℕ) (c d : DuplexState F P) →
-            let u = ⟦<Self as CanSampleUniformBits<F>>⟧.uniform resample bits in
-            ¬ (u.draw.may_leave c d) }
+            ¬ ((⟦<Self as CanSampleUniformBits<F>>⟧.uniform resample bits).draw.may_leave c d) }
         ensures limit { (bits : ℕ) (c : DuplexState F P) →
-            let u = ⟦<Self as CanSampleUniformBits<F>>⟧.uniform false bits in
-            ¬ (u.draw.meets_limit c) }
+            ¬ ((⟦<Self as CanSampleUniformBits<F>>⟧.uniform false bits).draw.meets_limit c) }
     {}
 
     /// Where another value may be drawn in the place of a rejected one, a draw gives nothing exactly where each of as
@@ -118,8 +114,8 @@ impl<
             ≡ Some (low_bits F.residues bits x)) }
         ensures after { OnOk result
             (self.new ≡ (single F.residues P.permutation RATE resample bits).draw.after self.old) }
-        ensures err { IfErr result (λ e.
-            RefusesUniform (single F.residues P.permutation RATE resample bits) e self.old self.new) }
+        ensures err { IfErr result (λ e. RefusesUniform
+            (single F.residues P.permutation RATE resample bits) e self.old self.new) }
     {
         let bound = F::sampling_bits_m(bits);
         if resample {
@@ -137,13 +133,12 @@ impl<
     // So many bits of one element.
     fn single_bits(&mut self, bits: usize, resample: bool) -> Result<usize, UniformBitsError>
         requires { bits < 64 }
-        ensures drawn { IfOk result
-            (λ x. (single F.residues P.permutation RATE resample bits).draw.sampled self.old
-            ≡ Some x) }
+        ensures drawn { IfOk result (λ x.
+            (single F.residues P.permutation RATE resample bits).draw.sampled self.old ≡ Some x) }
         ensures after { OnOk result
             (self.new ≡ (single F.residues P.permutation RATE resample bits).draw.after self.old) }
-        ensures err { IfErr result (λ e.
-            RefusesUniform (single F.residues P.permutation RATE resample bits) e self.old self.new) }
+        ensures err { IfErr result (λ e. RefusesUniform
+            (single F.residues P.permutation RATE resample bits) e self.old self.new) }
         ensures below { IfOk result (λ x. x < 2 ^ bits) }
     {
         let element = self.uniform_element(bits, resample)?;
@@ -153,13 +148,12 @@ impl<
     // So many bits in two halves, the low one first.
     fn halved_bits(&mut self, bits: usize, resample: bool) -> Result<usize, UniformBitsError>
         requires { bits < 64 }
-        ensures drawn { IfOk result
-            (λ x. (halved F.residues P.permutation RATE resample bits).draw.sampled self.old
-            ≡ Some x) }
+        ensures drawn { IfOk result (λ x.
+            (halved F.residues P.permutation RATE resample bits).draw.sampled self.old ≡ Some x) }
         ensures after { OnOk result
             (self.new ≡ (halved F.residues P.permutation RATE resample bits).draw.after self.old) }
-        ensures err { IfErr result (λ e.
-            RefusesUniform (halved F.residues P.permutation RATE resample bits) e self.old self.new) }
+        ensures err { IfErr result (λ e. RefusesUniform
+            (halved F.residues P.permutation RATE resample bits) e self.old self.new) }
     {
         let low_count = bits / 2;
         let low = self.single_bits(low_count, resample)?;
@@ -182,12 +176,11 @@ impl<
     ghost uniform = { λ resample bits.
         uniform_bits F.residues P.permutation RATE resample F.MAX_SINGLE_SAMPLE_BITS bits };
 
-    ghost draws_uniform = { λ resample bits.
-        uniform_bits-is_uniform F.residues P.permutation RATE resample F.MAX_SINGLE_SAMPLE_BITS bits };
+    ghost draws_uniform = { λ resample bits. uniform_bits-is_uniform
+        F.residues P.permutation RATE resample F.MAX_SINGLE_SAMPLE_BITS bits };
 
-    ghost uniform_below = { λ resample bits c x _ drawn.
-        uniform_bits-below F.residues P.permutation RATE resample F.MAX_SINGLE_SAMPLE_BITS bits c x
-        drawn };
+    ghost uniform_below = { λ resample bits c x _ drawn. uniform_bits-below
+        F.residues P.permutation RATE resample F.MAX_SINGLE_SAMPLE_BITS bits c x drawn };
 
     fn sample_uniform_bits(
         &mut self,

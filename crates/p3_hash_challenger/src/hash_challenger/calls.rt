@@ -2,11 +2,9 @@
 ghost use Rattle.std.specs.Prelude.{◌≡◌, ◌+◌, ◌++◌, ℕ, List, [], ◌∷◌, Some, map, replicate};
 ghost use Rattle.std.specs.List.{flat_map, range_with_len};
 ghost use Rattle.p3_symmetric.specs.HashValues.{values_of};
-ghost use Rattle.p3_challenger_core.specs.Sponge.{after_steps};
-ghost use Rattle.p3_challenger_core.specs.Segments.{observe, observe_empty_array, draw, run_calls_to_digest};
-ghost use Rattle.p3_hash_challenger.specs.HashCalls.{hash_by_calls};
-ghost use Rattle.p3_hash_challenger.specs.HashSegments.{output_at};
-ghost use Rattle.p3_hash_challenger.specs.HashState.{HashState, function_of, run, after_calls, calls_of_array};
+ghost use Rattle.p3_challenger_core.specs.{Sponge.after_steps, Segments.{observe, observe_empty_array, draw}};
+ghost use Rattle.p3_hash_challenger.specs.{HashSegments.output_at, HashState.calls_of_array};
+ghost use Rattle.p3_hash_challenger.specs.HashState.{HashState, function_of, run, run_to_digest, after_calls};
 
 use crate::HashChallenger;
 use p3_challenger_core::{CanFinalizeDigest, CanObserve, CanSample, Sponge};
@@ -22,9 +20,8 @@ impl<T: Copy, H: CryptographicHasher<T, [T; OUT_LEN]>, const OUT_LEN: usize> Has
     ///
     /// A law: the body is empty, and a caller cites the clauses.
     pub fn observes_are_calls<F, const N: usize>()
-        ensures value { (s : HashState T H) (x : T) →
-            ⟦<Self as CanObserve<T>>⟧.observation.observed s x
-            ≡ after_calls (function_of H.hash OUT_LEN H.filler) s (observe x ∷ []) }
+        ensures value { (s : HashState T H) (x : T) → ⟦<Self as CanObserve<T>>⟧.observation.observed
+            s x ≡ after_calls (function_of H.hash OUT_LEN H.filler) s (observe x ∷ []) }
         ensures array { (s : HashState T H) (xs : List T) →
             ⟦<Self as CanObserve<[T; N]>>⟧.observation.observed s xs
             ≡ after_calls (function_of H.hash OUT_LEN H.filler) s (calls_of_array xs) }
@@ -32,9 +29,8 @@ impl<T: Copy, H: CryptographicHasher<T, [T; OUT_LEN]>, const OUT_LEN: usize> Has
             ⟦<Self as CanObserve<Hash<F, T, N>>>⟧.observation.observed s digest
             ≡ after_calls (function_of H.hash OUT_LEN H.filler) s (map observe (values_of digest)) }
         ensures cap { (s : HashState T H) (cap : List (List T)) →
-            ⟦<Self as CanObserve<MerkleCap<F, [T; N]>>>⟧.observation.observed s cap
-            ≡ after_calls (function_of H.hash OUT_LEN H.filler) s
-            (map observe (flat_map (λ root. root) cap)) }
+            ⟦<Self as CanObserve<MerkleCap<F, [T; N]>>>⟧.observation.observed s cap ≡ after_calls
+            (function_of H.hash OUT_LEN H.filler) s (map observe (flat_map (λ root. root) cap)) }
         ensures lists { (s : HashState T H) (lists : _) →
             ⟦<Self as CanObserve<Vec<Vec<T>>>>⟧.observation.observed s lists
             ≡ after_calls (function_of H.hash OUT_LEN H.filler) s
@@ -46,11 +42,9 @@ impl<T: Copy, H: CryptographicHasher<T, [T; OUT_LEN]>, const OUT_LEN: usize> Has
     ///
     /// A law: the body is empty, and a caller cites the clauses.
     pub fn symbols_are_calls()
-        ensures fed { (s : HashState T H) (symbols : List T) →
-            ⟦<Self as Sponge>⟧.fed s symbols
+        ensures fed { (s : HashState T H) (symbols : List T) → ⟦<Self as Sponge>⟧.fed s symbols
             ≡ after_calls (function_of H.hash OUT_LEN H.filler) s (map observe symbols) }
-        ensures drawn { (n : ℕ) (s : HashState T H) →
-            after_steps ⟦<Self as Sponge>⟧.next n s
+        ensures drawn { (n : ℕ) (s : HashState T H) → after_steps ⟦<Self as Sponge>⟧.next n s
             ≡ after_calls (function_of H.hash OUT_LEN H.filler) s (replicate n draw) }
     {}
 
@@ -61,13 +55,10 @@ impl<T: Copy, H: CryptographicHasher<T, [T; OUT_LEN]>, const OUT_LEN: usize> Has
         ensures value { (s : HashState T H) (x : T) →
             (run (function_of H.hash OUT_LEN H.filler) s (draw ∷ [])).answers ≡ x ∷ [] →
             ⟦<Self as CanSample<T>>⟧.sampling.sampled s ≡ Some x }
-        ensures after { (s : HashState T H) →
-            ⟦<Self as CanSample<T>>⟧.sampling.after s
+        ensures after { (s : HashState T H) → ⟦<Self as CanSample<T>>⟧.sampling.after s
             ≡ after_calls (function_of H.hash OUT_LEN H.filler) s (draw ∷ []) }
-        ensures digest { (s : HashState T H) →
-            ⟦<Self as CanFinalizeDigest>⟧.digest_of s
-            ≡ (run_calls_to_digest
-            (hash_by_calls (function_of H.hash OUT_LEN H.filler s.hasher)) s.sponge []).after }
+        ensures digest { (s : HashState T H) → ⟦<Self as CanFinalizeDigest>⟧.digest_of s
+            ≡ (run_to_digest (function_of H.hash OUT_LEN H.filler) s []).after }
     {}
 
     /// After a value that is observed, and more values, draw `k` answers output `OUT_LEN + k` of the chain, which is
@@ -76,16 +67,14 @@ impl<T: Copy, H: CryptographicHasher<T, [T; OUT_LEN]>, const OUT_LEN: usize> Has
     /// A law: the body does nothing, and a caller cites the clauses.
     pub fn draws_have_places(&self)
         ensures values { (x : T) (xs : List T) (n : ℕ) →
-            let h = function_of H.hash OUT_LEN H.filler self.now.hasher in
-            (run (function_of H.hash OUT_LEN H.filler) self.now
-            (map observe (x ∷ xs) ++ replicate n draw)).answers
-            ≡ map (λ k. output_at h (self.now.sponge.pending ++ x ∷ xs) (OUT_LEN + k))
+            let h = function_of H.hash OUT_LEN H.filler in
+            (run h self.now (map observe (x ∷ xs) ++ replicate n draw)).answers ≡ map
+            (λ k. output_at (h self.now.hasher) (self.now.sponge.pending ++ x ∷ xs) (OUT_LEN + k))
             (range_with_len 0 n) }
-        ensures array { (n : ℕ) →
-            let h = function_of H.hash OUT_LEN H.filler self.now.hasher in
-            (run (function_of H.hash OUT_LEN H.filler) self.now
-            (observe_empty_array ∷ replicate n draw)).answers
-            ≡ map (λ k. output_at h self.now.sponge.pending (OUT_LEN + k)) (range_with_len 0 n) }
+        ensures array { (n : ℕ) → let h = function_of H.hash OUT_LEN H.filler in
+            (run h self.now (observe_empty_array ∷ replicate n draw)).answers ≡ map
+            (λ k. output_at (h self.now.hasher) self.now.sponge.pending (OUT_LEN + k))
+            (range_with_len 0 n) }
     {
         let _ = &self.outputs_left;
     }

@@ -1,7 +1,6 @@
 //! What a hash challenger observes beside single values and arrays: digests, caps and lists of lists.
 //! Each feeds its values in order, by one call a digest or a list.
-ghost use Rattle.std.specs.Prelude.{◌≡◌, ◌↔◌, OnOk, IfErr};
-ghost use Rattle.std.specs.List.{flat_map};
+ghost use Rattle.std.specs.{Prelude.{◌≡◌, ◌↔◌, OnOk, IfErr}, List.flat_map};
 ghost use Rattle.p3_challenger_core.specs.Observation.{RefusesObserve, LeavesBeginning, observed_all};
 
 use crate::HashChallenger;
@@ -22,27 +21,24 @@ impl<T: Copy, H: CryptographicHasher<T, [T; OUT_LEN]>, const OUT_LEN: usize> Has
     /// A law: the body is empty, and a caller cites the clauses.
     pub fn lent_caps_are_caps<'a, F, const N: usize>()
         ensures symbols { (cap : _) →
-            ⟦<HashChallenger<T, H, OUT_LEN> as CanObserve<&'a MerkleCap<F, [T; N]>>>⟧.observation.symbols cap
-            ≡ ⟦<HashChallenger<T, H, OUT_LEN> as CanObserve<MerkleCap<F, [T; N]>>>⟧.observation.symbols cap.now }
+            ⟦<Self as CanObserve<&'a MerkleCap<F, [T; N]>>>⟧.observation.symbols cap
+            ≡ ⟦<Self as CanObserve<MerkleCap<F, [T; N]>>>⟧.observation.symbols cap.now }
         ensures observed { (s : hash_state.HashState T H) (cap : _) →
-            ⟦<HashChallenger<T, H, OUT_LEN> as CanObserve<&'a MerkleCap<F, [T; N]>>>⟧.observation.observed s cap
-            ≡ ⟦<HashChallenger<T, H, OUT_LEN> as CanObserve<MerkleCap<F, [T; N]>>>⟧.observation.observed s cap.now }
+            ⟦<Self as CanObserve<&'a MerkleCap<F, [T; N]>>>⟧.observation.observed s cap
+            ≡ ⟦<Self as CanObserve<MerkleCap<F, [T; N]>>>⟧.observation.observed s cap.now }
         ensures left { (s : hash_state.HashState T H) (cap : _) (t : hash_state.HashState T H) →
-            ⟦<HashChallenger<T, H, OUT_LEN> as CanObserve<&'a MerkleCap<F, [T; N]>>>⟧.observation.may_leave s cap t
-            ↔ ⟦<HashChallenger<T, H, OUT_LEN> as CanObserve<MerkleCap<F, [T; N]>>>⟧.observation.may_leave s cap.now t }
+            ⟦<Self as CanObserve<&'a MerkleCap<F, [T; N]>>>⟧.observation.may_leave s cap t
+            ↔ ⟦<Self as CanObserve<MerkleCap<F, [T; N]>>>⟧.observation.may_leave s cap.now t }
     {}
 
     // Feeds parts in order, each by one call. A refused call has fed the parts before the refused one.
     fn feed_parts<Part: AsSlice<T>>(&mut self, parts: &[Part]) -> Result<(), ChallengerError>
-        ensures each { OnOk result (
-            self.new ≡ observed_all
-            (λ s part. hash_state.fed s (Part.items part)) self.old parts.now) }
+        ensures each { OnOk result (self.new
+            ≡ observed_all (λ s part. hash_state.fed s (Part.items part)) self.old parts.now) }
         ensures whole { OnOk result (self.new
             ≡ hash_state.fed self.old (flat_map Part.items parts.now)) }
-        ensures err { IfErr result (λ e.
-            RefusesObserve
-            (LeavesBeginning (λ s part. hash_state.fed s (Part.items part)) self.old parts.now) e
-            self.new) }
+        ensures err { IfErr result (λ e. RefusesObserve
+            (hash_state.LeavesParts Part.items self.old parts.now) e self.new) }
     {
         for part in parts {
             self.feed(part.as_slice())?;
@@ -55,12 +51,10 @@ impl<T: Copy, H: CryptographicHasher<T, [T; OUT_LEN]>, const OUT_LEN: usize> Has
         &mut self,
         values: &[V],
     ) -> Result<(), ChallengerError>
-        ensures ok { OnOk result (self.new
-            ≡ observed_all
-            (λ s value. hash_state.fed s (flat_map Part.items (V.items value))) self.old values.now) }
-        ensures err { IfErr result (λ e.
-            RefusesObserve (LeavesBeginning (λ s part. hash_state.fed s (Part.items part)) self.old
-            (flat_map V.items values.now)) e self.new) }
+        ensures ok { OnOk result (self.new ≡ observed_all (λ s value.
+            hash_state.fed s (flat_map Part.items (V.items value))) self.old values.now) }
+        ensures err { IfErr result (λ e. RefusesObserve
+            (hash_state.LeavesParts Part.items self.old (flat_map V.items values.now)) e self.new) }
     {
         for value in values {
             self.feed_parts(value.as_slice())?;
@@ -83,15 +77,10 @@ impl<
     ghost use Rattle.p3_hash_challenger.specs.HashStateLaws.{lists-observed};
 
     // A refused call changes nothing.
-    ghost observation = { record {
-      symbols = values_of;
-      observed = λ s digest. hash_state.fed s (values_of digest);
-      may_leave = λ s _ t. t ≡ s;
-    } };
+    ghost observation = { hash_state.observation_of_list values_of };
 
     // A refused slice has fed the digests before the refused one.
-    ghost slice_may_leave = { λ s digests t.
-        LeavesBeginning (λ u digest. hash_state.fed u (values_of digest)) s digests t };
+    ghost slice_may_leave = { hash_state.LeavesParts values_of };
 
     ghost observes = { lists-observed values_of };
 
@@ -119,11 +108,7 @@ impl<
     ghost use Rattle.p3_hash_challenger.specs.HashStateLaws.{parts-observed, parts-front};
 
     // A refused call has fed the roots before the refused one.
-    ghost observation = { record {
-      symbols = λ cap. flat_map (λ root. root) cap;
-      observed = λ s cap. hash_state.fed s (flat_map (λ root. root) cap);
-      may_leave = λ s cap t. LeavesBeginning hash_state.fed s cap t;
-    } };
+    ghost observation = { hash_state.observation_of_parts (λ cap. cap) (λ root. root) };
 
     ghost slice_may_leave = { λ s caps t. LeavesBeginning hash_state.fed s
         (flat_map (λ cap. cap) caps) t };
@@ -154,11 +139,7 @@ impl<
     ghost use Rattle.p3_hash_challenger.specs.HashStateLaws.{parts-observed, parts-front};
 
     // A refused call has fed the roots before the refused one.
-    ghost observation = { record {
-      symbols = λ cap. flat_map (λ root. root) cap.now;
-      observed = λ s cap. hash_state.fed s (flat_map (λ root. root) cap.now);
-      may_leave = λ s cap t. LeavesBeginning hash_state.fed s cap.now t;
-    } };
+    ghost observation = { hash_state.observation_of_parts (λ cap. cap.now) (λ root. root) };
 
     ghost slice_may_leave = { λ s caps t. LeavesBeginning hash_state.fed s
         (flat_map (λ cap. cap.now) caps) t };
@@ -184,15 +165,10 @@ impl<T: Copy, H: CryptographicHasher<T, [T; OUT_LEN]>, const OUT_LEN: usize> Can
     ghost use Rattle.p3_hash_challenger.specs.HashStateLaws.{parts-observed, parts-front};
 
     // A refused call has fed the lists before the refused one.
-    ghost observation = { record {
-      symbols = λ lists. flat_map (λ list. list.items) lists.items;
-      observed = λ s lists. hash_state.fed s (flat_map (λ list. list.items) lists.items);
-      may_leave = λ s lists t. LeavesBeginning
-          (λ u list. hash_state.fed u list.items) s lists.items t;
-    } };
+    ghost observation = { hash_state.observation_of_parts
+        (λ lists. lists.items) (λ list. list.items) };
 
-    ghost slice_may_leave = { λ s groups t.
-        LeavesBeginning (λ u list. hash_state.fed u list.items) s
+    ghost slice_may_leave = { λ s groups t. hash_state.LeavesParts (λ list. list.items) s
         (flat_map (λ lists. lists.items) groups) t };
 
     ghost observes = { parts-observed (λ lists. lists.items) (λ list. list.items) };

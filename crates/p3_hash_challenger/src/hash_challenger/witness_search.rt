@@ -6,8 +6,8 @@
 ghost use Rattle.std.specs.Prelude.{◌≡◌, ◌<◌, ◌≤◌, ◌+◌, ◌*◌, ◌^◌, ℕ, length, IfOk, IfErr};
 ghost use Rattle.p3_challenger_core.specs.declared.error.ChallengerError.TheVariants.{OutOfMemory};
 ghost use Rattle.p3_grinding.specs.Checks.{Finds};
-ghost use Rattle.p3_hash_challenger.specs.WitnessSearch.{candidate_check, digest_check, first_outputs};
-ghost use Rattle.p3_hash_challenger.specs.WitnessSearch.{BeginWith, IsDigestOf, IsMessageOf};
+ghost use Rattle.p3_hash_challenger.specs.WitnessSearch.{candidate_check, digest_check, first_outputs, BeginWith};
+ghost use Rattle.p3_hash_challenger.specs.WitnessSearch.{IsDigestOf, IsMessageOf};
 
 use crate::HashChallenger;
 use p3_challenger_core::ChallengerError;
@@ -134,9 +134,8 @@ fn hash_candidates<
     ensures kept { BeginWith pending.now (length pending.now + W) messages.new }
     ensures same_room { length messages.new ≡ length messages.old }
     ensures same_count { length digests.new ≡ length digests.old }
-    ensures each_digest { (j : ℕ) → j < length digests.old →
-        IsDigestOf (H.hash hasher.now) pending.now
-        (K.encoded candidates.now) W first digests.new j }
+    ensures each_digest { (j : ℕ) → j < length digests.old → IsDigestOf
+        (H.hash hasher.now) pending.now (K.encoded candidates.now) W first digests.new j }
 {
     let count = digests.len();
     write_candidates::<K, W, S>(pending, candidates, first, count, messages);

@@ -1,5 +1,5 @@
 //! Numbers of some bits, drawn from a multi-field challenger: the low bits of one scalar.
-ghost use Rattle.std.specs.Prelude.{◌≡◌, ◌^◌, ◌≤◌, ◌%◌};
+ghost use Rattle.std.specs.Prelude.{◌^◌, ◌%◌};
 
 use crate::{HasFieldPair, MultiField32Challenger};
 use p3_challenger_core::{CanSample, CanSampleBits, ChallengerError, FieldChallenger};
@@ -15,9 +15,8 @@ impl<
     const RATE: usize,
 > CanSampleBits<usize> for MultiField32Challenger<F, PF, P, WIDTH, RATE> {
     ghost use Rattle.std.specs.Prelude.{Some, ◌^◌, ◌%◌};
-    ghost use Rattle.p3_multi_field.specs.MultiFieldState as multi_state;
-    ghost use Rattle.p3_challenger_core.specs.Bits.{most_bits_of};
-    ghost use Rattle.p3_challenger_core.specs.BitLaws.{low_bits-below, most_bits-short};
+    ghost use Rattle.p3_multi_field.specs.MultiFieldState.{sampled, after_sampled};
+    ghost use Rattle.p3_challenger_core.specs.{Bits.most_bits_of, BitLaws.{low_bits-below, most_bits-short}};
     ghost use Rattle.p3_challenger_core.specs.Sampling.{unrefused_draw};
     ghost use Rattle.p3_sponge.specs.DrawingLaws.{value-sampled};
 
@@ -25,11 +24,9 @@ impl<
     ghost most_bits = { most_bits_of F.residues.order };
 
     // A draw takes no memory and has no limit: it is never refused.
-    ghost bits_sampling = { λ bits. unrefused_draw
-        (λ s. Some (F.residues.number
-        (multi_state.sampled ⟦<PF as HasFieldPair<F>>⟧.field_pair P.permutation RATE s)
-        % 2 ^ bits))
-        (multi_state.after_sampled ⟦<PF as HasFieldPair<F>>⟧.field_pair P.permutation RATE) };
+    ghost bits_sampling = { λ bits. unrefused_draw (λ s. Some (F.residues.number
+        (sampled ⟦<PF as HasFieldPair<F>>⟧.field_pair P.permutation RATE s) % 2 ^ bits))
+        (after_sampled ⟦<PF as HasFieldPair<F>>⟧.field_pair P.permutation RATE) };
 
     ghost number = { λ n. n };
 

@@ -1,16 +1,11 @@
 //! What each method is as a list of calls: of the call-by-call definition that `follows_segments` speaks of.
-ghost use Rattle.std.specs.Prelude.{◌≡◌, ◌^◌, ◌%◌, ◌==◌, ◌++◌, ℕ, suc, Bool, List, [], ◌∷◌, Some, map, replicate};
-ghost use Rattle.std.specs.List.{flat_map, range_with_len};
+ghost use Rattle.std.specs.Prelude.{◌≡◌, ◌^◌, ◌%◌, ◌==◌, ℕ, suc, Bool, List, [], ◌∷◌, Some, map, replicate};
+ghost use Rattle.std.specs.List.{flat_map};
 ghost use Rattle.p3_symmetric.specs.HashValues.{values_of};
-ghost use Rattle.p3_challenger_core.specs.Sponge.{after_steps};
-ghost use Rattle.p3_challenger_core.specs.Segments.{observe, draw, run_calls_to_digest};
+ghost use Rattle.p3_challenger_core.specs.{Sponge.after_steps, Segments.{observe, draw}};
 ghost use Rattle.p3_grinding.specs.Checks.{all_zero, check_of};
-ghost use Rattle.p3_sponge.specs.Outputs.{output_at};
-ghost use Rattle.p3_sponge.specs.SpongeSegments.{outputs_of};
-ghost use Rattle.p3_multi_field.specs.MultiFieldCalls.{Symbol, scalar, digest, scalars_rule};
-ghost use Rattle.p3_multi_field.specs.MultiFieldCalls.{multi_field_by_calls};
-ghost use Rattle.p3_multi_field.specs.MultiFieldSegments.{absorbed_cells};
-ghost use Rattle.p3_multi_field.specs.MultiFieldState.{MultiFieldState, run, after_calls};
+ghost use Rattle.p3_multi_field.specs.{MultiFieldCalls.{scalar, digest}, MultiFieldState.DrawsHavePlaces};
+ghost use Rattle.p3_multi_field.specs.MultiFieldState.{MultiFieldState, run, run_to_digest, after_calls, ActsAsCalls};
 
 use crate::{HasFieldPair, MultiField32Challenger};
 use p3_challenger_core::{CanFinalizeDigest, CanObserve, CanSample, CanSampleBits, Sponge};
@@ -31,26 +26,20 @@ impl<
     ///
     /// A law: the body is empty, and a caller cites the clauses.
     pub fn observes_are_calls<const N: usize>()
-        ensures value { (c : MultiFieldState F PF P) (x : F) →
-            ⟦<Self as CanObserve<F>>⟧.observation.observed c x
-            ≡ after_calls ⟦<PF as HasFieldPair<F>>⟧.field_pair P.permutation RATE c
-            (observe (scalar x) ∷ []) }
-        ensures array { (c : MultiFieldState F PF P) (xs : List F) →
-            ⟦<Self as CanObserve<[F; N]>>⟧.observation.observed c xs
-            ≡ after_calls ⟦<PF as HasFieldPair<F>>⟧.field_pair P.permutation RATE c
-            (map observe (map scalar xs)) }
-        ensures lists { (c : MultiFieldState F PF P) (lists : _) →
-            ⟦<Self as CanObserve<Vec<Vec<F>>>>⟧.observation.observed c lists
-            ≡ after_calls ⟦<PF as HasFieldPair<F>>⟧.field_pair P.permutation RATE c
-            (map observe (flat_map (λ list. map scalar list.items) lists.items)) }
-        ensures digest { (c : MultiFieldState F PF P) (words : _) →
-            ⟦<Self as CanObserve<Hash<F, PF, N>>>⟧.observation.observed c words
-            ≡ after_calls ⟦<PF as HasFieldPair<F>>⟧.field_pair P.permutation RATE c
-            (observe (digest (values_of words)) ∷ []) }
-        ensures cap { (c : MultiFieldState F PF P) (cap : List (List PF)) →
-            ⟦<Self as CanObserve<MerkleCap<F, [PF; N]>>>⟧.observation.observed c cap
-            ≡ after_calls ⟦<PF as HasFieldPair<F>>⟧.field_pair P.permutation RATE c
-            (map observe (map digest cap)) }
+        ensures value { ActsAsCalls ⟦<PF as HasFieldPair<F>>⟧.field_pair P.permutation RATE
+            ⟦<Self as CanObserve<F>>⟧.observation.observed (λ x. observe (scalar x) ∷ []) }
+        ensures array { ActsAsCalls ⟦<PF as HasFieldPair<F>>⟧.field_pair P.permutation RATE
+            ⟦<Self as CanObserve<[F; N]>>⟧.observation.observed
+            (λ values. map observe (map scalar values)) }
+        ensures lists { ActsAsCalls ⟦<PF as HasFieldPair<F>>⟧.field_pair P.permutation RATE
+            ⟦<Self as CanObserve<Vec<Vec<F>>>>⟧.observation.observed (λ lists.
+            map observe (flat_map (λ list. map scalar list.items) lists.items)) }
+        ensures digest { ActsAsCalls ⟦<PF as HasFieldPair<F>>⟧.field_pair P.permutation RATE
+            ⟦<Self as CanObserve<Hash<F, PF, N>>>⟧.observation.observed
+            (λ words. observe (digest (values_of words)) ∷ []) }
+        ensures cap { ActsAsCalls ⟦<PF as HasFieldPair<F>>⟧.field_pair P.permutation RATE
+            ⟦<Self as CanObserve<MerkleCap<F, [PF; N]>>>⟧.observation.observed
+            (λ cap. map observe (map digest cap)) }
     {}
 
     /// Symbols that are fed, as values and steps of a transcript feed them, are observed one after another; and the
@@ -58,14 +47,11 @@ impl<
     ///
     /// A law: the body is empty, and a caller cites the clauses.
     pub fn symbols_are_calls()
-        ensures fed { (c : MultiFieldState F PF P) (symbols : List (Symbol F PF)) →
-            ⟦<Self as Sponge>⟧.fed c symbols
-            ≡ after_calls ⟦<PF as HasFieldPair<F>>⟧.field_pair P.permutation RATE c
-            (map observe symbols) }
+        ensures fed { ActsAsCalls ⟦<PF as HasFieldPair<F>>⟧.field_pair P.permutation RATE
+            ⟦<Self as Sponge>⟧.fed (λ symbols. map observe symbols) }
         ensures drawn { (n : ℕ) (c : MultiFieldState F PF P) →
-            after_steps ⟦<Self as Sponge>⟧.next n c
-            ≡ after_calls ⟦<PF as HasFieldPair<F>>⟧.field_pair P.permutation RATE c
-            (replicate n draw) }
+            after_steps ⟦<Self as Sponge>⟧.next n c ≡ after_calls
+            ⟦<PF as HasFieldPair<F>>⟧.field_pair P.permutation RATE c (replicate n draw) }
     {}
 
     /// An element of a space of some dimension is as many draws, whose answers are its coefficients, coefficient 0
@@ -73,28 +59,21 @@ impl<
     ///
     /// A law: the body is empty, and a caller cites the clauses.
     pub fn draws_are_calls<A: BasedVectorSpace<F>>()
-        ensures element { (c : MultiFieldState F PF P) →
-            ⟦<Self as CanSample<A>>⟧.sampling.sampled c
-            ≡ Some (A.element
-            (run ⟦<PF as HasFieldPair<F>>⟧.field_pair P.permutation RATE c
+        ensures element { (c : MultiFieldState F PF P) → ⟦<Self as CanSample<A>>⟧.sampling.sampled c
+            ≡ Some (A.element (run ⟦<PF as HasFieldPair<F>>⟧.field_pair P.permutation RATE c
             (replicate A.DIMENSION draw)).answers) }
-        ensures after { (c : MultiFieldState F PF P) →
-            ⟦<Self as CanSample<A>>⟧.sampling.after c
+        ensures after { (c : MultiFieldState F PF P) → ⟦<Self as CanSample<A>>⟧.sampling.after c
             ≡ after_calls ⟦<PF as HasFieldPair<F>>⟧.field_pair P.permutation RATE c
             (replicate A.DIMENSION draw) }
-        ensures bits { (bits : ℕ) (c : MultiFieldState F PF P) (x : F) →
-            (run ⟦<PF as HasFieldPair<F>>⟧.field_pair P.permutation RATE c (draw ∷ [])).answers
-            ≡ x ∷ [] →
-            (⟦<Self as CanSampleBits<usize>>⟧.bits_sampling bits).sampled c
+        ensures bits { (bits : ℕ) (c : MultiFieldState F PF P) (x : F) → (run
+            ⟦<PF as HasFieldPair<F>>⟧.field_pair P.permutation RATE c (draw ∷ [])).answers ≡ x ∷ []
+            → (⟦<Self as CanSampleBits<usize>>⟧.bits_sampling bits).sampled c
             ≡ Some (F.residues.number x % 2 ^ bits) }
         ensures after_bits { (bits : ℕ) (c : MultiFieldState F PF P) →
             (⟦<Self as CanSampleBits<usize>>⟧.bits_sampling bits).after c
             ≡ after_calls ⟦<PF as HasFieldPair<F>>⟧.field_pair P.permutation RATE c (draw ∷ []) }
-        ensures digest { (c : MultiFieldState F PF P) →
-            let pair = ⟦<PF as HasFieldPair<F>>⟧.field_pair in
-            let by_calls = multi_field_by_calls pair (P.permutation c.permutation) RATE in
-            ⟦<Self as CanFinalizeDigest>⟧.digest_of c
-            ≡ (run_calls_to_digest by_calls c.sponge []).after }
+        ensures digest { (c : MultiFieldState F PF P) → ⟦<Self as CanFinalizeDigest>⟧.digest_of c
+            ≡ (run_to_digest ⟦<PF as HasFieldPair<F>>⟧.field_pair P.permutation RATE c []).after }
     {}
 
     /// After scalars that are observed, at least one, draw `k` answers output `k` of the cells that they leave when all
@@ -103,21 +82,11 @@ impl<
     /// A law: the body does nothing, and a caller cites the clauses.
     pub fn draws_have_places(&self)
         ensures scalars { (x : F) (xs : List F) (n : ℕ) →
-            let pair = ⟦<PF as HasFieldPair<F>>⟧.field_pair in
-            let permute = P.permutation self.now.permutation in
-            let symbols = map scalar (x ∷ xs) in
-            let outputs = outputs_of (scalars_rule pair permute RATE) in
-            (run pair P.permutation RATE self.now (map observe symbols ++ replicate n draw)).answers
-            ≡ map (output_at outputs (absorbed_cells pair permute RATE self.now.sponge symbols))
-            (range_with_len 0 n) }
+            DrawsHavePlaces ⟦<PF as HasFieldPair<F>>⟧.field_pair P.permutation RATE self.now
+            (map scalar (x ∷ xs)) n }
         ensures digest { (word : PF) (words : List PF) (n : ℕ) →
-            let pair = ⟦<PF as HasFieldPair<F>>⟧.field_pair in
-            let permute = P.permutation self.now.permutation in
-            let symbols = digest (word ∷ words) ∷ [] in
-            let outputs = outputs_of (scalars_rule pair permute RATE) in
-            (run pair P.permutation RATE self.now (map observe symbols ++ replicate n draw)).answers
-            ≡ map (output_at outputs (absorbed_cells pair permute RATE self.now.sponge symbols))
-            (range_with_len 0 n) }
+            DrawsHavePlaces ⟦<PF as HasFieldPair<F>>⟧.field_pair P.permutation RATE self.now
+            (digest (word ∷ words) ∷ []) n }
     {
         let _ = &self.outputs_left;
     }
@@ -135,14 +104,12 @@ impl<
             (run ⟦<PF as HasFieldPair<F>>⟧.field_pair P.permutation RATE c
             (observe (scalar witness) ∷ draw ∷ [])).answers ≡ x ∷ [] →
             (check_of ⟦<Self as BeforeWitness>⟧.before_witness ⟦<Self as CanObserve<F>>⟧.observation
-            (all_zero (⟦<Self as CanSampleBits<usize>>⟧.bits_sampling (suc more)))
-            (suc more) witness).sampled c
-            ≡ Some (F.residues.number x % 2 ^ suc more == 0) }
+            (all_zero (⟦<Self as CanSampleBits<usize>>⟧.bits_sampling (suc more))) (suc more)
+            witness).sampled c ≡ Some (F.residues.number x % 2 ^ suc more == 0) }
         ensures after { (more : ℕ) (witness : F) (c : MultiFieldState F PF P) →
             (check_of ⟦<Self as BeforeWitness>⟧.before_witness ⟦<Self as CanObserve<F>>⟧.observation
-            (all_zero (⟦<Self as CanSampleBits<usize>>⟧.bits_sampling (suc more)))
-            (suc more) witness).after c
-            ≡ after_calls ⟦<PF as HasFieldPair<F>>⟧.field_pair P.permutation RATE c
+            (all_zero (⟦<Self as CanSampleBits<usize>>⟧.bits_sampling (suc more))) (suc more)
+            witness).after c ≡ after_calls ⟦<PF as HasFieldPair<F>>⟧.field_pair P.permutation RATE c
             (observe (scalar witness) ∷ draw ∷ []) }
     {}
 }

@@ -2,9 +2,9 @@
 //! caps. None of it is ever refused.
 ghost use Rattle.std.specs.Prelude.{◌≡◌, ◌↔◌, ◌≤◌, [], length};
 ghost use Rattle.p3_challenger_core.specs.Observation.{observed_all};
-ghost use Rattle.p3_sponge.specs.Cells.{overwritten};
-ghost use Rattle.p3_sponge.specs.SpongeCalls.{permuting};
-ghost use Rattle.p3_multi_field.specs.MultiFieldCalls.{absorbed_pending, scalars_rule};
+ghost use Rattle.p3_sponge.specs.{Cells.overwritten, SpongeCalls.permuting};
+ghost use Rattle.p3_multi_field.specs.{MultiFieldCalls.absorbed_pending, MultiFieldState.digest_observed};
+ghost use Rattle.p3_multi_field.specs.MultiFieldState.{MultiFieldState, rule, each_observed, scalars_observed};
 
 use crate::{HasFieldPair, MultiField32Challenger};
 use p3_challenger_core::{CanObserve, ChallengerError};
@@ -21,8 +21,6 @@ impl<
     const WIDTH: usize,
     const RATE: usize,
 > MultiField32Challenger<F, PF, P, WIDTH, RATE> {
-    ghost use Rattle.p3_multi_field.specs.MultiFieldState as multi_state;
-
     /// A cap that is lent is observed as its contents are, the cap itself: it feeds the same symbols, and leaves
     /// the same state.
     ///
@@ -31,11 +29,10 @@ impl<
         ensures symbols { (cap : _) →
             ⟦<Self as CanObserve<&'a MerkleCap<F, [PF; N]>>>⟧.observation.symbols cap
             ≡ ⟦<Self as CanObserve<MerkleCap<F, [PF; N]>>>⟧.observation.symbols cap.now }
-        ensures observed { (s : multi_state.MultiFieldState F PF P) (cap : _) →
+        ensures observed { (s : MultiFieldState F PF P) (cap : _) →
             ⟦<Self as CanObserve<&'a MerkleCap<F, [PF; N]>>>⟧.observation.observed s cap
             ≡ ⟦<Self as CanObserve<MerkleCap<F, [PF; N]>>>⟧.observation.observed s cap.now }
-        ensures left { (s : multi_state.MultiFieldState F PF P) (cap : _)
-            (t : multi_state.MultiFieldState F PF P) →
+        ensures left { (s : MultiFieldState F PF P) (cap : _) (t : MultiFieldState F PF P) →
             ⟦<Self as CanObserve<&'a MerkleCap<F, [PF; N]>>>⟧.observation.may_leave s cap t
             ↔ ⟦<Self as CanObserve<MerkleCap<F, [PF; N]>>>⟧.observation.may_leave s cap.now t }
     {}
@@ -43,8 +40,8 @@ impl<
     // Absorbs what is pending. Where nothing is, the outputs left are dropped.
     fn empty(&mut self)
         ensures absorbed { self.new ≡ record self.old {
-          sponge = absorbed_pending ⟦<PF as HasFieldPair<F>>⟧.field_pair
-              (P.permutation self.old.permutation) RATE
+          sponge = absorbed_pending
+              ⟦<PF as HasFieldPair<F>>⟧.field_pair (P.permutation self.old.permutation) RATE
               self.old.sponge.cells self.old.sponge.pending;
         } }
         ensures none_pending { self.new.sponge.pending ≡ [] }
@@ -62,8 +59,7 @@ impl<
         requires fits { length block.now ≤ RATE }
         ensures { self.new ≡ record self.old {
           sponge = permuting
-              (scalars_rule ⟦<PF as HasFieldPair<F>>⟧.field_pair
-              (P.permutation self.old.permutation) RATE)
+              (rule ⟦<PF as HasFieldPair<F>>⟧.field_pair P.permutation RATE self.old)
               (overwritten PF.residues RATE self.old.sponge.cells block.now);
         } }
     {
@@ -75,8 +71,7 @@ impl<
 
     // Observes a digest of words: they are absorbed in blocks, after what is pending.
     fn push_digest(&mut self, words: &[PF])
-        ensures { self.new
-            ≡ multi_state.digest_observed
+        ensures { self.new ≡ digest_observed
             ⟦<PF as HasFieldPair<F>>⟧.field_pair P.permutation RATE self.old words.now }
     {
         let _ = &self.sponge_state;
@@ -91,10 +86,8 @@ impl<
 
     // Makes the scalars of parts pending, part by part.
     fn push_parts<Part: AsSlice<F>>(&mut self, parts: &[Part])
-        ensures { self.new ≡ observed_all
-            (λ s part. multi_state.scalars_observed
-            ⟦<PF as HasFieldPair<F>>⟧.field_pair P.permutation RATE s (Part.items part))
-            self.old parts.now }
+        ensures { self.new ≡ each_observed Part.items (scalars_observed
+            ⟦<PF as HasFieldPair<F>>⟧.field_pair P.permutation RATE) self.old parts.now }
     {
         for i in 0..parts.len() {
             self.push_all(parts[i].as_slice());
@@ -103,12 +96,8 @@ impl<
 
     // Makes the scalars of lists of parts pending, part by part.
     fn push_lists<Part: AsSlice<F>, V: AsSlice<Part>>(&mut self, values: &[V])
-        ensures { self.new ≡ observed_all
-            (λ s value. observed_all
-            (λ u part. multi_state.scalars_observed
-            ⟦<PF as HasFieldPair<F>>⟧.field_pair P.permutation RATE u (Part.items part))
-            s (V.items value))
-            self.old values.now }
+        ensures { self.new ≡ each_observed V.items (each_observed Part.items (scalars_observed
+            ⟦<PF as HasFieldPair<F>>⟧.field_pair P.permutation RATE)) self.old values.now }
     {
         for i in 0..values.len() {
             self.push_parts(values[i].as_slice());
@@ -117,10 +106,8 @@ impl<
 
     // Observes digests one after another.
     fn push_digests<D: AsSlice<PF>>(&mut self, digests: &[D])
-        ensures { self.new ≡ observed_all
-            (λ s words. multi_state.digest_observed
-            ⟦<PF as HasFieldPair<F>>⟧.field_pair P.permutation RATE s (D.items words))
-            self.old digests.now }
+        ensures { self.new ≡ each_observed D.items (digest_observed
+            ⟦<PF as HasFieldPair<F>>⟧.field_pair P.permutation RATE) self.old digests.now }
     {
         for i in 0..digests.len() {
             self.push_digest(digests[i].as_slice());
@@ -129,12 +116,8 @@ impl<
 
     // Observes the digests of caps one after another.
     fn push_caps<D: AsSlice<PF>, V: AsSlice<D>>(&mut self, caps: &[V])
-        ensures { self.new ≡ observed_all
-            (λ s cap. observed_all
-            (λ u words. multi_state.digest_observed
-            ⟦<PF as HasFieldPair<F>>⟧.field_pair P.permutation RATE u (D.items words))
-            s (V.items cap))
-            self.old caps.now }
+        ensures { self.new ≡ each_observed V.items (each_observed D.items (digest_observed
+            ⟦<PF as HasFieldPair<F>>⟧.field_pair P.permutation RATE)) self.old caps.now }
     {
         for i in 0..caps.len() {
             self.push_digests(caps[i].as_slice());
@@ -152,13 +135,11 @@ impl<
 > CanObserve<[F; N]> for MultiField32Challenger<F, PF, P, WIDTH, RATE> {
     ghost use Rattle.p3_challenger_core.specs.Observation.{unrefused_observe};
     ghost use Rattle.std.specs.Prelude.{map};
-    ghost use Rattle.p3_multi_field.specs.MultiFieldCalls.{scalar};
-    ghost use Rattle.p3_multi_field.specs.MultiFieldStateLaws.{is_observation, scalars-fed};
-    ghost use Rattle.p3_multi_field.specs.MultiFieldState as multi_state;
+    ghost use Rattle.p3_multi_field.specs.{MultiFieldCalls.scalar, MultiFieldStateLaws.{is_observation, scalars-fed}};
 
     // An observation takes no memory: it is never refused.
     ghost observation = { unrefused_observe (λ xs. map scalar xs)
-        (multi_state.scalars_observed ⟦<PF as HasFieldPair<F>>⟧.field_pair P.permutation RATE) };
+        (scalars_observed ⟦<PF as HasFieldPair<F>>⟧.field_pair P.permutation RATE) };
 
     ghost slice_may_leave = { λ _ _ _. ⊥ };
 
@@ -186,20 +167,14 @@ impl<
     const RATE: usize,
 > CanObserve<Vec<Vec<F>>> for MultiField32Challenger<F, PF, P, WIDTH, RATE> {
     ghost use Rattle.p3_challenger_core.specs.Observation.{unrefused_observe};
-    ghost use Rattle.std.specs.Prelude.{map};
-    ghost use Rattle.std.specs.List.{flat_map};
-    ghost use Rattle.p3_challenger_core.specs.Observation.{observed_all};
-    ghost use Rattle.p3_multi_field.specs.MultiFieldCalls.{scalar};
-    ghost use Rattle.p3_multi_field.specs.MultiFieldStateLaws.{is_observation, lists-fed};
-    ghost use Rattle.p3_multi_field.specs.MultiFieldState as multi_state;
+    ghost use Rattle.std.specs.{Prelude.map, List.flat_map};
+    ghost use Rattle.p3_multi_field.specs.{MultiFieldCalls.scalar, MultiFieldStateLaws.{is_observation, lists-fed}};
 
     // An observation takes no memory: it is never refused.
     ghost observation = { unrefused_observe
         (λ lists. flat_map (λ list. map scalar list.items) lists.items)
-        (λ s lists. observed_all
-        (λ u list. multi_state.scalars_observed
-        ⟦<PF as HasFieldPair<F>>⟧.field_pair P.permutation RATE u list.items)
-        s lists.items) };
+        (λ s lists. each_observed (λ list. list.items) (scalars_observed
+        ⟦<PF as HasFieldPair<F>>⟧.field_pair P.permutation RATE) s lists.items) };
 
     ghost slice_may_leave = { λ _ _ _. ⊥ };
 
@@ -231,13 +206,11 @@ impl<
     ghost use Rattle.p3_challenger_core.specs.Observation.{unrefused_observe};
     ghost use Rattle.std.specs.Prelude.{[], ◌∷◌, refl};
     ghost use Rattle.p3_symmetric.specs.HashValues.{values_of};
-    ghost use Rattle.p3_multi_field.specs.MultiFieldCalls.{digest};
-    ghost use Rattle.p3_multi_field.specs.MultiFieldStateLaws.{is_observation};
-    ghost use Rattle.p3_multi_field.specs.MultiFieldState as multi_state;
+    ghost use Rattle.p3_multi_field.specs.{MultiFieldCalls.digest, MultiFieldStateLaws.is_observation};
 
     // An observation takes no memory: it is never refused.
     ghost observation = { unrefused_observe (λ words. digest (values_of words) ∷ [])
-        (λ s words. multi_state.digest_observed
+        (λ s words. digest_observed
         ⟦<PF as HasFieldPair<F>>⟧.field_pair P.permutation RATE s (values_of words)) };
 
     ghost slice_may_leave = { λ _ _ _. ⊥ };
@@ -268,13 +241,11 @@ impl<
 > CanObserve<MerkleCap<F, [PF; N]>> for MultiField32Challenger<F, PF, P, WIDTH, RATE> {
     ghost use Rattle.p3_challenger_core.specs.Observation.{unrefused_observe};
     ghost use Rattle.std.specs.Prelude.{map};
-    ghost use Rattle.p3_multi_field.specs.MultiFieldCalls.{digest};
-    ghost use Rattle.p3_multi_field.specs.MultiFieldStateLaws.{is_observation, digests-fed};
-    ghost use Rattle.p3_multi_field.specs.MultiFieldState as multi_state;
+    ghost use Rattle.p3_multi_field.specs.{MultiFieldCalls.digest, MultiFieldStateLaws.{is_observation, digests-fed}};
 
     // An observation takes no memory: it is never refused.
     ghost observation = { unrefused_observe (λ cap. map digest cap)
-        (multi_state.digests_observed ⟦<PF as HasFieldPair<F>>⟧.field_pair P.permutation RATE) };
+        (observed_all (digest_observed ⟦<PF as HasFieldPair<F>>⟧.field_pair P.permutation RATE)) };
 
     ghost slice_may_leave = { λ _ _ _. ⊥ };
 
@@ -304,14 +275,12 @@ impl<
 > CanObserve<&MerkleCap<F, [PF; N]>> for MultiField32Challenger<F, PF, P, WIDTH, RATE> {
     ghost use Rattle.p3_challenger_core.specs.Observation.{unrefused_observe};
     ghost use Rattle.std.specs.Prelude.{map};
-    ghost use Rattle.p3_multi_field.specs.MultiFieldCalls.{digest};
-    ghost use Rattle.p3_multi_field.specs.MultiFieldStateLaws.{is_observation, digests-fed};
-    ghost use Rattle.p3_multi_field.specs.MultiFieldState as multi_state;
+    ghost use Rattle.p3_multi_field.specs.{MultiFieldCalls.digest, MultiFieldStateLaws.{is_observation, digests-fed}};
 
     // An observation takes no memory: it is never refused.
     ghost observation = { unrefused_observe (λ cap. map digest cap.now)
-        (λ s cap. multi_state.digests_observed
-        ⟦<PF as HasFieldPair<F>>⟧.field_pair P.permutation RATE s cap.now) };
+        (λ s cap. observed_all (digest_observed
+        ⟦<PF as HasFieldPair<F>>⟧.field_pair P.permutation RATE) s cap.now) };
 
     ghost slice_may_leave = { λ _ _ _. ⊥ };
 

@@ -1,8 +1,7 @@
 //! Cells of a greater field that scalars are packed into, and that digits are drawn from.
 ghost use Rattle.std.specs.Prelude.{◌≡◌, ◌/◌, ◌<◌, length};
 ghost use Rattle.p3_sponge.specs.SpongeCalls.{permutation_input};
-ghost use Rattle.p3_multi_field.specs.MultiFieldCalls.{packed_cells, scalars_over, digit_in_row};
-ghost use Rattle.p3_multi_field.specs.MultiFieldCalls.{scalars_rule};
+ghost use Rattle.p3_multi_field.specs.MultiFieldCalls.{packed_cells, scalars_over, digit_in_row, scalars_rule};
 
 use crate::HasFieldPair;
 use p3_field_bridge::FieldBridge;

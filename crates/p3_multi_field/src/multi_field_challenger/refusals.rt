@@ -1,10 +1,10 @@
 //! Laws: what is never refused.
-ghost use Rattle.std.specs.Prelude.{◌≡◌, ℕ, List};
-ghost use Rattle.p3_challenger_core.specs.Observation.{LeavesInCalls, RefusesObserve};
+ghost use Rattle.std.specs.Prelude.{ℕ};
 ghost use Rattle.p3_challenger_core.specs.Sampling.{RefusesDraw, RefusesDraws};
 ghost use Rattle.p3_challenger_core.specs.declared.error.ChallengerError.{ChallengerError};
 ghost use Rattle.p3_grinding.specs.Checks.{all_zero, check_of};
 ghost use Rattle.p3_multi_field.specs.MultiFieldState.{MultiFieldState};
+ghost use Rattle.p3_sponge.specs.CallPromises.{IsNeverRefused};
 
 use crate::MultiField32Challenger;
 use p3_challenger_core::{CanObserve, CanSample, CanSampleBits};
@@ -24,9 +24,7 @@ impl<
     ///
     /// A law: the body is empty, and a caller cites the clause.
     pub fn observes_are_not_refused()
-        ensures { (values : List F) (e : ChallengerError) (s t : MultiFieldState F PF P) →
-            ¬ (RefusesObserve (LeavesInCalls ⟦<Self as CanObserve<F>>⟧.observation.observed
-            ⟦<Self as CanObserve<F>>⟧.observation.may_leave s values) e t) }
+        ensures { IsNeverRefused ⟦<Self as CanObserve<F>>⟧.observation }
     {}
 
     /// Draws are never refused, whatever is drawn: no number of them leaves any challenger with an error.
@@ -51,21 +49,10 @@ impl<
     ///
     /// A law: the body is empty, and a caller cites the clauses.
     pub fn observes_of_lists_are_not_refused<const N: usize>()
-        ensures arrays { (values : _) (e : ChallengerError) (s t : MultiFieldState F PF P) →
-            ¬ (RefusesObserve (LeavesInCalls ⟦<Self as CanObserve<[F; N]>>⟧.observation.observed
-            ⟦<Self as CanObserve<[F; N]>>⟧.observation.may_leave s values) e t) }
-        ensures digests { (values : _) (e : ChallengerError) (s t : MultiFieldState F PF P) →
-            ¬ (RefusesObserve (LeavesInCalls
-            ⟦<Self as CanObserve<Hash<F, PF, N>>>⟧.observation.observed
-            ⟦<Self as CanObserve<Hash<F, PF, N>>>⟧.observation.may_leave s values) e t) }
-        ensures caps { (values : _) (e : ChallengerError) (s t : MultiFieldState F PF P) →
-            ¬ (RefusesObserve (LeavesInCalls
-            ⟦<Self as CanObserve<MerkleCap<F, [PF; N]>>>⟧.observation.observed
-            ⟦<Self as CanObserve<MerkleCap<F, [PF; N]>>>⟧.observation.may_leave s values) e t) }
-        ensures lists { (values : _) (e : ChallengerError) (s t : MultiFieldState F PF P) →
-            ¬ (RefusesObserve (LeavesInCalls
-            ⟦<Self as CanObserve<Vec<Vec<F>>>>⟧.observation.observed
-            ⟦<Self as CanObserve<Vec<Vec<F>>>>⟧.observation.may_leave s values) e t) }
+        ensures arrays { IsNeverRefused ⟦<Self as CanObserve<[F; N]>>⟧.observation }
+        ensures digests { IsNeverRefused ⟦<Self as CanObserve<Hash<F, PF, N>>>⟧.observation }
+        ensures caps { IsNeverRefused ⟦<Self as CanObserve<MerkleCap<F, [PF; N]>>>⟧.observation }
+        ensures lists { IsNeverRefused ⟦<Self as CanObserve<Vec<Vec<F>>>>⟧.observation }
     {}
 
     /// Checks of witnesses are never refused, whatever number of bits they test: they take no memory, and meet no

@@ -14,7 +14,7 @@ impl<
 > Sponge for MultiField32Challenger<F, PF, P, WIDTH, RATE> {
     ghost use Rattle.std.specs.Prelude.{refl};
     ghost use Rattle.p3_multi_field.specs.MultiFieldState as multi_state;
-    ghost use Rattle.p3_multi_field.specs.MultiFieldStateLaws.{fed-append};
+    ghost use Rattle.p3_multi_field.specs.{MultiFieldState.after_sampled, MultiFieldStateLaws.fed-append};
 
     type State = Self;
 
@@ -24,7 +24,7 @@ impl<
 
     ghost fed = { multi_state.fed ⟦<PF as HasFieldPair<F>>⟧.field_pair P.permutation RATE };
 
-    ghost next = { multi_state.after_sampled ⟦<PF as HasFieldPair<F>>⟧.field_pair P.permutation RATE };
+    ghost next = { after_sampled ⟦<PF as HasFieldPair<F>>⟧.field_pair P.permutation RATE };
 
     ghost fed_nothing = { λ _. refl };
 
@@ -39,14 +39,13 @@ impl<
     const RATE: usize,
 > CanObserve<F> for MultiField32Challenger<F, PF, P, WIDTH, RATE> {
     ghost use Rattle.p3_challenger_core.specs.Observation.{unrefused_observe};
-    ghost use Rattle.p3_multi_field.specs.MultiFieldCalls.{scalar};
-    ghost use Rattle.p3_multi_field.specs.MultiFieldStateLaws.{is_observation};
+    ghost use Rattle.p3_multi_field.specs.{MultiFieldCalls.scalar, MultiFieldStateLaws.is_observation};
+    ghost use Rattle.p3_multi_field.specs.MultiFieldState.{scalar_observed};
     ghost use Rattle.std.specs.Prelude.{[], ◌∷◌, refl};
-    ghost use Rattle.p3_multi_field.specs.MultiFieldState as multi_state;
 
     // An observation takes no memory: it is never refused.
     ghost observation = { unrefused_observe (λ x. scalar x ∷ [])
-        (multi_state.scalar_observed ⟦<PF as HasFieldPair<F>>⟧.field_pair P.permutation RATE) };
+        (scalar_observed ⟦<PF as HasFieldPair<F>>⟧.field_pair P.permutation RATE) };
 
     ghost slice_may_leave = { λ _ _ _. ⊥ };
 
@@ -76,15 +75,14 @@ impl<
 > CanSample<A> for MultiField32Challenger<F, PF, P, WIDTH, RATE> {
     ghost use Rattle.std.specs.Prelude.{Some};
     ghost use Rattle.p3_challenger_core.specs.Sampling.{unrefused_draw};
-    ghost use Rattle.p3_multi_field.specs.MultiFieldState as multi_state;
+    ghost use Rattle.p3_multi_field.specs.MultiFieldState.{drawn, after_drawn};
     ghost use Rattle.p3_sponge.specs.DrawingLaws.{elements-sampled};
 
     // The element whose coefficients are the next digits, coefficient 0 first. A draw takes no memory and has no
     // limit: it is never refused.
-    ghost sampling = { unrefused_draw
-        (λ s. Some (A.element (multi_state.drawn
+    ghost sampling = { unrefused_draw (λ s. Some (A.element (drawn
         ⟦<PF as HasFieldPair<F>>⟧.field_pair P.permutation RATE A.DIMENSION s)))
-        (multi_state.after_drawn ⟦<PF as HasFieldPair<F>>⟧.field_pair P.permutation RATE A.DIMENSION) };
+        (after_drawn ⟦<PF as HasFieldPair<F>>⟧.field_pair P.permutation RATE A.DIMENSION) };
 
     ghost samples = { elements-sampled _ _ A.DIMENSION A.element };
 
@@ -104,12 +102,12 @@ impl<
     const WIDTH: usize,
     const RATE: usize,
 > CanFinalizeDigest for MultiField32Challenger<F, PF, P, WIDTH, RATE> {
-    ghost use Rattle.p3_multi_field.specs.MultiFieldState as multi_state;
+    ghost use Rattle.p3_multi_field.specs.MultiFieldState.{finalized};
 
     type Digest = [PF; RATE];
 
     // The rate after one more permutation, of what is pending where something is.
-    ghost digest_of = { multi_state.finalized ⟦<PF as HasFieldPair<F>>⟧.field_pair P.permutation RATE };
+    ghost digest_of = { finalized ⟦<PF as HasFieldPair<F>>⟧.field_pair P.permutation RATE };
 
     fn finalize(self) -> [PF; RATE] {
         let mut challenger = self;

@@ -1,14 +1,12 @@
 //! Laws: what each method is as calls on the inner challenger, or as calls of the list that `follows_groups` speaks of.
-ghost use Rattle.std.specs.Prelude.{◌≡◌, ◌==◌, ℕ, zero, suc, Bool, List, [], ◌∷◌, Some, None, IsSome};
-ghost use Rattle.std.specs.List.{flat_map};
+ghost use Rattle.std.specs.{Prelude.{◌≡◌, ◌==◌, ℕ, suc, Bool, [], ◌∷◌, Some, None, IsSome}, List.flat_map};
 ghost use Rattle.std.specs.Option.{option_map};
 ghost use Rattle.p3_symmetric.specs.HashValues.{values_of};
 ghost use Rattle.p3_challenger_core.specs.Sampling.{draws, after_draws};
 ghost use Rattle.p3_grinding.specs.Checks.{all_zero, check_of};
-ghost use Rattle.p3_serializing.specs.Bytes.{bytes_of};
-ghost use Rattle.p3_serializing.specs.SerializingState.{SerializingState, after_bytes};
+ghost use Rattle.p3_serializing.specs.{Bytes.bytes_of, SerializingState.{SerializingState, FeedsBytes}};
 ghost use Rattle.p3_serializing.specs.SerializingGroups.{observe, draw_bits, drop_byte, bits, by_calls};
-ghost use Rattle.p3_serializing.specs.SerializingGroups.{answers_by_calls, after_calls};
+ghost use Rattle.p3_serializing.specs.SerializingGroups.{answers_by_calls, after_calls, check_by};
 
 use crate::{SerializedIn, SerializingChallenger};
 use p3_challenger_core::{CanFinalizeDigest, CanObserve, CanSample, CanSampleBits};
@@ -27,26 +25,21 @@ impl<F: SerializedIn<BYTES>, Inner: CanObserve<u8>, const BYTES: usize> Serializ
     ///
     /// A law: the body is empty, and a caller cites the clauses.
     pub fn observes_are_calls<const N: usize>()
-        ensures value { (s : SerializingState Inner.State) (x : F) →
-            ⟦<Self as CanObserve<F>>⟧.observation.observed s x
-            ≡ after_bytes Inner.observation.observed s (bytes_of BYTES (F.residues.number x)) }
-        ensures array { (s : SerializingState Inner.State) (xs : List F) →
-            ⟦<Self as CanObserve<[F; N]>>⟧.observation.observed s xs
-            ≡ after_bytes Inner.observation.observed s
-            (flat_map (λ x. bytes_of BYTES (F.residues.number x)) xs) }
-        ensures digest { (s : SerializingState Inner.State) (digest : _) →
-            ⟦<Self as CanObserve<Hash<F, u8, N>>>⟧.observation.observed s digest
-            ≡ after_bytes Inner.observation.observed s (values_of digest) }
-        ensures cap { (s : SerializingState Inner.State) (cap : List (List ℕ)) →
-            ⟦<Self as CanObserve<MerkleCap<F, [u8; N]>>>⟧.observation.observed s cap
-            ≡ after_bytes Inner.observation.observed s (flat_map (λ root. root) cap) }
-        ensures digest_of_words { (s : SerializingState Inner.State) (digest : _) →
-            ⟦<Self as CanObserve<Hash<F, u64, N>>>⟧.observation.observed s digest
-            ≡ after_bytes Inner.observation.observed s (flat_map (bytes_of 8) (values_of digest)) }
-        ensures cap_of_words { (s : SerializingState Inner.State) (cap : List (List ℕ)) →
-            ⟦<Self as CanObserve<MerkleCap<F, [u64; N]>>>⟧.observation.observed s cap
-            ≡ after_bytes Inner.observation.observed s
-            (flat_map (λ root. flat_map (bytes_of 8) root) cap) }
+        ensures value { FeedsBytes Inner.observation ⟦<Self as CanObserve<F>>⟧.observation
+            (λ x. bytes_of BYTES (F.residues.number x)) }
+        ensures array { FeedsBytes Inner.observation ⟦<Self as CanObserve<[F; N]>>⟧.observation
+            (λ xs. flat_map (λ x. bytes_of BYTES (F.residues.number x)) xs) }
+        ensures digest { FeedsBytes Inner.observation
+            ⟦<Self as CanObserve<Hash<F, u8, N>>>⟧.observation (λ digest. values_of digest) }
+        ensures cap { FeedsBytes Inner.observation
+            ⟦<Self as CanObserve<MerkleCap<F, [u8; N]>>>⟧.observation
+            (λ cap. flat_map (λ root. root) cap) }
+        ensures digest_of_words { FeedsBytes Inner.observation
+            ⟦<Self as CanObserve<Hash<F, u64, N>>>⟧.observation
+            (λ digest. flat_map (bytes_of 8) (values_of digest)) }
+        ensures cap_of_words { FeedsBytes Inner.observation
+            ⟦<Self as CanObserve<MerkleCap<F, [u64; N]>>>⟧.observation
+            (λ cap. flat_map (λ root. flat_map (bytes_of 8) root) cap) }
     {}
 }
 
@@ -104,25 +97,18 @@ impl<
             (all_zero (⟦<Self as CanSampleBits<usize>>⟧.bits_sampling 0)) 0 witness).sampled s
             ≡ Some Bool.true }
         ensures sampled { (more n : ℕ) (witness : F) (s : SerializingState Inner.State) →
-            IsSome (Inner.CanSample.sampling.sampled s.inner) →
-            answers_by_calls (by_calls ⟦<Self as CanObserve<F>>⟧.observation.observed
+            let by = by_calls ⟦<Self as CanObserve<F>>⟧.observation
             ⟦<Self as CanSample<F>>⟧.sampling ⟦<Self as CanSampleBits<usize>>⟧.bits_sampling
-            (λ resample count. (⟦<Self as CanSampleUniformBits<F>>⟧.uniform resample count).draw)
-            ⟦<Self as BeforeWitness>⟧.before_witness.after)
-            (drop_byte ∷ observe witness ∷ draw_bits (suc more) ∷ []) s ≡ bits (Some n) ∷ [] →
-            (check_of ⟦<Self as BeforeWitness>⟧.before_witness ⟦<Self as CanObserve<F>>⟧.observation
-            (all_zero (⟦<Self as CanSampleBits<usize>>⟧.bits_sampling (suc more)))
-            (suc more) witness).sampled s
-            ≡ Some (n == 0) }
+            ⟦<Self as CanSampleUniformBits<F>>⟧.uniform ⟦<Self as BeforeWitness>⟧.before_witness in
+            IsSome (Inner.CanSample.sampling.sampled s.inner) → answers_by_calls by
+            (drop_byte ∷ observe witness ∷ draw_bits (suc more) ∷ []) s ≡ bits (Some n) ∷ []
+            → (check_by by (suc more) witness).sampled s ≡ Some (n == 0) }
         ensures after { (more : ℕ) (witness : F) (s : SerializingState Inner.State) →
-            IsSome (Inner.CanSample.sampling.sampled s.inner) →
-            (check_of ⟦<Self as BeforeWitness>⟧.before_witness ⟦<Self as CanObserve<F>>⟧.observation
-            (all_zero (⟦<Self as CanSampleBits<usize>>⟧.bits_sampling (suc more)))
-            (suc more) witness).after s
-            ≡ after_calls (by_calls ⟦<Self as CanObserve<F>>⟧.observation.observed
+            let by = by_calls ⟦<Self as CanObserve<F>>⟧.observation
             ⟦<Self as CanSample<F>>⟧.sampling ⟦<Self as CanSampleBits<usize>>⟧.bits_sampling
-            (λ resample count. (⟦<Self as CanSampleUniformBits<F>>⟧.uniform resample count).draw)
-            ⟦<Self as BeforeWitness>⟧.before_witness.after)
-            (drop_byte ∷ observe witness ∷ draw_bits (suc more) ∷ []) s }
+            ⟦<Self as CanSampleUniformBits<F>>⟧.uniform ⟦<Self as BeforeWitness>⟧.before_witness in
+            IsSome (Inner.CanSample.sampling.sampled s.inner) →
+            (check_by by (suc more) witness).after s
+            ≡ after_calls by (drop_byte ∷ observe witness ∷ draw_bits (suc more) ∷ []) s }
     {}
 }

@@ -1,8 +1,7 @@
 //! The digests that a serializing challenger observes, of bytes or of words of 64 bits, and caps of them. A digest of
 //! bytes reaches the inner challenger as one slice, and a digest of words as a slice of 8 bytes for each word.
 ghost use Rattle.std.specs.Prelude.{◌≡◌, ◌↔◌, List, OnOk, IfErr};
-ghost use Rattle.p3_challenger_core.specs.Observation.{RefusesObserve};
-ghost use Rattle.p3_serializing.specs.SerializingState.{each_as};
+ghost use Rattle.p3_serializing.specs.SerializingState.{RefusesValue, each_as};
 
 use crate::{SerializedIn, SerializingChallenger};
 use p3_challenger_core::{CanObserve, ChallengerError, Sponge};
@@ -27,8 +26,7 @@ impl<F: SerializedIn<BYTES>, Inner: CanObserve<u8>, const BYTES: usize> Serializ
         ensures bytes_observed { (s : SerializingState Inner.State) (cap : _) →
             ⟦<Self as CanObserve<&'a MerkleCap<F, [u8; N]>>>⟧.observation.observed s cap
             ≡ ⟦<Self as CanObserve<MerkleCap<F, [u8; N]>>>⟧.observation.observed s cap.now }
-        ensures bytes_left { (s : SerializingState Inner.State) (cap : _)
-            (t : SerializingState Inner.State) →
+        ensures bytes_left { (s : _) (cap : _) (t : SerializingState Inner.State) →
             ⟦<Self as CanObserve<&'a MerkleCap<F, [u8; N]>>>⟧.observation.may_leave s cap t
             ↔ ⟦<Self as CanObserve<MerkleCap<F, [u8; N]>>>⟧.observation.may_leave s cap.now t }
         ensures word_symbols { (cap : _) →
@@ -37,8 +35,7 @@ impl<F: SerializedIn<BYTES>, Inner: CanObserve<u8>, const BYTES: usize> Serializ
         ensures words_observed { (s : SerializingState Inner.State) (cap : _) →
             ⟦<Self as CanObserve<&'a MerkleCap<F, [u64; N]>>>⟧.observation.observed s cap
             ≡ ⟦<Self as CanObserve<MerkleCap<F, [u64; N]>>>⟧.observation.observed s cap.now }
-        ensures words_left { (s : SerializingState Inner.State) (cap : _)
-            (t : SerializingState Inner.State) →
+        ensures words_left { (s : _) (cap : _) (t : SerializingState Inner.State) →
             ⟦<Self as CanObserve<&'a MerkleCap<F, [u64; N]>>>⟧.observation.may_leave s cap t
             ↔ ⟦<Self as CanObserve<MerkleCap<F, [u64; N]>>>⟧.observation.may_leave s cap.now t }
     {}
@@ -55,9 +52,8 @@ trait DigestPart<C: Sponge>: Copy {
     fn feed_parts(challenger: &mut C, parts: &[Self]) -> Result<(), ChallengerError>
         ensures ok { OnOk result
             (C.state challenger.new ≡ parts_observed.observed (C.state challenger.old) parts.now) }
-        ensures err { IfErr result (λ e. RefusesObserve
-            (parts_observed.may_leave (C.state challenger.old) parts.now) e
-            (C.state challenger.new)) };
+        ensures err { IfErr result (λ e. RefusesValue parts_observed parts.now e
+            (C.state challenger.old) (C.state challenger.new)) };
 
     ghost observes: { IsObservation C.fed parts_observed };
 }
@@ -65,8 +61,7 @@ trait DigestPart<C: Sponge>: Copy {
 impl<F, Inner: CanObserve<u8>, const BYTES: usize> DigestPart<
     SerializingChallenger<F, Inner, BYTES>,
 > for u8 {
-    ghost use Rattle.p3_serializing.specs.SerializingState.{bytes_observed};
-    ghost use Rattle.p3_serializing.specs.SerializingStateLaws.{bytes-observed};
+    ghost use Rattle.p3_serializing.specs.{SerializingState.bytes_observed, SerializingStateLaws.bytes-observed};
 
     ghost parts_observed = { bytes_observed Inner.observation Inner.slice_may_leave };
 
@@ -85,8 +80,7 @@ impl<F, Inner: CanObserve<u8>, const BYTES: usize> DigestPart<
 impl<F, Inner: CanObserve<u8>, const BYTES: usize> DigestPart<
     SerializingChallenger<F, Inner, BYTES>,
 > for u64 {
-    ghost use Rattle.p3_serializing.specs.SerializingState.{words_observed};
-    ghost use Rattle.p3_serializing.specs.SerializingStateLaws.{words-observed};
+    ghost use Rattle.p3_serializing.specs.{SerializingState.words_observed, SerializingStateLaws.words-observed};
 
     ghost parts_observed = { words_observed Inner.observation Inner.slice_may_leave };
 
@@ -110,12 +104,10 @@ fn feed_digests<C: Sponge, Part: DigestPart<C>, Digest: AsSlice<Part>>(
     challenger: &mut C,
     digests: &[Digest],
 ) -> Result<(), ChallengerError>
-    ensures ok { OnOk result (C.state challenger.new
-        ≡ (each_as Digest.items Part.parts_observed).observed
-        (C.state challenger.old) digests.now) }
-    ensures err { IfErr result (λ e. RefusesObserve
-        ((each_as Digest.items Part.parts_observed).may_leave
-        (C.state challenger.old) digests.now) e (C.state challenger.new)) }
+    ensures ok { OnOk result (C.state challenger.new ≡ (each_as Digest.items
+        Part.parts_observed).observed (C.state challenger.old) digests.now) }
+    ensures err { IfErr result (λ e. RefusesValue (each_as Digest.items Part.parts_observed)
+        digests.now e (C.state challenger.old) (C.state challenger.new)) }
 {
     for i in 0..digests.len() {
         Part::feed_parts(challenger, digests[i].as_slice())?;
@@ -128,12 +120,10 @@ fn feed_caps<C: Sponge, Part: DigestPart<C>, Digest: AsSlice<Part>, Cap: AsSlice
     challenger: &mut C,
     caps: &[Cap],
 ) -> Result<(), ChallengerError>
-    ensures ok { OnOk result (C.state challenger.new
-        ≡ (each_as Cap.items (each_as Digest.items Part.parts_observed)).observed
-        (C.state challenger.old) caps.now) }
-    ensures err { IfErr result (λ e. RefusesObserve
-        ((each_as Cap.items (each_as Digest.items Part.parts_observed)).may_leave
-        (C.state challenger.old) caps.now) e (C.state challenger.new)) }
+    ensures ok { OnOk result (C.state challenger.new ≡ (each_as Cap.items (each_as Digest.items
+        Part.parts_observed)).observed (C.state challenger.old) caps.now) }
+    ensures err { IfErr result (λ e. RefusesValue (each_as Cap.items (each_as Digest.items
+        Part.parts_observed)) caps.now e (C.state challenger.old) (C.state challenger.new)) }
 {
     for i in 0..caps.len() {
         feed_digests(challenger, caps[i].as_slice())?;

@@ -34,12 +34,10 @@ impl<F: SerializedIn<BYTES>, Inner: CanSample<u8>, const BYTES: usize> Serializi
     fn draw(&mut self) -> Result<F, ChallengerError>
         ensures drawn { IfOk result (λ x. (element_drawn Inner.sampling BYTES F.residues).sampled
             (state_of Inner.state self.old) ≡ Some x) }
-        ensures after { OnOk result (state_of Inner.state self.new
-            ≡ (element_drawn Inner.sampling BYTES F.residues).after
-            (state_of Inner.state self.old)) }
-        ensures err { IfErr result (λ e.
-            RefusesDraw (element_drawn Inner.sampling BYTES F.residues) e
-            (state_of Inner.state self.old) (state_of Inner.state self.new)) }
+        ensures after { OnOk result (state_of Inner.state self.new ≡ (element_drawn Inner.sampling
+            BYTES F.residues).after (state_of Inner.state self.old)) }
+        ensures err { IfErr result (λ e. RefusesDraw (element_drawn Inner.sampling BYTES F.residues)
+            e (state_of Inner.state self.old) (state_of Inner.state self.new)) }
     {
         draw_element::<F, Inner, BYTES>(&mut self.inner, self.draw_limit)
     }
@@ -50,9 +48,9 @@ impl<F: SerializedIn<BYTES>, Inner: CanSample<u8>, const BYTES: usize> Serializi
     Inner,
     BYTES,
 > {
-    ghost use Rattle.std.specs.Prelude.{IsSome, Bool, nat_lt};
+    ghost use Rattle.std.specs.Prelude.{Bool, nat_lt};
     ghost use Rattle.p3_grinding.specs.Candidates.{MeetsLimitExactly};
-    ghost use Rattle.p3_serializing.specs.SerializingState.{SerializingState, groups_allowed};
+    ghost use Rattle.p3_serializing.specs.SerializingState.{groups_allowed, AlwaysGives, MeetsNoLimit};
 
     /// A draw of an element of the field gives nothing exactly where each of as many groups as the draw limit allows is
     /// drawn and, cut to the bits of the order, is not below the order. There, and nowhere else, it meets the limit,
@@ -61,18 +59,13 @@ impl<F: SerializedIn<BYTES>, Inner: CanSample<u8>, const BYTES: usize> Serializi
     ///
     /// A law: the body is empty, and a caller cites the clauses.
     pub fn limits_are_met_exactly()
-        ensures element { ((i : Inner.State) → IsSome (Inner.sampling.sampled i)) →
-            MeetsLimitExactly
+        ensures element { AlwaysGives Inner.sampling → MeetsLimitExactly
             (⟦<Self as CanSampleBits<usize>>⟧.bits_sampling (bits_of_order F.residues.order))
             (λ x. nat_lt x F.residues.order) groups_allowed ⟦<Self as CanSample<F>>⟧.sampling }
-        ensures bits { ((i : Inner.State) → IsSome (Inner.sampling.sampled i)) →
-            (bits : ℕ) (s : SerializingState Inner.State) →
-            IsSome ((⟦<Self as CanSampleBits<usize>>⟧.bits_sampling bits).sampled s)
-            × ¬ ((⟦<Self as CanSampleBits<usize>>⟧.bits_sampling bits).meets_limit s) }
-        ensures uniform { ((i : Inner.State) → IsSome (Inner.sampling.sampled i)) →
-            (resample : Bool) (bits : ℕ) (s : SerializingState Inner.State) →
-            IsSome ((⟦<Self as CanSampleUniformBits<F>>⟧.uniform resample bits).draw.sampled s)
-            × ¬ ((⟦<Self as CanSampleUniformBits<F>>⟧.uniform resample bits).draw.meets_limit s) }
+        ensures bits { AlwaysGives Inner.sampling → (bits : ℕ) →
+            MeetsNoLimit (⟦<Self as CanSampleBits<usize>>⟧.bits_sampling bits) }
+        ensures uniform { AlwaysGives Inner.sampling → (resample : Bool) (bits : ℕ) →
+            MeetsNoLimit (⟦<Self as CanSampleUniformBits<F>>⟧.uniform resample bits).draw }
     {}
 }
 
@@ -102,8 +95,7 @@ impl<
 
 impl<F: SerializedIn<BYTES>, Inner: CanSample<u8>, const BYTES: usize> CanSampleBits<usize>
     for SerializingChallenger<F, Inner, BYTES> {
-    ghost use Rattle.p3_challenger_core.specs.Bits.{most_bits_of};
-    ghost use Rattle.p3_challenger_core.specs.BitLaws.{most_bits-short};
+    ghost use Rattle.p3_challenger_core.specs.{Bits.most_bits_of, BitLaws.most_bits-short};
     ghost use Rattle.p3_serializing.specs.SerializingState.{bits_drawn};
     ghost use Rattle.p3_serializing.specs.SerializingStateLaws.{bits-drawn, bits_drawn-below};
 
@@ -164,8 +156,7 @@ fn draw_group<F: SerializedIn<BYTES>, Inner: CanSample<u8>, const BYTES: usize>(
         (group Inner.sampling BYTES).sampled (Inner.state inner.old) ≡ Some word) }
     ensures after { OnOk result
         (Inner.state inner.new ≡ (group Inner.sampling BYTES).after (Inner.state inner.old)) }
-    ensures err { IfErr result (λ e.
-        RefusesDraw (group Inner.sampling BYTES) e
+    ensures err { IfErr result (λ e. RefusesDraw (group Inner.sampling BYTES) e
         (Inner.state inner.old) (Inner.state inner.new)) }
 {
     let bytes = sample_array::<u8, Inner, BYTES>(inner)?;
@@ -184,15 +175,12 @@ fn draw_element<F: SerializedIn<BYTES>, Inner: CanSample<u8>, const BYTES: usize
     inner: &mut Inner,
     draw_limit: u64,
 ) -> Result<F, ChallengerError>
-    ensures drawn { IfOk result (λ x.
-        (element_of_groups Inner.sampling BYTES F.residues draw_limit).sampled
-        (Inner.state inner.old) ≡ Some x) }
-    ensures after { OnOk result (Inner.state inner.new
-        ≡ (element_of_groups Inner.sampling BYTES F.residues draw_limit).after
-        (Inner.state inner.old)) }
-    ensures err { IfErr result (λ e.
-        RefusesDraw (element_of_groups Inner.sampling BYTES F.residues draw_limit) e
-        (Inner.state inner.old) (Inner.state inner.new)) }
+    ensures drawn { IfOk result (λ x. (element_of_groups Inner.sampling BYTES F.residues
+        draw_limit).sampled (Inner.state inner.old) ≡ Some x) }
+    ensures after { OnOk result (Inner.state inner.new ≡ (element_of_groups Inner.sampling BYTES
+        F.residues draw_limit).after (Inner.state inner.old)) }
+    ensures err { IfErr result (λ e. RefusesDraw (element_of_groups Inner.sampling BYTES F.residues
+        draw_limit) e (Inner.state inner.old) (Inner.state inner.new)) }
 {
     let mask = order_mask::<F>();
     for _ in 0..draw_limit {

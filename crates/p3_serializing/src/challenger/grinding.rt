@@ -48,8 +48,7 @@ impl<F, Inner: TryClone, const BYTES: usize> TryClone for SerializingChallenger<
 
 impl<F, Inner: CanSample<u8>, const BYTES: usize> BeforeWitness
     for SerializingChallenger<F, Inner, BYTES> {
-    ghost use Rattle.p3_serializing.specs.SerializingState.{byte_dropped};
-    ghost use Rattle.p3_serializing.specs.SerializingStateLaws.{byte_dropped-drawn};
+    ghost use Rattle.p3_serializing.specs.{SerializingState.byte_dropped, SerializingStateLaws.byte_dropped-drawn};
 
     // One byte is drawn and dropped, so that the inner challenger hashes what was observed before it tries witnesses.
     ghost before_witness = { byte_dropped Inner.sampling };
@@ -64,8 +63,7 @@ impl<F, Inner: CanSample<u8>, const BYTES: usize> BeforeWitness
 
 impl<F: SerializedIn<BYTES>, Inner: CanSample<u8>, const BYTES: usize> CanSampleUniformBits<F>
     for SerializingChallenger<F, Inner, BYTES> {
-    ghost use Rattle.p3_grinding.specs.UniformDraws.{never_rejects};
-    ghost use Rattle.p3_grinding.specs.UniformDrawLaws.{never_rejects-is_uniform};
+    ghost use Rattle.p3_grinding.specs.{UniformDraws.never_rejects, UniformDrawLaws.never_rejects-is_uniform};
     ghost use Rattle.p3_serializing.specs.SerializingState.{stepped, bits_drawn};
     ghost use Rattle.p3_serializing.specs.SerializingStateLaws.{bits-drawn, bits_drawn-below};
 

@@ -16,8 +16,7 @@ struct LowBitsZero<F, const BYTES: usize> {
 
 impl<F: SerializedIn<BYTES>, const BYTES: usize> ByteCandidates<BYTES, BYTES>
     for LowBitsZero<F, BYTES> {
-    ghost use Rattle.p3_serializing.specs.BytesLaws.{bytes_fit};
-    ghost use Rattle.p3_serializing.specs.SerializingGrinding.{witness_bytes, low_bits_zero};
+    ghost use Rattle.p3_serializing.specs.{BytesLaws.bytes_fit, SerializingGrinding.{witness_bytes, low_bits_zero}};
 
     ghost encoded = { λ _ n. witness_bytes F.residues BYTES n };
 

@@ -1,7 +1,7 @@
 use Rattle.std.proofs.Common.{◌∙◌, ◌%◌, ◌^◌, arith}
 use Rattle.p3_field_core.proofs.Powers.{step-odd, step-even, of-power}
-use Rattle.p3_field_core.proofs.exponentiation.power.Goals as goal
 use Rattle.p3_field_core.proofs.exponentiation.power.Goals.{then-left-eq1, else-left-eq1}
+use Rattle.p3_field_core.proofs.exponentiation.power.Goals as goal
 
 -- a square and half the power make the power, with one factor more where it is odd
 pub loop-left-preserved : goal.loop-left-preserved

@@ -1,7 +1,5 @@
-use Rattle.p3_challenger_core.specs.Observation.{in_slice}
-use Rattle.p3_challenger_core.specs.Sampling.{in_row}
-use Rattle.p3_grinding.specs.Checks.{byte_check}
-use Rattle.p3_grinding.proofs.Searching.{Tried}
+use Rattle.p3_challenger_core.specs.{Observation.in_slice, Sampling.in_row}
+use Rattle.p3_grinding.{specs.Checks.byte_check, proofs.Searching.Tried}
 use Rattle.p3_grinding.proofs.byte_grinding_challenger.find_witness_plainly.Given as goal
 
 -- no candidate so far passes, and the copy is set back

@@ -1,10 +1,9 @@
-use Rattle.p3_grinding.specs.Checks.{all_zero, draws_nothing, checked}
-use Rattle.p3_grinding.proofs.Searching.{Searched}
+use Rattle.p3_grinding.{specs.Checks.ready_check, proofs.Searching.Searched}
 use Rattle.p3_grinding.proofs.search.least_prepared.Given as goal
 
 -- no candidate so far passes, and the copy is set back
 abbrev pub invariant-loop-candidate : goal.invariant-loop-candidate
 invariant-loop-candidate g l =
     Searched g.W.PrimeCharacteristicRing.residues
-    (checked draws_nothing g.C.CanObserve.observation (all_zero (g.C.CanSampleBits.bits_sampling l.bits)))
+    (ready_check g.C.CanObserve.observation g.C.CanSampleBits.bits_sampling l.bits)
     (g.C.Sponge.state l.initial.challenger) (g.C.Sponge.state l.challenger) (g.C.Sponge.state l.trial) l.candidate

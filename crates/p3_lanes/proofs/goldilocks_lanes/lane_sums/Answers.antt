@@ -1,6 +1,6 @@
 use mir.Syntax.{w64}
 use Rattle.std.proofs.Common.{lit<}
-use Rattle.p3_lanes.specs.LaneSums.{sum_in_lane}
+use Rattle.p3_lanes.proofs.LaneSums.{sum_in_lane}
 use Rattle.p3_goldilocks.specs.GoldilocksResidues.{order}
 use Rattle.p3_lanes.proofs.goldilocks_lanes.lane_sums.Goals as goal
 

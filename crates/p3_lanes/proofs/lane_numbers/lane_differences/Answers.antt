@@ -1,5 +1,5 @@
 use mir.Syntax.{w32}
-use Rattle.p3_lanes.specs.LaneSums.{difference_in_lane}
+use Rattle.p3_lanes.proofs.LaneSums.{difference_in_lane}
 use Rattle.p3_lanes.proofs.lane_numbers.lane_differences.Goals as goal
 
 pub returns : goal.returns

@@ -1,7 +1,5 @@
-use Rattle.std.proofs.Common.{◌*◌, ◌%◌, ◌<◌, ◌∙◌, length, slice_index, inl, inr, sym, ap, arith}
-use Rattle.std.proofs.lemmas.Bool.{cases_eq}
-use Rattle.std.proofs.lemmas.List.{length-set, get_or-set_other}
-use Rattle.std.proofs.lemmas.Grind.{get_or-set_at}
+use Rattle.std.proofs.{Common.{◌*◌, ◌%◌, ◌<◌, ◌∙◌, length, slice_index, inl, inr, sym, ap, arith}, lemmas.Bool.cases_eq}
+use Rattle.std.proofs.lemmas.{List.{length-set, get_or-set_other}, Grind.get_or-set_at}
 use Rattle.p3_lanes.proofs.lane_numbers.lane_products.Goals as goal
 
 pub product-requires : goal.product-requires

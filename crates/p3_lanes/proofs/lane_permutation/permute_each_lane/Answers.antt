@@ -1,5 +1,4 @@
-use Rattle.std.proofs.Common.{◌∙◌, map, inl, inr, sym, ap, arith}
-use Rattle.std.proofs.lemmas.Bool.{cases_eq}
+use Rattle.std.proofs.{Common.{◌∙◌, map, inl, inr, sym, ap, arith}, lemmas.Bool.cases_eq}
 use Rattle.p3_lanes.proofs.lane_permutation.permute_each_lane.Goals as goal
 
 pub loop-lane-preserved : goal.loop-lane-preserved

@@ -1,5 +1,4 @@
-use Rattle.std.proofs.Common.{◌∙◌, map, slice_index_or, inl, inr, sym, ap, arith}
-use Rattle.std.proofs.lemmas.Bool.{cases_eq}
+use Rattle.std.proofs.{Common.{◌∙◌, map, slice_index_or, inl, inr, sym, ap, arith}, lemmas.Bool.cases_eq}
 use Rattle.std.proofs.lemmas.List.{length-set, length-map, get_or-map, get_or-set_other, ext_get_or}
 use Rattle.std.proofs.lemmas.Grind.{get_or-set_at}
 use Rattle.p3_lanes.proofs.lane_permutation.permuted_in_lane.Goals as goal

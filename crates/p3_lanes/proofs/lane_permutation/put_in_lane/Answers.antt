@@ -1,8 +1,6 @@
-use Rattle.std.proofs.Common.{◌∙◌, map, slice_index_or, refl, inl, inr, sym, ap, arith}
-use Rattle.std.proofs.Math.Seq.{map-set_same}
-use Rattle.std.proofs.lemmas.Bool.{cases_eq, eq-eqb, ne_eqb, cond-true, cond-false}
+use Rattle.std.proofs.{Common.{◌∙◌, map, slice_index_or, refl, inl, inr, sym, ap, arith}, Math.Seq.map-set_same}
+use Rattle.std.proofs.lemmas.{Bool.{cases_eq, eq-eqb, ne_eqb, cond-true, cond-false}, Grind.get_or-set_at}
 use Rattle.std.proofs.lemmas.List.{length-set, length-map, map-set, get_or-set_other, get_or_default, ext_get_or}
-use Rattle.std.proofs.lemmas.Grind.{get_or-set_at}
 use Rattle.p3_lanes.proofs.lane_permutation.put_in_lane.Goals as goal
 
 pub loop-i-preserved : goal.loop-i-preserved

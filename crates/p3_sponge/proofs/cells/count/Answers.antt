@@ -1,5 +1,4 @@
-use Rattle.std.proofs.Common.{◌≡◌, set, slice_index_or, ap, ◌∙◌}
-use Rattle.std.proofs.lemmas.List.{get_or_default}
+use Rattle.std.proofs.{Common.{◌≡◌, set, slice_index_or, ap, ◌∙◌}, lemmas.List.get_or_default}
 use Rattle.p3_field_core.specs.Residues.{plus}
 use Rattle.p3_sponge.specs.CellsLaws.{counted_over-set}
 use Rattle.p3_sponge.proofs.cells.count.Goals as goal

@@ -1,8 +1,6 @@
 use Rattle.std.proofs.Common.{◌≡◌, ◌-◌, ◌++◌, drop, take, replicate, length, length-append, rules, ap, ◌∙◌, arith}
 use Rattle.std.proofs.lemmas.List.{length-replicate}
-use Rattle.p3_sponge.specs.Cells.{counted_over}
-use Rattle.p3_sponge.specs.CellsLaws.{counted_over-front}
-use Rattle.p3_sponge.proofs.Overwriting.{written}
+use Rattle.p3_sponge.{specs.Cells.counted_over, specs.CellsLaws.counted_over-front, proofs.Overwriting.written}
 use Rattle.p3_sponge.proofs.cells.overwrite.Goals as goal
 
 -- the front is the block and zeros, and the cell after the rate has the count

@@ -1,6 +1,5 @@
 use Rattle.std.proofs.Common.{drop}
-use Rattle.p3_challenger_core.specs.Observation.{observed_all}
-use Rattle.p3_challenger_core.specs.CallLaws.{GoesOn}
+use Rattle.p3_challenger_core.specs.{Observation.observed_all, CallLaws.GoesOn}
 use Rattle.p3_challenger_core.proofs.field_challenger.FieldChallenger.observe_algebra_slice.Given as goal
 
 abbrev pub invariant-loop-i : goal.invariant-loop-i

@@ -1,9 +1,6 @@
 use Rattle.std.proofs.Common.{◌≡◌, ◌<◌, ◌+◌, [], ◌++◌, length, take, sym, ap, ◌∙◌, arith}
-use Rattle.p3_sponge.specs.SpongeCalls.{permutation_input}
-use Rattle.p3_sponge.specs.SpongeStepLaws.{permutation_input-some}
-use Rattle.p3_duplex.specs.DuplexCalls.{duplex}
-use Rattle.p3_duplex.specs.DuplexState.{DuplexState, fed}
-use Rattle.p3_duplex.proofs.Blocks.{fed-absorbed}
+use Rattle.p3_sponge.specs.{SpongeCalls.permutation_input, SpongeStepLaws.permutation_input-some}
+use Rattle.p3_duplex.{specs.DuplexCalls.duplex, specs.DuplexState.{DuplexState, fed}, proofs.Blocks.fed-absorbed}
 use Rattle.p3_duplex.proofs.duplex_challenger.DuplexChallenger.absorb_block.Goals as goal
 
 -- with nothing pending the block alone is absorbed

@@ -1,9 +1,6 @@
 use Rattle.std.proofs.Common.{subst, take}
-use Rattle.p3_sponge.specs.SpongePlaceLaws.{draws-places}
-use Rattle.p3_sponge.specs.SpongeStepLaws.{Fits}
-use Rattle.p3_duplex.specs.DuplexCalls.{duplex}
-use Rattle.p3_duplex.specs.DuplexState.{DuplexState}
-use Rattle.p3_duplex.proofs.Keeping.{kept-fits}
+use Rattle.p3_sponge.specs.{SpongePlaceLaws.draws-places, SpongeStepLaws.Fits}
+use Rattle.p3_duplex.{specs.DuplexCalls.duplex, specs.DuplexState.DuplexState, proofs.Keeping.kept-fits}
 use Rattle.p3_duplex.proofs.duplex_challenger.DuplexChallenger.draws_have_places.Goals as goal
 
 pub returns : goal.returns

@@ -1,6 +1,5 @@
 use Rattle.std.proofs.Common.{◌-◌}
-use Rattle.p3_grinding.specs.CandidateLaws.{Seeks}
-use Rattle.p3_grinding.specs.UniformDraws.{is_below}
+use Rattle.p3_grinding.specs.{CandidateLaws.Seeks, UniformDraws.is_below}
 use Rattle.p3_duplex.specs.DuplexUniform.{base_draw}
 use Rattle.p3_duplex.proofs.duplex_challenger.DuplexChallenger.first_below_of.Given as goal
 

@@ -1,12 +1,9 @@
 use Rattle.std.proofs.Common.{subst, take}
 use Rattle.p3_challenger_core.specs.SegmentLaws.{run_calls-segments, run_calls-segments_to_digest, run_calls-same}
 use Rattle.p3_challenger_core.specs.SegmentLaws.{run_calls_to_digest-same}
-use Rattle.p3_sponge.specs.SpongeStepLaws.{Fits, sponge_steps}
-use Rattle.p3_sponge.specs.SpongeQueryLaws.{Agree, same_call, same_end}
-use Rattle.p3_duplex.specs.DuplexCalls.{duplex, duplex_by_calls}
-use Rattle.p3_duplex.specs.DuplexSegments.{duplex_by_segments}
-use Rattle.p3_duplex.specs.DuplexState.{DuplexState}
-use Rattle.p3_duplex.proofs.Keeping.{kept-fits}
+use Rattle.p3_duplex.{specs.DuplexState.DuplexState, proofs.Keeping.kept-fits}
+use Rattle.p3_sponge.specs.{SpongeStepLaws.{Fits, sponge_steps}, SpongeQueryLaws.{Agree, same_call, same_end}}
+use Rattle.p3_duplex.specs.{DuplexCalls.{duplex, duplex_by_calls}, DuplexSegments.duplex_by_segments}
 use Rattle.p3_duplex.proofs.duplex_challenger.DuplexChallenger.follows_segments.Goals as goal
 
 -- a challenger keeps what the calls ask of its sponge

@@ -1,8 +1,6 @@
 use Rattle.std.proofs.Common.{◌+◌, ◌-◌, ◌/◌, Some, ap, sym, ◌∙◌, rules}
 use Rattle.p3_grinding.specs.UniformDrawLaws.{halves-sampled, halves-refused}
-use Rattle.p3_duplex.specs.DuplexState.{after_sampled}
-use Rattle.p3_duplex.specs.DuplexUniform.{single}
-use Rattle.p3_duplex.specs.DuplexUniformLaws.{single-is_uniform}
+use Rattle.p3_duplex.specs.{DuplexState.after_sampled, DuplexUniform.single, DuplexUniformLaws.single-is_uniform}
 use Rattle.p3_duplex.proofs.Uniform.{moved_up}
 use Rattle.p3_duplex.proofs.duplex_challenger.DuplexChallenger.halved_bits.Goals as goal
 

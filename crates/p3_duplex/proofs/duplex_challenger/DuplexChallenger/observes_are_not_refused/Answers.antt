@@ -1,8 +1,5 @@
 use Rattle.p3_challenger_core.specs.ObservationLaws.{row-not_refused}
-use Rattle.p3_duplex.specs.DuplexState.{observed}
 use Rattle.p3_duplex.proofs.duplex_challenger.DuplexChallenger.observes_are_not_refused.Goals as goal
 
 pub returns : goal.returns
-returns g c =
-    row-not_refused (λ s x. observed g.F.PrimeCharacteristicRing.residues
-    g.P.CryptographicPermutation.permutation g.row.RATE s x)
+returns g c = row-not_refused _

@@ -1,7 +1,5 @@
-use Rattle.std.proofs.Common.{◌≡◌, ◌++◌, ap, ◌∙◌, arith}
-use Rattle.std.proofs.lemmas.List.{take-append-drop}
-use Rattle.p3_duplex.specs.DuplexState.{fed}
-use Rattle.p3_duplex.specs.DuplexStateLaws.{fed-append}
+use Rattle.std.proofs.{Common.{◌≡◌, ◌++◌, ap, ◌∙◌, arith}, lemmas.List.take-append-drop}
+use Rattle.p3_duplex.specs.{DuplexState.fed, DuplexStateLaws.fed-append}
 use Rattle.p3_duplex.proofs.duplex_challenger.DuplexChallenger.push_all.Goals as goal
 
 -- the values that fill up what is pending
@@ -33,7 +31,6 @@ loop-rest-preserved g c =
     ∙ take-append-drop rate c.loop-rest.rest.now in (
       ap (λ s. fed r permutation rate s after) c.absorb_block.ensures.fed
           ∙ fed-append r permutation rate c.loop-rest.self block after
-          ∙ ap (fed r permutation rate c.loop-rest.self) parts
-          ∙ c.loop-rest.invariant.0,
+          ∙ ap (fed r permutation rate c.loop-rest.self) parts ∙ c.loop-rest.invariant.0,
       λ some. c.absorb_block.ensures.none_left,
     )

@@ -1,10 +1,8 @@
-use Rattle.std.proofs.Common.{◌≡◌, ◌<◌, [], length, take, sym, ap, ◌∙◌, arith}
-use Rattle.std.proofs.lemmas.Bool.Decides.{nat_tests}
+use Rattle.std.proofs.{Common.{◌≡◌, ◌<◌, [], length, take, sym, ap, ◌∙◌, arith}, lemmas.Bool.Decides.nat_tests}
 use Rattle.std.proofs.lemmas.List.{length-take-le}
 use Rattle.p3_sponge.specs.SpongeCalls.{permutation_input}
-use Rattle.p3_duplex.specs.DuplexCalls.{duplex}
-use Rattle.p3_duplex.specs.DuplexState.{DuplexState, fed}
 use Rattle.p3_duplex.proofs.Blocks.{fed-pending, fed-absorbed}
+use Rattle.p3_duplex.specs.{DuplexCalls.duplex, DuplexState.{DuplexState, fed}}
 use Rattle.p3_duplex.proofs.duplex_challenger.DuplexChallenger.push_within.Goals as goal
 
 -- the values fill the rate, so all that is pending is absorbed
@@ -28,7 +26,7 @@ returns-then-end-clause-fed g c =
     let some : 0 < length c.args.values.now = grind (arith, nat_tests, c.if-is_empty.ensures) in
     let cells = c.absorb.ensures
     ∙ ap (λ p. permutation inside.permutation
-    (permutation_input (duplex r (permutation inside.permutation) rate) inside.sponge_state p)) c.write_after.ensures in
+    (permutation_input (duplex r (permutation inside.permutation) rate) inside.sponge_state p)) c.write_after.ensures.front in
     (λ i. record {
       sponge = record { cells = cells i; pending = []; outputs_left = rate };
       permutation = inside.permutation;
@@ -60,7 +58,7 @@ returns-else-end-clause-fed g c =
     (λ i. record before {
       sponge = record {
         cells = inside.sponge_state;
-        pending = c.write_after.ensures i;
+        pending = c.write_after.ensures.front i;
         outputs_left = 0;
       };
     })

@@ -1,7 +1,6 @@
 use Rattle.std.proofs.Common.{◌≡◌, ◌<◌, ◌∙◌, length, map, slice_index_or, slice_set, inl, inr, sym, ap, arith}
-use Rattle.std.proofs.lemmas.Bool.{cases_eq}
+use Rattle.std.proofs.lemmas.{Bool.cases_eq, Grind.get_or-set_at}
 use Rattle.std.proofs.lemmas.List.{length-set, length-map, map-set, get_or-map, get_or-set_other, get_or_default, ext_get_or}
-use Rattle.std.proofs.lemmas.Grind.{get_or-set_at}
 use Rattle.p3_duplex.proofs.LaneBatches.{offset_fits}
 use Rattle.p3_duplex.proofs.duplex_challenger.lane_search.given_in_lanes.Goals as goal
 
@@ -22,8 +21,7 @@ cells-preserved g c =
           let there : i < length (map (lane m) lanes) = omega (arith, c.cells-test.true, length-map lanes (lane m), long) in
           ap (λ xs. slice_index_or xs j zero) (map-set (lane m) lanes i new) ∙ elim (cases_eq j i) [
             | inl here ↦ get_or-set_at (map (lane m) lanes) i j (lane m new) zero here there
-                ∙ c.broadcast.ensures m lt
-                ∙ get_or_default cells i cell zero (omega (arith, c.cells-test.true, whole))
+                ∙ c.broadcast.ensures m lt ∙ get_or_default cells i cell zero (omega (arith, c.cells-test.true, whole))
                 ∙ ap (λ k. slice_index_or cells k zero) (sym here)
             | inr other ↦ get_or-set_other (map (lane m) lanes) i j (lane m new) zero other
                 ∙ c.cells.invariant.1 j (omega (arith, before, other)) m lt

@@ -1,6 +1,5 @@
 use Rattle.std.proofs.Common.{◌-◌, ◌^◌, length, map, drop, get_or, ap, ◌∙◌, arith}
-use Rattle.p3_field_bridge.specs.Digits.{number_in}
-use Rattle.p3_field_bridge.specs.BridgeLaws.{some_bits, at_most_64}
+use Rattle.p3_field_bridge.specs.{Digits.number_in, BridgeLaws.{some_bits, at_most_64}}
 use Rattle.p3_field_bridge.proofs.Packing.{radix-is, packed-more, number-more, shifted_bit}
 use Rattle.p3_field_bridge.proofs.bridge.FieldBridge.pack.Goals as goal
 

@@ -1,9 +1,8 @@
 use Rattle.std.proofs.Common.{◌≡◌, ℕ, ◌≤◌, List, length, Option, Some, None, IfSome, refl, subst, arith}
 use Rattle.std.specs.Option.{ForNone}
 use Rattle.p3_challenger_core.specs.SegmentLaws.{run_calls-alike}
-use Rattle.p3_hash_challenger.specs.HashCalls.{hash_by_calls}
-use Rattle.p3_hash_challenger.specs.HashState.{HashState, function_of, pending_of}
 use Rattle.p3_hash_challenger.proofs.HashOutputs.{HasOutputs, filled_call, call_outputs}
+use Rattle.p3_hash_challenger.specs.{HashCalls.hash_by_calls, HashState.{HashState, function_of, pending_of}}
 use Rattle.p3_hash_challenger.proofs.hash_challenger.HashChallenger.draws_are_outputs.Goals as goal
 
 -- the outputs left are places of the digest

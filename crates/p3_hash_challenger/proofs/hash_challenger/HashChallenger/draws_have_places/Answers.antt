@@ -1,6 +1,5 @@
 use Rattle.std.proofs.Common.{◌≤◌, ap, arith}
-use Rattle.p3_hash_challenger.specs.HashState.{function_of}
-use Rattle.p3_hash_challenger.proofs.Calls.{draws-places, draws-places_after_array}
+use Rattle.p3_hash_challenger.{specs.HashState.function_of, proofs.Calls.{draws-places, draws-places_after_array}}
 use Rattle.p3_hash_challenger.proofs.hash_challenger.HashChallenger.draws_have_places.Goals as goal
 
 pub returns : goal.returns

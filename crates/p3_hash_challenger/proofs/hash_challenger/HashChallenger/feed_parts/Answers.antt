@@ -1,6 +1,5 @@
 use Rattle.std.proofs.Common.{◌∙◌, rules}
-use Rattle.p3_hash_challenger.specs.HashState.{fed}
-use Rattle.p3_hash_challenger.specs.HashStateLaws.{all_fed}
+use Rattle.p3_hash_challenger.specs.{HashState.fed, HashStateLaws.all_fed}
 use Rattle.p3_hash_challenger.proofs.Observing.{leads_on-end, leads_on-refused}
 use Rattle.p3_hash_challenger.proofs.hash_challenger.HashChallenger.feed_parts.Goals as goal
 

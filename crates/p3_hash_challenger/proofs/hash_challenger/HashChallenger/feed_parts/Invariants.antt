@@ -1,6 +1,5 @@
 use Rattle.std.proofs.Common.{drop}
-use Rattle.p3_hash_challenger.specs.HashState.{fed}
-use Rattle.p3_hash_challenger.proofs.Observing.{LeadsOn}
+use Rattle.p3_hash_challenger.{specs.HashState.fed, proofs.Observing.LeadsOn}
 use Rattle.p3_hash_challenger.proofs.hash_challenger.HashChallenger.feed_parts.Given as goal
 
 abbrev pub invariant-loop-part : goal.invariant-loop-part

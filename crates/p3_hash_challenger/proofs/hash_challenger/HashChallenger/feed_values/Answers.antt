@@ -1,9 +1,7 @@
-use Rattle.std.proofs.Common.{◌+◌, drop, sym, ap, ◌∙◌, subst, rules}
-use Rattle.std.specs.List.{flat_map}
+use Rattle.std.{proofs.Common.{◌+◌, drop, sym, ap, ◌∙◌, subst, rules}, specs.List.flat_map}
 use Rattle.p3_challenger_core.specs.Observation.{LeavesBeginning}
-use Rattle.p3_hash_challenger.specs.HashState.{HashState, fed}
-use Rattle.p3_hash_challenger.specs.HashStateLaws.{all_fed}
 use Rattle.p3_hash_challenger.proofs.Observing.{LeadsThrough, leads_through-next, leads_through-refused}
+use Rattle.p3_hash_challenger.specs.{HashState.{HashState, fed}, HashStateLaws.all_fed}
 use Rattle.p3_hash_challenger.proofs.hash_challenger.HashChallenger.feed_values.Goals as goal
 
 -- the parts of the value are fed as one list

@@ -1,7 +1,5 @@
-use Rattle.std.proofs.Common.{drop}
-use Rattle.std.specs.List.{flat_map}
-use Rattle.p3_hash_challenger.specs.HashState.{fed}
-use Rattle.p3_hash_challenger.proofs.Observing.{LeadsThrough}
+use Rattle.std.{proofs.Common.drop, specs.List.flat_map}
+use Rattle.p3_hash_challenger.{specs.HashState.fed, proofs.Observing.LeadsThrough}
 use Rattle.p3_hash_challenger.proofs.hash_challenger.HashChallenger.feed_values.Given as goal
 
 abbrev pub invariant-loop-value : goal.invariant-loop-value

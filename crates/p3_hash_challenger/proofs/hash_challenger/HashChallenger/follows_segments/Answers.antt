@@ -1,11 +1,9 @@
 use Rattle.std.proofs.Common.{◌≤◌, ap, arith}
 use Rattle.p3_challenger_core.specs.SegmentLaws.{run_calls-segments, run_calls-segments_to_digest}
 use Rattle.p3_challenger_core.specs.SegmentLaws.{run_calls-same, run_calls_to_digest-same}
-use Rattle.p3_hash_challenger.specs.HashCalls.{HashSponge, hash_by_calls}
-use Rattle.p3_hash_challenger.specs.HashSegments.{hash_by_segments}
-use Rattle.p3_hash_challenger.specs.HashState.{function_of}
-use Rattle.p3_hash_challenger.proofs.HashSteps.{hash_steps}
+use Rattle.p3_hash_challenger.{specs.HashState.function_of, proofs.HashSteps.hash_steps}
 use Rattle.p3_hash_challenger.proofs.HashQueries.{Agree, same_call, same_digest}
+use Rattle.p3_hash_challenger.specs.{HashCalls.{HashSponge, hash_by_calls}, HashSegments.hash_by_segments}
 use Rattle.p3_hash_challenger.proofs.hash_challenger.HashChallenger.follows_segments.Goals as goal
 
 -- a challenger never has more outputs left than a digest has places

@@ -1,5 +1,4 @@
-use Rattle.p3_hash_challenger.specs.HashCalls.{with_pending}
-use Rattle.p3_hash_challenger.specs.HashState.{function_of}
+use Rattle.p3_hash_challenger.specs.{HashCalls.with_pending, HashState.function_of}
 use Rattle.p3_hash_challenger.proofs.ReadBack.{reads_back, reads_back_to_digest, reads_back_or_collides}
 use Rattle.p3_hash_challenger.proofs.hash_challenger.HashChallenger.new.Goals as goal
 

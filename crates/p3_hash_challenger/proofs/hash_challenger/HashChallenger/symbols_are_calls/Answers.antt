@@ -1,5 +1,4 @@
-use Rattle.p3_hash_challenger.specs.HashState.{function_of}
-use Rattle.p3_hash_challenger.proofs.Calls.{fed-is_calls, steps-are_calls}
+use Rattle.p3_hash_challenger.{specs.HashState.function_of, proofs.Calls.{fed-is_calls, steps-are_calls}}
 use Rattle.p3_hash_challenger.proofs.hash_challenger.HashChallenger.symbols_are_calls.Goals as goal
 
 pub returns-clause-fed : goal.returns-clause-fed

@@ -1,6 +1,5 @@
 use Rattle.std.proofs.Common.{drop}
-use Rattle.p3_hash_challenger.specs.HashState.{array_observed}
-use Rattle.p3_hash_challenger.proofs.Observing.{LeadsOn}
+use Rattle.p3_hash_challenger.{specs.HashState.array_observed, proofs.Observing.LeadsOn}
 use Rattle.p3_hash_challenger.proofs.hash_challenger.HashChallengerCanObserveArray.observe_slice.Given as goal
 
 abbrev pub invariant-loop-value : goal.invariant-loop-value

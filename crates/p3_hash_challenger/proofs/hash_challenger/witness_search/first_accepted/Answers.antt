@@ -1,7 +1,5 @@
 use Rattle.std.proofs.Common.{◌≡◌, true, false, Some, slice_get, sym, ap, subst, ◌∙◌, inl, inr, arith, rules}
-use Rattle.std.proofs.lemmas.Bool.{cases_lt}
-use Rattle.std.proofs.lemmas.Option.{slice_get-get_or}
-use Rattle.std.specs.Option.{option_map}
+use Rattle.std.{proofs.lemmas.Bool.cases_lt, proofs.lemmas.Option.slice_get-get_or, specs.Option.option_map}
 use Rattle.p3_grinding.specs.Checks.{PassesAt}
 use Rattle.p3_hash_challenger.specs.WitnessSearch.{digest_check, first_outputs}
 use Rattle.p3_hash_challenger.proofs.hash_challenger.witness_search.first_accepted.Goals as goal

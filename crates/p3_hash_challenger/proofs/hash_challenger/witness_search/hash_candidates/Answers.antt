@@ -1,7 +1,6 @@
 use Rattle.std.proofs.Common.{◌≡◌, ◌+◌, ◌*◌, ◌/◌, ◌%◌, ◌<◌, ◌≤◌, Some, length, take, slice_range, ap, ◌∙◌, arith}
-use Rattle.std.proofs.lemmas.List.{length-take-le}
-use Rattle.std.proofs.Math.Nat.{mul-mod_right, mul-div_cancel_left}
 use Rattle.p3_hash_challenger.proofs.Messages.{ends_before, range-of_front}
+use Rattle.std.proofs.{lemmas.List.length-take-le, Math.Nat.{mul-mod_right, mul-div_cancel_left}}
 use Rattle.p3_hash_challenger.proofs.hash_challenger.witness_search.hash_candidates.Goals as goal
 
 pub hash_many-requires : goal.hash_many-requires
@@ -12,8 +11,7 @@ hash_many-requires g c =
     let inside : count * each ≤ length messages =
     omega (arith, c.requires.room, c.write_candidates.ensures.same_room) in
     record {
-      whole =
-          ap (λ n. n % count) (length-take-le (count * each) messages inside) ∙ mul-mod_right count each;
+      whole = ap (λ n. n % count) (length-take-le (count * each) messages inside) ∙ mul-mod_right count each;
     }
 
 -- message j of the batch is that of candidate first + j

@@ -1,7 +1,6 @@
 use Rattle.std.proofs.Common.{◌≡◌, ◌+◌, ◌*◌, ◌++◌, length, replicate, sym, ap, subst, ◌∙◌, arith}
 use Rattle.std.proofs.lemmas.List.{length-replicate}
-use Rattle.p3_hash_challenger.specs.WitnessSearch.{BeginWith}
-use Rattle.p3_hash_challenger.proofs.Messages.{begin_none, more-room, more-begin}
+use Rattle.p3_hash_challenger.{specs.WitnessSearch.BeginWith, proofs.Messages.{begin_none, more-room, more-begin}}
 use Rattle.p3_hash_challenger.proofs.hash_challenger.witness_search.messages_with_room.Goals as goal
 
 pub messages-init : goal.messages-init

@@ -21,8 +21,7 @@ loop-i-preserved g c =
       length-set outputs i output ∙ c.loop-i.invariant.0,
       c.told-digest,
       take_more_set outputs i output room
-          ∙ (λ j. c.loop-i.invariant.2 j ++ sym is j ∷ [])
-          ∙ sym (take_more turned i 0 there),
+          ∙ (λ j. c.loop-i.invariant.2 j ++ sym is j ∷ []) ∙ sym (take_more turned i 0 there),
     )
 
 pub returns : goal.returns
@@ -30,5 +29,4 @@ returns g c =
     let i = c.loop-i.i in
     let all : i ≡ g.row.S = omega (arith, c.loop-i-test.false, c.loop-i.auto.i-end) in
     sym (take_all i c.loop-i.outputs (omega (arith, all, c.loop-i.invariant.0)))
-    ∙ c.loop-i.invariant.2
-    ∙ ap (λ n. take n (reverse c.args.digest.now)) all
+    ∙ c.loop-i.invariant.2 ∙ ap (λ n. take n (reverse c.args.digest.now)) all

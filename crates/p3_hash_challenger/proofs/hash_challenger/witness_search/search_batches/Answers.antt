@@ -1,11 +1,8 @@
 use Rattle.std.proofs.Common.{◌≡◌, ℕ, ◌+◌, ◌*◌, ◌≤◌, length, take, sym, ap, subst, ◌∙◌, arith, rules}
-use Rattle.std.proofs.lemmas.List.{length-take-le}
-use Rattle.std.proofs.Math.Nat.{mul-le-mul_right}
+use Rattle.std.proofs.{lemmas.List.length-take-le, Math.Nat.mul-le-mul_right}
 use Rattle.p3_grinding.specs.Checks.{NoneOf}
-use Rattle.p3_hash_challenger.specs.HashState.{HashState}
-use Rattle.p3_hash_challenger.specs.WitnessSearch.{candidate_check, digest_check}
-use Rattle.p3_hash_challenger.proofs.Batches.{first-passes, none-passes}
-use Rattle.p3_hash_challenger.proofs.DigestDraws.{same-answers}
+use Rattle.p3_hash_challenger.specs.{HashState.HashState, WitnessSearch.{candidate_check, digest_check}}
+use Rattle.p3_hash_challenger.proofs.{Batches.{first-passes, none-passes}, DigestDraws.same-answers}
 use Rattle.p3_hash_challenger.proofs.hash_challenger.witness_search.search_batches.Goals as goal
 
 -- there are as many digests as candidates in the batch
@@ -14,8 +11,7 @@ hash_candidates-requires g c =
     let count = c.min-count.result in
     let digests = c.batches.digests in
     let each = length c.input-pending.result.now + g.row.W in
-    let short : count ≤ length c.args.digests.now =
-    omega (arith, c.min-count.ensures, c.batches.auto.digests) in
+    let short : count ≤ length c.args.digests.now = omega (arith, c.min-count.ensures, c.batches.auto.digests) in
     let batch : length (take count digests) ≡ count =
     length-take-le count digests (omega (arith, short, c.batches.auto.digests)) in
     let size : length c.input-pending.result.now ≡ length c.args.challenger.now.sponge.pending =

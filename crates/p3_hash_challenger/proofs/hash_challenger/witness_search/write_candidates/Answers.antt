@@ -43,5 +43,4 @@ pub returns-clause-kept : goal.returns-clause-kept
 returns-clause-kept g c = c.candidates.invariant.1
 
 pub returns-clause-each_message : goal.returns-clause-each_message
-returns-clause-each_message g c =
-    λ j below. c.candidates.invariant.2 j (omega (arith, below, c.candidates-test.false))
+returns-clause-each_message g c = λ j below. c.candidates.invariant.2 j (omega (arith, below, c.candidates-test.false))

@@ -1,11 +1,8 @@
-use Rattle.std.proofs.Common.{slice_index}
 use Rattle.p3_lanes.specs.LaneLaws.{sum_reduced}
-use Rattle.p3_small_primes.specs.SmallPrimes.{residues_below}
-use Rattle.p3_small_primes.specs.SmallPrimeLaws.{laws}
+use Rattle.p3_small_primes.specs.{SmallPrimes.residues_below, SmallPrimeLaws.laws}
 use Rattle.p3_lanes.proofs.small_prime_lanes.SmallPrimeLanesAdd.add.Goals as goal
 
 pub returns : goal.returns
 returns g c =
-    λ l lt. sum_reduced (residues_below g.row.ORDER _) (laws g.row.ORDER _)
-    (slice_index c.args.self.numbers l) (slice_index c.args.rhs.numbers l)
-    (c.args.self.canonical l lt) (c.args.rhs.canonical l lt) _ (c.lane_sums.ensures l lt)
+    λ l lt. sum_reduced (residues_below g.row.ORDER _) (laws g.row.ORDER _) _ _ (c.args.self.canonical l lt)
+    (c.args.rhs.canonical l lt) _ (c.lane_sums.ensures l lt)

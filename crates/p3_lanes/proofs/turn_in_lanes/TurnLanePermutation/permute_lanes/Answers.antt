@@ -1,8 +1,6 @@
 use Rattle.std.proofs.Common.{◌<◌, ◌+◌, ◌∙◌, length, map, slice_index_or, inl, inr, sym, ap, arith}
-use Rattle.std.proofs.lemmas.Bool.{cases_eq}
-use Rattle.std.proofs.lemmas.List.{length-set, length-map, map-set, get_or-map, get_or-set_other}
-use Rattle.std.proofs.lemmas.Grind.{get_or-set_at}
-use Rattle.std.proofs.lemmas.List.FromFn.{fill_by_all}
+use Rattle.std.proofs.lemmas.{Bool.cases_eq, List.{length-set, length-map, map-set, get_or-map, get_or-set_other}}
+use Rattle.std.proofs.lemmas.{Grind.get_or-set_at, List.FromFn.fill_by_all}
 use Rattle.p3_field_core.specs.Residues.{plus}
 use Rattle.p3_symmetric.specs.Turn.{turned_cell}
 use Rattle.p3_lanes.proofs.turn_in_lanes.TurnLanePermutation.permute_lanes.Goals as goal

@@ -1,12 +1,9 @@
 use Rattle.std.proofs.Common.{rules, ◌≡◌, ◌<◌, ◌≤◌, ◌+◌, [], ◌++◌, length, take, sym, ap, ◌∙◌, arith}
 use Rattle.std.proofs.lemmas.List.{length-take-le}
-use Rattle.p3_sponge.specs.SpongeCalls.{permutation_input}
-use Rattle.p3_sponge.specs.SpongeStepLaws.{permutation_input-some}
-use Rattle.p3_multi_field.specs.MultiFieldCalls.{batch_of, row_of, scalars_rule}
-use Rattle.p3_multi_field.specs.MultiFieldState.{MultiFieldState, scalars_observed}
-use Rattle.p3_multi_field.proofs.Pairs.{pair_over}
-use Rattle.p3_multi_field.proofs.Batches.{observed-absorbed}
+use Rattle.p3_sponge.specs.{SpongeCalls.permutation_input, SpongeStepLaws.permutation_input-some}
 use Rattle.p3_multi_field.proofs.Numbers.{some_product, keeps_all}
+use Rattle.p3_multi_field.{specs.MultiFieldCalls.{batch_of, row_of, scalars_rule}, proofs.Pairs.pair_over}
+use Rattle.p3_multi_field.{specs.MultiFieldState.{MultiFieldState, scalars_observed}, proofs.Batches.observed-absorbed}
 use Rattle.p3_multi_field.proofs.multi_field_challenger.MultiField32Challenger.absorb_batch.Goals as goal
 
 pub invariant_of-self : goal.invariant_of-self

@@ -1,7 +1,5 @@
-use Rattle.std.proofs.Common.{rules, ◌≡◌, ◌≤◌, [], length, take, ap, ◌∙◌, arith}
-use Rattle.std.proofs.lemmas.List.{length-take-le}
-use Rattle.p3_multi_field.specs.MultiFieldState.{MultiFieldState}
-use Rattle.p3_multi_field.proofs.Numbers.{keeps_all}
+use Rattle.std.proofs.{Common.{rules, ◌≡◌, ◌≤◌, [], length, take, ap, ◌∙◌, arith}, lemmas.List.length-take-le}
+use Rattle.p3_multi_field.{specs.MultiFieldState.MultiFieldState, proofs.Numbers.keeps_all}
 use Rattle.p3_multi_field.proofs.multi_field_challenger.MultiField32Challenger.absorb_words.Goals as goal
 
 pub invariant_of-self : goal.invariant_of-self

@@ -1,6 +1,5 @@
 use Rattle.std.proofs.Common.{Some, ap}
-use Rattle.p3_multi_field.proofs.Pairs.{pair_over}
-use Rattle.p3_multi_field.proofs.Calls.{drawn-are_answers, steps-are_calls}
+use Rattle.p3_multi_field.proofs.{Pairs.pair_over, Calls.{drawn-are_answers, steps-are_calls}}
 use Rattle.p3_multi_field.proofs.multi_field_challenger.MultiField32Challenger.draws_are_calls.Goals as goal
 
 pub returns-clause-element : goal.returns-clause-element

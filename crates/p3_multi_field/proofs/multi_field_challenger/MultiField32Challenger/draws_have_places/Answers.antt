@@ -1,11 +1,8 @@
 use Rattle.std.proofs.Common.{subst}
 use Rattle.p3_sponge.specs.SpongeStepLaws.{Fits}
-use Rattle.p3_multi_field.specs.MultiFieldCalls.{scalars_rule}
-use Rattle.p3_multi_field.specs.MultiFieldState.{MultiFieldState}
-use Rattle.p3_multi_field.proofs.Pairs.{pair_over}
-use Rattle.p3_multi_field.proofs.Calls.{scalars-places, digest-places}
-use Rattle.p3_multi_field.proofs.Numbers.{some_product}
+use Rattle.p3_multi_field.specs.{MultiFieldCalls.scalars_rule, MultiFieldState.MultiFieldState}
 use Rattle.p3_multi_field.proofs.MultiFieldSteps.{kept-fits}
+use Rattle.p3_multi_field.proofs.{Pairs.pair_over, Calls.{scalars-places, digest-places}, Numbers.some_product}
 use Rattle.p3_multi_field.proofs.multi_field_challenger.MultiField32Challenger.draws_have_places.Goals as goal
 
 pub returns : goal.returns

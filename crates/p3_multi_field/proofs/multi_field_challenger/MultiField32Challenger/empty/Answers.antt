@@ -1,7 +1,5 @@
-use Rattle.std.proofs.Common.{rules, ◌≡◌, ◌<◌, ◌≤◌, length, take, ap, ◌∙◌, arith}
-use Rattle.std.proofs.lemmas.List.{length-take-le}
-use Rattle.p3_multi_field.specs.MultiFieldState.{MultiFieldState}
-use Rattle.p3_multi_field.proofs.Pairs.{pair_over}
+use Rattle.std.proofs.{Common.{rules, ◌≡◌, ◌<◌, ◌≤◌, length, take, ap, ◌∙◌, arith}, lemmas.List.length-take-le}
+use Rattle.p3_multi_field.{specs.MultiFieldState.MultiFieldState, proofs.Pairs.pair_over}
 use Rattle.p3_multi_field.proofs.WordBlocks.{absorbed-some}
 use Rattle.p3_multi_field.proofs.multi_field_challenger.MultiField32Challenger.empty.Goals as goal
 

@@ -1,15 +1,11 @@
 use Rattle.std.proofs.Common.{subst, take}
 use Rattle.p3_challenger_core.specs.SegmentLaws.{run_calls-segments, run_calls-segments_to_digest, run_calls-same}
 use Rattle.p3_challenger_core.specs.SegmentLaws.{run_calls_to_digest-same}
-use Rattle.p3_sponge.specs.SpongeQueryLaws.{Agree, same_end}
-use Rattle.p3_sponge.specs.SpongeStepLaws.{Fits}
-use Rattle.p3_multi_field.specs.MultiFieldCalls.{scalars_rule, multi_field_by_calls}
-use Rattle.p3_multi_field.specs.MultiFieldSegments.{multi_field_by_segments}
-use Rattle.p3_multi_field.specs.MultiFieldState.{MultiFieldState}
-use Rattle.p3_multi_field.proofs.Pairs.{pair_over}
-use Rattle.p3_multi_field.proofs.Numbers.{some_product}
-use Rattle.p3_multi_field.proofs.MultiFieldSteps.{kept-fits, multi_field_steps}
+use Rattle.p3_multi_field.{specs.MultiFieldSegments.multi_field_by_segments, proofs.Pairs.pair_over}
 use Rattle.p3_multi_field.proofs.MultiFieldQueries.{same_call}
+use Rattle.p3_sponge.specs.{SpongeQueryLaws.{Agree, same_end}, SpongeStepLaws.Fits}
+use Rattle.p3_multi_field.specs.{MultiFieldCalls.{scalars_rule, multi_field_by_calls}, MultiFieldState.MultiFieldState}
+use Rattle.p3_multi_field.proofs.{Numbers.some_product, MultiFieldSteps.{kept-fits, multi_field_steps}}
 use Rattle.p3_multi_field.proofs.multi_field_challenger.MultiField32Challenger.follows_segments.Goals as goal
 
 -- a challenger keeps what the calls ask of its sponge

@@ -1,10 +1,7 @@
 use Rattle.std.proofs.Common.{rules, ◌≡◌, ◌<◌, ◌≤◌, ℕ, min, replicate, arith}
-use Rattle.p3_sponge.specs.SpongeCalls.{emptied}
-use Rattle.p3_sponge.specs.SpongeStepLaws.{emptied-fits}
-use Rattle.p3_multi_field.specs.MultiFieldCalls.{scalars_rule}
-use Rattle.p3_multi_field.proofs.Numbers.{keeps_none, some_product}
-use Rattle.p3_multi_field.proofs.Pairs.{pair_over}
-use Rattle.p3_multi_field.proofs.ReadBack.{reads_back}
+use Rattle.p3_sponge.specs.{SpongeCalls.emptied, SpongeStepLaws.emptied-fits}
+use Rattle.p3_multi_field.proofs.{Pairs.pair_over, ReadBack.reads_back}
+use Rattle.p3_multi_field.{specs.MultiFieldCalls.scalars_rule, proofs.Numbers.{keeps_none, some_product}}
 use Rattle.p3_multi_field.proofs.multi_field_challenger.MultiField32Challenger.new.Goals as goal
 
 least_counted : (product batch count : ℕ) → batch ≡ min product 18446744073709551615 → product ≡ count

@@ -1,9 +1,6 @@
-use Rattle.std.proofs.Common.{map, ◌∙◌}
-use Rattle.std.specs.List.{flat_map}
-use Rattle.p3_multi_field.specs.MultiFieldCalls.{scalar, digest}
+use Rattle.std.{proofs.Common.{map, ◌∙◌}, specs.List.flat_map}
+use Rattle.p3_multi_field.{specs.MultiFieldCalls.{scalar, digest}, proofs.Pairs.pair_over, proofs.Calls.fed-is_calls}
 use Rattle.p3_multi_field.specs.MultiFieldStateLaws.{scalars-fed, lists-fed, digests-fed}
-use Rattle.p3_multi_field.proofs.Pairs.{pair_over}
-use Rattle.p3_multi_field.proofs.Calls.{fed-is_calls}
 use Rattle.p3_multi_field.proofs.multi_field_challenger.MultiField32Challenger.observes_are_calls.Goals as goal
 
 pub returns-clause-array : goal.returns-clause-array

@@ -1,7 +1,5 @@
-use Rattle.std.proofs.Common.{◌≡◌, ◌++◌, ap, ◌∙◌, arith}
-use Rattle.std.proofs.lemmas.List.{take-append-drop}
-use Rattle.p3_multi_field.specs.MultiFieldState.{scalars_observed}
-use Rattle.p3_multi_field.specs.MultiFieldStateLaws.{scalars-append}
+use Rattle.std.proofs.{Common.{◌≡◌, ◌++◌, ap, ◌∙◌, arith}, lemmas.List.take-append-drop}
+use Rattle.p3_multi_field.specs.{MultiFieldState.scalars_observed, MultiFieldStateLaws.scalars-append}
 use Rattle.p3_multi_field.proofs.Pairs.{pair_over}
 use Rattle.p3_multi_field.proofs.multi_field_challenger.MultiField32Challenger.push_all.Goals as goal
 

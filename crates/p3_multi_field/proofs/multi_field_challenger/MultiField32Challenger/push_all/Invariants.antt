@@ -1,6 +1,5 @@
 use Rattle.std.proofs.Common.{◌≡◌, ◌<◌, [], length}
-use Rattle.p3_multi_field.specs.MultiFieldState.{scalars_observed}
-use Rattle.p3_multi_field.proofs.Pairs.{pair_over}
+use Rattle.p3_multi_field.{specs.MultiFieldState.scalars_observed, proofs.Pairs.pair_over}
 use Rattle.p3_multi_field.proofs.multi_field_challenger.MultiField32Challenger.push_all.Given as goal
 
 -- what is left to observe leads to the same end, and nothing is pending before it

@@ -1,10 +1,7 @@
 use Rattle.std.proofs.Common.{◌≡◌, ◌<◌, ◌-◌, ◌∷◌, length, take, drop, min, sym, ap, ◌∙◌, arith}
-use Rattle.std.proofs.lemmas.Bool.Decides.{nat_tests}
-use Rattle.std.proofs.lemmas.List.{length-drop, take_min, drop_min}
-use Rattle.p3_multi_field.specs.MultiFieldCalls.{words_absorbed, blocks}
-use Rattle.p3_multi_field.specs.MultiFieldState.{MultiFieldState}
-use Rattle.p3_multi_field.proofs.Pairs.{pair_over}
-use Rattle.p3_multi_field.proofs.WordBlocks.{blocks-some}
+use Rattle.p3_multi_field.proofs.{Pairs.pair_over, WordBlocks.blocks-some}
+use Rattle.std.proofs.lemmas.{Bool.Decides.nat_tests, List.{length-drop, take_min, drop_min}}
+use Rattle.p3_multi_field.specs.{MultiFieldCalls.{words_absorbed, blocks}, MultiFieldState.MultiFieldState}
 use Rattle.p3_multi_field.proofs.multi_field_challenger.MultiField32Challenger.push_digest.Goals as goal
 
 -- at least one word is absorbed

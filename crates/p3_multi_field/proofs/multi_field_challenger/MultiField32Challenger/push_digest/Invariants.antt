@@ -1,7 +1,6 @@
 use Rattle.std.proofs.Common.{◌≡◌, [], length}
-use Rattle.p3_multi_field.specs.MultiFieldCalls.{words_absorbed, blocks}
-use Rattle.p3_multi_field.specs.MultiFieldState.{digest_observed}
 use Rattle.p3_multi_field.proofs.Pairs.{pair_over}
+use Rattle.p3_multi_field.specs.{MultiFieldCalls.{words_absorbed, blocks}, MultiFieldState.digest_observed}
 use Rattle.p3_multi_field.proofs.multi_field_challenger.MultiField32Challenger.push_digest.Given as goal
 
 -- the blocks that are left lead to the same end, and nothing is pending before them

@@ -1,7 +1,6 @@
 use Rattle.std.proofs.Common.{◌≡◌, drop}
 use Rattle.p3_challenger_core.specs.Observation.{observed_all}
-use Rattle.p3_multi_field.specs.MultiFieldState.{scalars_observed}
-use Rattle.p3_multi_field.proofs.Pairs.{pair_over}
+use Rattle.p3_multi_field.{specs.MultiFieldState.scalars_observed, proofs.Pairs.pair_over}
 use Rattle.p3_multi_field.proofs.multi_field_challenger.MultiField32Challenger.push_lists.Given as goal
 
 -- what is left to observe leads to the same end

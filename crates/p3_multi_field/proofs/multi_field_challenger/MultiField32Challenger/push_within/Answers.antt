@@ -1,11 +1,9 @@
 use Rattle.std.proofs.Common.{rules, ◌≡◌, ◌<◌, ◌≤◌, ◌+◌, [], length, take, sym, ap, ◌∙◌, arith}
-use Rattle.std.proofs.lemmas.Bool.Decides.{nat_tests}
-use Rattle.std.proofs.lemmas.List.{length-take-le}
+use Rattle.std.proofs.lemmas.{Bool.Decides.nat_tests, List.length-take-le}
 use Rattle.p3_sponge.specs.SpongeCalls.{permutation_input}
-use Rattle.p3_multi_field.specs.MultiFieldCalls.{batch_of, row_of, scalars_rule}
 use Rattle.p3_multi_field.specs.MultiFieldState.{MultiFieldState, scalars_observed}
-use Rattle.p3_multi_field.proofs.Pairs.{pair_over}
 use Rattle.p3_multi_field.proofs.Batches.{observed-pending, observed-absorbed}
+use Rattle.p3_multi_field.{specs.MultiFieldCalls.{batch_of, row_of, scalars_rule}, proofs.Pairs.pair_over}
 use Rattle.p3_multi_field.proofs.multi_field_challenger.MultiField32Challenger.push_within.Goals as goal
 
 -- the scalars fill the rate, so all that is pending is absorbed
@@ -24,7 +22,7 @@ returns-then-end-batch_len-clause-fed g c =
     } in
     let within : inside.scalars ≤ length inside.pending = search rules in
     let long : length pending ≡ inside.scalars = length-take-le inside.scalars inside.pending within in
-    let now_pending = c.write_after.ensures in
+    let now_pending = c.write_after.ensures.front in
     let some : 0 < n = grind (arith, nat_tests, c.if-is_empty.ensures) in
     let full : length pending + n ≡ batch_of pair rate =
     omega (arith, long, c.if-end-batch_len.true, c.batch_len-batch_len.ensures) in
@@ -55,7 +53,7 @@ returns-else-end-batch_len-clause-fed g c =
     } in
     let within : inside.scalars ≤ length inside.pending = search rules in
     let long : length pending ≡ inside.scalars = length-take-le inside.scalars inside.pending within in
-    let now_pending = c.write_after.ensures in
+    let now_pending = c.write_after.ensures.front in
     let some : 0 < n = grind (arith, nat_tests, c.if-is_empty.ensures) in
     let fits : length pending + n ≤ batch_of pair rate =
     omega (

@@ -1,5 +1,4 @@
-use Rattle.p3_multi_field.proofs.Pairs.{pair_over}
-use Rattle.p3_multi_field.proofs.Calls.{fed-is_calls, steps-are_calls}
+use Rattle.p3_multi_field.proofs.{Pairs.pair_over, Calls.{fed-is_calls, steps-are_calls}}
 use Rattle.p3_multi_field.proofs.multi_field_challenger.MultiField32Challenger.symbols_are_calls.Goals as goal
 
 pub returns-clause-fed : goal.returns-clause-fed

@@ -1,5 +1,4 @@
-use Rattle.std.proofs.Common.{◌≡◌, ◌<◌, length, take, drop, min, ap, ◌∙◌, refl}
-use Rattle.std.proofs.lemmas.List.{take_min, drop_min}
+use Rattle.std.proofs.{Common.{◌≡◌, ◌<◌, length, take, drop, min, ap, ◌∙◌, refl}, lemmas.List.{take_min, drop_min}}
 use Rattle.p3_field_bridge.specs.Bridges.{packed}
 use Rattle.p3_multi_field.proofs.Packing.{has_packed-none, has_packed-next, has_packed-all}
 use Rattle.p3_multi_field.proofs.multi_field_challenger.packing.pack_all.Goals as goal

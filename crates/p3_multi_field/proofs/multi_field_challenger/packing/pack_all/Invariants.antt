@@ -1,6 +1,5 @@
 use Rattle.std.proofs.Common.{◌-◌, length, take}
-use Rattle.p3_multi_field.proofs.Packing.{HasPacked}
-use Rattle.p3_multi_field.proofs.Pairs.{pair_over}
+use Rattle.p3_multi_field.proofs.{Packing.HasPacked, Pairs.pair_over}
 use Rattle.p3_multi_field.proofs.multi_field_challenger.packing.pack_all.Given as goal
 
 -- the cells so far are packed

@@ -1,9 +1,6 @@
-use Rattle.std.proofs.Common.{◌≡◌, ◌++◌, drop, take, length, ap, ◌∙◌, arith}
-use Rattle.std.proofs.lemmas.List.{length-take-le}
-use Rattle.p3_sponge.specs.Cells.{counted_over}
-use Rattle.p3_sponge.specs.CellsLaws.{counted_over-front}
-use Rattle.p3_multi_field.specs.MultiFieldCalls.{packed_cells}
-use Rattle.p3_multi_field.proofs.Packing.{length-packed_cells}
+use Rattle.std.proofs.{Common.{◌≡◌, ◌++◌, drop, take, length, ap, ◌∙◌, arith}, lemmas.List.length-take-le}
+use Rattle.p3_sponge.specs.{Cells.counted_over, CellsLaws.counted_over-front}
+use Rattle.p3_multi_field.{specs.MultiFieldCalls.packed_cells, proofs.Packing.length-packed_cells}
 use Rattle.p3_multi_field.proofs.Pairs.{pair_over}
 use Rattle.p3_multi_field.proofs.multi_field_challenger.packing.pack_over.Goals as goal
 

@@ -1,7 +1,5 @@
-use Rattle.std.proofs.Common.{ap}
-use Rattle.std.specs.Option.{option_map}
-use Rattle.p3_serializing.specs.SerializingState.{element_drawn}
-use Rattle.p3_serializing.proofs.Calls.{ones-drawn, after_ones}
+use Rattle.std.{proofs.Common.ap, specs.Option.option_map}
+use Rattle.p3_serializing.{specs.SerializingState.element_drawn, proofs.Calls.{ones-drawn, after_ones}}
 use Rattle.p3_serializing.proofs.challenger.SerializingChallenger.draws_are_calls.Goals as goal
 
 pub returns-clause-element : goal.returns-clause-element

@@ -1,7 +1,6 @@
 use Rattle.std.proofs.Common.{List, subst, rules}
-use Rattle.p3_challenger_core.specs.CallLaws.{goes_on-refused}
-use Rattle.p3_challenger_core.specs.Observation.{RefusesObserve, observed_as, in_row}
 use Rattle.p3_serializing.specs.SerializingState.{state_of, element_observed}
+use Rattle.p3_challenger_core.specs.{CallLaws.goes_on-refused, Observation.{RefusesObserve, in_row}}
 use Rattle.p3_serializing.proofs.challenger.SerializingChallenger.feed_element_lists.Goals as goal
 
 -- the lists before the refused one are observed
@@ -10,12 +9,11 @@ returns-in_err-feed_elements-clause-err g c =
     let inner = g.Inner.CanObserve in
     let of_part = in_row (element_observed inner.observation inner.slice_may_leave
     g.F.PrimeCharacteristicRing.residues g.row.BYTES) in
-    let o = observed_as g.Part.AsSlice.items of_part in
+    let e = c.in_err-feed_elements.field-0.0 in
     let state = state_of g.Inner.Sponge.state in
-    let refused = subst (λ (xs : List _). RefusesObserve (of_part.may_leave (state c.loop-i.self) xs)
-    c.in_err-feed_elements.field-0.0 (state c.feed_elements.new.self)) c.as_slice.ensures
-    c.in_err-feed_elements.ensures.err in
-    let left = goes_on-refused o.observed o.may_leave (state c.args.self.now) c.args.lists.now
-    (state c.loop-i.self) c.loop-i.i c.index-lists-i.result c.loop-i-test.true c.index-lists-i.is
-    c.loop-i.invariant c.in_err-feed_elements.field-0.0 (state c.feed_elements.new.self) refused in
+    let there = state c.feed_elements.new.self in
+    let refused = subst (λ (xs : List _). RefusesObserve (of_part.may_leave (state c.loop-i.self) xs) e there)
+    c.as_slice.ensures c.in_err-feed_elements.ensures.err in
+    let left = goes_on-refused _ _ _ _ _ c.loop-i.i _ c.loop-i-test.true c.index-lists-i.is c.loop-i.invariant e there
+    refused in
     search (rules, left)

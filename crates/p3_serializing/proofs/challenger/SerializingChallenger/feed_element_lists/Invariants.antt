@@ -1,7 +1,6 @@
 use Rattle.std.proofs.Common.{drop}
-use Rattle.p3_challenger_core.specs.CallLaws.{GoesOn}
-use Rattle.p3_challenger_core.specs.Observation.{observed_as, in_row}
 use Rattle.p3_serializing.specs.SerializingState.{state_of, element_observed}
+use Rattle.p3_challenger_core.specs.{CallLaws.GoesOn, Observation.{observed_as, in_row}}
 use Rattle.p3_serializing.proofs.challenger.SerializingChallenger.feed_element_lists.Given as goal
 
 abbrev pub invariant-loop-i : goal.invariant-loop-i

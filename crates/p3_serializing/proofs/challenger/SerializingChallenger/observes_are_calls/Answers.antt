@@ -1,6 +1,5 @@
 use Rattle.p3_symmetric.specs.HashValues.{values_of}
-use Rattle.p3_serializing.specs.Bytes.{bytes_of}
-use Rattle.p3_serializing.proofs.Calls.{row-bytes, rows-bytes}
+use Rattle.p3_serializing.{specs.Bytes.bytes_of, proofs.Calls.{row-bytes, rows-bytes}}
 use Rattle.p3_serializing.proofs.challenger.SerializingChallenger.observes_are_calls.Goals as goal
 
 pub returns-clause-array : goal.returns-clause-array

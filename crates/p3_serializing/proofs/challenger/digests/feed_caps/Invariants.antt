@@ -1,6 +1,5 @@
 use Rattle.std.proofs.Common.{drop}
-use Rattle.p3_challenger_core.specs.CallLaws.{GoesOn}
-use Rattle.p3_challenger_core.specs.Observation.{observed_as}
+use Rattle.p3_challenger_core.specs.{CallLaws.GoesOn, Observation.observed_as}
 use Rattle.p3_serializing.specs.SerializingState.{each_as}
 use Rattle.p3_serializing.proofs.challenger.digests.feed_caps.Given as goal
 

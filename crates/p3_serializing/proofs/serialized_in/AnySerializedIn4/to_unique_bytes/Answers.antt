@@ -1,6 +1,5 @@
 use Rattle.std.proofs.Common.{◌∙◌, ap}
-use Rattle.p3_serializing.specs.Bytes.{bytes_of}
-use Rattle.p3_serializing.specs.BytesLaws.{bytes_of_4}
+use Rattle.p3_serializing.specs.{Bytes.bytes_of, BytesLaws.bytes_of_4}
 use Rattle.p3_serializing.proofs.serialized_in.AnySerializedIn4.to_unique_bytes.Goals as goal
 
 pub returns : goal.returns

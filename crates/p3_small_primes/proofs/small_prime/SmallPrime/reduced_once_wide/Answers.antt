@@ -1,9 +1,7 @@
-use Rattle.std.proofs.Common.{◌≡◌, ◌-◌, ◌%◌, ◌∙◌, sym, ap, arith}
-use Rattle.std.proofs.Math.Nat.{mod-eq_of_lt}
-use Rattle.p3_small_primes.proofs.Subtractions.{less_order}
-use Rattle.p3_small_primes.specs.SmallPrimeLaws.{number-injective}
-use Rattle.p3_small_primes.proofs.small_prime.SmallPrime.reduced_once_wide.Goals as goal
+use Rattle.std.proofs.{Common.{◌≡◌, ◌-◌, ◌%◌, ◌∙◌, sym, ap, arith}, Math.Nat.mod-eq_of_lt}
+use Rattle.p3_small_primes.{proofs.Subtractions.less_order, specs.SmallPrimeLaws.number-injective}
 use Rattle.p3_small_primes.proofs.small_prime.SmallPrime.reduced_once_wide.Goals.{then-value-order, else-value-order}
+use Rattle.p3_small_primes.proofs.small_prime.SmallPrime.reduced_once_wide.Goals as goal
 
 pub returns : goal.returns
 returns g c =

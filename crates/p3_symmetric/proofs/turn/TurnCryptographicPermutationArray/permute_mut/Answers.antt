@@ -1,5 +1,4 @@
-use Rattle.std.proofs.Common.{arith}
-use Rattle.std.proofs.lemmas.List.FromFn.{fill_by_all}
+use Rattle.std.proofs.{Common.arith, lemmas.List.FromFn.fill_by_all}
 use Rattle.p3_symmetric.specs.Turn.{turned_cell}
 use Rattle.p3_symmetric.proofs.turn.TurnCryptographicPermutationArray.permute_mut.Goals as goal
 

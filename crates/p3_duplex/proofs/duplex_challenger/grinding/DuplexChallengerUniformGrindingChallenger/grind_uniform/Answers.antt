@@ -1,11 +1,7 @@
-use Rattle.std.proofs.Common.{[], ◌∷◌, true}
-use Rattle.std.proofs.lemmas.Result.{IfErr-weaker}
+use Rattle.std.proofs.{Common.{[], ◌∷◌, true}, lemmas.Result.IfErr-weaker}
 use Rattle.p3_challenger_core.specs.Observation.{unrefused_observe}
-use Rattle.p3_grinding.specs.Checks.{check_of, draws_nothing, zero_and_uniform}
-use Rattle.p3_grinding.specs.CheckLaws.{search-takes_no_memory}
-use Rattle.p3_duplex.specs.DuplexState.{observed}
-use Rattle.p3_duplex.specs.DuplexUniform.{uniform_bits}
-use Rattle.p3_duplex.specs.DuplexUniformLaws.{check-takes_no_memory}
+use Rattle.p3_duplex.specs.{DuplexState.observed, DuplexUniform.uniform_bits, DuplexUniformLaws.check-takes_no_memory}
+use Rattle.p3_grinding.specs.{Checks.{check_of, draws_nothing, zero_and_uniform}, CheckLaws.search-takes_no_memory}
 use Rattle.p3_duplex.proofs.duplex_challenger.grinding.DuplexChallengerUniformGrindingChallenger.grind_uniform.Goals as goal
 
 pub returns-clause-err : goal.returns-clause-err

@@ -1,7 +1,6 @@
 use Rattle.std.proofs.Common.{◌≡◌, ◌<◌, ◌%◌, ◌^◌, Some, arith, ap}
-use Rattle.p3_multi_field.specs.MultiFieldState.{sampled}
+use Rattle.p3_multi_field.{specs.MultiFieldState.sampled, proofs.Pairs.pair_over}
 use Rattle.p3_challenger_core.specs.BitLaws.{greatest-le, shifted, shifted-positive}
-use Rattle.p3_multi_field.proofs.Pairs.{pair_over}
 use Rattle.p3_multi_field.proofs.multi_field_challenger.bits.MultiField32ChallengerCanSampleBitsUsize.sample_bits.Goals as goal
 
 pub overflow_shl-result : goal.overflow_shl-result

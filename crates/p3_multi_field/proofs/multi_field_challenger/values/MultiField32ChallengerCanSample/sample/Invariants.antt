@@ -1,7 +1,6 @@
 use Rattle.std.proofs.Common.{◌-◌, take}
 use Rattle.p3_sponge.specs.DrawingLaws.{HasDrawn}
-use Rattle.p3_multi_field.specs.MultiFieldState.{sampled, after_sampled}
-use Rattle.p3_multi_field.proofs.Pairs.{pair_over}
+use Rattle.p3_multi_field.{specs.MultiFieldState.{sampled, after_sampled}, proofs.Pairs.pair_over}
 use Rattle.p3_multi_field.proofs.multi_field_challenger.values.MultiField32ChallengerCanSample.sample.Given as goal
 
 -- the coefficients so far are drawn

@@ -1,9 +1,6 @@
-use Rattle.std.proofs.Common.{◌≡◌, ◌∙◌, List, get_or, subst, rules}
-use Rattle.std.proofs.lemmas.List.{get_or_default}
-use Rattle.p3_challenger_core.specs.CallLaws.{goes_on-next, goes_on-refused}
-use Rattle.p3_challenger_core.specs.Observation.{RefusesObserve}
-use Rattle.p3_serializing.specs.BytesLaws.{bytes_of_8}
-use Rattle.p3_serializing.specs.SerializingState.{state_of, bytes_observed, number_observed}
+use Rattle.std.proofs.{Common.{◌≡◌, ◌∙◌, List, get_or, subst, rules}, lemmas.List.get_or_default}
+use Rattle.p3_challenger_core.specs.{CallLaws.{goes_on-next, goes_on-refused}, Observation.RefusesObserve}
+use Rattle.p3_serializing.specs.{BytesLaws.bytes_of_8, SerializingState.{state_of, bytes_observed, number_observed}}
 use Rattle.p3_serializing.proofs.challenger.digests.U64DigestPartSerializingChallenger.feed_parts.Goals as goal
 
 pub loop-i-preserved : goal.loop-i-preserved

@@ -1,9 +1,7 @@
 use Rattle.std.proofs.Common.{◌≡◌, ◌+◌, ◌-◌, ◌<◌, ◌≤◌, Some, [], ◌∷◌, ◌++◌, length, take, ap, ◌∙◌, arith, rules}
-use Rattle.std.proofs.lemmas.List.{take_more_set, take_all}
-use Rattle.std.specs.Option.{option_map}
 use Rattle.p3_challenger_core.specs.DrawLaws.{drew-as, drew-one_more, drew-values, drew-state, drew-stops}
-use Rattle.p3_serializing.specs.SerializingState.{state_of, element_drawn}
-use Rattle.p3_serializing.specs.SerializingStateLaws.{refused-space_element}
+use Rattle.std.{proofs.lemmas.List.{take_more_set, take_all}, specs.Option.option_map}
+use Rattle.p3_serializing.specs.{SerializingState.{state_of, element_drawn}, SerializingStateLaws.refused-space_element}
 use Rattle.p3_serializing.proofs.challenger.draws.SerializingChallengerCanSample.sample.Goals as goal
 
 -- the coefficients before the refused one are drawn
@@ -66,10 +64,6 @@ returns-clause-drawn g c =
 
 pub returns-clause-after : goal.returns-clause-after
 returns-clause-after g c =
-    let d = element_drawn g.Inner.CanSample.sampling g.row.BYTES g.F.PrimeCharacteristicRing.residues in
-    let state = state_of g.Inner.Sponge.state in
-    let space = g.A.BasedVectorSpace in
-    let i = c.loop-i.i in
-    let all : space.DIMENSION ≤ i = omega (arith, c.loop-i-test.false, c.DIMENSION-i-end.ensures) in
-    drew-state d space.DIMENSION (state c.args.self.now) (take i (space.coefficients c.loop-i.element)) i
-    (state c.loop-i.self) all c.loop-i.invariant
+    let all : g.A.BasedVectorSpace.DIMENSION ≤ c.loop-i.i =
+    omega (arith, c.loop-i-test.false, c.DIMENSION-i-end.ensures) in
+    drew-state _ _ _ _ c.loop-i.i _ all c.loop-i.invariant

@@ -1,7 +1,6 @@
 use Rattle.std.proofs.Common.{◌≡◌, ◌<◌, ◌-◌, ◌*◌, ◌%◌, ◌^◌, Some, sym, ap, ◌∙◌, arith}
 use Rattle.p3_challenger_core.specs.BitLaws.{greatest-le, shifted, shifted-positive}
-use Rattle.p3_serializing.specs.SerializingState.{group}
-use Rattle.p3_serializing.proofs.Masks.{masked-drawn}
+use Rattle.p3_serializing.{specs.SerializingState.group, proofs.Masks.masked-drawn}
 use Rattle.p3_serializing.proofs.challenger.draws.SerializingChallengerCanSampleBitsUsize.sample_bits.Goals as goal
 
 pub overflow_shl-result : goal.overflow_shl-result

@@ -1,6 +1,5 @@
 use Rattle.std.proofs.lemmas.Result.{IfErr-weaker}
-use Rattle.p3_serializing.specs.SerializingState.{state_of}
-use Rattle.p3_serializing.specs.SerializingGrindingLaws.{refused-search}
+use Rattle.p3_serializing.specs.{SerializingState.state_of, SerializingGrindingLaws.refused-search}
 use Rattle.p3_serializing.proofs.challenger.grinding.SerializingChallengerGrindingChallenger.grind.Goals as goal
 
 pub returns-clause-err : goal.returns-clause-err

@@ -1,12 +1,10 @@
 -- Sums and differences modulo an order, of each two lanes: a comparison and a choice.
-use Rattle.std.proofs.Common.{◌≡◌, ℕ, zero, suc, ◌+◌, ◌-◌, ◌%◌, ◌^◌, ◌<◌, ◌≤◌, ◌∙◌, List, [], ◌∷◌, length, replicate, Bool, true, false, cond, map, nat_lt, refl, sym, ap, inl, inr, arith}
-use Rattle.std.proofs.Math.Nat.{mod-eq_of_lt, mod-eq-sub-mod}
+use Rattle.std.proofs.Common.{◌≡◌, ℕ, zero, suc, ◌+◌, ◌-◌, ◌%◌, ◌^◌, ◌<◌, ◌≤◌, ◌∙◌, List, [], ◌∷◌, length, replicate, cond, map, nat_lt, refl, sym, ap, inl, inr, arith}
+use Rattle.std.{proofs.Math.Nat.{mod-eq_of_lt, mod-eq-sub-mod}, specs.Prelude.slice_index}
 use Rattle.std.proofs.lemmas.Bool.{cases_lt, lt-ltb, le-ltb, cond-true, cond-false}
-use Rattle.std.specs.Prelude.{slice_index}
 use Rattle.std.specs.Simd.Lanes.{zip2, Each1, sel_l, top}
 use Rattle.std.proofs.lemmas.Simd.{tops_compared, Each1-from_get_or, get_or-zip2}
-use mir.Syntax.{Width}
-use mir.Val.{bits, hbits}
+use mir.{Syntax.Width, Val.{bits, hbits}}
 
 -- a sum, and a difference, as lanes below `m` have it
 abbrev pub wrapped_sum : ℕ → ℕ → ℕ → ℕ
@@ -18,9 +16,9 @@ wrapped_difference m a b = (a + (m - b)) % m
 -- a difference that is no less than 0 does not wrap
 no_wrap : (m a b : ℕ) → b ≤ a → a < m → wrapped_difference m a b ≡ a - b
 no_wrap m a b le fits =
-    let more : m ≤ a + (m - b) = omega (arith, le, fits) in
-    let left : a + (m - b) - m ≡ a - b = omega (arith, le, fits) in
-    mod-eq-sub-mod more ∙ ap (λ n. n % m) left ∙ mod-eq_of_lt (omega (arith, fits))
+    let more : m ≤ a + (m - b) = omega arith in
+    let left : a + (m - b) - m ≡ a - b = omega arith in
+    mod-eq-sub-mod more ∙ ap (λ n. n % m) left ∙ mod-eq_of_lt (omega arith)
 
 -- of a number from an order on and below twice the order, what is left
 less_order : (n order : ℕ) → order ≤ n → n < order + order → n % order ≡ n - order
@@ -35,28 +33,23 @@ module _ (m order : ℕ) (within : order < m) where
 
   one_sum : (a b : ℕ) → a < order → b < order → chosen_sum a b ≡ (a + b) % order
   one_sum a b a_below b_below =
-      let room : wrapped_difference m order b ≡ order - b = no_wrap m order b (omega (arith, b_below)) within in
-      let at_room : chosen_sum a b ≡ cond (nat_lt a (order - b)) (wrapped_sum m a b) (wrapped_difference m a (order - b)) =
-      ap (λ r. cond (nat_lt a r) (wrapped_sum m a b) (wrapped_difference m a r)) room in
-      at_room ∙ elim (cases_lt a (order - b)) [
+      ap (λ r. cond (nat_lt a r) (wrapped_sum m a b) (wrapped_difference m a r))
+      (no_wrap m order b (omega arith) within)
+      ∙ elim (cases_lt a (order - b)) [
         | inl lt ↦ cond-true _ _ _ (lt-ltb a (order - b) lt)
-            ∙ mod-eq_of_lt (omega (arith, lt, within)) ∙ sym (mod-eq_of_lt (omega (arith, lt)))
-        | inr le ↦ cond-false _ _ _ (le-ltb a (order - b) le)
-            ∙ no_wrap m a (order - b) le (omega (arith, a_below, within))
-            ∙ omega (arith, le, b_below, less_order (a + b) order (omega (arith, le)) (omega (arith, a_below, b_below)))
+            ∙ mod-eq_of_lt (omega arith) ∙ sym (mod-eq_of_lt (omega arith))
+        | inr le ↦ cond-false _ _ _ (le-ltb a (order - b) le) ∙ no_wrap m a (order - b) le (omega arith)
+            ∙ omega (arith, less_order (a + b) order (omega arith) (omega arith))
       ]
 
   one_difference : (a b : ℕ) → a < order → b < order → chosen_difference a b ≡ (a + (order - b)) % order
   one_difference a b a_below b_below =
-      let room : wrapped_difference m order b ≡ order - b = no_wrap m order b (omega (arith, b_below)) within in
-      let at_room : chosen_difference a b ≡ cond (nat_lt a b) (wrapped_sum m a (order - b)) (wrapped_difference m a b) =
-      ap (λ r. cond (nat_lt a b) (wrapped_sum m a r) (wrapped_difference m a b)) room in
-      at_room ∙ elim (cases_lt a b) [
-        | inl lt ↦ cond-true _ _ _ (lt-ltb a b lt)
-            ∙ mod-eq_of_lt (omega (arith, lt, b_below, within)) ∙ sym (mod-eq_of_lt (omega (arith, lt, b_below)))
-        | inr le ↦ cond-false _ _ _ (le-ltb a b le)
-            ∙ no_wrap m a b le (omega (arith, a_below, within))
-            ∙ omega (arith, le, b_below, less_order (a + (order - b)) order (omega (arith, le, b_below)) (omega (arith, a_below, b_below, le)))
+      ap (λ r. cond (nat_lt a b) (wrapped_sum m a r) (wrapped_difference m a b))
+      (no_wrap m order b (omega arith) within)
+      ∙ elim (cases_lt a b) [
+        | inl lt ↦ cond-true _ _ _ (lt-ltb a b lt) ∙ mod-eq_of_lt (omega arith) ∙ sym (mod-eq_of_lt (omega arith))
+        | inr le ↦ cond-false _ _ _ (le-ltb a b le) ∙ no_wrap m a b le (omega arith)
+            ∙ omega (arith, less_order (a + (order - b)) order (omega arith) (omega arith))
       ]
 
   abbrev Below : List ℕ → Type 0
@@ -68,10 +61,10 @@ module _ (m order : ℕ) (within : order < m) where
       ≡ zip2 (λ a b. (a + b) % order) xs ys
   choices_sum n [] ys xb yb long = refl
   choices_sum zero (x ∷ xs) [] xb yb long = refl
-  choices_sum (suc n) (x ∷ xs) [] xb yb long = absurd (omega (arith, long))
-  choices_sum zero (x ∷ xs) (y ∷ ys) xb yb long = absurd (omega (arith, long))
+  choices_sum (suc n) (x ∷ xs) [] xb yb long = absurd (omega arith)
+  choices_sum zero (x ∷ xs) (y ∷ ys) xb yb long = absurd (omega arith)
   choices_sum (suc n) (x ∷ xs) (y ∷ ys) xb yb long =
-      λ i. one_sum x y xb.0 yb.0 i ∷ choices_sum n xs ys xb.1 yb.1 (omega (arith, long)) i
+      λ i. one_sum x y xb.0 yb.0 i ∷ choices_sum n xs ys xb.1 yb.1 (omega arith) i
 
   choices_difference : (n : ℕ) (xs ys : List ℕ) → Below xs → Below ys → length ys ≡ n
       → let room = zip2 (wrapped_difference m) (replicate n order) ys in
@@ -79,10 +72,10 @@ module _ (m order : ℕ) (within : order < m) where
       ≡ zip2 (λ a b. (a + (order - b)) % order) xs ys
   choices_difference n [] ys xb yb long = refl
   choices_difference zero (x ∷ xs) [] xb yb long = refl
-  choices_difference (suc n) (x ∷ xs) [] xb yb long = absurd (omega (arith, long))
-  choices_difference zero (x ∷ xs) (y ∷ ys) xb yb long = absurd (omega (arith, long))
+  choices_difference (suc n) (x ∷ xs) [] xb yb long = absurd (omega arith)
+  choices_difference zero (x ∷ xs) (y ∷ ys) xb yb long = absurd (omega arith)
   choices_difference (suc n) (x ∷ xs) (y ∷ ys) xb yb long =
-      λ i. one_difference x y xb.0 yb.0 i ∷ choices_difference n xs ys xb.1 yb.1 (omega (arith, long)) i
+      λ i. one_difference x y xb.0 yb.0 i ∷ choices_difference n xs ys xb.1 yb.1 (omega arith) i
 
 -- the comparison of lanes, as a mask
 abbrev pub compared : Width → ℕ → ℕ → ℕ
