@@ -1,16 +1,12 @@
 -- Coefficients that are read, and encoded, one after another.
 use Rattle.std.proofs.Common.{◌≡◌, ℕ, suc, ◌<◌, ◌≤◌, ◌+◌, ◌-◌, ◌*◌, List, [], ◌∷◌, ◌++◌, length, take, drop, min}
 use Rattle.std.proofs.Common.{get_or, Result, Ok, Err, refl, sym, ap, ◌∙◌, append_assoc, append-nil, add-one, subst}
-use Rattle.std.proofs.Common.{arith}
-use Rattle.std.specs.List.{flat_map}
-use Rattle.std.proofs.Math.Seq.{take-append-add, drop-cons}
-use Rattle.std.proofs.lemmas.Grind.{flat_map-append}
+use Rattle.std.{proofs.Common.arith, specs.List.flat_map, proofs.Math.Seq.{take-append-add, drop-cons}}
+use Rattle.std.proofs.lemmas.{Grind.flat_map-append, List.{take_all, length-drop}}
 use Rattle.std.proofs.lemmas.List.{take-append-le, take_min, take_more, drop-drop, flat_map_more, take-append-drop}
-use Rattle.std.proofs.lemmas.List.{take_all, length-drop}
-use Rattle.p3_fs_core.specs.Errors.{Decodes}
-use Rattle.p3_fs_core.specs.declared.error.TranscriptError.{TranscriptError}
-use Rattle.p3_codecs.specs.Extension.{and_then, read_all, read_coefficients}
+use Rattle.p3_fs_core.specs.{Errors.Decodes, declared.error.TranscriptError.TranscriptError}
 use Rattle.p3_fs_core.specs.DecodingLaws.{decoded-ok, decoded-err}
+use Rattle.p3_codecs.specs.Extension.{and_then, read_all, read_coefficients}
 
 -- coefficients in front of those that are read after them
 abbrev pub after_read : {F : Type 0} → List F → Result (List F × List ℕ) (List ℕ) → Result (List F × List ℕ) (List ℕ)

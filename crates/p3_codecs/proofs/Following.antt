@@ -1,12 +1,9 @@
 -- A number with a byte more, in a field.
 use Rattle.std.proofs.Common.{◌≡◌, ℕ, ◌<◌, ◌+◌, ◌*◌, ◌%◌, List, [], ◌∷◌, length, drop, get_or, sym, ap, ◌∙◌, add-one}
-use Rattle.std.proofs.Common.{arith}
-use Rattle.std.proofs.Math.Seq.{drop-cons}
-use Rattle.p3_fs_core.specs.BigEndian.{big_endian_after}
-use Rattle.std.proofs.lemmas.Nat.{mul-mod_second}
+use Rattle.std.proofs.{Common.arith, Math.Seq.drop-cons, lemmas.Nat.mul-mod_second}
 use Rattle.std.proofs.Math.Nat.{add-mod, mod-lt, mod-eq_of_lt}
-use Rattle.p3_field_core.specs.Residues.{Residues, IsResidues, sum_of, product_of}
-use Rattle.p3_field_core.specs.ResidueLaws.{of-same}
+use Rattle.p3_fs_core.specs.BigEndian.{big_endian_after}
+use Rattle.p3_field_core.specs.{Residues.{Residues, IsResidues, sum_of, product_of}, ResidueLaws.of-same}
 
 turned : (n : ℕ) → n * 256 ≡ 256 * n
 turned n = omega arith

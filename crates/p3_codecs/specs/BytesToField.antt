@@ -2,11 +2,9 @@
 -- from more bytes than a encoding has.
 use Rattle.std.specs.Prelude.{ℕ, ◌+◌, List}
 use Rattle.p3_field_core.specs.Residues.{Residues}
-use Rattle.p3_challenger_core.specs.Observation.{Observation, in_slice, observed_as}
+use Rattle.p3_challenger_core.specs.{Observation.{Observation, in_slice, observed_as}, Sampling.{Sampling, made_of}}
+use Rattle.p3_fs_core.specs.{BigEndian.{big_endian, bytes_for}, Scalar.wire}
 use Rattle.p3_challenger_core.specs.Sampling as sampling
-use Rattle.p3_challenger_core.specs.Sampling.{Sampling, made_of}
-use Rattle.p3_fs_core.specs.BigEndian.{big_endian, bytes_for}
-use Rattle.p3_fs_core.specs.Scalar.{wire}
 
 -- how many bytes an element is drawn from: as many as a encoding has, and 128 bits more
 abbrev pub draw_bytes : ℕ → ℕ

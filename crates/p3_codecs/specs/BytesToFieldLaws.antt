@@ -1,13 +1,9 @@
 -- Laws of an element through a challenger of bytes.
-use Rattle.std.proofs.Common.{ℕ, ◌<◌, ◌≤◌, ◌^◌, List, [], ◌∷◌, ◌++◌, length, sym, ap, ◌∙◌, arith}
-use Rattle.std.specs.List.{flat_map}
+use Rattle.std.{proofs.Common.{ℕ, ◌<◌, ◌≤◌, ◌^◌, List, [], ◌∷◌, ◌++◌, length, sym, ap, ◌∙◌, arith}, specs.List.flat_map}
 use Rattle.p3_field_core.specs.Residues.{Residues, IsResidues}
-use Rattle.p3_challenger_core.specs.Sponge.{IsNonEmpty}
-use Rattle.p3_challenger_core.specs.Reading.{IsPrefixCode, IsPrefixCodeOn, IsPrefixFree, IsByte}
+use Rattle.p3_challenger_core.specs.{Sponge.IsNonEmpty, Reading.{IsPrefixCode, IsPrefixCodeOn, IsPrefixFree, IsByte}}
 use Rattle.p3_challenger_core.specs.SymbolLaws.{byte-feeds, bytes-feed, bytes-prefix_code}
-use Rattle.p3_fs_core.specs.BigEndian.{bytes_for}
-use Rattle.p3_fs_core.specs.BigEndianLaws.{AreBytes-in_bytes}
-use Rattle.p3_fs_core.specs.Scalar.{wire}
+use Rattle.p3_fs_core.specs.{BigEndian.bytes_for, BigEndianLaws.AreBytes-in_bytes, Scalar.wire}
 use Rattle.p3_fs_core.specs.ScalarLaws.{length-wire, wire-prefix_code, order-fits, width-positive}
 
 -- the symbols of elements are a prefix code

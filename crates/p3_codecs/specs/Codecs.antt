@@ -1,7 +1,6 @@
 -- What every codec owes.
 use Rattle.std.specs.Prelude.{List}
-use Rattle.p3_challenger_core.specs.Observation.{Observation, IsObservation}
-use Rattle.p3_challenger_core.specs.Sampling.{Sampling, IsSampling}
+use Rattle.p3_challenger_core.specs.{Observation.{Observation, IsObservation}, Sampling.{Sampling, IsSampling}}
 use Rattle.p3_fs_core.specs.Encoding.{Encoding, IsEncoding}
 
 -- Values are encoded, as a prefix code. What is observed is what is fed, and a refused value has fed a front of

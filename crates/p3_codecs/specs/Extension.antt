@@ -1,11 +1,10 @@
 -- An element of a vector space, coefficient by coefficient in the order of the basis.
 use Rattle.std.specs.Prelude.{ℕ, zero, suc, ◌*◌, List, [], ◌∷◌, length, codes, nat_lt, flat_map, Result, Ok, Err}
 use Rattle.std.specs.Prelude.{if◌then◌else◌}
-use Rattle.p3_challenger_core.specs.Observation as observation
-use Rattle.p3_challenger_core.specs.Observation.{Observation, observed_as}
-use Rattle.p3_challenger_core.specs.Sampling as sampling
-use Rattle.p3_challenger_core.specs.Sampling.{Sampling, made_of}
+use Rattle.p3_challenger_core.specs.{Observation.{Observation, observed_as}, Sampling.{Sampling, made_of}}
 use Rattle.p3_fs_core.specs.Encoding.{Encoding}
+use Rattle.p3_challenger_core.specs.Observation as observation
+use Rattle.p3_challenger_core.specs.Sampling as sampling
 
 -- why bytes begin with no element
 abbrev pub not_enough_bytes : List ℕ

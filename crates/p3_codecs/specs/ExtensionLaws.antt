@@ -1,15 +1,11 @@
 -- Laws of an element coefficient by coefficient.
 use Rattle.std.proofs.Common.{◌≡◌, ℕ, zero, suc, ◌<◌, ◌≤◌, ◌+◌, ◌*◌, List, [], ◌∷◌, ◌++◌, length, nat_lt, if◌then◌else◌}
 use Rattle.std.proofs.Common.{Result, Ok, Err, refl, sym, ap, ◌∙◌, append_assoc, subst, drop, arith}
-use Rattle.std.specs.List.{flat_map}
-use Rattle.std.proofs.Math.Nat.{zero-mul}
-use Rattle.std.proofs.lemmas.List.{length-append}
-use Rattle.p3_challenger_core.specs.Sponge.{IsNonEmpty}
-use Rattle.p3_fs_core.specs.Encoding.{Encoding, IsEncoding}
-use Rattle.p3_challenger_core.specs.Reading.{IsPrefixCode, IsPrefixFree, AreBytes}
-use Rattle.p3_fs_core.specs.BigEndianLaws.{AreBytes-drop, drop-front}
-use Rattle.p3_fs_core.specs.ScalarLaws.{chosen, not_below, read-prefix_code}
+use Rattle.std.{specs.List.flat_map, proofs.Math.Nat.zero-mul, proofs.lemmas.List.length-append}
+use Rattle.p3_challenger_core.specs.{Sponge.IsNonEmpty, Reading.{IsPrefixCode, IsPrefixFree, AreBytes}}
 use Rattle.p3_challenger_core.specs.SymbolLaws.{row-feeds, row-prefix_code}
+use Rattle.p3_fs_core.specs.{Encoding.{Encoding, IsEncoding}, BigEndianLaws.{AreBytes-drop, drop-front}}
+use Rattle.p3_fs_core.specs.ScalarLaws.{chosen, not_below, read-prefix_code}
 use Rattle.p3_codecs.specs.Extension.{and_then, read_all, read, encoding, not_enough_bytes}
 
 -- what is read after a value that is read

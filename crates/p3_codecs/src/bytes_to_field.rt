@@ -30,14 +30,10 @@ pub const EXTRA_BYTES: usize = 16;
 const MOST_BYTES: usize = 24;
 
 impl<F: PrimeField64, C: CanObserve<u8> + CanSample<u8>> Codec<C, F> for BytesToFieldCodec<F> {
-    ghost use Rattle.p3_challenger_core.specs.Observation.{in_slice};
+    ghost use Rattle.p3_challenger_core.specs.{Observation.in_slice, Sampling.in_row, Reading.{IsPrefixCodeOn, IsByte}};
     ghost use Rattle.p3_challenger_core.specs.ObservationLaws.{in_slice-is_observation, observed_as-is_observation};
-    ghost use Rattle.p3_challenger_core.specs.Sampling.{in_row};
     ghost use Rattle.p3_challenger_core.specs.SamplingLaws.{in_row-is_sampling, made_of-is_sampling};
-    ghost use Rattle.p3_challenger_core.specs.Reading.{IsPrefixCodeOn, IsByte};
-    ghost use Rattle.p3_fs_core.specs.BigEndian.{bytes_for};
-    ghost use Rattle.p3_fs_core.specs.Scalar.{wire, encoding};
-    ghost use Rattle.p3_fs_core.specs.ScalarLaws.{is_encoding};
+    ghost use Rattle.p3_fs_core.specs.{BigEndian.bytes_for, Scalar.{wire, encoding}, ScalarLaws.is_encoding};
     ghost use Rattle.p3_codecs.specs.BytesToField.{observed_bytes, drawn_bytes, draw_bytes, challenge_of};
     ghost use Rattle.p3_codecs.specs.BytesToFieldLaws.{bytes-tell_apart};
 
@@ -56,17 +52,16 @@ impl<F: PrimeField64, C: CanObserve<u8> + CanSample<u8>> Codec<C, F> for BytesTo
     ghost is_codec = { record {
       encodes = is_encoding F.residues F.are_residues F.bit_length F.bits_below;
       observes = observed_as-is_observation C.fed C.fed_nothing C.fed_more
-          (in_slice C.observation C.slice_may_leave)
-          (in_slice-is_observation C.fed C.fed_nothing C.fed_more C.observation C.observes C.slice_may_leave
-          C.slice_leaves)
+          (in_slice C.observation C.slice_may_leave) (in_slice-is_observation C.fed C.fed_nothing
+          C.fed_more C.observation C.observes C.slice_may_leave C.slice_leaves)
           (wire F.residues (bytes_for F.bit_length));
       samples = made_of-is_sampling C.next (challenge_of F.residues)
           (in_row C.sampling (draw_bytes (bytes_for F.bit_length)))
           (in_row-is_sampling C.next C.sampling C.samples (draw_bytes (bytes_for F.bit_length)));
     } };
 
-    ghost symbols_are_prefix_code = { bytes-tell_apart F.residues F.are_residues F.bit_length F.bits_below
-        C.observation.symbols };
+    ghost symbols_are_prefix_code = { bytes-tell_apart F.residues F.are_residues F.bit_length
+        F.bits_below C.observation.symbols };
 
     fn wire_len() -> usize {
         F::wire_len()
@@ -95,8 +90,7 @@ impl<F: PrimeField64, C: CanObserve<u8> + CanSample<u8>> Codec<C, F> for BytesTo
 
 impl<F: PrimeField64, C: CanObserve<u8> + CanSample<u8>> ScalarCodec<C, F>
     for BytesToFieldCodec<F> {
-    ghost use Rattle.p3_fs_core.specs.ScalarLaws.{width-positive, width-short, one_reason};
-    ghost use Rattle.p3_fs_core.specs.BigEndian.{bytes_for};
+    ghost use Rattle.p3_fs_core.specs.{ScalarLaws.{width-positive, width-short, one_reason}, BigEndian.bytes_for};
 
     ghost some = { width-positive F.residues F.are_residues F.bit_length F.bits_below };
 

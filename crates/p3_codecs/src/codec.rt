@@ -1,13 +1,10 @@
 //! What a codec owes: how a value is encoded in the proof, how a challenger observes it, and how it is drawn.
 ghost use Rattle.std.specs.Prelude.{◌≡◌, ℕ, ◌<◌, ◌≤◌, List, ◌++◌, take, drop, length, Some, Ok, Err, OnOk, OnErr, IfOk};
 ghost use Rattle.std.specs.Prelude.{IfErr};
-ghost use Rattle.p3_challenger_core.specs.Observation.{Observation, RefusesObserve};
-ghost use Rattle.p3_challenger_core.specs.Sampling.{Sampling, RefusesDraw};
+ghost use Rattle.p3_challenger_core.specs.{Observation.{Observation, RefusesObserve}, Sampling.{Sampling, RefusesDraw}};
 ghost use Rattle.p3_challenger_core.specs.Reading.{IsPrefixFree};
-ghost use Rattle.p3_fs_core.specs.Encoding.{Encoding};
+ghost use Rattle.p3_fs_core.specs.{Encoding.Encoding, Scalar.outside_range, Errors.Decodes};
 ghost use Rattle.p3_codecs.specs.Codecs.{IsCodec};
-ghost use Rattle.p3_fs_core.specs.Scalar.{outside_range};
-ghost use Rattle.p3_fs_core.specs.Errors.{Decodes};
 
 use p3_challenger_core::{ChallengerError, Sponge};
 use p3_fs_core::TranscriptError;
@@ -53,9 +50,10 @@ pub trait Codec<C: Sponge, T> {
     /// of a scalar what one refused observe of the challenger leaves, and of an element of a vector space
     /// the coefficients before the refused one.
     fn observe(challenger: &mut C, value: &T) -> Result<(), ChallengerError>
-        ensures ok { OnOk result (C.state challenger.new ≡ observation.observed (C.state challenger.old) value.now) }
-        ensures err { IfErr result (λ e.
-            RefusesObserve (observation.may_leave (C.state challenger.old) value.now) e (C.state challenger.new)) };
+        ensures ok { OnOk result
+            (C.state challenger.new ≡ observation.observed (C.state challenger.old) value.now) }
+        ensures err { IfErr result (λ e. RefusesObserve (observation.may_leave
+            (C.state challenger.old) value.now) e (C.state challenger.new)) };
 
     /// Draws a value. The codec has at least [`MIN_CHALLENGE_SECURITY_BITS`] of security, which is the caller's word
     /// in the Rust crate.
@@ -65,7 +63,8 @@ pub trait Codec<C: Sponge, T> {
     fn sample(challenger: &mut C) -> Result<T, ChallengerError>
         requires { 128 ≤ SECURITY_BITS }
         ensures drawn { IfOk result (λ x. sampling.sampled (C.state challenger.old) ≡ Some x) }
-        ensures after { OnOk result (C.state challenger.new ≡ sampling.after (C.state challenger.old)) }
+        ensures after { OnOk result
+            (C.state challenger.new ≡ sampling.after (C.state challenger.old)) }
         ensures err { IfErr result (λ e.
             RefusesDraw sampling e (C.state challenger.old) (C.state challenger.new)) };
 
@@ -76,7 +75,8 @@ pub trait Codec<C: Sponge, T> {
     fn encode(value: &T, out: &mut Vec<u8>) -> Result<(), TranscriptError>
         ensures ok { OnOk result (out.new.items ≡ out.old.items ++ encoding.wire value.now) }
         ensures err { IfErr result (λ e. e ≡ TranscriptError.OutOfMemory) }
-        ensures left { OnErr result ((n : ℕ) × (out.new.items ≡ out.old.items ++ take n (encoding.wire value.now))) };
+        ensures left { OnErr result ((n : ℕ)
+            × (out.new.items ≡ out.old.items ++ take n (encoding.wire value.now))) };
 
     /// The value whose encoding `bytes` begin with: their first [`wire_len`](Codec::wire_len) bytes.
     ///
@@ -84,8 +84,10 @@ pub trait Codec<C: Sponge, T> {
     /// the codec's own.
     fn decode(bytes: &[u8]) -> Result<T, TranscriptError>
         ensures exact { Decodes (encoding.read bytes.now) result }
-        ensures found { IfOk result (λ x. bytes.now ≡ encoding.wire x ++ drop encoding.width bytes.now) }
-        ensures only { (x : T) (rest : List ℕ) → bytes.now ≡ encoding.wire x ++ rest → result ≡ Ok x };
+        ensures found { IfOk result (λ x.
+            bytes.now ≡ encoding.wire x ++ drop encoding.width bytes.now) }
+        ensures only { (x : T) (rest : List ℕ) →
+            bytes.now ≡ encoding.wire x ++ rest → result ≡ Ok x };
 
     // Values are encoded, observed and drawn as every codec owes it.
     ghost is_codec: { IsCodec C.fed C.next encoding observation sampling };

@@ -32,7 +32,8 @@ impl<C: Sponge, F: Field, EF: BasedVectorSpace<F>, BaseCodec: ScalarCodec<C, F>>
 
     ghost SECURITY_BITS = { BaseCodec.SECURITY_BITS };
 
-    ghost encoding = { extension.encoding BaseCodec.encoding EF.DIMENSION EF.coefficients EF.element };
+    ghost encoding = { extension.encoding BaseCodec.encoding EF.DIMENSION EF.coefficients
+        EF.element };
 
     ghost observation = { extension.observed_coefficients BaseCodec.observation EF.coefficients };
 
@@ -41,13 +42,14 @@ impl<C: Sponge, F: Field, EF: BasedVectorSpace<F>, BaseCodec: ScalarCodec<C, F>>
     ghost feeds_prefix_code = { BaseCodec.feeds_prefix_code };
 
     ghost is_codec = { record {
-      encodes = is_encoding BaseCodec.encoding BaseCodec.is_codec.encodes EF.DIMENSION EF.coefficients EF.element
-          EF.length_coefficients EF.same_coefficients EF.coefficients_element;
+      encodes = is_encoding BaseCodec.encoding BaseCodec.is_codec.encodes EF.DIMENSION
+          EF.coefficients EF.element EF.length_coefficients EF.same_coefficients
+          EF.coefficients_element;
       observes = observed_as-is_observation C.fed C.fed_nothing C.fed_more
-          (observation.in_row BaseCodec.observation)
-          (in_row-is_observation C.fed C.fed_nothing C.fed_more BaseCodec.observation BaseCodec.is_codec.observes)
-          EF.coefficients;
-      samples = made_of-is_sampling C.next EF.element (sampling.in_row BaseCodec.sampling EF.DIMENSION)
+          (observation.in_row BaseCodec.observation) (in_row-is_observation C.fed C.fed_nothing
+          C.fed_more BaseCodec.observation BaseCodec.is_codec.observes) EF.coefficients;
+      samples = made_of-is_sampling C.next EF.element
+          (sampling.in_row BaseCodec.sampling EF.DIMENSION)
           (in_row-is_sampling C.next BaseCodec.sampling BaseCodec.is_codec.samples EF.DIMENSION);
     } };
 
@@ -92,8 +94,8 @@ impl<C: Sponge, F: Field, EF: BasedVectorSpace<F>, BaseCodec: ScalarCodec<C, F>>
 fn decode_element<C: Sponge, F: Field, EF: BasedVectorSpace<F>, BaseCodec: ScalarCodec<C, F>>(
     bytes: &[u8],
 ) -> Result<EF, TranscriptError>
-    ensures { Decodes (extension.read BaseCodec.encoding.read BaseCodec.encoding.width EF.DIMENSION EF.element
-        bytes.now) result }
+    ensures { Decodes (extension.read BaseCodec.encoding.read BaseCodec.encoding.width EF.DIMENSION
+        EF.element bytes.now) result }
 {
     if bytes.len() < EF::DIMENSION * BaseCodec::wire_len() {
         return Err(TranscriptError::BadProofShape {
@@ -108,7 +110,8 @@ fn decode_coefficients<C: Sponge, F: Field, EF: BasedVectorSpace<F>, BaseCodec: 
     bytes: &[u8],
 ) -> Result<EF, TranscriptError>
     requires { EF.DIMENSION * BaseCodec.encoding.width ≤ length bytes.now }
-    ensures { Decodes (extension.read_coefficients BaseCodec.encoding.read EF.DIMENSION EF.element bytes.now) result }
+    ensures { Decodes (extension.read_coefficients BaseCodec.encoding.read EF.DIMENSION EF.element
+        bytes.now) result }
 {
     let width = BaseCodec::wire_len();
     let mut element = EF::zero();

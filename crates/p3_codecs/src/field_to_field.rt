@@ -13,10 +13,8 @@ use std::marker::PhantomData;
 pub struct FieldToFieldCodec<F>(PhantomData<F>);
 
 impl<F: PrimeField64, C: CanObserve<F> + CanSample<F>> Codec<C, F> for FieldToFieldCodec<F> {
-    ghost use Rattle.p3_challenger_core.specs.Reading.{IsPrefixCode};
-    ghost use Rattle.p3_challenger_core.specs.SymbolLaws.{element-feeds};
-    ghost use Rattle.p3_fs_core.specs.Scalar.{encoding};
-    ghost use Rattle.p3_fs_core.specs.ScalarLaws.{is_encoding};
+    ghost use Rattle.p3_challenger_core.specs.{Reading.IsPrefixCode, SymbolLaws.element-feeds};
+    ghost use Rattle.p3_fs_core.specs.{Scalar.encoding, ScalarLaws.is_encoding};
 
     const SECURITY_BITS: u32 = 128;
 
@@ -63,8 +61,7 @@ impl<F: PrimeField64, C: CanObserve<F> + CanSample<F>> Codec<C, F> for FieldToFi
 }
 
 impl<F: PrimeField64, C: CanObserve<F> + CanSample<F>> ScalarCodec<C, F> for FieldToFieldCodec<F> {
-    ghost use Rattle.p3_fs_core.specs.ScalarLaws.{width-positive, width-short, one_reason};
-    ghost use Rattle.p3_fs_core.specs.BigEndian.{bytes_for};
+    ghost use Rattle.p3_fs_core.specs.{ScalarLaws.{width-positive, width-short, one_reason}, BigEndian.bytes_for};
 
     ghost some = { width-positive F.residues F.are_residues F.bit_length F.bits_below };
 

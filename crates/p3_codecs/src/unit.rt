@@ -1,8 +1,7 @@
 //! The alphabets: what a byte string is to a challenger. To one of bytes it is those bytes; to one of a field it is its
 //! length and then elements, each of as many bytes as are sure to be below the order.
-ghost use Rattle.std.specs.Prelude.{◌≡◌, ℕ, ◌<◌, ◌≤◌, List, [], ◌∷◌, ◌++◌, length, flat_map, OnOk, IfErr};
-ghost use Rattle.p3_challenger_core.specs.Observation.{observed_all, LeavesInCalls, RefusesObserve};
-ghost use Rattle.p3_challenger_core.specs.Sponge.{IsFed};
+ghost use Rattle.std.specs.Prelude.{◌≡◌, ℕ, ◌<◌, ◌≤◌, List, ◌++◌, length, flat_map, OnOk, IfErr};
+ghost use Rattle.p3_challenger_core.specs.{Observation.{observed_all, LeavesInCalls, RefusesObserve}, Sponge.IsFed};
 ghost use Rattle.p3_challenger_core.specs.Reading.{AreBytes, IsByte, OneBegins, IsPrefixCodeOn};
 ghost use Rattle.p3_fs_core.specs.Packing.{packed, chunk_bytes, IsPackable};
 ghost use Rattle.p3_fs_core.specs.Alphabet.{Alphabet, RefusesBytes, LeavesItems, AreItems, alphabet_of};
@@ -44,17 +43,17 @@ pub trait Unit {
         bytes: &[u8],
     ) -> Result<(), ChallengerError>
         requires { is_alphabet }
-        ensures ok { OnOk result ((is_too_long (length bytes.now) → ⊥)
-            × (C.state challenger.new ≡ observed_all C.observation.observed (C.state challenger.old)
-            (items bytes.now))) }
+        ensures ok { OnOk result ((is_too_long (length bytes.now) → ⊥) × (C.state challenger.new
+            ≡ observed_all C.observation.observed (C.state challenger.old) (items bytes.now))) }
         ensures err { IfErr result (λ e. RefusesBytes (is_too_long (length bytes.now))
             (LeavesItems C.observation C.slice_may_leave (C.state challenger.old) (items bytes.now))
             (C.state challenger.old) e (C.state challenger.new)) }
         // What is observed is what the items feed; exactly so, where the challenger feeds them as a prefix code.
         ensures fed { OnOk result (IsFed C.fed (C.state challenger.old)
             (flat_map C.observation.symbols (items bytes.now)) (C.state challenger.new)) }
-        ensures fed_exactly { IsPrefixCodeOn is_item C.observation.symbols → OnOk result (C.state challenger.new
-            ≡ C.fed (C.state challenger.old) (flat_map C.observation.symbols (items bytes.now))) };
+        ensures fed_exactly { IsPrefixCodeOn is_item C.observation.symbols → OnOk result
+            (C.state challenger.new ≡ C.fed (C.state challenger.old)
+            (flat_map C.observation.symbols (items bytes.now))) };
 
     // The items of a byte string are items, and one of at most 255 bytes is not too long, so no count is.
     ghost items_are: { (bytes : List ℕ) → AreBytes bytes → AreItems is_item (items bytes) };
@@ -92,15 +91,16 @@ impl Unit for u8 {
         challenger: &mut C,
         bytes: &[u8],
     ) -> Result<(), ChallengerError>
-        ensures ok { OnOk result (C.state challenger.new ≡ observed_all C.observation.observed (C.state challenger.old)
-            bytes.now) }
+        ensures ok { OnOk result (C.state challenger.new ≡ observed_all C.observation.observed
+            (C.state challenger.old) bytes.now) }
         // What is left is what one slice may leave.
-        ensures err { IfErr result (λ e.
-            RefusesObserve (C.slice_may_leave (C.state challenger.old) bytes.now) e (C.state challenger.new)) }
+        ensures err { IfErr result (λ e. RefusesObserve (C.slice_may_leave (C.state challenger.old)
+            bytes.now) e (C.state challenger.new)) }
         ensures fed { OnOk result (IsFed C.fed (C.state challenger.old)
             (flat_map C.observation.symbols bytes.now) (C.state challenger.new)) }
-        ensures fed_exactly { IsPrefixCodeOn IsByte C.observation.symbols → OnOk result (C.state challenger.new
-            ≡ C.fed (C.state challenger.old) (flat_map C.observation.symbols bytes.now)) }
+        ensures fed_exactly { IsPrefixCodeOn IsByte C.observation.symbols → OnOk result
+            (C.state challenger.new ≡ C.fed (C.state challenger.old)
+            (flat_map C.observation.symbols bytes.now)) }
     {
         challenger.observe_slice(bytes)
     }
@@ -117,8 +117,7 @@ impl Unit for u8 {
 pub struct FieldUnit<F>(PhantomData<F>);
 
 impl<F: PrimeField64> Unit for FieldUnit<F> {
-    ghost use Rattle.p3_fs_core.specs.AlphabetLaws.{all-are_items};
-    ghost use Rattle.p3_fs_core.specs.PackingLaws.{packed-begins, short-packable};
+    ghost use Rattle.p3_fs_core.specs.{AlphabetLaws.all-are_items, PackingLaws.{packed-begins, short-packable}};
 
     type Item = F;
 
@@ -131,11 +130,13 @@ impl<F: PrimeField64> Unit for FieldUnit<F> {
 
     ghost is_item = { λ _. Unit {0} };
 
-    ghost items_are = { λ bytes _. all-are_items (packed F.residues (chunk_bytes F.bit_length) bytes) };
+    ghost items_are = { λ bytes _. all-are_items
+        (packed F.residues (chunk_bytes F.bit_length) bytes) };
 
     ghost short_fits = { short-packable F.residues.order };
 
-    ghost begins = { packed-begins F.residues F.are_residues F.bit_length F.bits_below F.bits_least };
+    ghost begins = { packed-begins F.residues F.are_residues F.bit_length F.bits_below
+        F.bits_least };
 
     fn observe_bytes<C: CanObserve<F>>(
         challenger: &mut C,
@@ -150,13 +151,14 @@ impl<F: PrimeField64> Unit for FieldUnit<F> {
             (packed F.residues (chunk_bytes F.bit_length) bytes.now))
             (C.state challenger.old) e (C.state challenger.new)) }
         ensures fed { OnOk result (IsFed C.fed (C.state challenger.old)
-            (flat_map C.observation.symbols (packed F.residues (chunk_bytes F.bit_length) bytes.now))
-            (C.state challenger.new)) }
-        ensures fed_exactly { IsPrefixCodeOn (λ _. Unit {0}) C.observation.symbols → OnOk result (C.state challenger.new
-            ≡ C.fed (C.state challenger.old)
-            (flat_map C.observation.symbols (packed F.residues (chunk_bytes F.bit_length) bytes.now))) }
+            (flat_map C.observation.symbols (packed F.residues (chunk_bytes F.bit_length)
+            bytes.now)) (C.state challenger.new)) }
+        ensures fed_exactly { IsPrefixCodeOn (λ _. Unit {0}) C.observation.symbols → OnOk result
+            (C.state challenger.new ≡ C.fed (C.state challenger.old) (flat_map C.observation.symbols
+            (packed F.residues (chunk_bytes F.bit_length) bytes.now))) }
         // Whatever follows, the elements of a byte string that is short enough tell it.
-        ensures prefix_code { IsPrefixCodeOn (IsPackable F.residues) (packed F.residues (chunk_bytes F.bit_length)) }
+        ensures prefix_code { IsPrefixCodeOn (IsPackable F.residues)
+            (packed F.residues (chunk_bytes F.bit_length)) }
     {
         F::observe_seed(challenger, bytes)
     }
@@ -181,8 +183,7 @@ impl<U: Unit, C: CanObserve<U::Item>> AlphabetOf<C> for U {
 pub fn symbols_begin<U: Unit, C: CanObserve<U::Item>>()
     requires { U.is_alphabet }
     ensures { IsPrefixCodeOn U.is_item C.observation.symbols → (a b : List ℕ) (x y : List C.Symbol)
-        → AreBytes a → AreBytes b
-        → (U.is_too_long (length a) → ⊥) → (U.is_too_long (length b) → ⊥)
-        → flat_map C.observation.symbols (U.items a) ++ x ≡ flat_map C.observation.symbols (U.items b) ++ y
-        → OneBegins a b × (a ≡ b → x ≡ y) }
+        → AreBytes a → AreBytes b → (U.is_too_long (length a) → ⊥) → (U.is_too_long (length b) → ⊥)
+        → flat_map C.observation.symbols (U.items a) ++ x
+        ≡ flat_map C.observation.symbols (U.items b) ++ y → OneBegins a b × (a ≡ b → x ≡ y) }
 {}

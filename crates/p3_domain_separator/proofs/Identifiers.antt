@@ -1,7 +1,6 @@
 -- The identifier of a protocol, as it is written.
 use Rattle.std.proofs.Common.{◌≡◌, ℕ, ◌≤◌, ◌+◌, ◌-◌, List, [], ◌∷◌, ◌++◌, length, drop, set, replicate, refl, sym, ap}
-use Rattle.std.proofs.Common.{◌∙◌, arith}
-use Rattle.std.proofs.Math.Seq.{set-append_seam}
+use Rattle.std.proofs.{Common.{◌∙◌, arith}, Math.Seq.set-append_seam}
 use Rattle.std.proofs.lemmas.List.{set-append_right, drop-replicate, replicate-append-replicate, length-replicate}
 use Rattle.p3_domain_separator.specs.Seed.{identifier}
 

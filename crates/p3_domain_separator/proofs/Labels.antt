@@ -1,11 +1,8 @@
 -- A label to which a chunk is added, where memory for it may be refused.
 use Rattle.std.proofs.Common.{◌≡◌, ℕ, ◌+◌, ◌<◌, ◌^◌, List, ◌++◌, length, Result, Ok, Err, OnOk, OnErr, sym, ap, subst}
-use Rattle.std.proofs.Common.{arith}
-use Rattle.std.proofs.lemmas.List.{length-append}
+use Rattle.std.proofs.{Common.arith, lemmas.List.length-append}
 use Rattle.p3_challenger_core.specs.Reading.{AreBytes}
-use Rattle.p3_domain_separator.specs.Seed.{counted, FitsCount}
-use Rattle.p3_domain_separator.specs.SeparatorLaws.{IsLabel-more}
-use Rattle.p3_domain_separator.specs.Separators.{IsLabel}
+use Rattle.p3_domain_separator.specs.{Seed.{counted, FitsCount}, SeparatorLaws.IsLabel-more, Separators.IsLabel}
 
 module _ {T E : Type 0} (label chunk grown : List ℕ) where
   pub pushed-is_label : (result : Result T E) → IsLabel label → FitsCount chunk → AreBytes chunk →

@@ -1,12 +1,8 @@
 -- What separators are made of: it is told by their bytes and their patterns, and tells those.
-use Rattle.std.proofs.Common.{◌≡◌, ℕ, ◌≤◌, List, length, sym, ap, ◌∙◌}
-use Rattle.std.specs.List.{All}
+use Rattle.std.{proofs.Common.{◌≡◌, ℕ, ◌≤◌, List, length, sym, ap, ◌∙◌}, specs.List.All}
 use Rattle.p3_patterns.specs.PatternSteps.{PatternSteps}
-use Rattle.p3_domain_separator.specs.Seed.{identifier, label_of, FitsCount}
-use Rattle.p3_domain_separator.specs.SeedLaws.{identifier_injective}
-use Rattle.p3_domain_separator.specs.SeparatorLaws.{only_chunks}
-use Rattle.p3_domain_separator.specs.SeparatorParts.{separator_of}
-use Rattle.p3_domain_separator.specs.Separators.{Separator}
+use Rattle.p3_domain_separator.specs.{Seed.{identifier, label_of, FitsCount}, SeedLaws.identifier_injective}
+use Rattle.p3_domain_separator.specs.{SeparatorLaws.only_chunks, SeparatorParts.separator_of, Separators.Separator}
 use Rattle.p3_domain_separator.specs.declared.domain_separator.DomainSeparator.{DomainSeparator}
 
 module _ {U D : Type 0} where

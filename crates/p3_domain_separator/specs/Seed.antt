@@ -1,13 +1,10 @@
 -- What binds a transcript to a protocol, its pattern and the instance.
 use Rattle.std.specs.Prelude.{◌≡◌, ℕ, ◌-◌, ◌<◌, ◌≤◌, ◌^◌, ◌⊎◌, List, [], ◌∷◌, ◌++◌, length, replicate, flat_map}
-use Rattle.p3_challenger_core.specs.declared.error.ChallengerError.TheVariants as challenger
-use Rattle.p3_fs_core.specs.declared.error.TranscriptError.{TranscriptError}
+use Rattle.p3_fs_core.specs.{declared.error.TranscriptError.TranscriptError, BigEndian.in_bytes}
 use Rattle.p3_fs_core.specs.declared.error.TranscriptError.TheVariants.{Challenger, LabelTooLong, OutOfMemory}
-use Rattle.p3_patterns.specs.declared.sequence.InteractionPattern.{InteractionPattern}
-use Rattle.p3_fs_core.specs.BigEndian.{in_bytes}
-use Rattle.p3_fs_core.specs.Steps.{alternate_text}
-use Rattle.p3_patterns.specs.PatternSteps.{steps_of}
-use Rattle.p3_patterns.specs.Rendering.{rendering}
+use Rattle.p3_patterns.specs.{declared.sequence.InteractionPattern.InteractionPattern, PatternSteps.steps_of}
+use Rattle.p3_patterns.specs.Rendering.{hashed_text}
+use Rattle.p3_challenger_core.specs.declared.error.ChallengerError.TheVariants as challenger
 
 -- a protocol's identifier: version, name, zeros, and in the last of 64 places the length of the name
 abbrev pub identifier : ℕ → List ℕ → List ℕ
@@ -32,10 +29,6 @@ RefusesChunk len LabelTooLong = 2 ^ 32 ≤ len
 RefusesChunk len OutOfMemory = len < 2 ^ 32
 RefusesChunk len _ = ⊥
 
--- the seed: identifier, digest of the pattern, label after its length, and a last byte
-abbrev pub seed_bytes : List ℕ → List ℕ → List ℕ → List ℕ
-seed_bytes protocol_id digest label = protocol_id ++ (digest ++ (counted label ++ (0x80 ∷ [])))
-
 -- ---- the seed of a separator
 
 -- what a seed is made of
@@ -48,20 +41,14 @@ pub record SeedParts : Type 0 where
 abbrev pub AreSeedParts : SeedParts → Type 0
 AreSeedParts parts = (length parts.protocol_id ≡ 64) × (length parts.digest ≡ 32) × FitsCount parts.label
 
+-- the seed: identifier, digest of the pattern, label after its length, and a last byte
 abbrev pub seed_of_parts : SeedParts → List ℕ
-seed_of_parts parts = seed_bytes parts.protocol_id parts.digest parts.label
+seed_of_parts parts = parts.protocol_id ++ (parts.digest ++ (counted parts.label ++ (0x80 ∷ [])))
 
 -- what the seed of a protocol's identifier and pattern, and an instance's label, is made of
 abbrev pub parts_of : (List ℕ → List ℕ) → List ℕ → InteractionPattern → List ℕ → SeedParts
 parts_of digest_of protocol_id pattern label =
-    record {
-      protocol_id = protocol_id;
-      digest = digest_of (rendering alternate_text (steps_of pattern));
-      label = label;
-    }
-
-abbrev pub seed_of : (List ℕ → List ℕ) → List ℕ → InteractionPattern → List ℕ → List ℕ
-seed_of digest_of protocol_id pattern label = seed_of_parts (parts_of digest_of protocol_id pattern label)
+    record { protocol_id = protocol_id; digest = digest_of (hashed_text (steps_of pattern)); label = label }
 
 -- What a seed that is refused leaves: memory for its bytes was refused, and nothing of it was observed; or
 -- it was too long for the alphabet, and nothing of it was observed; or memory was refused while it was

@@ -1,14 +1,11 @@
 -- Laws of what binds a transcript.
-use Rattle.std.proofs.Common.{◌≡◌, ℕ, zero, suc, ◌≤◌, ◌<◌, ◌-◌, List, [], ◌∷◌, ◌++◌, length, drop, replicate, refl}
-use Rattle.std.proofs.Common.{sym, ap, ◌∙◌, append_assoc, arith}
-use Rattle.std.specs.List.{All}
+use Rattle.std.proofs.Common.{◌≡◌, ℕ, zero, suc, ◌≤◌, ◌-◌, List, [], ◌∷◌, ◌++◌, length, drop, replicate, refl}
+use Rattle.std.{proofs.Common.{sym, ap, ◌∙◌, append_assoc, arith}, specs.List.All, proofs.lemmas.Grind.flat_map-append}
 use Rattle.std.proofs.lemmas.List.{append-nil, length-append, length-replicate}
-use Rattle.std.proofs.lemmas.Grind.{flat_map-append}
 use Rattle.p3_challenger_core.specs.Reading.{IsPrefixCodeOn}
 use Rattle.p3_fs_core.specs.BigEndian.{big_endian, in_bytes}
 use Rattle.p3_fs_core.specs.BigEndianLaws.{length-in_bytes, drop-front, front-prefix_code, big_endian-in_bytes}
-use Rattle.p3_domain_separator.specs.Seed.{identifier, counted, label_of, FitsCount, SeedParts, AreSeedParts}
-use Rattle.p3_domain_separator.specs.Seed.{seed_of_parts}
+use Rattle.p3_domain_separator.specs.{Seed.{identifier, counted, label_of, FitsCount, AreSeedParts}, Seed.seed_of_parts}
 
 -- ---- counted byte strings
 
@@ -18,17 +15,10 @@ counted_prefix_code x y a b x_fits y_fits e =
     let count = λ (bytes : List ℕ). in_bytes 4 (length bytes) in
     let counts = front-prefix_code (count x) (count y) (x ++ a) (y ++ b) (length-in_bytes 4 (length x)
     ∙ sym (length-in_bytes 4 (length y))) (sym (append_assoc (count x) x a) ∙ e ∙ append_assoc (count y) y b) in
-    let as_long : length x ≡ length y =
-    sym (big_endian-in_bytes 4 (length x) x_fits) ∙ ap big_endian counts.0 ∙ big_endian-in_bytes 4 (length y) y_fits in
-    front-prefix_code x y a b as_long counts.1
+    front-prefix_code x y a b (sym (big_endian-in_bytes 4 (length x) x_fits) ∙ ap big_endian counts.0
+    ∙ big_endian-in_bytes 4 (length y) y_fits) counts.1
 
 -- ---- labels
-
-next_below : (k n : ℕ) → k < n → suc k < suc n
-next_below k n less = omega (arith, less)
-
-first_below : (n : ℕ) → zero < suc n
-first_below n = omega arith
 
 -- a label comes from one list of chunks
 pub label_injective : (x y : List (List ℕ)) → All FitsCount x → All FitsCount y → label_of x ≡ label_of y → x ≡ y
@@ -36,14 +26,14 @@ label_injective [] [] x_fit y_fit e = refl
 label_injective [] (y ∷ ys) x_fit y_fit e = cc
 label_injective (x ∷ xs) [] x_fit y_fit e = cc
 label_injective (x ∷ xs) (y ∷ ys) x_fit y_fit e =
-    let first = counted_prefix_code x y (label_of xs) (label_of ys) (x_fit zero x (first_below (length xs)))
-    (y_fit zero y (first_below (length ys))) e in
-    let others = label_injective xs ys (λ k d less. x_fit (suc k) d (next_below k (length xs) less))
-    (λ k d less. y_fit (suc k) d (next_below k (length ys) less)) first.1 in
-    ap (λ z. z ∷ xs) first.0 ∙ ap (λ zs. y ∷ zs) others
+    let first = counted_prefix_code x y (label_of xs) (label_of ys) (x_fit zero x (omega arith))
+    (y_fit zero y (omega arith)) e in
+    let others = label_injective xs ys (λ k d less. x_fit (suc k) d (omega (arith, less)))
+    (λ k d less. y_fit (suc k) d (omega (arith, less))) first.1 in
+    cc (first.0, others)
 
 -- a chunk more stands at the end of the label
-pub label_more : (chunks : List (List ℕ)) (chunk : List ℕ) →
+label_more : (chunks : List (List ℕ)) (chunk : List ℕ) →
     label_of (chunks ++ (chunk ∷ [])) ≡ label_of chunks ++ counted chunk
 label_more chunks chunk =
     flat_map-append counted chunks (chunk ∷ []) ∙ ap (λ end. label_of chunks ++ end) (append-nil (counted chunk))
@@ -58,25 +48,15 @@ chunk_added chunk label grown is chunks encoded =
 regroup : (i d c t a : List ℕ) → (i ++ (d ++ (c ++ t))) ++ a ≡ i ++ (d ++ (c ++ (t ++ a)))
 regroup i d c t a = simp append_assoc
 
-same_parts : (x y : SeedParts) → x.protocol_id ≡ y.protocol_id → x.digest ≡ y.digest → x.label ≡ y.label → x ≡ y
-same_parts x y ids digests labels =
-    let parts : List ℕ → List ℕ → List ℕ → SeedParts = λ i d l. record { protocol_id = i; digest = d; label = l } in
-    ap (λ i. parts i x.digest x.label) ids
-    ∙ ap (λ d. parts y.protocol_id d x.label) digests
-    ∙ ap (λ l. parts y.protocol_id y.digest l) labels
-
 -- seeds are a prefix code
 pub seed_prefix_code : IsPrefixCodeOn AreSeedParts seed_of_parts
 seed_prefix_code x y a b x_are y_are e =
-    let end : List ℕ = 0x80 ∷ [] in
-    let whole = sym (regroup x.protocol_id x.digest (counted x.label) end a) ∙ e
-    ∙ regroup y.protocol_id y.digest (counted y.label) end b in
-    let ids = front-prefix_code x.protocol_id y.protocol_id (x.digest ++ (counted x.label ++ (end ++ a)))
-    (y.digest ++ (counted y.label ++ (end ++ b))) (x_are.0 ∙ sym y_are.0) whole in
-    let digests = front-prefix_code x.digest y.digest (counted x.label ++ (end ++ a)) (counted y.label ++ (end ++ b))
-    (x_are.1 ∙ sym y_are.1) ids.1 in
-    let labels = counted_prefix_code x.label y.label (end ++ a) (end ++ b) x_are.2 y_are.2 digests.1 in
-    (same_parts x y ids.0 digests.0 labels.0, ap (drop 1) labels.1)
+    let ids = front-prefix_code x.protocol_id y.protocol_id _ _ (x_are.0 ∙ sym y_are.0)
+    (sym (regroup x.protocol_id x.digest (counted x.label) (0x80 ∷ []) a) ∙ e
+    ∙ regroup y.protocol_id y.digest (counted y.label) (0x80 ∷ []) b) in
+    let digests = front-prefix_code x.digest y.digest _ _ (x_are.1 ∙ sym y_are.1) ids.1 in
+    let labels = counted_prefix_code x.label y.label (0x80 ∷ a) (0x80 ∷ b) x_are.2 y_are.2 digests.1 in
+    ((λ i. record { protocol_id = ids.0 i; digest = digests.0 i; label = labels.0 i }), ap (drop 1) labels.1)
 
 -- ---- identifiers
 
@@ -98,5 +78,4 @@ identifier_injective v w a b a_short b_short e =
     let lasts : length a ∷ [] ≡ length b ∷ [] = sym (last_of a a_short) ∙ ap (drop 62) rest ∙ last_of b b_short in
     let as_long : length a ≡ length b = cc in
     let version : v ≡ w = cc in
-    let following = λ (name : List ℕ). replicate (62 - length name) 0 ++ (length name ∷ []) in
-    (version, (front-prefix_code a b (following a) (following b) as_long rest).0)
+    (version, (front-prefix_code a b _ _ as_long rest).0)

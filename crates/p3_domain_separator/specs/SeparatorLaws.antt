@@ -1,13 +1,11 @@
 -- Laws of what a separator is made of: its bytes come from one version, one name and one list of chunks.
-use Rattle.std.specs.Prelude.{◌≡◌, ℕ, ◌≤◌, ◌<◌, List, [], ◌∷◌, ◌++◌, length}
-use Rattle.std.proofs.Common.{sym, ap, subst, refl, ◌∙◌, arith}
-use Rattle.std.specs.Coded.{le_prop, Coded-set, coded_list, coded_ℕ}
-use Rattle.std.specs.List.{All}
+use Rattle.std.{specs.Prelude.{◌≡◌, ℕ, ◌≤◌, ◌<◌, List, [], ◌∷◌, ◌++◌, length}, proofs.Common.{sym, subst, ◌∙◌}}
+use Rattle.std.specs.{Coded.{le_prop, Coded-set, coded_list, coded_ℕ}, List.All}
 use Rattle.std.proofs.lemmas.List.Elements.{All-push}
 use Rattle.p3_challenger_core.specs.Reading.{AreBytes}
 use Rattle.p3_fs_core.specs.StepFitLaws.{AreBytes-prop}
 use Rattle.p3_domain_separator.specs.Seed.{identifier, counted, label_of, FitsCount}
-use Rattle.p3_domain_separator.specs.SeedLaws.{identifier_injective, label_injective, label_more}
+use Rattle.p3_domain_separator.specs.SeedLaws.{identifier_injective, label_injective, chunk_added}
 use Rattle.p3_domain_separator.specs.Separators.{IsIdentifier, IsLabel}
 
 -- that bytes are equal has one proof
@@ -70,31 +68,13 @@ IsLabel-prop label x y =
     } in
     subst Same (only_chunks label x y.chunks y.counted y.encoded) own y.encoded y.counted y.bytes
 
--- the label of no chunks
-pub IsLabel-none : IsLabel []
-IsLabel-none =
-    record {
-      chunks = [];
-      encoded = refl;
-      counted = λ k d within. absurd (omega (arith, within));
-      bytes = λ k d within. absurd (omega (arith, within));
-    }
-
 -- a label with a chunk more
 pub IsLabel-more : (label chunk grown : List ℕ) → IsLabel label → FitsCount chunk → AreBytes chunk →
     grown ≡ label ++ counted chunk → IsLabel grown
 IsLabel-more label chunk grown is fits bytes more =
     record {
       chunks = is.chunks ++ (chunk ∷ []);
-      encoded = more ∙ ap (λ front. front ++ counted chunk) is.encoded ∙ sym (label_more is.chunks chunk);
+      encoded = chunk_added chunk label grown more is.chunks is.encoded;
       counted = All-push FitsCount is.chunks chunk is.counted fits;
       bytes = All-push AreBytes is.chunks chunk is.bytes bytes;
     }
-
--- its chunks are those of the label, and that one
-pub chunks-more : (label chunk grown : List ℕ) (is : IsLabel label) (is_grown : IsLabel grown) → FitsCount chunk →
-    grown ≡ label ++ counted chunk → is_grown.chunks ≡ is.chunks ++ (chunk ∷ [])
-chunks-more label chunk grown is is_grown fits more =
-    only_chunks grown is_grown (is.chunks ++ (chunk ∷ []))
-    (All-push FitsCount is.chunks chunk is.counted fits)
-    (more ∙ ap (λ front. front ++ counted chunk) is.encoded ∙ sym (label_more is.chunks chunk))

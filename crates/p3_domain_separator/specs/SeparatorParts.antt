@@ -1,13 +1,8 @@
 -- A separator as contracts see it.
-use Rattle.p3_domain_separator.specs.declared.domain_separator.DomainSeparator.{DomainSeparator}
-use Rattle.p3_domain_separator.specs.Separators.{Separator}
+use Rattle.p3_domain_separator.specs.{declared.domain_separator.DomainSeparator.DomainSeparator, Separators.Separator}
 
 -- what a separator is, wherever it lies
 abbrev pub separator_of : {U D : Type 0} → DomainSeparator U D → Separator
 separator_of s =
-    record {
-      version = s.is_identifier.version;
-      name = s.is_identifier.name;
-      chunks = s.is_label.chunks;
-      pattern = s.pattern.value;
-    }
+    let id = s.is_identifier in
+    record { version = id.version; name = id.name; chunks = s.is_label.chunks; pattern = s.pattern.value }

@@ -2,11 +2,15 @@
 use Rattle.std.specs.Prelude.{ℕ, List}
 use Rattle.p3_patterns.specs.PatternSteps.{PatternSteps}
 use Rattle.p3_domain_separator.specs.declared.domain_separator.DomainSeparator.{DomainSeparator}
-use Rattle.p3_domain_separator.specs.Seed.{seed_of}
+use Rattle.p3_domain_separator.specs.Seed.{SeedParts, parts_of, seed_of_parts}
 
--- the bytes that its seed is, where the digest of bytes is this
+-- what its seed is made of, where the digest of bytes is this
+abbrev pub seed_parts : {U D : Type 0} → (List ℕ → List ℕ) → DomainSeparator U D → SeedParts
+seed_parts digest_of s = parts_of digest_of s.protocol_id s.pattern.value s.instance_label.items
+
+-- the bytes that it is then
 abbrev pub seed_of_separator : {U D : Type 0} → (List ℕ → List ℕ) → DomainSeparator U D → List ℕ
-seed_of_separator digest_of s = seed_of digest_of s.protocol_id s.pattern.value s.instance_label.items
+seed_of_separator digest_of s = seed_of_parts (seed_parts digest_of s)
 
 -- the pattern that is played under it
 abbrev pub pattern_of : {U D : Type 0} → DomainSeparator U D → PatternSteps

@@ -1,17 +1,13 @@
 -- The seed of a separator is that of an identifier, a digest and a label, each of them bytes.
 use Rattle.std.proofs.Common.{◌≡◌, ℕ, zero, suc, ◌-◌, ◌<◌, ◌≤◌, List, [], ◌∷◌, ◌++◌, length, replicate, sym, ap, ◌∙◌}
-use Rattle.std.proofs.Common.{subst, arith, lit<}
-use Rattle.std.specs.List.{All}
+use Rattle.std.{proofs.Common.{subst, arith, lit<}, specs.List.All}
 use Rattle.std.proofs.lemmas.List.{length-append, length-replicate}
 use Rattle.p3_challenger_core.specs.Reading.{AreBytes}
-use Rattle.p3_fs_core.specs.BigEndian.{in_bytes}
-use Rattle.p3_fs_core.specs.BigEndianLaws.{AreBytes-in_bytes}
-use Rattle.p3_fs_core.specs.Steps.{alternate_text}
-use Rattle.p3_patterns.specs.PatternSteps.{steps_of}
-use Rattle.p3_patterns.specs.Rendering.{rendering}
+use Rattle.p3_fs_core.specs.{BigEndian.in_bytes, BigEndianLaws.AreBytes-in_bytes}
+use Rattle.p3_patterns.specs.{PatternSteps.steps_of, Rendering.hashed_text}
 use Rattle.p3_symmetric.specs.Digests.{IsDigest}
-use Rattle.p3_domain_separator.specs.Seed.{identifier, counted, label_of, AreSeedParts, parts_of}
-use Rattle.p3_domain_separator.specs.SeparatorSeed.{seed_of_separator}
+use Rattle.p3_domain_separator.specs.Seed.{identifier, counted, label_of, AreSeedParts}
+use Rattle.p3_domain_separator.specs.SeparatorSeed.{seed_parts, seed_of_separator}
 use Rattle.p3_domain_separator.specs.declared.domain_separator.DomainSeparator.{DomainSeparator}
 
 -- ---- bytes
@@ -61,12 +57,11 @@ label-bytes (chunk ∷ chunks) all =
 -- ---- seeds
 
 module _ {U D : Type 0} (digest_of : List ℕ → List ℕ) (digests : (text : List ℕ) → IsDigest (digest_of text)) where
-  pub separator-parts : (s : DomainSeparator U D) →
-      AreSeedParts (parts_of digest_of s.protocol_id s.pattern.value s.instance_label.items)
+  pub separator-parts : (s : DomainSeparator U D) → AreSeedParts (seed_parts digest_of s)
   separator-parts s =
       let id = s.is_identifier in (
         ap length id.encoded ∙ identifier-long id.version id.name id.short,
-        (digests (rendering alternate_text (steps_of s.pattern.value))).places,
+        (digests (hashed_text (steps_of s.pattern.value))).places,
         s.label_fits,
       )
 
@@ -74,12 +69,12 @@ module _ {U D : Type 0} (digest_of : List ℕ → List ℕ) (digests : (text : L
   separator-bytes s =
       let id = s.is_identifier in
       let label = s.is_label in
-      let digest = digest_of (rendering alternate_text (steps_of s.pattern.value)) in
+      let digest = digest_of (hashed_text (steps_of s.pattern.value)) in
       let end : List ℕ = 0x80 ∷ [] in
       let instance = counted s.instance_label.items in
       let id_bytes = subst AreBytes (sym id.encoded)
       (identifier-bytes id.version id.name id.version_fits id.short id.bytes) in
       let label_are = subst AreBytes (sym label.encoded) (label-bytes label.chunks label.bytes) in
       bytes-append s.protocol_id (digest ++ (instance ++ end)) id_bytes
-      (bytes-append digest (instance ++ end) (digests (rendering alternate_text (steps_of s.pattern.value))).bytes
+      (bytes-append digest (instance ++ end) (digests (hashed_text (steps_of s.pattern.value))).bytes
       (bytes-append instance end (bytes-counted s.instance_label.items label_are) (bytes-one 0x80 (lit< tt))))

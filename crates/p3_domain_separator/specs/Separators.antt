@@ -1,6 +1,5 @@
 -- What a separator is made of.
-use Rattle.std.specs.Prelude.{◌≡◌, ℕ, ◌≤◌, ◌<◌, List, length}
-use Rattle.std.specs.List.{All}
+use Rattle.std.specs.{Prelude.{◌≡◌, ℕ, ◌≤◌, ◌<◌, List, length}, List.All}
 use Rattle.p3_challenger_core.specs.Reading.{AreBytes}
 use Rattle.p3_patterns.specs.PatternSteps.{PatternSteps}
 use Rattle.p3_domain_separator.specs.Seed.{identifier, label_of, FitsCount}

@@ -6,18 +6,13 @@
 //! instances, in order  ->  label                   -+
 //! ```
 ghost use Rattle.std.specs.Prelude.{◌≡◌, ◌↔◌, ℕ, true, ◌+◌, ◌<◌, ◌≤◌, ◌^◌, List, [], ◌∷◌, ◌++◌, length, OnOk, OnErr};
-ghost use Rattle.std.specs.Prelude.{IfOk, IfErr};
-ghost use Rattle.std.specs.List.{All, flat_map};
-ghost use Rattle.p3_challenger_core.specs.Observation.{observed_all};
-ghost use Rattle.p3_challenger_core.specs.Sponge.{IsFed};
+ghost use Rattle.std.specs.{Prelude.{IfOk, IfErr}, List.{All, flat_map}};
+ghost use Rattle.p3_challenger_core.specs.{Observation.observed_all, Sponge.IsFed, Reading.IsPrefixCodeOn};
 ghost use Rattle.p3_fs_core.specs.Alphabet.{LeavesItems};
 ghost use Rattle.p3_patterns.specs.PatternSteps.{steps_of};
-ghost use Rattle.p3_challenger_core.specs.Reading.{IsPrefixCodeOn};
 ghost use Rattle.p3_domain_separator.specs.SeparatorLaws.{IsIdentifier-prop, IsLabel-prop};
-ghost use Rattle.p3_domain_separator.specs.Separators.{IsIdentifier, IsLabel};
-ghost use Rattle.p3_domain_separator.specs.Seed.{identifier, counted, label_of, FitsCount, RefusesChunk, seed_of};
-ghost use Rattle.p3_domain_separator.specs.Seed.{RefusesSeed};
-ghost use Rattle.p3_domain_separator.specs.Seed.{AreSeedParts, parts_of, seed_of_parts};
+ghost use Rattle.p3_domain_separator.specs.{Separators.{IsIdentifier, IsLabel}, Seed.{AreSeedParts, seed_of_parts}};
+ghost use Rattle.p3_domain_separator.specs.Seed.{identifier, counted, label_of, FitsCount, RefusesChunk, RefusesSeed};
 
 use p3_challenger_core::CanObserve;
 use p3_codecs::Unit;
@@ -124,12 +119,15 @@ impl<U, D> DomainSeparator<U, D> {
     /// [`TranscriptError::OutOfMemory`]. Both leave the separator as it is. The Rust crate chains calls, panics on a
     /// chunk of 2^32 bytes, and lets a label grow beyond that.
     pub fn instance(&mut self, chunk: &[u8]) -> Result<(), TranscriptError>
-        ensures ok { OnOk result (self.new.instance_label.items ≡ self.old.instance_label.items ++ counted chunk.now) }
-        ensures err { IfErr result (λ e. RefusesChunk (length self.old.instance_label.items + 4 + length chunk.now) e
-            × (self.new.instance_label.items ≡ self.old.instance_label.items)) }
-        ensures rest { (self.new.protocol_id ≡ self.old.protocol_id) × (self.new.pattern ≡ self.old.pattern) }
+        ensures ok { OnOk result (self.new.instance_label.items
+            ≡ self.old.instance_label.items ++ counted chunk.now) }
+        ensures err { IfErr result (λ e. RefusesChunk (length self.old.instance_label.items + 4 +
+            length chunk.now) e × (self.new.instance_label.items ≡ self.old.instance_label.items)) }
+        ensures rest { (self.new.protocol_id ≡ self.old.protocol_id)
+            × (self.new.pattern ≡ self.old.pattern) }
         // The length of a chunk that is taken fits in its four bytes, and so does that of the label.
-        ensures fits { OnOk result (FitsCount chunk.now × (length self.new.instance_label.items < 2 ^ 32)) }
+        ensures fits { OnOk result (FitsCount chunk.now
+            × (length self.new.instance_label.items < 2 ^ 32)) }
         // The separator has this chunk more, or is the same.
         ensures chunks { OnOk result (separator_of self.new ≡ record (separator_of self.old) {
           chunks = (separator_of self.old).chunks ++ (chunk.now ∷ []);
@@ -175,6 +173,8 @@ impl<U, D> DomainSeparator<U, D> {
 }
 
 impl<U: Unit, D: DigestHasher> DomainSeparator<U, D> {
+    ghost use Rattle.p3_domain_separator.specs.SeparatorSeed.{seed_parts, seed_of_separator};
+
     /// Observes the seed in one byte string: the identifier, the digest of the pattern, the label after its
     /// length in four bytes, the highest first, and a byte 0x80.
     ///
@@ -185,27 +185,22 @@ impl<U: Unit, D: DigestHasher> DomainSeparator<U, D> {
     /// challenger as it is, or as [`Unit::observe_bytes`] leaves it. It answers no error in the Rust crate.
     pub fn seed<C: CanObserve<U::Item>>(&self, challenger: &mut C) -> Result<(), TranscriptError>
         requires { U.is_alphabet }
-        ensures ok { let seed = seed_of D.digest_of self.now.protocol_id self.now.pattern.value
-            self.now.instance_label.items in
-            OnOk result ((U.is_too_long (length seed) → ⊥)
-            × (C.state challenger.new ≡ observed_all C.observation.observed (C.state challenger.old) (U.items seed))) }
-        ensures err { let seed = seed_of D.digest_of self.now.protocol_id self.now.pattern.value
-            self.now.instance_label.items in
+        ensures ok { let seed = seed_of_separator D.digest_of self.now in
+            OnOk result ((U.is_too_long (length seed) → ⊥) × (C.state challenger.new
+            ≡ observed_all C.observation.observed (C.state challenger.old) (U.items seed))) }
+        ensures err { let seed = seed_of_separator D.digest_of self.now in
             IfErr result (λ e. RefusesSeed (U.is_too_long (length seed))
             (LeavesItems C.observation C.slice_may_leave (C.state challenger.old) (U.items seed))
             (C.state challenger.old) e (C.state challenger.new)) }
         // What is observed is what the items feed; exactly so, where the challenger feeds them as a prefix code.
-        ensures fed { let seed = seed_of D.digest_of self.now.protocol_id self.now.pattern.value
-            self.now.instance_label.items in
-            OnOk result (IsFed C.fed (C.state challenger.old)
-            (flat_map C.observation.symbols (U.items seed)) (C.state challenger.new)) }
-        ensures fed_exactly { let seed = seed_of D.digest_of self.now.protocol_id self.now.pattern.value
-            self.now.instance_label.items in
-            IsPrefixCodeOn U.is_item C.observation.symbols → OnOk result (C.state challenger.new
-            ≡ C.fed (C.state challenger.old) (flat_map C.observation.symbols (U.items seed))) }
+        ensures fed { OnOk result (IsFed C.fed (C.state challenger.old)
+            (flat_map C.observation.symbols (U.items (seed_of_separator D.digest_of self.now)))
+            (C.state challenger.new)) }
+        ensures fed_exactly { IsPrefixCodeOn U.is_item C.observation.symbols → OnOk result
+            (C.state challenger.new ≡ C.fed (C.state challenger.old) (flat_map C.observation.symbols
+            (U.items (seed_of_separator D.digest_of self.now)))) }
         // The seed is that of an identifier, a digest and a label.
-        ensures parts { OnOk result (AreSeedParts
-            (parts_of D.digest_of self.now.protocol_id self.now.pattern.value self.now.instance_label.items)) }
+        ensures parts { OnOk result (AreSeedParts (seed_parts D.digest_of self.now)) }
     {
         let seed = self.seed_bytes()?;
         U::observe_bytes(challenger, &seed)?;
@@ -214,10 +209,8 @@ impl<U: Unit, D: DigestHasher> DomainSeparator<U, D> {
 
     // The bytes of the seed.
     fn seed_bytes(&self) -> Result<Vec<u8>, AllocError>
-        ensures bytes { IfOk result (λ seed. seed.items
-            ≡ seed_of D.digest_of self.now.protocol_id self.now.pattern.value self.now.instance_label.items) }
-        ensures parts { OnOk result (AreSeedParts
-            (parts_of D.digest_of self.now.protocol_id self.now.pattern.value self.now.instance_label.items)) }
+        ensures bytes { IfOk result (λ seed. seed.items ≡ seed_of_separator D.digest_of self.now) }
+        ensures parts { OnOk result (AreSeedParts (seed_parts D.digest_of self.now)) }
     {
         let digest = self.pattern.pattern_hash::<D>()?;
         let len = PROTOCOL_ID_LEN + digest.len() + COUNT_LEN + self.instance_label.len() + 1;
@@ -270,7 +263,8 @@ pub fn identifiers_are_injective()
 /// A law: the body is empty, and a caller cites the clause.
 #[tactic(auto, using(crate::specs::SeedLaws::label_injective))]
 pub fn labels_are_injective()
-    ensures { (x y : List (List ℕ)) → All FitsCount x → All FitsCount y → label_of x ≡ label_of y → x ≡ y }
+    ensures { (x y : List (List ℕ)) → All FitsCount x → All FitsCount y
+        → label_of x ≡ label_of y → x ≡ y }
 {}
 
 /// Whatever follows, a seed comes from one identifier, one digest and one label.

@@ -1,7 +1,6 @@
 //! Every separator has a seed.
 ghost use Rattle.p3_challenger_core.specs.Reading.{AreBytes};
-ghost use Rattle.p3_domain_separator.specs.Seed.{AreSeedParts, parts_of};
-ghost use Rattle.p3_domain_separator.specs.SeparatorSeed.{seed_of_separator};
+ghost use Rattle.p3_domain_separator.specs.{Seed.AreSeedParts, SeparatorSeed.{seed_parts, seed_of_separator}};
 ghost use Rattle.p3_domain_separator.specs.declared.domain_separator.DomainSeparator.{DomainSeparator};
 
 use p3_symmetric::DigestHasher;
@@ -10,7 +9,6 @@ use p3_symmetric::DigestHasher;
 ///
 /// A law: the body is empty, and a caller cites the clauses.
 pub fn separators_have_seeds<U, D: DigestHasher>()
-    ensures parts { (s : DomainSeparator U D) →
-        AreSeedParts (parts_of D.digest_of s.protocol_id s.pattern.value s.instance_label.items) }
+    ensures parts { (s : DomainSeparator U D) → AreSeedParts (seed_parts D.digest_of s) }
     ensures bytes { (s : DomainSeparator U D) → AreBytes (seed_of_separator D.digest_of s) }
 {}

@@ -1,10 +1,7 @@
 -- Lists of values that went through the transcript, as they grow.
-use Rattle.std.proofs.Common.{◌≡◌, ℕ, ◌+◌, ◌-◌, ◌<◌, List, [], ◌∷◌, ◌++◌, Some}
-use Rattle.std.proofs.Common.{map}
-use Rattle.p3_challenger_core.specs.Sampling.{Sampling}
-use Rattle.p3_challenger_core.specs.DrawLaws.{Drew, drew-one_more, drew-as}
-use Rattle.p3_driver_core.specs.Bound.{bound_value}
-use Rattle.p3_driver_core.specs.BoundLaws.{values-more}
+use Rattle.std.proofs.{Common.{◌≡◌, ℕ, ◌+◌, ◌-◌, ◌<◌, List, [], ◌∷◌, ◌++◌, Some}, Common.map}
+use Rattle.p3_challenger_core.specs.{Sampling.Sampling, DrawLaws.{Drew, drew-one_more, drew-as}}
+use Rattle.p3_driver_core.specs.{Bound.bound_value, BoundLaws.values-more}
 use Rattle.p3_driver_core.specs.declared.bound.TranscriptBound.{TranscriptBound}
 
 -- a value more was drawn

@@ -5,20 +5,15 @@ use Rattle.std.proofs.Common.{arith, codes, refl}
 use Rattle.p3_field_core.specs.Residues.{Residues}
 use Rattle.p3_challenger_core.specs.Observation.{Observation, unrefused_observe}
 use Rattle.p3_challenger_core.specs.Sampling.{Sampling, draws, after_draws}
-use Rattle.p3_fs_core.specs.Encoding.{Encoding}
-use Rattle.p3_fs_core.specs.Packing.{packed, first_chunks}
-use Rattle.p3_fs_core.specs.Scalar as scalar
-use Rattle.p3_fs_core.specs.Steps.{Step}
-use Rattle.p3_fs_core.specs.declared.step.Kind.TheVariants.{Message, Salt}
-use Rattle.p3_fs_core.specs.declared.step.Length.TheVariants.{Fixed, Bounded}
-use Rattle.p3_fs_core.specs.Counts.{count_width, count_bytes}
-use Rattle.p3_fs_core.specs.Alphabet.{Alphabet, alphabet_of}
-use Rattle.p3_driver_core.specs.Effects.{Effect, drawing, drawing_list}
-use Rattle.p3_driver_core.specs.Meanings.{sent, sent_bounded, observed_bounded, sent_bytes_bounded, hinted}
-use Rattle.p3_driver_core.specs.Meanings.{hinted_bounded, sent_bytes}
-use Rattle.p3_driver_core.specs.Rejecting.{Rule, taken, keeps, drawing_rejecting}
+use Rattle.p3_fs_core.specs.{Encoding.Encoding, Packing.{packed, first_chunks}, Steps.Step}
+use Rattle.p3_fs_core.specs.declared.step.{Kind.TheVariants.{Message, Salt}, Length.TheVariants.{Fixed, Bounded}}
+use Rattle.p3_fs_core.specs.{Counts.{count_width, count_bytes}, Alphabet.{Alphabet, alphabet_of}}
 use Rattle.p3_fs_core.specs.Algebras.{algebra_of, algebra_step}
+use Rattle.p3_driver_core.specs.{Effects.{Effect, drawing, drawing_list}, Meanings.{hinted_bounded, sent_bytes}}
+use Rattle.p3_driver_core.specs.Meanings.{sent, sent_bounded, observed_bounded, sent_bytes_bounded, hinted}
+use Rattle.p3_driver_core.specs.Rejecting.{Rule, taken, keeps, drawing_rejecting}
 use Rattle.p3_driver_core.specs.Transcripts.{Meaning, IsOtherLength, bytes_step}
+use Rattle.p3_fs_core.specs.Scalar as scalar
 
 -- ---- counts
 
@@ -68,10 +63,8 @@ greatest_sent = refl
 
 -- 5 and 256 after their count, of at most three
 two_sent : let m = sent_bounded list_step in_field 3 kept encoded (5 ∷ 256 ∷ []) in
-    (m.wire ≡ 2 ∷ 0 ∷ 5 ∷ 1 ∷ 0 ∷ [])
-    × (m.effect.symbols ≡ 1 ∷ 2 ∷ 5 ∷ 256 ∷ [])
-    × (after_nine m ≡ 9 ∷ 1 ∷ 2 ∷ 5 ∷ 256 ∷ [])
-    × (m.effect.gives [] ≡ Some (5 ∷ 256 ∷ []))
+    (m.wire ≡ 2 ∷ 0 ∷ 5 ∷ 1 ∷ 0 ∷ []) × (m.effect.symbols ≡ 1 ∷ 2 ∷ 5 ∷ 256 ∷ [])
+    × (after_nine m ≡ 9 ∷ 1 ∷ 2 ∷ 5 ∷ 256 ∷ []) × (m.effect.gives [] ≡ Some (5 ∷ 256 ∷ []))
 unfolding count_width first_chunks
 two_sent = (refl, refl, refl, refl)
 
@@ -130,8 +123,7 @@ without_first [] = []
 without_first (x ∷ xs) = xs
 
 abbrev supply : Sampling (List ℕ) ℕ
-supply =
-    record { sampled = first_left; after = without_first; meets_limit = λ s. s ≡ []; may_leave = λ _ _. ⊥ }
+supply = record { sampled = first_left; after = without_first; meets_limit = λ s. s ≡ []; may_leave = λ _ _. ⊥ }
 
 -- what comes of draws, and what is left
 abbrev comes : {A : Type 0} → Effect (List ℕ) ℕ A → List ℕ → Option A × List ℕ

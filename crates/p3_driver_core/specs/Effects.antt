@@ -1,10 +1,10 @@
 -- What a step of a transcript does to the challenger.
 use Rattle.std.specs.Prelude.{◌≡◌, ℕ, ◌⊎◌, List, [], ◌++◌, length, flat_map, Option, Some, Result, MatchResult}
-use Rattle.p3_challenger_core.specs.Observation as observation
 use Rattle.p3_challenger_core.specs.Observation.{Observation, RefusesObserve}
 use Rattle.p3_challenger_core.specs.Sampling.{Sampling, RefusesDraw, RefusesDrawVec, draws, after_draws}
 use Rattle.p3_challenger_core.specs.declared.error.ChallengerError.{ChallengerError}
-use Rattle.p3_fs_core.specs.Alphabet.{Alphabet, RefusesBytes, LeavesItems}
+use Rattle.p3_fs_core.specs.{Alphabet.{Alphabet, RefusesBytes, LeavesItems}, Counts.count_bytes}
+use Rattle.p3_challenger_core.specs.Observation as observation
 
 -- What a step feeds, and that none of it is too long for the alphabet; what comes of it, which is none where a draw
 -- meets its limit; the state after it; and, where an error refuses it, what is left of a state.
@@ -15,21 +15,21 @@ pub record Effect (S Symbol A : Type 0) : Type 1 where
   pub after : S → S
   pub refuses : ChallengerError → S → S → Type 0
 
+-- what feeds these symbols, which fit any alphabet; what comes of it, the state after it, and what is left of a state
+-- where an error refuses it
+abbrev pub fitting : {S Symbol A : Type 0} → List Symbol → (S → Option A) → (S → S) →
+    (ChallengerError → S → S → Type 0) → Effect S Symbol A
+fitting symbols gives after refuses =
+    record { symbols = symbols; fits = Unit {0}; gives = gives; after = after; refuses = refuses }
+
 -- nothing is fed and nothing drawn
 abbrev pub untouched : {S Symbol A : Type 0} → A → Effect S Symbol A
-untouched x =
-    record { symbols = []; fits = Unit {0}; gives = λ _. Some x; after = λ s. s; refuses = λ _ _ _. ⊥ }
+untouched x = fitting [] (λ _. Some x) (λ s. s) (λ _ _ _. ⊥)
 
 -- a value is observed
 abbrev pub observing : {S Symbol A : Type 0} → Observation S Symbol A → A → Effect S Symbol A
 observing o x =
-    record {
-      symbols = o.symbols x;
-      fits = Unit {0};
-      gives = λ _. Some x;
-      after = λ s. o.observed s x;
-      refuses = λ e s t. RefusesObserve (o.may_leave s x) e t;
-    }
+    fitting (o.symbols x) (λ _. Some x) (λ s. o.observed s x) (λ e s t. RefusesObserve (o.may_leave s x) e t)
 
 -- the values of a list are observed one after another
 abbrev pub observing_list : {S Symbol A : Type 0} → Observation S Symbol A → List A → Effect S Symbol (List A)
@@ -37,50 +37,37 @@ observing_list o xs = observing (observation.in_row o) xs
 
 -- a byte string is observed
 abbrev pub observing_bytes : {S Symbol I : Type 0} → Alphabet S Symbol I → List ℕ → Effect S Symbol (List ℕ)
-observing_bytes a bytes =
-    record {
-      symbols = flat_map a.item.symbols (a.items bytes);
-      fits = a.is_too_long (length bytes) → ⊥;
-      gives = λ _. Some bytes;
-      after = λ s. observation.observed_all a.item.observed s (a.items bytes);
-      refuses = λ e s t. RefusesBytes (a.is_too_long (length bytes))
-          (LeavesItems a.item a.slice_may_leave s (a.items bytes)) s e t;
-    }
+observing_bytes a bytes = record {
+  symbols = flat_map a.item.symbols (a.items bytes);
+  fits = a.is_too_long (length bytes) → ⊥;
+  gives = λ _. Some bytes;
+  after = λ s. observation.observed_all a.item.observed s (a.items bytes);
+  refuses = λ e s t. RefusesBytes (a.is_too_long (length bytes))
+      (LeavesItems a.item a.slice_may_leave s (a.items bytes)) s e t;
+}
 
 -- a value is drawn
 abbrev pub drawing : {S Symbol A : Type 0} → Sampling S A → Effect S Symbol A
-drawing d =
-    record {
-      symbols = [];
-      fits = Unit {0};
-      gives = d.sampled;
-      after = d.after;
-      refuses = λ e s t. RefusesDraw d e s t;
-    }
+drawing d = fitting [] d.sampled d.after (λ e s t. RefusesDraw d e s t)
 
 -- so many values are drawn one after another, and the memory for them is asked for first
 abbrev pub drawing_list : {S Symbol A : Type 0} → Sampling S A → ℕ → Effect S Symbol (List A)
-drawing_list d n =
-    record {
-      symbols = [];
-      fits = Unit {0};
-      gives = draws d n;
-      after = after_draws d n;
-      refuses = λ e s t. RefusesDrawVec d n e s t;
-    }
+drawing_list d n = fitting [] (draws d n) (after_draws d n) (λ e s t. RefusesDrawVec d n e s t)
 
 -- one thing is done and then another, of which the answer is
 abbrev pub in_sequence : {S Symbol A B : Type 0} → Effect S Symbol A → Effect S Symbol B → Effect S Symbol B
-in_sequence first second =
-    record {
-      symbols = first.symbols ++ second.symbols;
-      fits = first.fits × second.fits;
-      gives = λ s. second.gives (first.after s);
-      after = λ s. second.after (first.after s);
-      refuses = λ e s t. first.refuses e s t ⊎ second.refuses e (first.after s) t;
-    }
+in_sequence first second = record {
+  symbols = first.symbols ++ second.symbols;
+  fits = first.fits × second.fits;
+  gives = λ s. second.gives (first.after s);
+  after = λ s. second.after (first.after s);
+  refuses = λ e s t. first.refuses e s t ⊎ second.refuses e (first.after s) t;
+}
+
+-- the count of so many values, of at most so many, is observed, and then the other thing is done
+abbrev pub after_count : {S Symbol I A : Type 0} → Alphabet S Symbol I → ℕ → ℕ → Effect S Symbol A → Effect S Symbol A
+after_count alphabet max n effect = in_sequence (observing_bytes alphabet (count_bytes max n)) effect
 
 -- a call has the effect, or is refused for an error
 abbrev pub Does : {S Symbol A R : Type 0} → Effect S Symbol A → S → Result R ChallengerError → S → Type 0
-Does effect s result t =
-    MatchResult result (λ _. effect.fits × (t ≡ effect.after s)) (λ e. effect.refuses e s t)
+Does effect s result t = MatchResult result (λ _. effect.fits × (t ≡ effect.after s)) (λ e. effect.refuses e s t)

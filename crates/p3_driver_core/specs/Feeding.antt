@@ -1,11 +1,8 @@
 -- What it is that a step feeds just the symbols that it names, that one draws alone, and that one does both.
 use Rattle.std.specs.Prelude.{◌≡◌, List, [], ◌∷◌, ◌++◌, IsSome}
-use Rattle.p3_challenger_core.specs.Sponge.{IsFed, IsStepsOn}
-use Rattle.p3_challenger_core.specs.Observation.{LeavesFed, LeavesAfter}
-use Rattle.p3_challenger_core.specs.Sampling.{RefusesDraw}
-use Rattle.p3_challenger_core.specs.declared.error.ChallengerError.{ChallengerError}
-use Rattle.p3_driver_core.specs.Effects.{Effect}
-use Rattle.p3_driver_core.specs.Working.{Work}
+use Rattle.p3_challenger_core.specs.{Sponge.{IsFed, IsStepsOn}, Observation.{LeavesFed, LeavesAfter}}
+use Rattle.p3_challenger_core.specs.{Sampling.RefusesDraw, declared.error.ChallengerError.ChallengerError}
+use Rattle.p3_driver_core.specs.{Effects.Effect, Working.Work}
 
 -- The effect feeds its symbols: the state after it is one to which just these were fed, and where it is refused, a
 -- front of them was. After a symbol no outputs are left that could be dropped, so there both hold exactly.
@@ -24,23 +21,21 @@ pub record OnlyDraws {S Symbol A : Type 0} (next : S → S) (effect : Effect S S
   pub steps : (s : S) → IsStepsOn next s (effect.after s)
   pub leaves : (e : ChallengerError) (s t : S) → effect.refuses e s t → IsStepsOn next s t
 
--- symbols are fed to a state, after some number of the smallest draws and before some
-pub record FedAmidDraws {S Symbol : Type 0} (next : S → S) (fed : S → List Symbol → S) (s : S) (symbols : List Symbol)
-    (t : S) : Type 0 where
+-- a state is fed so, after some number of the smallest draws and before some
+pub record AmidDraws {S : Type 0} (next : S → S) (IsFedSo : S → S → Type 0) (s t : S) : Type 0 where
   pub first : S
   pub last : S
   pub before : IsStepsOn next s first
-  pub feeds : IsFed fed first symbols last
+  pub feeds : IsFedSo first last
   pub after : IsStepsOn next last t
 
+-- symbols are fed to a state, after some number of the smallest draws and before some
+abbrev pub FedAmidDraws : {S Symbol : Type 0} → (S → S) → (S → List Symbol → S) → S → List Symbol → S → Type 0
+FedAmidDraws next fed s symbols t = AmidDraws next (λ u. IsFed fed u symbols) s t
+
 -- a front of them is
-pub record LeavesAmidDraws {S Symbol : Type 0} (next : S → S) (fed : S → List Symbol → S) (s : S)
-    (symbols : List Symbol) (t : S) : Type 0 where
-  pub first : S
-  pub last : S
-  pub before : IsStepsOn next s first
-  pub feeds : LeavesFed fed first symbols last
-  pub after : IsStepsOn next last t
+abbrev pub LeavesAmidDraws : {S Symbol : Type 0} → (S → S) → (S → List Symbol → S) → S → List Symbol → S → Type 0
+LeavesAmidDraws next fed s symbols t = AmidDraws next (λ u. LeavesFed fed u symbols) s t
 
 -- A check feeds the symbols of its witness, whether the witness passes or not, and draws before them and after them.
 -- Where the check is refused, a front of them was fed.

@@ -1,30 +1,23 @@
 -- Laws of what steps feed, and of what they draw.
 use Rattle.std.proofs.Common.{◌≡◌, ℕ, zero, suc, Bool, true, false, Option, Some, None, List, [], ◌∷◌, ◌++◌, length}
 use Rattle.std.proofs.Common.{refl, sym, ap, ◌∙◌, inl, inr, subst, append-nil, if◌then◌else◌, ◌⊎◌}
-use Rattle.std.proofs.Math.Seq.{take-length}
-use Rattle.std.specs.List.{flat_map}
-use Rattle.p3_challenger_core.specs.Sponge.{IsFed, IsStepsOn}
-use Rattle.p3_challenger_core.specs.Observation as observation
+use Rattle.std.{proofs.Math.Seq.take-length, specs.List.flat_map}
+use Rattle.p3_challenger_core.specs.{Sponge.{IsFed, IsStepsOn}, Observation.RefusesObserve}
 use Rattle.p3_challenger_core.specs.Observation.{Observation, IsObservation, LeavesFed, LeavesAfter, LeavesInCalls}
-use Rattle.p3_challenger_core.specs.Observation.{RefusesObserve}
 use Rattle.p3_challenger_core.specs.ObservationLaws.{nothing-fed, in_row-is_observation}
 use Rattle.p3_challenger_core.specs.Sampling.{Sampling, IsSampling, RefusesDraw, RefusesDrawVec, in_row}
 use Rattle.p3_challenger_core.specs.SamplingLaws.{no_steps, steps-then, in_row-is_sampling, refused-in_row}
 use Rattle.p3_challenger_core.specs.declared.error.ChallengerError.{ChallengerError}
-use Rattle.p3_challenger_core.specs.declared.error.ChallengerError.TheVariants.{DrawLimit, NoWitness, TooLong}
-use Rattle.p3_challenger_core.specs.declared.error.ChallengerError.TheVariants as challenger
-use Rattle.p3_fs_core.specs.Alphabet.{LeavesItems}
-use Rattle.p3_fs_core.specs.declared.error.TranscriptError.{TranscriptError}
-use Rattle.p3_fs_core.specs.declared.error.TranscriptError.TheVariants.{MissingBegin, InvalidKind, MismatchedBeginEnd}
-use Rattle.p3_fs_core.specs.declared.error.TranscriptError.TheVariants.{MissingEnd, BadProofShape, Pattern}
-use Rattle.p3_fs_core.specs.declared.error.TranscriptError.TheVariants.{Challenger, LabelTooLong, OutOfMemory}
-use Rattle.p3_fs_core.specs.Alphabet.{Alphabet}
+use Rattle.p3_challenger_core.specs.declared.error.ChallengerError.TheVariants.{DrawLimit, TooLong}
+use Rattle.p3_fs_core.specs.{Alphabet.LeavesItems, declared.error.TranscriptError.TranscriptError, Alphabet.Alphabet}
+use Rattle.p3_fs_core.specs.declared.error.TranscriptError.{TheVariants.Pattern, TheVariants.{Challenger, OutOfMemory}}
 use Rattle.p3_driver_core.specs.Effects.{Effect, untouched, observing, observing_list, observing_bytes}
-use Rattle.p3_driver_core.specs.Effects.{drawing, drawing_list, in_sequence}
-use Rattle.p3_driver_core.specs.Feeding.{Feeds, OnlyDraws}
+use Rattle.p3_driver_core.specs.{Effects.{drawing, drawing_list, in_sequence}, Feeding.{Feeds, OnlyDraws}}
 use Rattle.p3_driver_core.specs.Rejecting.{Rule, Outcome, given, go_on, taken, RefusesTaken, keeps, RefusesKeeps}
 use Rattle.p3_driver_core.specs.Rejecting.{drawing_rejecting}
 use Rattle.p3_driver_core.specs.Transcripts.{Meaning, Transcript, PlaysStep, RefusesStep, LeavesPart}
+use Rattle.p3_challenger_core.specs.Observation as observation
+use Rattle.p3_challenger_core.specs.declared.error.ChallengerError.TheVariants as challenger
 
 -- ---- steps that feed
 
@@ -39,13 +32,12 @@ module _ {S Symbol : Type 0} (fed : S → List Symbol → S) (fed_nothing : (s :
   unchanged-after symbols s y ys t is = (0, is ∙ ap (fed s) (sym (append-nil (y ∷ ys))))
 
   pub untouched-feeds : {A : Type 0} (x : A) → Feeds fed (untouched {Symbol = Symbol} x)
-  untouched-feeds x =
-      record {
-        feeds = λ s. nothing-fed fed fed_nothing fed_more s s refl;
-        feeds_after = λ s y ys. ap (fed s) (sym (append-nil (y ∷ ys)));
-        leaves = λ e s t h. absurd h;
-        leaves_after = λ e s y ys t h. absurd h;
-      }
+  untouched-feeds x = record {
+    feeds = λ s. nothing-fed fed fed_nothing fed_more s s refl;
+    feeds_after = λ s y ys. ap (fed s) (sym (append-nil (y ∷ ys)));
+    leaves = λ e s t h. absurd h;
+    leaves_after = λ e s y ys t h. absurd h;
+  }
 
   -- ---- values
 
@@ -53,26 +45,21 @@ module _ {S Symbol : Type 0} (fed : S → List Symbol → S) (fed_nothing : (s :
     value-leaves : (x : T) (e : ChallengerError) (s t : S) → RefusesObserve (o.may_leave s x) e t →
         LeavesFed fed s (o.symbols x) t
     value-leaves x challenger.OutOfMemory s t h = laws.leaves s x t h
-    value-leaves x DrawLimit s t h = absurd h
-    value-leaves x NoWitness s t h = absurd h
-    value-leaves x TooLong s t h = absurd h
+    value-leaves x e s t h = absurd h
 
     value-leaves_after : (x : T) (e : ChallengerError) (s : S) (y : Symbol) (ys : List Symbol) (t : S) →
         RefusesObserve (o.may_leave (fed s (y ∷ ys)) x) e t → LeavesAfter fed s (y ∷ ys) (o.symbols x) t
     value-leaves_after x challenger.OutOfMemory s y ys t h = laws.leaves_after s y ys x t h
-    value-leaves_after x DrawLimit s y ys t h = absurd h
-    value-leaves_after x NoWitness s y ys t h = absurd h
-    value-leaves_after x TooLong s y ys t h = absurd h
+    value-leaves_after x e s y ys t h = absurd h
 
     -- a value that is observed
     pub observing-feeds : (x : T) → Feeds fed (observing o x)
-    observing-feeds x =
-        record {
-          feeds = λ s. laws.observes s x;
-          feeds_after = λ s y ys. laws.observes_after s y ys x;
-          leaves = value-leaves x;
-          leaves_after = value-leaves_after x;
-        }
+    observing-feeds x = record {
+      feeds = λ s. laws.observes s x;
+      feeds_after = λ s y ys. laws.observes_after s y ys x;
+      leaves = value-leaves x;
+      leaves_after = value-leaves_after x;
+    }
 
   -- the values of a list
   pub observing_list-feeds : {T : Type 0} (o : Observation S Symbol T) → IsObservation fed o → (xs : List T) →
@@ -99,26 +86,23 @@ module _ {S Symbol : Type 0} (fed : S → List Symbol → S) (fed_nothing : (s :
     bytes-leave : (e : ChallengerError) (s t : S) → (observing_bytes a bytes).refuses e s t →
         LeavesFed fed s symbols_of_bytes t
     bytes-leave challenger.OutOfMemory s t h = row.leaves s (a.items bytes) t (items-leave s (a.items bytes) t h.1)
-    bytes-leave DrawLimit s t h = absurd h
-    bytes-leave NoWitness s t h = absurd h
     bytes-leave TooLong s t h = unchanged-fed symbols_of_bytes s t h.1
+    bytes-leave e s t h = absurd h
 
     bytes-leave_after : (e : ChallengerError) (s : S) (y : Symbol) (ys : List Symbol) (t : S) →
         (observing_bytes a bytes).refuses e (fed s (y ∷ ys)) t → LeavesAfter fed s (y ∷ ys) symbols_of_bytes t
     bytes-leave_after challenger.OutOfMemory s y ys t h =
         row.leaves_after s y ys (a.items bytes) t (items-leave (fed s (y ∷ ys)) (a.items bytes) t h.1)
-    bytes-leave_after DrawLimit s y ys t h = absurd h
-    bytes-leave_after NoWitness s y ys t h = absurd h
     bytes-leave_after TooLong s y ys t h = unchanged-after symbols_of_bytes s y ys t h.1
+    bytes-leave_after e s y ys t h = absurd h
 
     pub observing_bytes-feeds : Feeds fed (observing_bytes a bytes)
-    observing_bytes-feeds =
-        record {
-          feeds = λ s. row.observes s (a.items bytes);
-          feeds_after = λ s y ys. row.observes_after s y ys (a.items bytes);
-          leaves = bytes-leave;
-          leaves_after = bytes-leave_after;
-        }
+    observing_bytes-feeds = record {
+      feeds = λ s. row.observes s (a.items bytes);
+      feeds_after = λ s y ys. row.observes_after s y ys (a.items bytes);
+      leaves = bytes-leave;
+      leaves_after = bytes-leave_after;
+    }
 
   -- ---- one step after another, as two calls of one observation
 
@@ -158,8 +142,7 @@ module _ {S Symbol : Type 0} (fed : S → List Symbol → S) (fed_nothing : (s :
     call-leaves_after s y ys false t h = other.leaves_after h.0 s y ys t h.1
 
     calls-are_observation : IsObservation fed (observation.in_row call)
-    calls-are_observation =
-        in_row-is_observation fed fed_nothing fed_more call
+    calls-are_observation = in_row-is_observation fed fed_nothing fed_more call
         (record {
           observes = call-observes;
           observes_after = call-observes_after;
@@ -179,17 +162,16 @@ module _ {S Symbol : Type 0} (fed : S → List Symbol → S) (fed_nothing : (s :
     call-refused e s t (inr h) = inr (inl (e, h))
 
     pub in_sequence-feeds : Feeds fed (in_sequence first second)
-    in_sequence-feeds =
-        record {
-          feeds = λ s. subst (λ a. IsFed fed s a (second.after (first.after s))) same_symbols
-              (calls-are_observation.observes s calls);
-          feeds_after = λ s y ys. calls-are_observation.observes_after s y ys calls
-              ∙ ap (λ a. fed s ((y ∷ ys) ++ a)) same_symbols;
-          leaves = λ e s t h. subst (λ a. LeavesFed fed s a t) same_symbols
-              (calls-are_observation.leaves s calls t (call-refused e s t h));
-          leaves_after = λ e s y ys t h. subst (λ a. LeavesAfter fed s (y ∷ ys) a t) same_symbols
-              (calls-are_observation.leaves_after s y ys calls t (call-refused e (fed s (y ∷ ys)) t h));
-        }
+    in_sequence-feeds = record {
+      feeds = λ s. subst (λ a. IsFed fed s a (second.after (first.after s))) same_symbols
+          (calls-are_observation.observes s calls);
+      feeds_after = λ s y ys. calls-are_observation.observes_after s y ys calls
+          ∙ ap (λ a. fed s ((y ∷ ys) ++ a)) same_symbols;
+      leaves = λ e s t h. subst (λ a. LeavesFed fed s a t) same_symbols
+          (calls-are_observation.leaves s calls t (call-refused e s t h));
+      leaves_after = λ e s y ys t h. subst (λ a. LeavesAfter fed s (y ∷ ys) a t) same_symbols
+          (calls-are_observation.leaves_after s y ys calls t (call-refused e (fed s (y ∷ ys)) t h));
+    }
 
   -- ---- steps as drivers play them
 
@@ -206,25 +188,17 @@ module _ {S Symbol : Type 0} (fed : S → List Symbol → S) (fed_nothing : (s :
     -- a step that is played has fed its symbols
     pub played-fed : (x : A) → PlaysStep m before x after →
         IsFed fed before.challenger m.effect.symbols after.challenger
-    played-fed x plays =
-        subst (λ t. IsFed fed before.challenger m.effect.symbols t) (sym plays.challenger)
-        (is.feeds before.challenger)
+    played-fed x plays = subst (λ t. IsFed fed before.challenger m.effect.symbols t)
+        (sym plays.challenger) (is.feeds before.challenger)
 
     -- one that is refused, for whatever reason, has fed a front of them
     pub refused-fed : (e : TranscriptError) → RefusesStep m before e after →
         LeavesFed fed before.challenger m.effect.symbols after.challenger
     refused-fed (Pattern e) h = unchanged-fed m.effect.symbols before.challenger after.challenger h.challenger
     refused-fed (Challenger challenger.OutOfMemory) h = absurd h
-    refused-fed (Challenger DrawLimit) h = is.leaves DrawLimit before.challenger after.challenger h.leaves
-    refused-fed (Challenger NoWitness) h = is.leaves NoWitness before.challenger after.challenger h.leaves
-    refused-fed (Challenger TooLong) h = is.leaves TooLong before.challenger after.challenger h.leaves
+    refused-fed (Challenger e) h = is.leaves e before.challenger after.challenger h.leaves
     refused-fed OutOfMemory h = beginning-fed m.effect is before.challenger after.challenger h.leaves
-    refused-fed (MissingBegin info) h = absurd h
-    refused-fed (InvalidKind info) h = absurd h
-    refused-fed (MismatchedBeginEnd info) h = absurd h
-    refused-fed (MissingEnd info) h = absurd h
-    refused-fed (BadProofShape reason) h = absurd h
-    refused-fed LabelTooLong h = absurd h
+    refused-fed e h = absurd h
 
 -- ---- steps that draw
 
@@ -232,22 +206,16 @@ module _ {S : Type 0} (next : S → S) where
   unchanged-steps : (s t : S) → t ≡ s → IsStepsOn next s t
   unchanged-steps s t is = (0, is)
 
-  pub untouched-draws : {Symbol A : Type 0} (x : A) → OnlyDraws next (untouched {Symbol = Symbol} x)
-  untouched-draws x = record { no_symbols = refl; steps = no_steps next; leaves = λ e s t h. absurd h }
-
   -- refused for memory with nothing drawn
   memory-steps : (e : ChallengerError) (s t : S) → RefusesObserve (λ u. u ≡ s) e t → IsStepsOn next s t
   memory-steps challenger.OutOfMemory s t h = unchanged-steps s t h
-  memory-steps DrawLimit s t h = absurd h
-  memory-steps NoWitness s t h = absurd h
-  memory-steps TooLong s t h = absurd h
+  memory-steps e s t h = absurd h
 
   module _ {T : Type 0} (d : Sampling S T) (laws : IsSampling next d) where
     draw-leaves : (e : ChallengerError) (s t : S) → RefusesDraw d e s t → IsStepsOn next s t
     draw-leaves challenger.OutOfMemory s t h = laws.leaves s t h
     draw-leaves DrawLimit s t h = subst (λ u. IsStepsOn next s u) (sym h.1) (laws.steps s)
-    draw-leaves NoWitness s t h = absurd h
-    draw-leaves TooLong s t h = absurd h
+    draw-leaves e s t h = absurd h
 
     -- a value that is drawn
     pub drawing-draws : {Symbol : Type 0} → OnlyDraws next (drawing {Symbol = Symbol} d)
@@ -281,12 +249,10 @@ module _ {S : Type 0} (next : S → S) where
     taken-steps : (n : ℕ) (kept : List T) (s : S) → IsStepsOn next s (taken d rule n kept s).after
     unfolding taken
     taken-steps zero kept s = no_steps next s
-    taken-steps (suc more) kept s =
-        on-steps (λ x t. if rule x kept then given x t else taken d rule more kept t) (d.sampled s) s (d.after s)
-        (laws.steps s)
-        (λ x. choose-steps (rule x kept) (given x (d.after s)) (taken d rule more kept (d.after s)) s (laws.steps s)
-        (steps-then next s (d.after s) (taken d rule more kept (d.after s)).after (laws.steps s)
-        (taken-steps more kept (d.after s))))
+    taken-steps (suc more) kept s = on-steps (λ x t. if rule x kept then given x t else taken d rule more kept t)
+        (d.sampled s) s (d.after s) (laws.steps s) (λ x. choose-steps
+        (rule x kept) (given x (d.after s)) (taken d rule more kept (d.after s)) s (laws.steps s) (steps-then next
+        s (d.after s) (taken d rule more kept (d.after s)).after (laws.steps s) (taken-steps more kept (d.after s))))
 
     taken-leaves : (n : ℕ) (kept : List T) (e : ChallengerError) (s t : S) → RefusesTaken d rule n kept e s t →
         IsStepsOn next s t
@@ -302,9 +268,8 @@ module _ {S : Type 0} (next : S → S) where
     keeps-steps limit (suc more) kept s =
         let here = (taken d rule limit kept s).after in
         on-steps (λ x t. keeps d rule limit more (kept ++ (x ∷ [])) t) (taken d rule limit kept s).gives s here
-        (taken-steps limit kept s)
-        (λ x. steps-then next s here (keeps d rule limit more (kept ++ (x ∷ [])) here).after (taken-steps limit kept s)
-        (keeps-steps limit more (kept ++ (x ∷ [])) here))
+        (taken-steps limit kept s) (λ x. steps-then next s here (keeps d rule limit more (kept ++ (x ∷ [])) here).after
+        (taken-steps limit kept s) (keeps-steps limit more (kept ++ (x ∷ [])) here))
 
     keeps-leaves : (limit n : ℕ) (kept : List T) (e : ChallengerError) (s t : S) →
         RefusesKeeps d rule limit n kept e s t → IsStepsOn next s t
@@ -313,8 +278,7 @@ module _ {S : Type 0} (next : S → S) where
     keeps-leaves limit (suc more) kept e s t (inl h) = taken-leaves limit kept e s t h
     keeps-leaves limit (suc more) kept e s t (inr h) =
         let here = (taken d rule limit kept s).after in
-        steps-then next s here t (taken-steps limit kept s)
-        (keeps-leaves limit more (kept ++ (h.0 ∷ [])) e here t h.2)
+        steps-then next s here t (taken-steps limit kept s) (keeps-leaves limit more (kept ++ (h.0 ∷ [])) e here t h.2)
 
     rejecting-leaves : (limit n : ℕ) (e : ChallengerError) (s t : S) →
         RefusesObserve (λ u. u ≡ s) e t ⊎ RefusesKeeps d rule limit n [] e s t → IsStepsOn next s t
@@ -326,23 +290,6 @@ module _ {S : Type 0} (next : S → S) where
     drawing_rejecting-draws limit n =
         record { no_symbols = refl; steps = keeps-steps limit n []; leaves = rejecting-leaves limit n }
 
-  -- one draw after another
-  module _ {Symbol A B : Type 0} (first : Effect S Symbol A) (second : Effect S Symbol B) (one : OnlyDraws next first)
-      (other : OnlyDraws next second) where
-    turns-leave : (e : ChallengerError) (s t : S) → (in_sequence first second).refuses e s t → IsStepsOn next s t
-    turns-leave e s t (inl h) = one.leaves e s t h
-    turns-leave e s t (inr h) =
-        steps-then next s (first.after s) t (one.steps s) (other.leaves e (first.after s) t h)
-
-    pub in_sequence-draws : OnlyDraws next (in_sequence first second)
-    in_sequence-draws =
-        record {
-          no_symbols = ap (λ a. a ++ second.symbols) one.no_symbols ∙ other.no_symbols;
-          steps = λ s. steps-then next s (first.after s) (second.after (first.after s)) (one.steps s)
-              (other.steps (first.after s));
-          leaves = turns-leave;
-        }
-
   -- being out of memory leaves a state after some number of the smallest draws
   pub beginning-drawn : {Symbol A : Type 0} (effect : Effect S Symbol A) → OnlyDraws next effect → (s t : S) →
       LeavesPart effect s t → IsStepsOn next s t
@@ -352,23 +299,11 @@ module _ {S : Type 0} (next : S → S) where
 
   module _ {Symbol A : Type 0} (m : Meaning S Symbol A) (is : OnlyDraws next m.effect)
       (before after : Transcript S) where
-    -- a step that is played has made some number of the smallest draws
-    pub played-drawn : (x : A) → PlaysStep m before x after → IsStepsOn next before.challenger after.challenger
-    played-drawn x plays =
-        subst (λ t. IsStepsOn next before.challenger t) (sym plays.challenger) (is.steps before.challenger)
-
-    -- so has one that is refused, for whatever reason
+    -- a step that is refused, for whatever reason, has made some number of the smallest draws
     pub refused-drawn : (e : TranscriptError) → RefusesStep m before e after →
         IsStepsOn next before.challenger after.challenger
     refused-drawn (Pattern e) h = unchanged-steps before.challenger after.challenger h.challenger
     refused-drawn (Challenger challenger.OutOfMemory) h = absurd h
-    refused-drawn (Challenger DrawLimit) h = is.leaves DrawLimit before.challenger after.challenger h.leaves
-    refused-drawn (Challenger NoWitness) h = is.leaves NoWitness before.challenger after.challenger h.leaves
-    refused-drawn (Challenger TooLong) h = is.leaves TooLong before.challenger after.challenger h.leaves
+    refused-drawn (Challenger e) h = is.leaves e before.challenger after.challenger h.leaves
     refused-drawn OutOfMemory h = beginning-drawn m.effect is before.challenger after.challenger h.leaves
-    refused-drawn (MissingBegin info) h = absurd h
-    refused-drawn (InvalidKind info) h = absurd h
-    refused-drawn (MismatchedBeginEnd info) h = absurd h
-    refused-drawn (MissingEnd info) h = absurd h
-    refused-drawn (BadProofShape reason) h = absurd h
-    refused-drawn LabelTooLong h = absurd h
+    refused-drawn e h = absurd h

@@ -1,17 +1,12 @@
 -- What the steps of a transcript mean, each computed from the step and its values.
 use Rattle.std.specs.Prelude.{ℕ, List, ◌++◌, length, flat_map}
-use Rattle.p3_challenger_core.specs.Observation.{Observation}
-use Rattle.p3_challenger_core.specs.Sampling.{Sampling}
-use Rattle.p3_fs_core.specs.Encoding.{Encoding}
-use Rattle.p3_fs_core.specs.Steps.{Step}
-use Rattle.p3_fs_core.specs.declared.step.Kind.{Kind}
-use Rattle.p3_fs_core.specs.declared.step.Kind.TheVariants.{Hint}
-use Rattle.p3_fs_core.specs.declared.step.Length.TheVariants.{Fixed, Bounded}
-use Rattle.p3_fs_core.specs.Counts.{count_bytes}
+use Rattle.p3_challenger_core.specs.{Observation.Observation, Sampling.Sampling}
+use Rattle.p3_fs_core.specs.{Encoding.Encoding, Steps.Step, declared.step.Kind.Kind, Counts.count_bytes}
+use Rattle.p3_fs_core.specs.declared.step.{Kind.TheVariants.Hint, Length.TheVariants.{Fixed, Bounded}}
 use Rattle.p3_fs_core.specs.Alphabet.{Alphabet}
 use Rattle.p3_driver_core.specs.Effects.{untouched, observing, observing_list, observing_bytes, drawing}
-use Rattle.p3_driver_core.specs.Effects.{drawing_list, in_sequence}
-use Rattle.p3_driver_core.specs.Transcripts.{Meaning, without_wire, bytes_step}
+use Rattle.p3_driver_core.specs.Effects.{drawing_list, after_count}
+use Rattle.p3_driver_core.specs.Transcripts.{Meaning, with_wire, without_wire, bytes_step}
 
 -- a container is opened or closed
 abbrev pub marked : {S Symbol : Type 0} → Step → Meaning S Symbol (Unit {0})
@@ -23,22 +18,16 @@ observed interaction o x = without_wire interaction (observing o x)
 
 -- a value is sent
 abbrev pub sent : {S Symbol A : Type 0} → Step → Observation S Symbol A → Encoding A → A → Meaning S Symbol A
-sent interaction o e x = record { interaction = interaction; effect = observing o x; wire = e.wire x }
+sent interaction o e x = with_wire interaction (observing o x) (e.wire x)
 
 -- bytes are sent as they are
-abbrev pub sent_bytes : {S Symbol I : Type 0} → Kind → List ℕ → Alphabet S Symbol I → List ℕ →
-    Meaning S Symbol (List ℕ)
+abbrev pub sent_bytes : {S Symbol I : Type 0} → Kind → List ℕ → Alphabet S Symbol I → List ℕ → Meaning S Symbol (List ℕ)
 sent_bytes kind label alphabet bytes =
-    record {
-      interaction = bytes_step kind label (Fixed (length bytes));
-      effect = observing_bytes alphabet bytes;
-      wire = bytes;
-    }
+    with_wire (bytes_step kind label (Fixed (length bytes))) (observing_bytes alphabet bytes) bytes
 
 -- bytes are sent that the challenger takes no part in
 abbrev pub hinted : {S Symbol : Type 0} → List ℕ → List ℕ → Meaning S Symbol (List ℕ)
-hinted label bytes =
-    record { interaction = bytes_step Hint label (Fixed (length bytes)); effect = untouched bytes; wire = bytes }
+hinted label bytes = with_wire (bytes_step Hint label (Fixed (length bytes))) (untouched bytes) bytes
 
 -- a value is drawn
 abbrev pub drawn : {S Symbol A : Type 0} → Step → Sampling S A → Meaning S Symbol A
@@ -54,43 +43,29 @@ observed_list interaction o xs = without_wire interaction (observing_list o xs)
 abbrev pub observed_bounded : {S Symbol I A : Type 0} → Step → Alphabet S Symbol I → ℕ → Observation S Symbol A →
     List A → Meaning S Symbol (List A)
 observed_bounded interaction alphabet max o xs =
-    without_wire interaction (in_sequence (observing_bytes alphabet (count_bytes max (length xs)))
-    (observing_list o xs))
+    without_wire interaction (after_count alphabet max (length xs) (observing_list o xs))
 
 -- the values of a list are sent
 abbrev pub sent_list : {S Symbol A : Type 0} → Step → Observation S Symbol A → Encoding A → List A →
     Meaning S Symbol (List A)
-sent_list interaction o e xs =
-    record { interaction = interaction; effect = observing_list o xs; wire = flat_map e.wire xs }
+sent_list interaction o e xs = with_wire interaction (observing_list o xs) (flat_map e.wire xs)
 
 -- the same after their count, of a list of at most so many
 abbrev pub sent_bounded : {S Symbol I A : Type 0} → Step → Alphabet S Symbol I → ℕ → Observation S Symbol A →
     Encoding A → List A → Meaning S Symbol (List A)
-sent_bounded interaction alphabet max o e xs =
-    record {
-      interaction = interaction;
-      effect = in_sequence (observing_bytes alphabet (count_bytes max (length xs))) (observing_list o xs);
-      wire = count_bytes max (length xs) ++ flat_map e.wire xs;
-    }
+sent_bounded interaction alphabet max o e xs = with_wire interaction
+    (after_count alphabet max (length xs) (observing_list o xs)) (count_bytes max (length xs) ++ flat_map e.wire xs)
 
 -- bytes are sent after their count, at most so many
 abbrev pub sent_bytes_bounded : {S Symbol I : Type 0} → Kind → List ℕ → Alphabet S Symbol I → ℕ → List ℕ →
     Meaning S Symbol (List ℕ)
-sent_bytes_bounded kind label alphabet max bytes =
-    record {
-      interaction = bytes_step kind label (Bounded max);
-      effect = in_sequence (observing_bytes alphabet (count_bytes max (length bytes))) (observing_bytes alphabet bytes);
-      wire = count_bytes max (length bytes) ++ bytes;
-    }
+sent_bytes_bounded kind label alphabet max bytes = with_wire (bytes_step kind label (Bounded max))
+    (after_count alphabet max (length bytes) (observing_bytes alphabet bytes)) (count_bytes max (length bytes) ++ bytes)
 
 -- bytes are sent after their count that the challenger takes no part in, at most so many
 abbrev pub hinted_bounded : {S Symbol : Type 0} → List ℕ → ℕ → List ℕ → Meaning S Symbol (List ℕ)
 hinted_bounded label max bytes =
-    record {
-      interaction = bytes_step Hint label (Bounded max);
-      effect = untouched bytes;
-      wire = count_bytes max (length bytes) ++ bytes;
-    }
+    with_wire (bytes_step Hint label (Bounded max)) (untouched bytes) (count_bytes max (length bytes) ++ bytes)
 
 -- so many values are drawn
 abbrev pub drawn_list : {S Symbol A : Type 0} → Step → Sampling S A → ℕ → Meaning S Symbol (List A)

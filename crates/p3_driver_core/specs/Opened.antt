@@ -3,17 +3,11 @@ use Rattle.std.specs.Prelude.{◌≡◌, ◌||◌, true}
 use Rattle.p3_fs_core.specs.Steps.{Step}
 use Rattle.p3_patterns.specs.Playing.{Playing}
 use Rattle.p3_symmetric.specs.declared.digest_hasher.DigestHasher.{Ghosts}
-use Rattle.p3_driver_core.specs.Transcripts.{Transcript, IsNext, step_on}
-use Rattle.p3_driver_core.specs.declared.steps.Steps.{Steps}
+use Rattle.p3_driver_core.specs.{Transcripts.{Transcript, IsNext, step_on}, declared.steps.Steps.Steps}
 
 -- a driver's pattern as it is played: nothing may follow while a step is open, or after one was given up
 abbrev pub playing_of : {D : Type 0} {hasher : Ghosts D} → Steps D hasher → Playing
-playing_of s =
-    record {
-      pattern = s.player.pattern;
-      position = s.player.position;
-      finished = s.closed || s.player.finished;
-    }
+playing_of s = record (s.player) { finished = s.closed || s.player.finished }
 
 -- the step is the next one, and it is open now
 pub record Opens {D : Type 0} {hasher : Ghosts D} (before : Steps D hasher) (s : Step)

@@ -1,12 +1,10 @@
 -- What a step makes of a prover.
 use Rattle.std.specs.Prelude.{◌≡◌, ◌≤◌, ◌⊎◌, ◌++◌, ℕ, take, Result, MatchResult}
-use Rattle.p3_fs_core.specs.declared.error.TranscriptError.{TranscriptError}
-use Rattle.p3_fs_core.specs.declared.error.TranscriptError.TheVariants.{OutOfMemory}
+use Rattle.p3_fs_core.specs.declared.error.{TranscriptError.TranscriptError, TranscriptError.TheVariants.OutOfMemory}
 use Rattle.p3_fs_core.specs.Encoding.{Encoding}
 use Rattle.p3_grinding.specs.Checks.{IsLeast}
-use Rattle.p3_driver_core.specs.Driving.{Driving}
+use Rattle.p3_driver_core.specs.{Driving.Driving, Transcripts.{Abandons, OfCall}}
 use Rattle.p3_driver_core.specs.Transcripts.{Meaning, PlaysStep, RefusesStep, RefusesLength, LeavesWire}
-use Rattle.p3_driver_core.specs.Transcripts.{Abandons}
 use Rattle.p3_driver_core.specs.Working.{Work, sent_work, RefusesToGrind, GrindsOrRefuses}
 
 -- the step is played, and its bytes are added
@@ -24,8 +22,7 @@ pub record RefusesToWrite {S Symbol A : Type 0} (m : Meaning S Symbol A) (before
   pub order : (after.bytes ≡ before.bytes) ⊎ (after.transcript.challenger ≡ m.effect.after before.transcript.challenger)
 
 -- the step is played, and the answer is what came of it; or it is refused
-abbrev pub WritesOrRefuses : {S Symbol A R : Type 0} → Meaning S Symbol A → Driving S → (R → A) →
-    Result R TranscriptError → Driving S → Type 0
+abbrev pub WritesOrRefuses : {S Symbol A R : Type 0} → Meaning S Symbol A → OfCall (Driving S) R A
 WritesOrRefuses m before value result after =
     MatchResult result (λ r. Writes m before (value r) after) (λ e. RefusesToWrite m before e after)
 
@@ -38,14 +35,12 @@ pub record RefusesLongList {S : Type 0} (len max : ℕ) (before : Driving S) (e 
   pub challenger : after.transcript.challenger ≡ before.transcript.challenger
   pub bytes : after.bytes ≡ before.bytes
 
-abbrev pub WritesWithin : {S Symbol A R : Type 0} → ℕ → ℕ → Meaning S Symbol A → Driving S → (R → A) →
-    Result R TranscriptError → Driving S → Type 0
+abbrev pub WritesWithin : {S Symbol A R : Type 0} → ℕ → ℕ → Meaning S Symbol A → OfCall (Driving S) R A
 WritesWithin len max m before value result after =
     MatchResult result (λ r. (len ≤ max) × Writes m before (value r) after)
     (λ e. RefusesLongList len max before e after ⊎ ((len ≤ max) × RefusesToWrite m before e after))
 
-abbrev pub KeepsWithin : {S Symbol A R : Type 0} → ℕ → ℕ → Meaning S Symbol A → Driving S → (R → A) →
-    Result R TranscriptError → Driving S → Type 0
+abbrev pub KeepsWithin : {S Symbol A R : Type 0} → ℕ → ℕ → Meaning S Symbol A → OfCall (Driving S) R A
 KeepsWithin len max m before value result after =
     MatchResult result (λ r. (len ≤ max) × PlaysStep m before.transcript (value r) after.transcript)
     (λ e. RefusesLongList len max before e after ⊎ ((len ≤ max) × RefusesStep m before.transcript e after.transcript))
@@ -65,15 +60,12 @@ pub record Unwritten {S Symbol W : Type 0} (work : Work S Symbol W) (enc : Encod
 -- the step is played: the least witness that passes is found, and its bytes are added; or the step is refused
 abbrev pub GrindsAndWrites : {S Symbol W R : Type 0} → Work S Symbol W → Encoding W → (S → Type 0) → Driving S →
     Result R TranscriptError → Driving S → Type 0
-GrindsAndWrites {S} {Symbol} {W} work enc may_run_out before result after =
-    MatchResult result
-    (λ _. (x : W) × IsLeast work.residues work.check before.transcript.challenger x
-    × Writes (sent_work work enc x) before x after)
+GrindsAndWrites {S} {Symbol} {W} work enc may_run_out before result after = MatchResult result (λ _. (x : W)
+    × IsLeast work.residues work.check before.transcript.challenger x × Writes (sent_work work enc x) before x after)
     (λ e. (RefusesToGrind work may_run_out before.transcript e after.transcript × (after.bytes ≡ before.bytes))
     ⊎ Unwritten work enc before e after)
 
 -- the same where the answer is the witness, and the proof stays as it is
-abbrev pub GrindsAndKeeps : {S Symbol W R : Type 0} → Work S Symbol W → (S → Type 0) → Driving S → (R → W) →
-    Result R TranscriptError → Driving S → Type 0
+abbrev pub GrindsAndKeeps : {S Symbol W R : Type 0} → Work S Symbol W → (S → Type 0) → OfCall (Driving S) R W
 GrindsAndKeeps work may_run_out before value result after =
     GrindsOrRefuses work may_run_out before.transcript value result after.transcript × (after.bytes ≡ before.bytes)

@@ -1,15 +1,12 @@
 -- Drawing until a rule has taken so many of the candidates.
 use Rattle.std.specs.Prelude.{◌≡◌, ℕ, zero, suc, ◌<◌, Bool, true, false, List, [], ◌∷◌, ◌++◌, length, ◌⊎◌, Option, Some}
-use Rattle.std.specs.Prelude.{None, Result, MatchResult, if◌then◌else◌}
-use Rattle.std.specs.Fn.{Shared}
+use Rattle.std.specs.{Prelude.{None, Result, MatchResult, if◌then◌else◌}, Fn.Shared}
 use denote.Ref.{Bor}
-use Rattle.p3_challenger_core.specs.Observation.{RefusesObserve}
-use Rattle.p3_challenger_core.specs.Sampling.{Sampling, RefusesDraw, draws, after_draws}
+use Rattle.p3_challenger_core.specs.{Observation.RefusesObserve, Sampling.{Sampling, RefusesDraw, draws, after_draws}}
 use Rattle.p3_challenger_core.specs.declared.error.ChallengerError.{ChallengerError}
 use Rattle.p3_challenger_core.specs.declared.error.ChallengerError.TheVariants.{DrawLimit}
 use Rattle.p3_fs_core.specs.Steps.{Step}
-use Rattle.p3_driver_core.specs.Effects.{Effect}
-use Rattle.p3_driver_core.specs.Transcripts.{Meaning, without_wire}
+use Rattle.p3_driver_core.specs.{Effects.{Effect, fitting}, Transcripts.{Meaning, without_wire}}
 
 -- of a candidate and those kept so far, whether the candidate is kept too
 abbrev pub Rule : Type 0 → Type 0
@@ -50,8 +47,7 @@ module _ {S T : Type 0} (d : Sampling S T) (rule : Rule T) where
   -- before it
   unfoldable pub RefusesTaken : ℕ → List T → ChallengerError → S → S → Type 0
   RefusesTaken zero kept e s t = (e ≡ DrawLimit) × (t ≡ s)
-  RefusesTaken (suc more) kept e s t =
-      RefusesDraw d e s t
+  RefusesTaken (suc more) kept e s t = RefusesDraw d e s t
       ⊎ ((x : T) × (d.sampled s ≡ Some x) × (rule x kept ≡ false) × RefusesTaken more kept e (d.after s) t)
 
   -- so many candidates more are kept, in order, where at most so many in a row may be refused; the count of these
@@ -74,17 +70,11 @@ module _ {S T : Type 0} (d : Sampling S T) (rule : Rule T) where
 -- row meet the limit.
 abbrev pub drawing_rejecting : {S Symbol T : Type 0} → Sampling S T → Rule T → ℕ → ℕ → Effect S Symbol (List T)
 drawing_rejecting d rule limit n =
-    record {
-      symbols = [];
-      fits = Unit {0};
-      gives = λ s. (keeps d rule limit n [] s).gives;
-      after = λ s. (keeps d rule limit n [] s).after;
-      refuses = λ e s t. RefusesObserve (λ u. u ≡ s) e t ⊎ RefusesKeeps d rule limit n [] e s t;
-    }
+    fitting [] (λ s. (keeps d rule limit n [] s).gives) (λ s. (keeps d rule limit n [] s).after)
+    (λ e s t. RefusesObserve (λ u. u ≡ s) e t ⊎ RefusesKeeps d rule limit n [] e s t)
 
 -- values are drawn until the rule has taken so many
-abbrev pub drawn_rejecting : {S Symbol T : Type 0} → Step → Sampling S T → Rule T → ℕ → ℕ →
-    Meaning S Symbol (List T)
+abbrev pub drawn_rejecting : {S Symbol T : Type 0} → Step → Sampling S T → Rule T → ℕ → ℕ → Meaning S Symbol (List T)
 drawn_rejecting interaction d rule limit n = without_wire interaction (drawing_rejecting d rule limit n)
 
 -- a call draws a candidate that the rule takes, or is refused
@@ -95,8 +85,7 @@ Takes d rule limit kept s result t =
 -- a call draws candidates until the rule has taken so many, or is refused; the memory for them is asked for first
 abbrev pub TakesAll : {S T R : Type 0} → Sampling S T → Rule T → ℕ → ℕ → (R → List T) → S → Result R ChallengerError →
     S → Type 0
-TakesAll d rule limit n values s result t =
-    MatchResult result (λ r. keeps d rule limit n [] s ≡ given (values r) t)
+TakesAll d rule limit n values s result t = MatchResult result (λ r. keeps d rule limit n [] s ≡ given (values r) t)
     (λ e. RefusesObserve (λ u. u ≡ s) e t ⊎ RefusesKeeps d rule limit n [] e s t)
 
 -- ---- what is kept, said of the candidates

@@ -1,20 +1,16 @@
 -- Steps as drivers play them, whichever driver it is.
 use Rattle.std.specs.Prelude.{◌≡◌, ℕ, ◌+◌, ◌⊎◌, ◌<◌, true, false, List, [], ◌∷◌, ◌++◌, Option, Some, None, take, codes}
 use Rattle.std.specs.Prelude.{Result, MatchResult}
-use Rattle.p3_challenger_core.specs.declared.error.ChallengerError.TheVariants as challenger
-use Rattle.p3_fs_core.specs.Steps.{Step, step_with}
-use Rattle.p3_fs_core.specs.declared.error.PatternError.TheVariants.{Finished, OverCap}
-use Rattle.p3_fs_core.specs.declared.error.TranscriptError.{TranscriptError}
+use Rattle.p3_fs_core.specs.{Steps.{Step, step_with}, declared.error.PatternError.TheVariants.{Finished, OverCap}}
+use Rattle.p3_fs_core.specs.declared.{error.TranscriptError.TranscriptError, step.Hierarchy.TheVariants.Atomic}
 use Rattle.p3_fs_core.specs.declared.error.TranscriptError.TheVariants.{Pattern, Challenger, OutOfMemory}
-use Rattle.p3_fs_core.specs.declared.step.Hierarchy.TheVariants.{Atomic}
-use Rattle.p3_fs_core.specs.declared.step.Kind.{Kind}
-use Rattle.p3_fs_core.specs.declared.step.Kind.TheVariants as kind
-use Rattle.p3_fs_core.specs.declared.step.Length.{Length}
-use Rattle.p3_fs_core.specs.declared.step.Length.TheVariants.{Fixed}
-use Rattle.p3_fs_core.specs.Errors.{IsBadShape}
+use Rattle.p3_fs_core.specs.declared.step.{Kind.Kind, Length.Length, Length.TheVariants.Fixed}
+use Rattle.p3_fs_core.specs.Errors.{IsBadShape, pattern_error_of}
 use Rattle.p3_fs_core.specs.declared.step.TypeTag.TheVariants.{Bytes, Opaque, Bits, UniformBits}
-use Rattle.p3_patterns.specs.Playing.{Playing, RefusesToPlay, next_step}
+use Rattle.p3_patterns.specs.Playing.{Playing, RefusesToPlay, next_step, IsPatternError, FaultOfPlayEnd}
 use Rattle.p3_driver_core.specs.Effects.{Effect}
+use Rattle.p3_challenger_core.specs.declared.error.ChallengerError.TheVariants as challenger
+use Rattle.p3_fs_core.specs.declared.step.Kind.TheVariants as kind
 
 -- what a step means: what the pattern must have next, what is done to the challenger, and its bytes in the proof
 pub record Meaning (S Symbol A : Type 0) : Type 1 where
@@ -36,12 +32,15 @@ bits_step label width length = step_with Atomic kind.Challenge label (Bits width
 
 -- the same of uniform bits
 abbrev pub uniform_bits_step : List ℕ → ℕ → Length → Step
-uniform_bits_step label width length =
-    step_with Atomic kind.Challenge label (UniformBits width) (codes "usize") length
+uniform_bits_step label width length = step_with Atomic kind.Challenge label (UniformBits width) (codes "usize") length
 
--- the step has this effect, and no bytes in the proof
+-- the step has this effect, and these bytes in the proof
+abbrev pub with_wire : {S Symbol A : Type 0} → Step → Effect S Symbol A → List ℕ → Meaning S Symbol A
+with_wire interaction effect wire = record { interaction = interaction; effect = effect; wire = wire }
+
+-- the same, and no bytes in the proof
 abbrev pub without_wire : {S Symbol A : Type 0} → Step → Effect S Symbol A → Meaning S Symbol A
-without_wire interaction effect = record { interaction = interaction; effect = effect; wire = [] }
+without_wire interaction effect = with_wire interaction effect []
 
 -- ---- what both drivers are between two steps
 
@@ -77,14 +76,13 @@ abbrev pub halted : {S : Type 0} → Transcript S → Transcript S
 halted transcript = record { challenger = transcript.challenger; playing = halted_player transcript.playing }
 
 -- the step is played: it was the next one, this comes of it, and the challenger took part in it
-pub record PlaysStep {S Symbol A : Type 0} (m : Meaning S Symbol A) (before : Transcript S) (x : A)
-    (after : Transcript S) : Type 0
-  where
-    pub is_next : IsNext before.playing m.interaction
-    pub fits : m.effect.fits
-    pub gives : m.effect.gives before.challenger ≡ Some x
-    pub challenger : after.challenger ≡ m.effect.after before.challenger
-    pub playing : after.playing ≡ step_on before.playing
+pub record PlaysStep {S Symbol A : Type 0} (m : Meaning S Symbol A) (before : Transcript S) (x : A) (after : Transcript S) :
+    Type 0 where
+  pub is_next : IsNext before.playing m.interaction
+  pub fits : m.effect.fits
+  pub gives : m.effect.gives before.challenger ≡ Some x
+  pub challenger : after.challenger ≡ m.effect.after before.challenger
+  pub playing : after.playing ≡ step_on before.playing
 
 -- the step was not the next one, or one was refused before: nothing was done, and no step may follow
 pub record RefusesOrder {S : Type 0} (s : Step) (before : Transcript S) (e : TranscriptError) (after : Transcript S)
@@ -142,10 +140,17 @@ pub record RefusesCarried (IsWrong : Type 0) (reason : List ℕ) (before : Playi
       ⊎ ((before.finished ≡ false) × IsWrong × IsBadShape reason e)
   pub finished : after.finished ≡ true
 
+-- what is said of a call that plays a step: of the driver before it, what its answer stands for, the answer, and the
+-- driver after it
+abbrev pub OfCall : Type 0 → Type 0 → Type 0 → Type 1
+OfCall Driver R A = Driver → (R → A) → Result R TranscriptError → Driver → Type 0
+
+-- why the end is refused: a step was refused, or is left
+abbrev pub RefusesPlayEnd : Playing → TranscriptError → Type 0
+RefusesPlayEnd playing e = IsPatternError (λ m. FaultOfPlayEnd playing (pattern_error_of m)) e
+
 -- the step is played, and the answer is what came of it; or it is refused
-abbrev pub PlaysOrRefuses : {S Symbol A R : Type 0} → Meaning S Symbol A → Transcript S → (R → A) →
-    Result R TranscriptError →
-    Transcript S → Type 0
+abbrev pub PlaysOrRefuses : {S Symbol A R : Type 0} → Meaning S Symbol A → OfCall (Transcript S) R A
 PlaysOrRefuses m before value result after =
     MatchResult result (λ r. PlaysStep m before (value r) after) (λ e. RefusesStep m before e after)
 

@@ -1,17 +1,14 @@
 -- What a step makes of a verifier.
 use Rattle.std.specs.Prelude.{◌≡◌, ◌≤◌, ◌<◌, ◌⊎◌, true, List, [], ℕ, Some, Ok, Err, Result, MatchResult}
-use Rattle.p3_fs_core.specs.declared.error.TranscriptError.{TranscriptError}
+use Rattle.p3_fs_core.specs.{declared.error.TranscriptError.TranscriptError, Encoding.Encoding, Errors.pattern_error_of}
 use Rattle.p3_fs_core.specs.declared.error.TranscriptError.TheVariants.{Pattern, BadProofShape, Challenger, OutOfMemory}
-use Rattle.p3_challenger_core.specs.declared.error.ChallengerError.TheVariants as challenger
-use Rattle.p3_driver_core.specs.Driving.{Driving}
+use Rattle.p3_driver_core.specs.{Driving.Driving, Transcripts.{step_on, OfCall}}
 use Rattle.p3_driver_core.specs.Transcripts.{Meaning, PlaysStep, RefusesStep, RefusesOrder, Abandons, IsNext}
-use Rattle.p3_driver_core.specs.Transcripts.{step_on}
 use Rattle.p3_driver_core.specs.Working.{Work, FailsCheck, ChecksOrRefuses}
 use Rattle.p3_driver_core.specs.Transcripts.{RefusesCarried, IsOtherLength, longer_list, another_length}
-use Rattle.p3_fs_core.specs.Encoding.{Encoding}
-use Rattle.p3_fs_core.specs.Errors.{pattern_error_of}
-use Rattle.p3_patterns.specs.Playing.{FaultOfPlayEnd, IsPlayed, next_step}
 use Rattle.p3_driver_core.specs.Reads.{Reading, Unreadable, trailing_bytes, received_work}
+use Rattle.p3_patterns.specs.Playing.{FaultOfPlayEnd, IsPlayed, next_step}
+use Rattle.p3_challenger_core.specs.declared.error.ChallengerError.TheVariants as challenger
 
 -- the step is played: this is read, and is done
 pub record Receives {S Symbol A : Type 0} (r : Reading S Symbol A) (before : Driving S) (x : A)
@@ -42,8 +39,7 @@ pub record RefusesRead {S Symbol A : Type 0} (r : Reading S Symbol A) (before : 
   pub abandons : Abandons r.interaction before.transcript (Leaves value) after.transcript
 
 -- why a step that reads is refused, and what is left
-abbrev pub RefusesToRead : {S Symbol A : Type 0} → Reading S Symbol A → Driving S → TranscriptError → Driving S →
-    Type 0
+abbrev pub RefusesToRead : {S Symbol A : Type 0} → Reading S Symbol A → Driving S → TranscriptError → Driving S → Type 0
 RefusesToRead r before (Pattern e) after =
     RefusesOrder r.interaction before.transcript (Pattern e) after.transcript × (after.bytes ≡ before.bytes)
 RefusesToRead r before (BadProofShape reason) after = ReadsNothing r before reason.now after
@@ -54,8 +50,7 @@ RefusesToRead r before OutOfMemory after =
 RefusesToRead r before _ after = ⊥
 
 -- the step is played, and the answer is what was read; or it is refused
-abbrev pub ReceivesOrRefuses : {S Symbol A R : Type 0} → Reading S Symbol A → Driving S → (R → A) →
-    Result R TranscriptError → Driving S → Type 0
+abbrev pub ReceivesOrRefuses : {S Symbol A R : Type 0} → Reading S Symbol A → OfCall (Driving S) R A
 ReceivesOrRefuses r before value result after =
     MatchResult result (λ y. Receives r before (value y) after) (λ e. RefusesToRead r before e after)
 
@@ -84,30 +79,24 @@ ChecksAndKeeps work x before result after =
 -- ---- lists that the caller carries
 
 -- a list of a wrong length is refused first: nothing was done then
-pub record RefusesCarriedList {S : Type 0} (IsWrong : Type 0) (reason : List ℕ) (before : Driving S)
-    (e : TranscriptError)
-    (after : Driving S) : Type 0 where
+pub record RefusesCarriedList {S : Type 0}
+    (IsWrong : Type 0) (reason : List ℕ) (before : Driving S) (e : TranscriptError) (after : Driving S) : Type 0 where
   pub playing : RefusesCarried IsWrong reason before.transcript.playing e after.transcript.playing
   pub challenger : after.transcript.challenger ≡ before.transcript.challenger
 
 -- a list that may have so many elements
-abbrev pub CarriesWithin : {S Symbol A R : Type 0} → ℕ → ℕ → Meaning S Symbol A → Driving S → (R → A) →
-    Result R TranscriptError → Driving S → Type 0
-CarriesWithin len max m before value result after =
-    MatchResult result (λ r. (len ≤ max) × PlaysStep m before.transcript (value r) after.transcript)
-    (λ e. RefusesCarriedList (max < len) longer_list before e after ⊎
-    ((len ≤ max) × RefusesStep m before.transcript e after.transcript))
-    × (after.bytes ≡ before.bytes)
+abbrev pub CarriesWithin : {S Symbol A R : Type 0} → ℕ → ℕ → Meaning S Symbol A → OfCall (Driving S) R A
+CarriesWithin len max m before value result after = MatchResult result (λ r. (len ≤ max)
+    × PlaysStep m before.transcript (value r) after.transcript) (λ e. RefusesCarriedList (max < len) longer_list
+    before e after ⊎ ((len ≤ max) × RefusesStep m before.transcript e after.transcript)) × (after.bytes ≡ before.bytes)
 
 -- a list that has as many elements as the next step says, where it says so
-abbrev pub CarriesAsRecorded : {S Symbol A R : Type 0} → ℕ → Meaning S Symbol A → Driving S → (R → A) →
-    Result R TranscriptError → Driving S → Type 0
+abbrev pub CarriesAsRecorded : {S Symbol A R : Type 0} → ℕ → Meaning S Symbol A → OfCall (Driving S) R A
 CarriesAsRecorded len m before value result after =
+    let IsOther = IsOtherLength len (next_step before.transcript.playing) in
     MatchResult result (λ r. PlaysStep m before.transcript (value r) after.transcript)
-    (λ e. RefusesCarriedList (IsOtherLength len (next_step before.transcript.playing)) another_length before e after
-    ⊎ ((IsOtherLength len (next_step before.transcript.playing) → ⊥) ×
-    RefusesStep m before.transcript e after.transcript))
-    × (after.bytes ≡ before.bytes)
+    (λ e. RefusesCarriedList IsOther another_length before e after
+    ⊎ ((IsOther → ⊥) × RefusesStep m before.transcript e after.transcript)) × (after.bytes ≡ before.bytes)
 
 -- all steps are played, none was refused, and no byte is left
 pub record EndsReading {S : Type 0} (v : Driving S) : Type 0 where
@@ -117,6 +106,5 @@ pub record EndsReading {S : Type 0} (v : Driving S) : Type 0 where
 -- why a verifier does not end: a step was refused, or is left; or all were played, and bytes are left
 abbrev pub RefusesEnd : {S : Type 0} → Driving S → TranscriptError → Type 0
 RefusesEnd v (Pattern e) = FaultOfPlayEnd v.transcript.playing (pattern_error_of e)
-RefusesEnd v (BadProofShape reason) =
-    IsPlayed v.transcript.playing × (v.bytes ≡ [] → ⊥) × (reason.now ≡ trailing_bytes)
+RefusesEnd v (BadProofShape reason) = IsPlayed v.transcript.playing × (v.bytes ≡ [] → ⊥) × (reason.now ≡ trailing_bytes)
 RefusesEnd v _ = ⊥

@@ -2,17 +2,14 @@
 use Rattle.std.specs.Prelude.{◌≡◌, ℕ, zero, suc, Bool, false, List, [], Option, Some, None, codes}
 use Rattle.std.specs.Prelude.{if◌then◌else◌, Result, MatchResult}
 use Rattle.p3_field_core.specs.Residues.{Residues}
-use Rattle.p3_challenger_core.specs.Observation.{Observation}
-use Rattle.p3_challenger_core.specs.Sampling.{Sampling, RefusesDraw}
-use Rattle.p3_challenger_core.specs.declared.error.ChallengerError.TheVariants as challenger
+use Rattle.p3_challenger_core.specs.{Observation.Observation, Sampling.{Sampling, RefusesDraw}}
 use Rattle.p3_grinding.specs.Checks.{all_zero, check_of, IsLeast, RefusesSearch}
-use Rattle.p3_fs_core.specs.Encoding.{Encoding}
-use Rattle.p3_fs_core.specs.Errors.{IsBadShape}
-use Rattle.p3_fs_core.specs.Steps.{Step}
+use Rattle.p3_fs_core.specs.{Encoding.Encoding, Errors.IsBadShape, Steps.Step}
 use Rattle.p3_fs_core.specs.declared.error.TranscriptError.{TranscriptError}
 use Rattle.p3_fs_core.specs.declared.error.TranscriptError.TheVariants.{Pattern, BadProofShape, Challenger, OutOfMemory}
-use Rattle.p3_driver_core.specs.Effects.{Effect}
+use Rattle.p3_driver_core.specs.{Effects.{Effect, fitting}, Transcripts.{with_wire, OfCall}}
 use Rattle.p3_driver_core.specs.Transcripts.{Meaning, Transcript, PlaysStep, RefusesOrder, Abandons, without_wire}
+use Rattle.p3_challenger_core.specs.declared.error.ChallengerError.TheVariants as challenger
 
 abbrev pub too_few_zero_bits : List ℕ
 too_few_zero_bits = codes "pow witness does not produce enough zero bits"
@@ -33,13 +30,12 @@ symbols_of_check (suc more) symbols = symbols
 -- work of so many bits, by what a challenger draws before it observes a witness, and how it draws bits
 abbrev pub work_of : {S Symbol W : Type 0} → Step → Residues W → Sampling S (Unit {0}) → Observation S Symbol W →
     (ℕ → Sampling S ℕ) → ℕ → Work S Symbol W
-work_of interaction r before o bit_draws bits =
-    record {
-      interaction = interaction;
-      residues = r;
-      symbols = λ x. symbols_of_check bits (o.symbols x);
-      check = check_of before o (all_zero (bit_draws bits)) bits;
-    }
+work_of interaction r before o bit_draws bits = record {
+  interaction = interaction;
+  residues = r;
+  symbols = λ x. symbols_of_check bits (o.symbols x);
+  check = check_of before o (all_zero (bit_draws bits)) bits;
+}
 
 -- the witness, where it passes
 abbrev pub where_passed : {W : Type 0} → W → Option Bool → Option W
@@ -59,14 +55,8 @@ module _ {S Symbol W : Type 0} (work : Work S Symbol W) where
   -- ---- a witness is checked
 
   abbrev pub checking : W → Effect S Symbol W
-  checking x =
-      record {
-        symbols = work.symbols x;
-        fits = Unit {0};
-        gives = λ s. where_passed x ((work.check x).sampled s);
-        after = (work.check x).after;
-        refuses = λ e s t. RefusesDraw (work.check x) e s t;
-      }
+  checking x = fitting (work.symbols x)
+      (λ s. where_passed x ((work.check x).sampled s)) (work.check x).after (λ e s t. RefusesDraw (work.check x) e s t)
 
   -- one that does not stand in the proof
   abbrev pub observed_work : W → Meaning S Symbol W
@@ -74,7 +64,7 @@ module _ {S Symbol W : Type 0} (work : Work S Symbol W) where
 
   -- one that is sent
   abbrev pub sent_work : Encoding W → W → Meaning S Symbol W
-  sent_work e x = record { interaction = work.interaction; effect = checking x; wire = e.wire x }
+  sent_work e x = with_wire work.interaction (checking x) (e.wire x)
 
   -- the step was the next one, and too few bits are 0: the witness is checked, and no step may follow
   pub record FailsCheck (x : W) (before : Transcript S) (e : TranscriptError) (after : Transcript S) : Type 0 where
@@ -107,11 +97,7 @@ module _ {S Symbol W : Type 0} (work : Work S Symbol W) where
   RefusesToGrind may_run_out before _ after = ⊥
 
   -- the step is played, with the least witness that passes; or it is refused
-  abbrev pub GrindsOrRefuses : {R : Type 0} → (S → Type 0) → Transcript S → (R → W) → Result R TranscriptError →
-      Transcript S →
-      Type 0
-  GrindsOrRefuses may_run_out before value result after =
-      MatchResult result
+  abbrev pub GrindsOrRefuses : {R : Type 0} → (S → Type 0) → OfCall (Transcript S) R W
+  GrindsOrRefuses may_run_out before value result after = MatchResult result
       (λ r. IsLeast work.residues work.check before.challenger (value r)
-      × PlaysStep (observed_work (value r)) before (value r) after)
-      (λ e. RefusesToGrind may_run_out before e after)
+      × PlaysStep (observed_work (value r)) before (value r) after) (λ e. RefusesToGrind may_run_out before e after)

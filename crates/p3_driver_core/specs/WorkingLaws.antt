@@ -3,14 +3,10 @@ use Rattle.std.proofs.Common.{◌≡◌, ℕ, zero, suc, Bool, true, false, List
 use Rattle.std.proofs.Common.{IsSome, is_some, option_and_then, if◌then◌else◌, refl, sym, inl, inr, subst, rules}
 use Rattle.std.proofs.Math.Seq.{take-length}
 use Rattle.p3_field_core.specs.Residues.{Residues}
-use Rattle.p3_challenger_core.specs.Sponge.{IsFed, IsStepsOn}
-use Rattle.p3_challenger_core.specs.Observation.{Observation, IsObservation, LeavesFed}
-use Rattle.p3_challenger_core.specs.ObservationLaws.{nothing-fed}
-use Rattle.p3_challenger_core.specs.Sampling.{Sampling, IsSampling, RefusesDraw}
-use Rattle.p3_challenger_core.specs.SamplingLaws.{no_steps}
-use Rattle.p3_challenger_core.specs.declared.error.ChallengerError.{ChallengerError}
-use Rattle.p3_challenger_core.specs.declared.error.ChallengerError.TheVariants.{OutOfMemory, DrawLimit, NoWitness}
-use Rattle.p3_challenger_core.specs.declared.error.ChallengerError.TheVariants.{TooLong}
+use Rattle.p3_challenger_core.specs.{Sponge.{IsFed, IsStepsOn}, Observation.{Observation, IsObservation, LeavesFed}}
+use Rattle.p3_challenger_core.specs.{ObservationLaws.nothing-fed, Sampling.{Sampling, IsSampling, RefusesDraw}}
+use Rattle.p3_challenger_core.specs.{SamplingLaws.no_steps, declared.error.ChallengerError.ChallengerError}
+use Rattle.p3_challenger_core.specs.declared.error.ChallengerError.TheVariants.{OutOfMemory, DrawLimit}
 use Rattle.p3_grinding.specs.Checks.{all_zero, checked}
 use Rattle.p3_fs_core.specs.Steps.{Step}
 use Rattle.p3_driver_core.specs.Feeding.{FedAmidDraws, LeavesAmidDraws, FeedsItsWitness}
@@ -32,14 +28,13 @@ module _ {S Symbol : Type 0} (next : S → S) (fed : S → List Symbol → S) (f
 
   -- a check with which nothing is touched
   untouched-amid : (s : S) → FedAmidDraws next fed s [] s
-  untouched-amid s =
-      record {
-        first = s;
-        last = s;
-        before = no_steps next s;
-        feeds = nothing-fed fed fed_nothing fed_more s s refl;
-        after = no_steps next s;
-      }
+  untouched-amid s = record {
+    first = s;
+    last = s;
+    before = no_steps next s;
+    feeds = nothing-fed fed fed_nothing fed_more s s refl;
+    after = no_steps next s;
+  }
 
   module _ {W : Type 0} (draw : Sampling S (Unit {0})) (draws : IsSampling next draw) (o : Observation S Symbol W)
       (observes : IsObservation fed o) (bit_draw : Sampling S ℕ) (bits_drawn : IsSampling next bit_draw) (x : W) where
@@ -47,35 +42,32 @@ module _ {S Symbol : Type 0} (next : S → S) (fed : S → List Symbol → S) (f
     fed_to s = o.observed (draw.after s) x
 
     whole : (s t : S) → IsStepsOn next (fed_to s) t → FedAmidDraws next fed s (o.symbols x) t
-    whole s t drawn =
-        record {
-          first = draw.after s;
-          last = fed_to s;
-          before = draws.steps s;
-          feeds = observes.observes (draw.after s) x;
-          after = drawn;
-        }
+    whole s t drawn = record {
+      first = draw.after s;
+      last = fed_to s;
+      before = draws.steps s;
+      feeds = observes.observes (draw.after s) x;
+      after = drawn;
+    }
 
     front : (s t : S) → IsStepsOn next (fed_to s) t → LeavesAmidDraws next fed s (o.symbols x) t
-    front s t drawn =
-        record {
-          first = draw.after s;
-          last = fed_to s;
-          before = draws.steps s;
-          feeds = all_fed (o.symbols x) (draw.after s) (fed_to s) (observes.observes (draw.after s) x);
-          after = drawn;
-        }
+    front s t drawn = record {
+      first = draw.after s;
+      last = fed_to s;
+      before = draws.steps s;
+      feeds = all_fed (o.symbols x) (draw.after s) (fed_to s) (observes.observes (draw.after s) x);
+      after = drawn;
+    }
 
     -- only draws were made
     drawn_alone : (s t : S) → IsStepsOn next s t → LeavesAmidDraws next fed s (o.symbols x) t
-    drawn_alone s t drawn =
-        record {
-          first = t;
-          last = t;
-          before = drawn;
-          feeds = none_fed (o.symbols x) t;
-          after = no_steps next t;
-        }
+    drawn_alone s t drawn = record {
+      first = t;
+      last = t;
+      before = drawn;
+      feeds = none_fed (o.symbols x) t;
+      after = no_steps next t;
+    }
 
     after_ready : (ready : Option (Unit {0})) (r : Option Bool) (s there here : S) →
         IsSome (option_and_then (λ _. r) ready) → FedAmidDraws next fed s (o.symbols x) there →
@@ -98,38 +90,32 @@ module _ {S Symbol : Type 0} (next : S → S) (fed : S → List Symbol → S) (f
     checked-leaves : (e : ChallengerError) (s t : S) → RefusesDraw (checked draw o (all_zero bit_draw) x) e s t →
         LeavesAmidDraws next fed s (o.symbols x) t
     checked-leaves OutOfMemory s t (inl early) = drawn_alone s t (draws.leaves s t early)
-    checked-leaves OutOfMemory s t (inr (is, inl here)) =
-        record {
-          first = draw.after s;
-          last = t;
-          before = draws.steps s;
-          feeds = observes.leaves (draw.after s) x t here;
-          after = no_steps next t;
-        }
+    checked-leaves OutOfMemory s t (inr (is, inl here)) = record {
+      first = draw.after s;
+      last = t;
+      before = draws.steps s;
+      feeds = observes.leaves (draw.after s) x t here;
+      after = no_steps next t;
+    }
     checked-leaves OutOfMemory s t (inr (is, inr late)) = front s t (bits_drawn.leaves (fed_to s) t late)
-    checked-leaves DrawLimit s t h =
-        subst (λ u. LeavesAmidDraws next fed s (o.symbols x) u) (sym h.1)
-        (limit_after (draw.sampled s) s (bit_draw.after (fed_to s)) (draw.after s)
-        (front s (bit_draw.after (fed_to s)) (bits_drawn.steps (fed_to s)))
+    checked-leaves DrawLimit s t h = subst (λ u. LeavesAmidDraws next fed s (o.symbols x) u)
+        (sym h.1) (limit_after (draw.sampled s)
+        s (bit_draw.after (fed_to s)) (draw.after s) (front s (bit_draw.after (fed_to s)) (bits_drawn.steps (fed_to s)))
         (drawn_alone s (draw.after s) (draws.steps s)))
-    checked-leaves NoWitness s t h = absurd h
-    checked-leaves TooLong s t h = absurd h
+    checked-leaves e s t h = absurd h
 
   module _ {W : Type 0} (draw : Sampling S (Unit {0})) (draws : IsSampling next draw) (o : Observation S Symbol W)
       (observes : IsObservation fed o) (bit_draws : ℕ → Sampling S ℕ)
       (bits_drawn : (bits : ℕ) → IsSampling next (bit_draws bits)) (step : Step) (r : Residues W) where
     free-leaves : (e : ChallengerError) (s t : S) (x : W) →
         RefusesDraw ((work_of step r draw o bit_draws 0).check x) e s t → LeavesAmidDraws next fed s [] t
-    free-leaves OutOfMemory s t x h = absurd h
     free-leaves DrawLimit s t x h = absurd h.0
-    free-leaves NoWitness s t x h = absurd h
-    free-leaves TooLong s t x h = absurd h
+    free-leaves e s t x h = absurd h
 
     -- work feeds its witness, with draws before it and after it; work of 0 bits feeds nothing
     pub work-feeds : (bits : ℕ) (x : W) → FeedsItsWitness next fed (work_of step r draw o bit_draws bits) x
     work-feeds zero x = record { feeds = λ s is. untouched-amid s; leaves = λ e s t h. free-leaves e s t x h }
-    work-feeds (suc more) x =
-        record {
-          feeds = checked-feeds draw draws o observes (bit_draws (suc more)) (bits_drawn (suc more)) x;
-          leaves = checked-leaves draw draws o observes (bit_draws (suc more)) (bits_drawn (suc more)) x;
-        }
+    work-feeds (suc more) x = record {
+      feeds = checked-feeds draw draws o observes (bit_draws (suc more)) (bits_drawn (suc more)) x;
+      leaves = checked-leaves draw draws o observes (bit_draws (suc more)) (bits_drawn (suc more)) x;
+    }

@@ -1,7 +1,6 @@
 //! The algebras that steps were of: the identities of the first four are hashed once each.
 ghost use Rattle.std.specs.Prelude.{◌≡◌};
-ghost use Rattle.p3_fs_core.specs.Interactions.{step_of};
-ghost use Rattle.p3_fs_core.specs.declared.step.TypeTag.TheVariants.{Algebra};
+ghost use Rattle.p3_fs_core.specs.{Interactions.step_of, declared.step.TypeTag.TheVariants.Algebra};
 
 use p3_fs_core::Interaction;
 use p3_symmetric::DigestHasher;

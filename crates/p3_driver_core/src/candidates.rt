@@ -1,9 +1,7 @@
 //! Candidates of any kind, drawn one after another, and until a rule has taken so many.
 ghost use Rattle.std.specs.Prelude.{◌≡◌, Some, OnOk, IfOk, IfErr, vec_len};
-ghost use Rattle.p3_challenger_core.specs.Sampling.{Sampling, RefusesDraw};
-ghost use Rattle.p3_challenger_core.specs.Sampling.{draws, after_draws, RefusesDrawVec};
-ghost use Rattle.p3_driver_core.specs.Bound.{bound_values};
-ghost use Rattle.p3_driver_core.specs.Rejecting.{Rule, Computes, Takes, TakesAll};
+ghost use Rattle.p3_challenger_core.specs.Sampling.{Sampling, RefusesDraw, draws, after_draws, RefusesDrawVec};
+ghost use Rattle.p3_driver_core.specs.{Bound.bound_values, Rejecting.{Rule, Computes, Takes, TakesAll}};
 
 use crate::{TranscriptBound, bind};
 use p3_challenger_core::{ChallengerError, Sponge};
@@ -60,9 +58,8 @@ fn draw_taken<T: Copy, C: Sponge, D: Candidates<C, T>, R: Fn(&T, &[T]) -> bool>(
 ) -> Result<T, ChallengerError>
     requires may_draw { D.may_draw candidates.now }
     requires callable { R.IsAlwaysCallable accept.now }
-    ensures { (rule : Rule T) → Computes R.Fn accept.now rule →
-        Takes (D.sampling candidates.now) rule limit kept.now
-        (C.state challenger.old) result (C.state challenger.new) }
+    ensures { (rule : Rule T) → Computes R.Fn accept.now rule → Takes (D.sampling candidates.now)
+        rule limit kept.now (C.state challenger.old) result (C.state challenger.new) }
 {
     for _ in 0..limit {
         let candidate = candidates.draw(challenger)?;

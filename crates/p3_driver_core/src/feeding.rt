@@ -1,11 +1,8 @@
 //! Each step feeds just the symbols that its meaning names: laws, of every challenger, codec and alphabet.
 ghost use Rattle.std.specs.Prelude.{◌≡◌, ℕ, true, Some, List, length};
-ghost use Rattle.p3_fs_core.specs.Counts.{count_bytes};
-ghost use Rattle.p3_driver_core.specs.Effects.{untouched, observing, observing_list, observing_bytes};
-ghost use Rattle.p3_driver_core.specs.Effects.{drawing, drawing_list, in_sequence};
-ghost use Rattle.p3_driver_core.specs.Feeding.{Feeds, OnlyDraws, FeedsItsWitness};
-ghost use Rattle.p3_driver_core.specs.Rejecting.{Rule, drawing_rejecting};
-ghost use Rattle.p3_driver_core.specs.Working.{work_of, checking};
+ghost use Rattle.p3_driver_core.specs.Effects.{untouched, observing, observing_list, observing_bytes, drawing};
+ghost use Rattle.p3_driver_core.specs.{Effects.{drawing_list, after_count}, Rejecting.{Rule, drawing_rejecting}};
+ghost use Rattle.p3_driver_core.specs.{Feeding.{Feeds, OnlyDraws, FeedsItsWitness}, Working.{work_of, checking}};
 ghost use Rattle.p3_fs_core.specs.Steps.{Step};
 
 use p3_challenger_core::{CanObserve, CanSampleBits, ChallengerError, Sponge};
@@ -37,8 +34,7 @@ pub fn bytes_feed_their_symbols<U: Unit, C: CanObserve<U::Item>>()
     ensures fixed { (bytes : List ℕ) → Feeds C.fed
         (observing_bytes ⟦<U as AlphabetOf<C>>⟧.alphabet bytes) }
     ensures counted { (max : ℕ) (bytes : List ℕ) → let alphabet = ⟦<U as AlphabetOf<C>>⟧.alphabet in
-        Feeds C.fed (in_sequence (observing_bytes alphabet (count_bytes max (length bytes)))
-        (observing_bytes alphabet bytes)) }
+        Feeds C.fed (after_count alphabet max (length bytes) (observing_bytes alphabet bytes)) }
 {}
 
 /// A step of a list that comes after its count feeds just the symbols of the count's items, and then those of the
@@ -46,9 +42,8 @@ pub fn bytes_feed_their_symbols<U: Unit, C: CanObserve<U::Item>>()
 ///
 /// A law: the body is empty, and a caller cites the clause.
 pub fn counted_values_feed_their_symbols<A, U: Unit, C: CanObserve<U::Item>, Cdc: Codec<C, A>>()
-    ensures { (max : ℕ) (xs : List A) → Feeds C.fed
-        (in_sequence (observing_bytes ⟦<U as AlphabetOf<C>>⟧.alphabet (count_bytes max (length xs)))
-        (observing_list Cdc.observation xs)) }
+    ensures { (max : ℕ) (xs : List A) → Feeds C.fed (after_count ⟦<U as AlphabetOf<C>>⟧.alphabet
+        max (length xs) (observing_list Cdc.observation xs)) }
 {}
 
 /// A step that draws feeds nothing, and makes some number of the challenger's smallest draws, also where it is refused:
@@ -78,9 +73,8 @@ pub fn bit_draws_feed_nothing<C: CanSampleBits<usize>>()
 pub fn uniform_draws_feed_nothing<F, C: CanSampleUniformBits<F>>()
     ensures list { (width n : ℕ) →
         OnlyDraws {Symbol = C.Symbol} C.next (drawing_list (C.uniform true width).draw n) }
-    ensures rejecting { (width : ℕ) (rule : Rule ℕ) (limit n : ℕ) →
-        OnlyDraws {Symbol = C.Symbol} C.next
-        (drawing_rejecting (C.uniform true width).draw rule limit n) }
+    ensures rejecting { (width : ℕ) (rule : Rule ℕ) (limit n : ℕ) → OnlyDraws
+        {Symbol = C.Symbol} C.next (drawing_rejecting (C.uniform true width).draw rule limit n) }
 {}
 
 /// A step of a proof of work feeds just the symbols of its witness, with draws before them and after them. Where it is
@@ -91,9 +85,8 @@ pub fn uniform_draws_feed_nothing<F, C: CanSampleUniformBits<F>>()
 pub fn work_feeds_its_witness<C: GrindingChallenger>()
     ensures feeds { (step : Step) (bits : ℕ) (x : C.Witness) → FeedsItsWitness C.next C.fed
         (work_of step C.Witness.residues C.before_witness C.observation C.bits_sampling bits) x }
-    ensures free { (step : Step) (x : C.Witness) (s : C.State) →
-        let work = work_of step C.Witness.residues C.before_witness C.observation C.bits_sampling 0
-        in
+    ensures free { (step : Step) (x : C.Witness) (s : C.State) → let work = work_of step
+        C.Witness.residues C.before_witness C.observation C.bits_sampling 0 in
         ((checking work x).gives s ≡ Some x) × ((checking work x).after s ≡ s) }
 {}
 

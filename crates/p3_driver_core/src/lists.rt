@@ -50,9 +50,8 @@ pub fn observe_values<T, C: Sponge, Cdc: Codec<C, T>>(
 ) -> Result<(), ChallengerError>
     ensures ok { OnOk result (C.state challenger.new
         ≡ observed_all Cdc.observation.observed (C.state challenger.old) values.now) }
-    ensures err { IfErr result (λ e. RefusesObserve
-        (LeavesInCalls Cdc.observation.observed Cdc.observation.may_leave
-        (C.state challenger.old) values.now) e (C.state challenger.new)) }
+    ensures err { IfErr result (λ e. RefusesObserve (LeavesInCalls Cdc.observation.observed
+        Cdc.observation.may_leave (C.state challenger.old) values.now) e (C.state challenger.new)) }
 {
     for value in values {
         Cdc::observe(challenger, value)?;
@@ -112,9 +111,8 @@ pub fn draw_numbers<C: CanSampleBits<usize>>(
         draws (C.bits_sampling width) n (C.state challenger.old) ≡ Some (bound_values bounds)) }
     ensures after { OnOk result (
         C.state challenger.new ≡ after_draws (C.bits_sampling width) n (C.state challenger.old)) }
-    ensures err { IfErr result (λ e.
-        RefusesDrawVec (C.bits_sampling width) n e (C.state challenger.old)
-        (C.state challenger.new)) }
+    ensures err { IfErr result (λ e. RefusesDrawVec
+        (C.bits_sampling width) n e (C.state challenger.old) (C.state challenger.new)) }
     ensures count { IfOk result (λ bounds. vec_len bounds ≡ n) }
 {
     draw_all(&Numbers(width), challenger, alloc, n)

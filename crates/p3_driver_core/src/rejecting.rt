@@ -1,8 +1,7 @@
 //! Values of a codec, drawn until a rule has taken so many.
 ghost use Rattle.std.specs.Prelude.{◌≡◌, ◌≤◌, ◌↔◌, ℕ, List, [], IfOk, vec_len};
 ghost use Rattle.p3_driver_core.specs.Bound.{bound_values};
-ghost use Rattle.p3_driver_core.specs.Rejecting.{Rule, Computes, TakesAll};
-ghost use Rattle.p3_driver_core.specs.Rejecting.{given, keeps, KeepsFirst};
+ghost use Rattle.p3_driver_core.specs.Rejecting.{Rule, Computes, TakesAll, given, keeps, KeepsFirst};
 
 use crate::TranscriptBound;
 use crate::candidates::draw_accepted_candidates;
@@ -31,9 +30,8 @@ pub fn draw_accepted<T: Copy, C: Sponge, Cdc: Codec<C, T>, R: Fn(&T, &[T]) -> bo
 ) -> Result<Vec<TranscriptBound<T>>, ChallengerError>
     requires secure { 128 ≤ Cdc.SECURITY_BITS }
     requires callable { R.IsAlwaysCallable accept.now }
-    ensures kept { (rule : Rule T) → Computes R.Fn accept.now rule →
-        TakesAll Cdc.sampling rule limit n bound_values (C.state challenger.old) result
-        (C.state challenger.new) }
+    ensures kept { (rule : Rule T) → Computes R.Fn accept.now rule → TakesAll Cdc.sampling
+        rule limit n bound_values (C.state challenger.old) result (C.state challenger.new) }
     ensures count { IfOk result (λ bounds. vec_len bounds ≡ n) }
 {
     let values = Values::<Cdc>(PhantomData);
@@ -46,7 +44,6 @@ pub fn draw_accepted<T: Copy, C: Sponge, Cdc: Codec<C, T>, R: Fn(&T, &[T]) -> bo
 ///
 /// A law: the body is empty, and a caller cites the clause.
 pub fn rejecting_draws_keep_the_first_accepted<A, C: Sponge, Cdc: Codec<C, A>>()
-    ensures { (rule : Rule A) (limit n : ℕ) (s t : C.State) (xs : List A) →
-        (keeps Cdc.sampling rule limit n [] s ≡ given xs t
-        ↔ KeepsFirst Cdc.sampling rule limit n s xs t) }
+    ensures { (rule : Rule A) (limit n : ℕ) (s t : C.State) (xs : List A) → (keeps Cdc.sampling
+        rule limit n [] s ≡ given xs t ↔ KeepsFirst Cdc.sampling rule limit n s xs t) }
 {}

@@ -1,15 +1,10 @@
 //! The pattern as a driver plays it: each step is held against the next one before anything else is done.
 ghost use Rattle.std.specs.Prelude.{◌≡◌, ◌≤◌, ◌<◌, ◌↔◌, false, IfErr, IfOk, OnOk, IsOk, IsTrue};
-ghost use Rattle.std.specs.Option.{option_map};
-ghost use Rattle.p3_fs_core.specs.Errors.{pattern_error_of};
 ghost use Rattle.p3_fs_core.specs.Interactions.{step_of};
-ghost use Rattle.p3_fs_core.specs.Steps.{step_with};
-ghost use Rattle.p3_patterns.specs.Playing.{RefusesToPlay, FaultOfPlayEnd, IsPatternError, IsPlayed, next_step};
-ghost use Rattle.p3_driver_core.specs.Bound.{bound_value};
-ghost use Rattle.p3_driver_core.specs.Opened.{playing_of, Opens};
-ghost use Rattle.p3_driver_core.specs.Transcripts.{bytes_step, uniform_bits_step, halted_player};
-ghost use Rattle.p3_driver_core.specs.Transcripts.{RefusesLength, RefusesCarried};
-ghost use Rattle.p3_driver_core.specs.Transcripts.{IsOtherLength, longer_list, another_length};
+ghost use Rattle.p3_patterns.specs.Playing.{RefusesToPlay, IsPlayed, next_step};
+ghost use Rattle.p3_driver_core.specs.{Bound.bound_value, Opened.{playing_of, Opens}, Transcripts.another_length};
+ghost use Rattle.p3_driver_core.specs.Transcripts.{bytes_step, uniform_bits_step, halted_player, RefusesLength};
+ghost use Rattle.p3_driver_core.specs.Transcripts.{RefusesCarried, RefusesPlayEnd, IsOtherLength, longer_list};
 
 use crate::TranscriptBound;
 use crate::algebras::{Algebras, KnownAlgebra};
@@ -231,8 +226,7 @@ impl<D: DigestHasher> Steps<D> {
     /// next step where there is one. It takes no memory.
     pub fn finalize(self) -> Result<(), TranscriptError>
         ensures ok { OnOk result (IsPlayed (playing_of self)) }
-        ensures err { IfErr result (λ e. IsPatternError
-            (λ m. FaultOfPlayEnd (playing_of self) (pattern_error_of m)) e) }
+        ensures err { IfErr result (RefusesPlayEnd (playing_of self)) }
         ensures only { IsPlayed (playing_of self) → IsOk result }
     {
         let Steps {

@@ -3,9 +3,8 @@ ghost use Rattle.std.specs.Prelude.{◌≡◌, ◌≤◌, ℕ, true, List, IsOk,
 ghost use Rattle.p3_fs_core.specs.Steps.{marker_of};
 ghost use Rattle.p3_driver_core.specs.Bound.{bound_value, bound_values};
 ghost use Rattle.p3_driver_core.specs.Meanings as meaning;
-ghost use Rattle.p3_driver_core.specs.Rejecting.{Rule, Computes, drawn_rejecting};
-ghost use Rattle.p3_driver_core.specs.Transcripts.{Transcript, PlaysOrRefuses, KeepsOrder, IsNext, halted};
-ghost use Rattle.p3_driver_core.specs.Transcripts.{opaque_step, uniform_bits_step};
+ghost use Rattle.p3_driver_core.specs.{Rejecting.{Rule, Computes, drawn_rejecting}, Transcripts.uniform_bits_step};
+ghost use Rattle.p3_driver_core.specs.Transcripts.{Transcript, PlaysOrRefuses, KeepsOrder, IsNext, halted, opaque_step};
 ghost use Rattle.p3_fs_core.specs.declared.step.Kind.TheVariants.{Challenge, Message, Protocol};
 ghost use Rattle.p3_fs_core.specs.declared.step.Length.TheVariants.{Fixed, Scalar};
 
@@ -87,11 +86,10 @@ pub trait SymmetricSteps: Driver {
         EF: AlgebraIdentity<F> + Named,
         Cdc: ScalarCodec<Self::Challenger, F>,
     >(&mut self, label: Label, value: &EF) -> Result<TranscriptBound<EF>, TranscriptError>
-        ensures played { let step = ⟦<EF as Declared<F, Self::Digest>>⟧.step Message label.now
-            Scalar in
-            let codec = ⟦<ExtensionFieldCodec<F, EF, Cdc> as Codec<Self::Challenger, EF>>⟧ in
-            PlaysOrRefuses (meaning.observed step codec.observation value.now)
-            (transcript self.old) bound_value result (transcript self.new) }
+        ensures played { PlaysOrRefuses (meaning.observed
+            (⟦<EF as Declared<F, Self::Digest>>⟧.step Message label.now Scalar)
+            ⟦<ExtensionFieldCodec<F, EF, Cdc> as Codec<Self::Challenger, EF>>⟧.observation
+            value.now) (transcript self.old) bound_value result (transcript self.new) }
         ensures bytes { bytes self.new ≡ bytes self.old };
 
     /// Draws one element of an extension, coefficient 0 first.
@@ -104,10 +102,9 @@ pub trait SymmetricSteps: Driver {
         Cdc: ScalarCodec<Self::Challenger, F>,
     >(&mut self, label: Label) -> Result<TranscriptBound<EF>, TranscriptError>
         requires { 128 ≤ Cdc.SECURITY_BITS }
-        ensures played { let step = ⟦<EF as Declared<F, Self::Digest>>⟧.step Challenge label.now
-            Scalar in
-            let codec = ⟦<ExtensionFieldCodec<F, EF, Cdc> as Codec<Self::Challenger, EF>>⟧ in
-            PlaysOrRefuses (meaning.drawn {Symbol = Self.Challenger.Symbol} step codec.sampling)
+        ensures played { PlaysOrRefuses (meaning.drawn {Symbol = Self.Challenger.Symbol}
+            (⟦<EF as Declared<F, Self::Digest>>⟧.step Challenge label.now Scalar)
+            ⟦<ExtensionFieldCodec<F, EF, Cdc> as Codec<Self::Challenger, EF>>⟧.sampling)
             (transcript self.old) bound_value result (transcript self.new) }
         ensures bytes { bytes self.new ≡ bytes self.old };
 
@@ -137,14 +134,12 @@ pub trait SymmetricSteps: Driver {
         requires secure { 128 ≤ Cdc.SECURITY_BITS }
         requires callable { R.IsAlwaysCallable accept.now }
         ensures played { (rule : Rule EF) → Computes R.Fn accept.now rule →
-            let step = ⟦<EF as Declared<F, Self::Digest>>⟧.step Challenge label.now (Fixed n) in
-            let codec = ⟦<ExtensionFieldCodec<F, EF, Cdc> as Codec<Self::Challenger, EF>>⟧ in
-            PlaysOrRefuses (drawn_rejecting {Symbol = Self.Challenger.Symbol} step codec.sampling
-            rule limit n)
-            (transcript self.old) bound_values result (transcript self.new) }
-        ensures order { let step = ⟦<EF as Declared<F, Self::Digest>>⟧.step Challenge label.now
-            (Fixed n) in
-            KeepsOrder step (transcript self.old) result (transcript self.new) }
+            PlaysOrRefuses (drawn_rejecting {Symbol = Self.Challenger.Symbol}
+            (⟦<EF as Declared<F, Self::Digest>>⟧.step Challenge label.now (Fixed n))
+            ⟦<ExtensionFieldCodec<F, EF, Cdc> as Codec<Self::Challenger, EF>>⟧.sampling
+            rule limit n) (transcript self.old) bound_values result (transcript self.new) }
+        ensures order { KeepsOrder (⟦<EF as Declared<F, Self::Digest>>⟧.step
+            Challenge label.now (Fixed n)) (transcript self.old) result (transcript self.new) }
         ensures count { IfOk result (λ bounds. vec_len bounds ≡ n) }
         ensures bytes { bytes self.new ≡ bytes self.old }
         ensures spent { IfErr result (λ _. (transcript self.new).playing.finished ≡ true) };
@@ -162,9 +157,8 @@ pub trait SymmetricSteps: Driver {
         Self::Challenger: CanSampleUniformBits<F>,
         requires { width ≤ Self.Challenger.most_bits }
         ensures played { PlaysOrRefuses (meaning.drawn_list {Symbol = Self.Challenger.Symbol}
-            (uniform_bits_step label.now width (Fixed n))
-            (Self.Challenger.uniform true width).draw n)
-            (transcript self.old) bound_values result (transcript self.new) }
+            (uniform_bits_step label.now width (Fixed n)) (Self.Challenger.uniform true width).draw
+            n) (transcript self.old) bound_values result (transcript self.new) }
         ensures count { IfOk result (λ bounds. vec_len bounds ≡ n) }
         ensures bytes { bytes self.new ≡ bytes self.old };
 }

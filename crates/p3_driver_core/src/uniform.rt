@@ -2,8 +2,7 @@
 ghost use Rattle.std.specs.Prelude.{◌≡◌, ◌≤◌, ◌↔◌, ℕ, true, List, [], Some, OnOk, IfOk, IfErr, vec_len};
 ghost use Rattle.p3_challenger_core.specs.Sampling.{draws, after_draws, RefusesDrawVec};
 ghost use Rattle.p3_driver_core.specs.Bound.{bound_values};
-ghost use Rattle.p3_driver_core.specs.Rejecting.{Rule, ComputesOfValues, TakesAll};
-ghost use Rattle.p3_driver_core.specs.Rejecting.{given, keeps, KeepsFirst};
+ghost use Rattle.p3_driver_core.specs.Rejecting.{Rule, ComputesOfValues, TakesAll, given, keeps, KeepsFirst};
 
 use crate::TranscriptBound;
 use crate::candidates::{Candidates, draw_accepted_candidates, draw_all};
@@ -44,12 +43,10 @@ pub fn draw_uniform_numbers<F, C: CanSampleUniformBits<F>>(
     requires { width ≤ C.most_bits }
     ensures drawn { IfOk result (λ bounds.
         draws (C.uniform true width).draw n (C.state challenger.old) ≡ Some (bound_values bounds)) }
-    ensures after { OnOk result (
-        C.state challenger.new ≡ after_draws (C.uniform true width).draw n
-        (C.state challenger.old)) }
-    ensures err { IfErr result (λ e.
-        RefusesDrawVec (C.uniform true width).draw n e (C.state challenger.old)
-        (C.state challenger.new)) }
+    ensures after { OnOk result (C.state challenger.new
+        ≡ after_draws (C.uniform true width).draw n (C.state challenger.old)) }
+    ensures err { IfErr result (λ e. RefusesDrawVec
+        (C.uniform true width).draw n e (C.state challenger.old) (C.state challenger.new)) }
     ensures count { IfOk result (λ bounds. vec_len bounds ≡ n) }
 {
     let numbers = UniformNumbers::<F>(width, PhantomData);

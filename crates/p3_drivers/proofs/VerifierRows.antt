@@ -3,26 +3,18 @@
 use Rattle.std.proofs.Common.{◌≡◌, ℕ, ◌+◌, ◌%◌, ◌^◌, true, List, [], ◌∷◌, Ok, Err, Some, codes, replicate, refl}
 use denote.Ref.{Bor}
 use Rattle.p3_field_core.specs.Residues.{Residues}
-use Rattle.p3_challenger_core.specs.Observation.{Observation, unrefused_observe}
-use Rattle.p3_challenger_core.specs.Sampling.{Sampling, unrefused_draw}
+use Rattle.p3_challenger_core.specs.{Observation.{Observation, unrefused_observe}, Sampling.{Sampling, unrefused_draw}}
 use Rattle.p3_grinding.specs.Checks.{draws_nothing}
-use Rattle.p3_fs_core.specs.Encoding.{Encoding}
-use Rattle.p3_fs_core.specs.Scalar as scalar
-use Rattle.p3_fs_core.specs.Steps.{Step}
-use Rattle.p3_fs_core.specs.declared.error.TranscriptError.TheVariants.{BadProofShape}
-use Rattle.p3_fs_core.specs.declared.step.Kind.TheVariants.{Message, Pow}
-use Rattle.p3_fs_core.specs.declared.step.Length.{Length}
-use Rattle.p3_fs_core.specs.declared.step.Length.TheVariants.{Scalar, Fixed, Bounded}
+use Rattle.p3_fs_core.specs.{Encoding.Encoding, Steps.Step, declared.error.TranscriptError.TheVariants.BadProofShape}
+use Rattle.p3_fs_core.specs.declared.step.{Kind.TheVariants.{Message, Pow}, Length.Length}
+use Rattle.p3_fs_core.specs.{declared.step.Length.TheVariants.{Scalar, Fixed, Bounded}, Counts.count_width}
+use Rattle.p3_fs_core.specs.{Alphabet.{Alphabet, alphabet_of}, Algebras.{algebra_of, algebra_step}}
 use Rattle.p3_patterns.specs.Playing.{Playing, IsPlayed}
-use Rattle.p3_fs_core.specs.Counts.{count_width}
-use Rattle.p3_fs_core.specs.Alphabet.{Alphabet, alphabet_of}
-use Rattle.p3_fs_core.specs.Algebras.{algebra_of, algebra_step}
-use Rattle.p3_driver_core.specs.Transcripts.{IsNext, step_on}
-use Rattle.p3_driver_core.specs.Working.{Work, work_of}
+use Rattle.p3_driver_core.specs.{Transcripts.{IsNext, step_on}, Working.{Work, work_of}, Driving.Driving}
 use Rattle.p3_driver_core.specs.Reads.{Read, Reading, read_each, received, received_list, received_bounded}
 use Rattle.p3_driver_core.specs.Reads.{received_bytes, received_bytes_bounded, hint_received_bounded, received_work}
-use Rattle.p3_driver_core.specs.Driving.{Driving}
 use Rattle.p3_driver_core.specs.Verifying.{Receives, ReadsNothing, FailsWork, EndsReading, RefusesEnd}
+use Rattle.p3_fs_core.specs.Scalar as scalar
 
 -- the numbers below the order, in four bytes each
 abbrev numbers : Residues ℕ
@@ -96,9 +88,8 @@ unfolding count_width
 count_over = refl
 
 -- a count of two and seven bytes: the count is absorbed, and none of the bytes is passed
-counted_seven_bytes : read_at_most 3 (2 ∷ 0 ∷ 0 ∷ 0 ∷ 7 ∷ 0x78 ∷ 0 ∷ 0 ∷ [])
-    ≡ nothing_read (codes "step declares more values than the wire holds") (0 ∷ 0 ∷ 0 ∷ 7 ∷ 0x78 ∷ 0 ∷ 0 ∷ [])
-    (λ s. 2 ∷ s)
+counted_seven_bytes : read_at_most 3 (2 ∷ 0 ∷ 0 ∷ 0 ∷ 7 ∷ 0x78 ∷ 0 ∷ 0 ∷ []) ≡ nothing_read
+    (codes "step declares more values than the wire holds") (0 ∷ 0 ∷ 0 ∷ 7 ∷ 0x78 ∷ 0 ∷ 0 ∷ []) (λ s. 2 ∷ s)
 unfolding count_width
 counted_seven_bytes = refl
 
@@ -107,8 +98,7 @@ unfolding count_width read_each
 counted_two = refl
 
 -- what follows them is left
-counted_two_and_more : read_at_most 3 (2 ∷ 0 ∷ 0 ∷ 0 ∷ 7 ∷ 0x78 ∷ 0 ∷ 0 ∷ 0 ∷ 9 ∷ []) ≡ Ok
-    (7 ∷ 2013265920 ∷ [], 9 ∷ [])
+counted_two_and_more : read_at_most 3 (2 ∷ 0 ∷ 0 ∷ 0 ∷ 7 ∷ 0x78 ∷ 0 ∷ 0 ∷ 0 ∷ 9 ∷ []) ≡ Ok (7 ∷ 2013265920 ∷ [], 9 ∷ [])
 unfolding count_width read_each
 counted_two_and_more = refl
 
@@ -131,9 +121,8 @@ unfolding count_width read_each
 none_at_most = refl
 
 -- the greatest count of eight bytes: no list is as long
-greatest_count : read_at_most 18446744073709551615 (replicate 8 255)
-    ≡ nothing_read (codes "step declares more values than the wire holds") []
-    (λ s. 255 ∷ 255 ∷ 255 ∷ 255 ∷ 255 ∷ 255 ∷ 255 ∷ 255 ∷ s)
+greatest_count : read_at_most 18446744073709551615 (replicate 8 255) ≡ nothing_read
+    (codes "step declares more values than the wire holds") [] (λ s. 255 ∷ 255 ∷ 255 ∷ 255 ∷ 255 ∷ 255 ∷ 255 ∷ 255 ∷ s)
 unfolding count_width
 greatest_count = refl
 
@@ -143,8 +132,7 @@ abbrev read_message : ℕ → List ℕ → Read (List ℕ) (List ℕ)
 read_message max = (received_bytes_bounded (codes "b") as_they_are max).read
 
 abbrev read_hint : ℕ → List ℕ → Read (List ℕ) (List ℕ)
-read_hint max =
-    let reading : Reading (List ℕ) ℕ (List ℕ) = hint_received_bounded (codes "h") max in reading.read
+read_hint max = let reading : Reading (List ℕ) ℕ (List ℕ) = hint_received_bounded (codes "h") max in reading.read
 
 message_read : read_message 3 (1 ∷ 10 ∷ 11 ∷ []) ≡ Ok (10 ∷ [], 11 ∷ [])
 unfolding count_width
@@ -200,41 +188,37 @@ list_received : (playing : Playing) → IsNext playing at_most_three.interaction
     Receives at_most_three (before playing (2 ∷ 0 ∷ 0 ∷ 0 ∷ 7 ∷ 0x78 ∷ 0 ∷ 0 ∷ 0 ∷ 1 ∷ [])) (7 ∷ 2013265920 ∷ [])
     (verifying (step_on playing) (2013265920 ∷ 7 ∷ 2 ∷ 9 ∷ []) (1 ∷ []))
 unfolding count_width read_each
-list_received playing next =
-    record {
-      is_next = next;
-      read = refl;
-      fits = (λ long. long, tt);
-      gives = refl;
-      challenger = refl;
-      playing = refl;
-    }
+list_received playing next = record {
+  is_next = next;
+  read = refl;
+  fits = (λ long. long, tt);
+  gives = refl;
+  challenger = refl;
+  playing = refl;
+}
 
 -- a count of two and seven bytes
-list_unread : (playing : Playing) → IsNext playing at_most_three.interaction →
-    ReadsNothing at_most_three (before playing (2 ∷ 0 ∷ 0 ∷ 0 ∷ 7 ∷ 0x78 ∷ 0 ∷ 0 ∷ []))
-    (codes "step declares more values than the wire holds")
+list_unread : (playing : Playing) → IsNext playing at_most_three.interaction → ReadsNothing at_most_three
+    (before playing (2 ∷ 0 ∷ 0 ∷ 0 ∷ 7 ∷ 0x78 ∷ 0 ∷ 0 ∷ [])) (codes "step declares more values than the wire holds")
     (verifying (closed playing) (2 ∷ 9 ∷ []) (0 ∷ 0 ∷ 0 ∷ 7 ∷ 0x78 ∷ 0 ∷ 0 ∷ []))
 unfolding count_width
-list_unread playing next =
-    record {
-      failure = record {
-        reason = codes "step declares more values than the wire holds";
-        left = 0 ∷ 0 ∷ 0 ∷ 7 ∷ 0x78 ∷ 0 ∷ 0 ∷ [];
-        absorbed = λ s. 2 ∷ s;
-      };
-      is_next = next;
-      read = refl;
-      reason_is = refl;
-      unread = refl;
-      challenger = refl;
-      finished = refl;
-    }
+list_unread playing next = record {
+  failure = record {
+    reason = codes "step declares more values than the wire holds";
+    left = 0 ∷ 0 ∷ 0 ∷ 7 ∷ 0x78 ∷ 0 ∷ 0 ∷ [];
+    absorbed = λ s. 2 ∷ s;
+  };
+  is_next = next;
+  read = refl;
+  reason_is = refl;
+  unread = refl;
+  challenger = refl;
+  finished = refl;
+}
 
 -- a byte is left once all steps are played
-byte_left : (playing : Playing) (reason : Bor (List ℕ)) → IsPlayed playing →
-    reason.now ≡ codes "trailing NARG bytes after final verifier step" →
-    RefusesEnd (before playing (1 ∷ [])) (BadProofShape reason)
+byte_left : (playing : Playing) (reason : Bor (List ℕ)) → IsPlayed playing → reason.now ≡ codes
+    "trailing NARG bytes after final verifier step" → RefusesEnd (before playing (1 ∷ [])) (BadProofShape reason)
 byte_left playing reason played is = (played, (λ none. cc), is)
 
 none_left : (playing : Playing) → IsPlayed playing → EndsReading (before playing [])
@@ -256,9 +240,8 @@ work bits =
     draws_nothing kept next_bits bits
 
 -- of three bits: 9 and 15 are 24, though 9 and 7 would do
-fifteen_passes : (playing : Playing) → IsNext playing (work 3).interaction →
-    Receives (received_work (work 3) encoded) (before playing (0 ∷ 0 ∷ 0 ∷ 15 ∷ 1 ∷ [])) 15
-    (verifying (step_on playing) (0 ∷ 15 ∷ 9 ∷ []) (1 ∷ []))
+fifteen_passes : (playing : Playing) → IsNext playing (work 3).interaction → Receives (received_work (work 3) encoded)
+    (before playing (0 ∷ 0 ∷ 0 ∷ 15 ∷ 1 ∷ [])) 15 (verifying (step_on playing) (0 ∷ 15 ∷ 9 ∷ []) (1 ∷ []))
 fifteen_passes playing next =
     record { is_next = next; read = refl; fits = tt; gives = refl; challenger = refl; playing = refl }
 
@@ -267,20 +250,18 @@ eight_fails : (playing : Playing) (reason : Bor (List ℕ)) → IsNext playing (
     reason.now ≡ codes "pow witness does not produce enough zero bits" →
     FailsWork (work 3) encoded (before playing (0 ∷ 0 ∷ 0 ∷ 8 ∷ 1 ∷ [])) (BadProofShape reason)
     (verifying (closed playing) (0 ∷ 8 ∷ 9 ∷ []) (1 ∷ []))
-eight_fails playing reason next is =
-    record {
-      witness = 8;
-      read = refl;
-      fails = record {
-        reason_is = is;
-        abandons = record { is_next = next; leaves = (refl, refl); finished = refl };
-      };
-    }
+eight_fails playing reason next is = record {
+  witness = 8;
+  read = refl;
+  fails = record {
+    reason_is = is;
+    abandons = record { is_next = next; leaves = (refl, refl); finished = refl };
+  };
+}
 
 -- of no bits: a witness is read all the same, and the challenger is as it was
-any_passes : (playing : Playing) → IsNext playing (work 0).interaction →
-    Receives (received_work (work 0) encoded) (before playing (0 ∷ 0 ∷ 0 ∷ 5 ∷ [])) 5
-    (verifying (step_on playing) (9 ∷ []) [])
+any_passes : (playing : Playing) → IsNext playing (work 0).interaction → Receives (received_work (work 0) encoded)
+    (before playing (0 ∷ 0 ∷ 0 ∷ 5 ∷ [])) 5 (verifying (step_on playing) (9 ∷ []) [])
 any_passes playing next =
     record { is_next = next; read = refl; fits = tt; gives = refl; challenger = refl; playing = refl }
 

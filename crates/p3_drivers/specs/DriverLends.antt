@@ -1,8 +1,7 @@
 -- What a driver ends as, once a `&mut` to its challenger has ended.
 use Rattle.std.specs.Borrow.{Fml, RattleType, MutBor, Lends}
 use Rattle.p3_symmetric.specs.declared.digest_hasher.DigestHasher.{Ghosts}
-use Rattle.p3_drivers.specs.declared.driver.DriverState.{DriverState}
-use Rattle.p3_drivers.specs.contracts.driver.DriverState.{the_row}
+use Rattle.p3_drivers.specs.{declared.driver.DriverState.DriverState, contracts.driver.DriverState.the_row}
 
 -- the driver with this challenger, and all else as it was
 abbrev pub with_challenger : {C U D P : Type 0} {hasher : Ghosts D} → DriverState C U D P hasher → C →

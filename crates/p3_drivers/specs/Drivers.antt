@@ -1,21 +1,42 @@
 -- The two drivers as contracts see them.
-use Rattle.std.specs.Prelude.{List, ℕ}
+use Rattle.std.specs.Prelude.{List, ℕ, false}
+use Rattle.p3_challenger_core.specs.Observation.{Observation, observed_all}
 use Rattle.p3_symmetric.specs.declared.digest_hasher.DigestHasher.{Ghosts}
-use Rattle.p3_driver_core.specs.Driving.{Driving}
-use Rattle.p3_driver_core.specs.Opened.{transcript_of}
-use Rattle.p3_drivers.specs.declared.driver.DriverState.{DriverState}
-use Rattle.p3_drivers.specs.declared.tape.Written.{Written}
-use Rattle.p3_drivers.specs.declared.tape.Unread.{Unread}
+use Rattle.p3_patterns.specs.PatternSteps.{PatternSteps}
+use Rattle.p3_driver_core.specs.{Driving.{Driving, KeepsOrRefuses}, Opened.transcript_of}
+use Rattle.p3_driver_core.specs.Transcripts.{Meaning, OfCall, Transcript}
+use Rattle.p3_drivers.specs.declared.{driver.DriverState.DriverState, tape.Written.Written, tape.Unread.Unread}
+
+-- the transcript of a driver of either side, where this is the state of a challenger
+abbrev pub played_by : {C U D P S : Type 0} {hasher : Ghosts D} → (C → S) → DriverState C U D P hasher → Transcript S
+played_by state d = transcript_of (state d.challenger) d.steps
 
 -- a driver of either side, where this is the state of a challenger, and these are the bytes of a tape
 abbrev pub driving_of : {C U D P S : Type 0} {hasher : Ghosts D} → (C → S) → (P → List ℕ) → DriverState C U D P hasher →
     Driving S
-driving_of state bytes d = record { transcript = transcript_of (state d.challenger) d.steps; bytes = bytes d.tape }
+driving_of state bytes d = record { transcript = played_by state d; bytes = bytes d.tape }
+
+-- such a driver plays the step, and the answer is what came of it, or is refused it; and its bytes stay as they are
+abbrev pub Keeps : {C U D P S Symbol A R : Type 0} {hasher : Ghosts D} → (C → S) → (P → List ℕ) → Meaning S Symbol A →
+    OfCall (DriverState C U D P hasher) R A
+Keeps state bytes m before value result after =
+    KeepsOrRefuses m (driving_of state bytes before) value result (driving_of state bytes after)
 
 -- a prover
 abbrev pub proving_of : {C U D S : Type 0} {hasher : Ghosts D} → (C → S) → DriverState C U D Written hasher → Driving S
-proving_of state p = record { transcript = transcript_of (state p.challenger) p.steps; bytes = p.tape.narg.items }
+proving_of state = driving_of state (λ tape. tape.narg.items)
 
 -- a verifier
 abbrev pub verifying_of : {C U D S : Type 0} {hasher : Ghosts D} → (C → S) → DriverState C U D Unread hasher → Driving S
-verifying_of state v = record { transcript = transcript_of (state v.challenger) v.steps; bytes = v.tape.bytes.now }
+verifying_of state = driving_of state (λ tape. tape.bytes.now)
+
+-- a driver of which no step was played yet: its challenger observed these items, its pattern is at its first step, and
+-- these are the bytes of its tape
+abbrev pub beginning : {S Symbol I : Type 0} → Observation S Symbol I → S → List I → PatternSteps → List ℕ → Driving S
+beginning o challenger items pattern bytes = record {
+  transcript = record {
+    challenger = observed_all o.observed challenger items;
+    playing = record { pattern = pattern; position = 0; finished = false };
+  };
+  bytes = bytes;
+}

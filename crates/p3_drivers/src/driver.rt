@@ -12,19 +12,15 @@
 //! ```
 //!
 //! Each step is held against the pattern first.
-ghost use Rattle.std.specs.Borrow.{sem};
-ghost use Rattle.std.specs.Prelude.{◌≡◌, [], false, length, OnOk, IfOk, IfErr, IsOk};
-ghost use Rattle.p3_challenger_core.specs.Observation.{observed_all};
+ghost use Rattle.std.specs.{Borrow.sem, Prelude.{◌≡◌, [], length, OnOk, IfOk, IfErr, IsOk}};
 ghost use Rattle.p3_challenger_core.specs.Reading.{AreBytes};
 ghost use Rattle.p3_domain_separator.specs.SeparatorSeed.{seed_of_separator, pattern_of};
-ghost use Rattle.p3_driver_core.specs.Driving.{RefusesStart};
-ghost use Rattle.p3_driver_core.specs.Reads.{trailing_bytes};
-ghost use Rattle.p3_driver_core.specs.Transcripts.{halted};
-ghost use Rattle.p3_driver_core.specs.Verifying.{EndsReading, RefusesEnd};
+ghost use Rattle.p3_driver_core.specs.{Driving.RefusesStart, Reads.trailing_bytes, Verifying.{EndsReading, RefusesEnd}};
+ghost use Rattle.p3_driver_core.specs.Transcripts.{halted, RefusesPlayEnd};
 ghost use Rattle.p3_drivers.specs.DriverLends.{lends_challenger};
-ghost use Rattle.p3_drivers.specs.Drivers.{driving_of, proving_of, verifying_of};
-ghost use Rattle.p3_fs_core.specs.Errors.{pattern_error_of, IsBadShape};
-ghost use Rattle.p3_patterns.specs.Playing.{FaultOfPlayEnd, IsPatternError, IsPlayed};
+ghost use Rattle.p3_drivers.specs.Drivers.{driving_of, played_by, proving_of, verifying_of, beginning};
+ghost use Rattle.p3_fs_core.specs.Errors.{IsBadShape};
+ghost use Rattle.p3_patterns.specs.Playing.{IsPlayed};
 
 mod draws;
 mod markers;
@@ -113,20 +109,13 @@ impl<U: Unit, C: CanObserve<U::Item> + Drop, D: DigestHasher> ProverState<C, U, 
         separator: &DomainSeparator<U, D>,
     ) -> Result<Self, TranscriptError>
         requires { U.is_alphabet }
-        ensures ok { let seed = seed_of_separator D.digest_of separator.now in
-            IfOk result (λ prover. proving_of C.state prover ≡ record {
-              transcript = record {
-                challenger =
-                    observed_all C.observation.observed (C.state challenger) (U.items seed);
-                playing =
-                    record { pattern = pattern_of separator.now; position = 0; finished = false };
-              };
-              bytes = [];
-            }) }
-        ensures fits { let seed = seed_of_separator D.digest_of separator.now in
-            OnOk result (U.is_too_long (length seed) → ⊥) }
-        ensures err { let seed = seed_of_separator D.digest_of separator.now in
-            IfErr result (RefusesStart (U.is_too_long (length seed))) }
+        ensures ok { IfOk result
+            (λ prover. proving_of C.state prover ≡ beginning C.observation (C.state challenger)
+            (U.items (seed_of_separator D.digest_of separator.now)) (pattern_of separator.now) []) }
+        ensures fits { OnOk result
+            (U.is_too_long (length (seed_of_separator D.digest_of separator.now)) → ⊥) }
+        ensures err { IfErr result
+            (RefusesStart (U.is_too_long (length (seed_of_separator D.digest_of separator.now)))) }
     {
         let tape = Written {
             narg: Vec::new(alloc),
@@ -147,20 +136,13 @@ impl<'a, U: Unit, C: CanObserve<U::Item> + Drop, D: DigestHasher> VerifierState<
         narg: &'a [u8],
     ) -> Result<Self, TranscriptError>
         requires { U.is_alphabet }
-        ensures ok { let seed = seed_of_separator D.digest_of separator.now in
-            IfOk result (λ verifier. verifying_of C.state verifier ≡ record {
-              transcript = record {
-                challenger =
-                    observed_all C.observation.observed (C.state challenger) (U.items seed);
-                playing =
-                    record { pattern = pattern_of separator.now; position = 0; finished = false };
-              };
-              bytes = narg.now;
-            }) }
-        ensures fits { let seed = seed_of_separator D.digest_of separator.now in
-            OnOk result (U.is_too_long (length seed) → ⊥) }
-        ensures err { let seed = seed_of_separator D.digest_of separator.now in
-            IfErr result (RefusesStart (U.is_too_long (length seed))) }
+        ensures ok { IfOk result (λ verifier. verifying_of C.state verifier
+            ≡ beginning C.observation (C.state challenger) (U.items
+            (seed_of_separator D.digest_of separator.now)) (pattern_of separator.now) narg.now) }
+        ensures fits { OnOk result
+            (U.is_too_long (length (seed_of_separator D.digest_of separator.now)) → ⊥) }
+        ensures err { IfErr result
+            (RefusesStart (U.is_too_long (length (seed_of_separator D.digest_of separator.now)))) }
     {
         DriverState::begin_with(alloc, challenger, separator, Unread { bytes: narg })
     }
@@ -175,20 +157,13 @@ impl<U: Unit, C: CanObserve<U::Item> + Drop, D: DigestHasher, P: Tape> DriverSta
         tape: P,
     ) -> Result<Self, TranscriptError>
         requires { U.is_alphabet }
-        ensures ok { let seed = seed_of_separator D.digest_of separator.now in
-            IfOk result (λ driver. driving_of C.state P.bytes driver ≡ record {
-              transcript = record {
-                challenger =
-                    observed_all C.observation.observed (C.state challenger) (U.items seed);
-                playing =
-                    record { pattern = pattern_of separator.now; position = 0; finished = false };
-              };
-              bytes = P.bytes tape;
-            }) }
-        ensures fits { let seed = seed_of_separator D.digest_of separator.now in
-            OnOk result (U.is_too_long (length seed) → ⊥) }
-        ensures err { let seed = seed_of_separator D.digest_of separator.now in
-            IfErr result (RefusesStart (U.is_too_long (length seed))) }
+        ensures ok { IfOk result (λ driver. driving_of C.state P.bytes driver
+            ≡ beginning C.observation (C.state challenger) (U.items (seed_of_separator
+            D.digest_of separator.now)) (pattern_of separator.now) (P.bytes tape)) }
+        ensures fits { OnOk result
+            (U.is_too_long (length (seed_of_separator D.digest_of separator.now)) → ⊥) }
+        ensures err { IfErr result
+            (RefusesStart (U.is_too_long (length (seed_of_separator D.digest_of separator.now)))) }
     {
         separator.seed(&mut challenger)?;
         let steps = Steps::new(alloc, separator.pattern().clone()?)?;
@@ -205,7 +180,7 @@ impl<U: Unit, C: CanObserve<U::Item> + Drop, D: DigestHasher, P: Tape> DriverSta
 impl<C: Sponge, U, D: DigestHasher, P: Tape> DriverState<C, U, D, P> {
     /// The challenger.
     pub fn challenger(&self) -> &C
-        ensures { C.state result.now ≡ (driving_of C.state P.bytes self.now).transcript.challenger }
+        ensures { C.state result.now ≡ (played_by C.state self.now).challenger }
     {
         &self.challenger
     }
@@ -218,8 +193,7 @@ impl<C: Sponge, U, D: DigestHasher, P: Tape> DriverState<C, U, D, P> {
     pub fn challenger_mut(&mut self) -> &mut C
         ensures* writes_back { sem 𝓛
             (lends_challenger C.row U.row D.row P.row D.DigestHasher self.entry result) }
-        ensures lent { C.state result.now
-            ≡ (driving_of C.state P.bytes self.old).transcript.challenger }
+        ensures lent { C.state result.now ≡ (played_by C.state self.old).challenger }
     {
         &mut self.challenger
     }
@@ -230,8 +204,7 @@ impl<C: Sponge, U, D: DigestHasher, P: Tape> DriverState<C, U, D, P> {
     /// Each step, and the end, is refused with [`PatternError::Finished`](p3_fs_core::PatternError::Finished) from then
     /// on. The challenger stays as it is, and the bytes of the proof. Not in the Rust crate.
     pub fn halt(&mut self)
-        ensures transcript { (driving_of C.state P.bytes self.new).transcript ≡ halted
-            (driving_of C.state P.bytes self.old).transcript }
+        ensures transcript { played_by C.state self.new ≡ halted (played_by C.state self.old) }
         ensures bytes { (driving_of C.state P.bytes self.new).bytes
             ≡ (driving_of C.state P.bytes self.old).bytes }
     {
@@ -273,9 +246,7 @@ impl<C: Sponge + Drop, U, D: DigestHasher> ProverState<C, U, D> {
     pub fn finalize(self) -> Result<Vec<u8>, TranscriptError>
         ensures ok { IfOk result (λ narg. IsPlayed (proving_of C.state self).transcript.playing
             × (narg.items ≡ (proving_of C.state self).bytes)) }
-        ensures err { IfErr result (λ e.
-            IsPatternError (λ m. FaultOfPlayEnd (proving_of C.state self).transcript.playing
-            (pattern_error_of m)) e) }
+        ensures err { IfErr result (RefusesPlayEnd (proving_of C.state self).transcript.playing) }
         ensures only { IsPlayed (proving_of C.state self).transcript.playing → IsOk result }
     {
         let (narg, _challenger) = self.finish()?;
@@ -289,9 +260,7 @@ impl<C: Sponge + Drop, U, D: DigestHasher> ProverState<C, U, D> {
         ensures ok { IfOk result (λ end. IsPlayed (proving_of C.state self).transcript.playing
             × (end.0.items ≡ (proving_of C.state self).bytes)
             × (C.state end.1 ≡ (proving_of C.state self).transcript.challenger)) }
-        ensures err { IfErr result (λ e.
-            IsPatternError (λ m. FaultOfPlayEnd (proving_of C.state self).transcript.playing
-            (pattern_error_of m)) e) }
+        ensures err { IfErr result (RefusesPlayEnd (proving_of C.state self).transcript.playing) }
         ensures only { IsPlayed (proving_of C.state self).transcript.playing → IsOk result }
     {
         let DriverState {

@@ -1,14 +1,11 @@
 -- The count of a bounded step.
-use Rattle.std.proofs.Common.{◌≡◌, ℕ, ◌<◌, ◌≤◌, ◌+◌, ◌-◌, ◌*◌, ◌^◌, List, ◌++◌, length, take, drop, replicate, sym}
-use Rattle.std.proofs.Common.{ap, ◌∙◌, subst, arith}
-use Rattle.std.proofs.lemmas.Nat.{leading_length}
-use Rattle.std.specs.Int.{div_ceil}
+use Rattle.std.proofs.Common.{◌≡◌, ℕ, ◌<◌, ◌≤◌, ◌+◌, ◌-◌, ◌*◌, ◌^◌, List, ◌++◌, length, take, replicate, sym}
+use Rattle.std.{proofs.Common.{ap, ◌∙◌, subst, arith}, proofs.lemmas.Nat.leading_length, specs.Int.div_ceil}
+use Rattle.std.proofs.lemmas.List.{length-take-le}
 use Rattle.p3_challenger_core.specs.Reading.{AreBytes, IsPrefixCodeOn}
-use Rattle.p3_fs_core.specs.BigEndian.{big_endian, in_bytes, bytes_for}
+use Rattle.p3_fs_core.specs.{BigEndian.{big_endian, in_bytes, bytes_for}, BigEndianLaws.front-prefix_code}
 use Rattle.p3_fs_core.specs.BigEndianLaws.{fits-bytes_for, bytes_for-least, big_endian-in_bytes, big_endian-below}
 use Rattle.p3_fs_core.specs.BigEndianLaws.{in_bytes-big_endian, length-in_bytes, AreBytes-take, take-front}
-use Rattle.p3_fs_core.specs.BigEndianLaws.{drop-front}
-use Rattle.std.proofs.lemmas.List.{length-take-le}
 use lib.Count.{count_leading_zeros}
 
 rounded_up : (bits : ℕ) → div_ceil bits 8 ≡ bytes_for bits
@@ -55,12 +52,6 @@ counted_encoded_back width number buf are_bytes long is =
 -- counts of one width are a prefix code
 pub counts_prefix_code : (width : ℕ) → IsPrefixCodeOn (λ n. n < 256 ^ width) (in_bytes width)
 counts_prefix_code width x y a b x_fits y_fits e =
-    let front : in_bytes width x ≡ in_bytes width y =
-    sym (take-front width (in_bytes width x) a (length-in_bytes width x))
-    ∙ ap (take width) e
-    ∙ take-front width (in_bytes width y) b (length-in_bytes width y) in
-    let following : a ≡ b =
-    sym (drop-front width (in_bytes width x) a (length-in_bytes width x))
-    ∙ ap (drop width) e
-    ∙ drop-front width (in_bytes width y) b (length-in_bytes width y) in
-    (sym (big_endian-in_bytes width x x_fits) ∙ ap big_endian front ∙ big_endian-in_bytes width y y_fits, following)
+    let parts = front-prefix_code (in_bytes width x) (in_bytes width y) a b
+    (length-in_bytes width x ∙ sym (length-in_bytes width y)) e in
+    (sym (big_endian-in_bytes width x x_fits) ∙ ap big_endian parts.0 ∙ big_endian-in_bytes width y y_fits, parts.1)

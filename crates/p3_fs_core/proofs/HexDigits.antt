@@ -1,13 +1,9 @@
 -- A number's digits in base 16, in two parts, and those of bytes.
 use Rattle.std.proofs.Common.{◌≡◌, ℕ, zero, suc, ◌+◌, ◌-◌, ◌*◌, ◌/◌, ◌%◌, ◌^◌, ◌<◌, ◌≤◌, false, List, [], ◌∷◌, ◌++◌}
 use Rattle.std.proofs.Common.{length, replicate, slice_index, refl, sym, ap, ◌∙◌, inl, inr, lit<, arith, append_assoc}
-use Rattle.std.proofs.Common.{append-nil, eq-eqb, ne_eqb, pow-suc}
-use Rattle.std.proofs.lemmas.Bool.{cases_lt}
-use Rattle.std.proofs.lemmas.List.{length-append}
-use Rattle.std.proofs.Math.Nat.{mul_left_comm, mul-pos}
+use Rattle.std.proofs.{Common.{append-nil, eq-eqb, ne_eqb, pow-suc}, lemmas.Bool.cases_lt, lemmas.List.length-append}
+use Rattle.std.{proofs.Math.Nat.{mul_left_comm, mul-pos}, proofs.lemmas.Bool.Decides.nat_tests, specs.Str.IsAscii}
 use Rattle.std.specs.Fmt.{digit_glyph, digits, digits_onto, padded_integral, format_spec, char_count}
-use Rattle.std.proofs.lemmas.Bool.Decides.{nat_tests}
-use Rattle.std.specs.Str.{IsAscii}
 use Rattle.hex.specs.Hex.{lower_digits, encode_with, encode_lower}
 use Rattle.p3_challenger_core.specs.Reading.{AreBytes}
 use Rattle.p3_fs_core.specs.StepTexts.{hex_number, hex_text}
@@ -49,18 +45,8 @@ room_left (suc k) n many fits = omega arith
 onto-room : (i j n : ℕ) (acc : List ℕ) → 0 < i → n < 16 ^ i → 0 < j → n < 16 ^ j → onto i n acc ≡ onto j n acc
 onto-room zero j n acc some fits more wide = absurd (omega (arith, some))
 onto-room (suc i) zero n acc some fits more wide = absurd (omega (arith, more))
-onto-room (suc i) (suc j) n acc some fits more wide = elim (cases_lt n 16) [
-  | inl one ↦
-      let none : n / 16 ≡ 0 = omega (arith, one) in
-      onto-last i n acc none ∙ sym (onto-last j n acc none)
-  | inr two ↦
-      let many : n / 16 ≡ 0 → ⊥ = λ e. omega (arith, two, e) in
-      let first : n / 16 < 16 ^ i = omega (arith, fits, sixteen_times i) in
-      let second : n / 16 < 16 ^ j = omega (arith, wide, sixteen_times j) in
-      onto-more i n acc many
-      ∙ onto-room i j (n / 16) (glyph (n % 16) ∷ acc) (room_left i n two first) first (room_left j n two second) second
-      ∙ sym (onto-more j n acc many)
-]
+onto-room (suc i) (suc j) n acc some fits more wide =
+    grind (arith, nat_tests, sixteen_times, room_left, onto-room i j (n / 16) (glyph (n % 16) ∷ acc))
 
 -- digits before others are the digits, and then the others
 onto-append : (k n : ℕ) (acc : List ℕ) → onto k n acc ≡ onto k n [] ++ acc

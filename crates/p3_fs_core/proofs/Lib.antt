@@ -5,6 +5,5 @@ pub mod LowFirst
 pub mod Packed
 pub mod SliceCalls
 pub mod StepEquality
-pub mod Variants
 pub mod Widths
 pub mod WorkedRows

@@ -1,11 +1,8 @@
 -- Numbers of bytes, made from the highest byte down.
 use Rattle.std.proofs.Common.{◌≡◌, ℕ, suc, ◌<◌, ◌≤◌, ◌+◌, ◌-◌, ◌*◌, ◌^◌, List, length, drop, get_or}
-use Rattle.std.proofs.Common.{arith, ap, sym, ◌∙◌}
-use Rattle.std.proofs.lemmas.List.{length-drop}
-use Rattle.std.proofs.Math.Seq.{drop-cons}
+use Rattle.std.proofs.{Common.{arith, ap, sym, ◌∙◌}, lemmas.List.length-drop, Math.Seq.drop-cons}
 use Rattle.p3_challenger_core.specs.Reading.{AreBytes}
-use Rattle.p3_fs_core.specs.BigEndianLaws.{AreBytes-drop}
-use Rattle.p3_fs_core.specs.Packing.{little_endian}
+use Rattle.p3_fs_core.specs.{BigEndianLaws.AreBytes-drop, Packing.little_endian}
 use Rattle.p3_fs_core.specs.PackingLaws.{little_endian-below, power_grows}
 
 -- a byte more in front of the last i bytes

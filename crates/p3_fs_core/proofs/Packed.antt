@@ -3,8 +3,7 @@ use Rattle.std.proofs.Common.{◌≡◌, ℕ, ◌<◌, ◌≤◌, ◌+◌, ◌-�
 use Rattle.std.proofs.Common.{drop, set, min, inl, inr, sym, ap, ◌∙◌, append_assoc, pow_mono, arith}
 use Rattle.std.proofs.lemmas.Bool.{cases_lt}
 use Rattle.std.proofs.lemmas.List.{length-drop, length-take-le, take-append-drop, drop-drop, take_more_set}
-use Rattle.p3_fs_core.specs.Packing.{chunks}
-use Rattle.p3_fs_core.specs.PackingLaws.{chunks-step}
+use Rattle.p3_fs_core.specs.{Packing.chunks, PackingLaws.chunks-step}
 
 -- a chunk has at most eight bytes
 pub chunk-most : (bits order : ℕ) → 2 ^ bits ≤ 2 * order → order < 2 ^ 64 → (bits - 1) / 8 ≤ 8

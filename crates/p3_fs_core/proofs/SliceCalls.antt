@@ -1,10 +1,10 @@
 -- Calls made one after another, several of them at once.
-use Rattle.std.proofs.Common.{◌≡◌, List, [], ◌∷◌, ◌++◌, refl, sym, ◌∙◌, inl, inr, subst}
+use Rattle.std.proofs.Common.{◌≡◌, ◌<◌, ℕ, length, map, min, arith, ap, List, [], ◌∷◌, ◌++◌, refl, sym, ◌∙◌, inl, inr, subst}
 use Rattle.p3_challenger_core.specs.Observation.{observed_all, LeavesInCalls, RefusesObserve}
-use Rattle.p3_challenger_core.specs.CallLaws.{GoesOn}
-use Rattle.p3_challenger_core.specs.declared.error.ChallengerError.{ChallengerError}
-use Rattle.p3_challenger_core.specs.declared.error.ChallengerError.TheVariants.{OutOfMemory, DrawLimit, NoWitness}
-use Rattle.p3_challenger_core.specs.declared.error.ChallengerError.TheVariants.{TooLong}
+use Rattle.p3_challenger_core.specs.{CallLaws.{GoesOn, call-made}, declared.error.ChallengerError.ChallengerError}
+use Rattle.p3_challenger_core.specs.declared.error.ChallengerError.TheVariants.{OutOfMemory}
+use Rattle.p3_field_core.specs.Residues.{Residues}
+use Rattle.p3_fs_core.specs.{Packing.{packed_chunks, little_endian}, PackingLaws.chunks-step}
 
 module _ {S T : Type 0} (step : S → T → S) (MayLeave : S → T → S → Type 0) where
   all-append : (s : S) (xs ys : List T) → observed_all step (observed_all step s xs) ys ≡ observed_all step s (xs ++ ys)
@@ -23,9 +23,11 @@ module _ {S T : Type 0} (step : S → T → S) (MayLeave : S → T → S → Typ
   calls-after s [] ys t h = h
   calls-after s (x ∷ xs) ys t h = inr (calls-after (step s x) xs ys t h)
 
-  -- nothing is done yet
-  pub goes_on-none : (start : S) (values : List T) → GoesOn step MayLeave start values start values
-  goes_on-none start values = record { whole = refl; refused = λ t h. h }
+  -- the first call is made
+  pub first-made : (start next : S) (x : T) (rest : List T) → next ≡ step start x
+      → GoesOn step MayLeave start (x ∷ rest) next rest
+  first-made start next x rest moved =
+      call-made step MayLeave start (x ∷ rest) start next x rest moved (record { whole = refl; refused = λ t h. h })
 
   -- what goes on from where others stopped
   pub goes_on-then : (start here there : S) (values rest more : List T) → GoesOn step MayLeave start values here rest
@@ -38,9 +40,7 @@ module _ {S T : Type 0} (step : S → T → S) (MayLeave : S → T → S → Typ
       → (e : ChallengerError) (t : S) → RefusesObserve (LeavesInCalls step MayLeave here rest) e t
       → RefusesObserve (LeavesInCalls step MayLeave start values) e t
   rest-refused start here values rest on OutOfMemory t h = on.refused t h
-  rest-refused start here values rest on DrawLimit t h = absurd h
-  rest-refused start here values rest on NoWitness t h = absurd h
-  rest-refused start here values rest on TooLong t h = absurd h
+  rest-refused start here values rest on _ t h = absurd h
 
   module _ (start : S) (values : List T) (here : S) (xs rest : List T)
       (on : GoesOn step MayLeave start values here (xs ++ rest)) where
@@ -60,6 +60,15 @@ module _ {S T : Type 0} (step : S → T → S) (MayLeave : S → T → S → Typ
         → RefusesObserve (LeavesInCalls step MayLeave start values) e t
     slice-refused SliceMayLeave leaves OutOfMemory t h =
         on.refused t (calls-front here xs rest t (leaves here xs t h))
-    slice-refused SliceMayLeave leaves DrawLimit t h = absurd h
-    slice-refused SliceMayLeave leaves NoWitness t h = absurd h
-    slice-refused SliceMayLeave leaves TooLong t h = absurd h
+    slice-refused SliceMayLeave leaves _ t h = absurd h
+
+-- where chunks are left, the first of them is next
+pub chunk-next : {F S : Type 0} (r : Residues F) (step : S → F → S) (MayLeave : S → F → S → Type 0) (start here : S)
+    (values : List F) (k size : ℕ) (all chunk rest : List ℕ) → 0 < k → k ≡ size → 0 < length all → all ≡ chunk ++ rest
+    → length chunk ≡ min k (length all) → GoesOn step MayLeave start values here (packed_chunks r size all)
+    → GoesOn step MayLeave start values here (r.of (little_endian chunk) ∷ packed_chunks r size rest)
+chunk-next r step MayLeave start here values k size all chunk rest positive same some parts short on =
+    let split =
+    chunks-step size all chunk rest (omega (arith, positive, same)) some parts
+    (short ∙ ap (λ j. min j (length all)) same) in
+    subst (λ chunks. GoesOn step MayLeave start values here (map (λ bytes. r.of (little_endian bytes)) chunks)) split on

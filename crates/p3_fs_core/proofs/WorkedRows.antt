@@ -1,14 +1,9 @@
 -- Worked rows, computed on the definitions.
-use Rattle.std.proofs.Common.{◌≡◌, [], ◌∷◌, codes, refl}
-use Rattle.std.specs.Fmt.{digits}
-use Rattle.p3_fs_core.specs.BigEndian.{in_bytes, bytes_for}
-use Rattle.p3_fs_core.specs.Packing.{chunk_bytes}
+use Rattle.std.{proofs.Common.{◌≡◌, [], ◌∷◌, codes, refl}, specs.Fmt.digits}
+use Rattle.p3_fs_core.specs.{BigEndian.{in_bytes, bytes_for}, Packing.chunk_bytes, declared.step.Hierarchy.Hierarchy}
 use Rattle.p3_fs_core.specs.Steps.{Step, step_with, marker_of, plain_text, alternate_text}
-use Rattle.p3_fs_core.specs.declared.step.Hierarchy.{Hierarchy}
-use Rattle.p3_fs_core.specs.declared.step.Hierarchy.TheVariants.{Atomic, Begin, End}
-use Rattle.p3_fs_core.specs.declared.step.Kind.TheVariants.{Protocol, Message}
-use Rattle.p3_fs_core.specs.declared.step.Length.TheVariants.{Scalar}
-use Rattle.p3_fs_core.specs.declared.step.TypeTag.TheVariants.{Opaque}
+use Rattle.p3_fs_core.specs.declared.step.{Hierarchy.TheVariants.{Atomic, Begin, End}, Length.TheVariants.Scalar}
+use Rattle.p3_fs_core.specs.declared.step.{Kind.TheVariants.{Protocol, Message}, TypeTag.TheVariants.Opaque}
 
 -- how many bytes an element takes, and how many a chunk has
 widths : (bytes_for 31 ≡ 4) × (bytes_for 64 ≡ 8) × (bytes_for 9 ≡ 2)

@@ -1,11 +1,7 @@
 -- Algebras, as the steps that carry their elements name them.
 use Rattle.std.specs.Prelude.{ℕ, List}
-use Rattle.p3_fs_core.specs.Steps.{Step, step_with}
-use Rattle.p3_fs_core.specs.declared.step.Hierarchy.TheVariants.{Atomic}
-use Rattle.p3_fs_core.specs.declared.step.Kind.{Kind}
-use Rattle.p3_fs_core.specs.declared.step.Length.{Length}
-use Rattle.p3_fs_core.specs.declared.step.TypeTag.{TypeTag}
-use Rattle.p3_fs_core.specs.declared.step.TypeTag.TheVariants.{Algebra}
+use Rattle.p3_fs_core.specs.{Steps.{Step, step_with}, declared.step.Hierarchy.TheVariants.Atomic}
+use Rattle.p3_fs_core.specs.declared.step.{Kind.Kind, Length.Length, TypeTag.TypeTag, TypeTag.TheVariants.Algebra}
 
 -- the order of its field, how many coefficients an element has, the digest of its identity, and its name in the program
 pub record NamedAlgebra : Type 0 where

@@ -1,8 +1,6 @@
 -- Laws of the alphabet of bytes.
 use Rattle.std.proofs.Common.{◌≡◌, ℕ, zero, suc, List, [], ◌∷◌, ◌++◌, inl, inr, refl, sym, ap, ◌∙◌, append_assoc}
-use Rattle.std.proofs.Common.{append-nil}
-use Rattle.std.specs.List.{flat_map}
-use Rattle.std.proofs.lemmas.List.{append_cancel_left}
+use Rattle.std.{proofs.Common.append-nil, specs.List.flat_map, proofs.lemmas.List.append_cancel_left}
 use Rattle.p3_challenger_core.specs.Reading.{IsPrefixCodeOn, IsByte, AreBytes, OneBegins}
 use Rattle.p3_fs_core.specs.Alphabet.{AreItems}
 

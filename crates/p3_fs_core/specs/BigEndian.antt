@@ -1,6 +1,5 @@
 -- Numbers as bytes, the highest first.
-use Rattle.std.specs.Prelude.{ℕ, ◌+◌, ◌*◌, ◌/◌, List, [], ◌∷◌}
-use Rattle.std.specs.Int.{bytes_high_first}
+use Rattle.std.specs.{Prelude.{ℕ, ◌+◌, ◌*◌, ◌/◌, List, [], ◌∷◌}, Int.bytes_high_first}
 
 -- the number that bytes are after a number
 abbrev pub big_endian_after : ℕ → List ℕ → ℕ

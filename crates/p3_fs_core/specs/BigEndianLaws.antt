@@ -1,12 +1,9 @@
 -- Laws of numbers as bytes, the highest first.
 use Rattle.std.proofs.Common.{◌≡◌, ℕ, zero, suc, ◌<◌, ◌≤◌, ◌+◌, ◌-◌, ◌*◌, ◌/◌, ◌%◌, ◌^◌, List, [], ◌∷◌, ◌++◌, length}
 use Rattle.std.proofs.Common.{take, drop, replicate, append-nil, refl, sym, ap, ◌∙◌, subst, inl, inr, lit<, arith}
-use Rattle.std.proofs.Common.{pow-suc, pow_mono}
-use Rattle.std.proofs.lemmas.Bool.{cases_lt}
-use Rattle.std.proofs.Math.Nat.{div-add-mod, div-div-eq-div-mul, div-eq_of_lt, div-one, mod-lt, lt-mul-div-succ}
-use Rattle.std.proofs.Math.Nat.{zero-add, suc-add}
-use Rattle.std.proofs.lemmas.Nat.{pow_pos, pow-add, be_bytes_8}
-use Rattle.std.proofs.Math.Seq.{take-append_seam, drop-append_seam}
+use Rattle.std.proofs.{Common.{pow-suc, pow_mono}, lemmas.Bool.cases_lt, Math.Nat.{zero-add, suc-add}}
+use Rattle.std.proofs.Math.Nat.{div-div-eq-div-mul, div-eq_of_lt, div-one, mod-lt, lt-mul-div-succ}
+use Rattle.std.proofs.{lemmas.Nat.{pow_pos, pow-add, be_bytes_8}, Math.Seq.{take-append_seam, drop-append_seam}}
 use Rattle.std.proofs.lemmas.List.{length-append, length-replicate, length-drop, take-replicate, take_all, drop_all}
 use Rattle.std.specs.Int.{w64, byte_at, from_be_bytes}
 use Rattle.p3_challenger_core.specs.Reading.{AreBytes}
@@ -24,10 +21,7 @@ quotient-suc k n = ap (λ m. n / m) (pow-suc 256 k) ∙ sym (div-div-eq-div-mul 
 
 -- what is above k bytes is what is above one byte more, and that byte
 pub one_more : (k n : ℕ) → 256 * (n / 256 ^ suc k) + byte_at k n ≡ n / 256 ^ k
-one_more k n =
-    ap (λ m. 256 * m + byte_at k n) (quotient-suc k n)
-    ∙ ap (λ m. 256 * (n / 256 ^ k / 256) + m) (byte_at-digit k n)
-    ∙ div-add-mod (n / 256 ^ k) 256
+one_more k n = omega (arith, quotient-suc k n, byte_at-digit k n)
 
 -- the lowest bytes of a number, after what is above them, are the number
 after-in_bytes : (k n : ℕ) → big_endian_after (n / 256 ^ k) (in_bytes k n) ≡ n
@@ -86,19 +80,12 @@ AreBytes-drop zero bytes h = h
 AreBytes-drop (suc n) [] h = h
 AreBytes-drop (suc n) (byte ∷ bytes) h = AreBytes-drop n bytes (λ j. h (suc j))
 
-one_byte-div : (a byte : ℕ) → byte < 256 → (256 * a + byte) / 256 ≡ a
-one_byte-div a byte small = omega (arith, small)
-
-one_byte-mod : (a byte : ℕ) → byte < 256 → (256 * a + byte) % 256 ≡ byte
-one_byte-mod a byte small = omega (arith, small)
-
 -- above bytes stands what they are after
 after-div : (a : ℕ) (bytes : List ℕ) → AreBytes bytes → big_endian_after a bytes / 256 ^ length bytes ≡ a
 after-div a [] h = div-one a
 after-div a (byte ∷ bytes) h =
-    quotient-suc (length bytes) (big_endian_after (256 * a + byte) bytes)
-    ∙ ap (λ m. m / 256) (after-div (256 * a + byte) bytes (λ j. h (suc j)))
-    ∙ one_byte-div a byte (h zero)
+    let above = quotient-suc (length bytes) (big_endian_after (256 * a + byte) bytes) in
+    omega (arith, above, after-div (256 * a + byte) bytes (λ j. h (suc j)), h zero)
 
 -- bytes are those of their number
 in_bytes-after : (a : ℕ) (bytes : List ℕ) → AreBytes bytes → in_bytes (length bytes) (big_endian_after a bytes) ≡ bytes
@@ -106,11 +93,8 @@ in_bytes-after a [] h = refl
 in_bytes-after a (byte ∷ bytes) h =
     let n = big_endian_after (256 * a + byte) bytes in
     let first : byte_at (length bytes) n ≡ byte =
-    byte_at-digit (length bytes) n
-    ∙ ap (λ m. m % 256) (after-div (256 * a + byte) bytes (λ j. h (suc j)))
-    ∙ one_byte-mod a byte (h zero) in
-    ap (λ b. b ∷ in_bytes (length bytes) n) first
-    ∙ ap (λ bs. byte ∷ bs) (in_bytes-after (256 * a + byte) bytes (λ j. h (suc j)))
+    omega (arith, byte_at-digit (length bytes) n, after-div (256 * a + byte) bytes (λ j. h (suc j)), h zero) in
+    let others = in_bytes-after (256 * a + byte) bytes (λ j. h (suc j)) in cc
 
 pub in_bytes-big_endian : (k : ℕ) (bytes : List ℕ) → length bytes ≡ k → AreBytes bytes →
     in_bytes k (big_endian bytes) ≡ bytes
@@ -132,18 +116,12 @@ power_of_bytes (suc k) =
 power_positive : (k : ℕ) → 0 < 256 ^ k
 power_positive k = subst (λ (m : ℕ). 0 < m) (sym (power_of_bytes k)) (pow_pos (8 * k))
 
-times_one : (m : ℕ) → m * (0 + 1) ≡ m
-times_one m = omega arith
-
 -- the number of k bytes is below the number of all of them
 pub big_endian-below : (bytes : List ℕ) → AreBytes bytes → big_endian bytes < 256 ^ length bytes
 big_endian-below bytes h =
     let n = big_endian bytes in
-    let m = 256 ^ length bytes in
-    let none : n / m ≡ 0 = after-div 0 bytes h in
-    let below : n < m * (n / m + 1) = lt-mul-div-succ n (power_positive (length bytes)) in
-    let once : m * (n / m + 1) ≡ m = ap (λ q. m * (q + 1)) none ∙ times_one m in
-    subst (λ (k : ℕ). n < k) once below
+    let below = lt-mul-div-succ n (power_positive (length bytes)) in
+    let once = rw (after-div 0 bytes h) at below in omega (arith, once)
 
 -- ---- how many bytes bits take
 
@@ -155,14 +133,11 @@ fits-bytes_for bits n fits =
     let power = power_of_bytes (bytes_for bits) in
     omega arith
 
-next_below : {a b : ℕ} → a < b → a + 1 ≤ b
-next_below less = omega (arith, less)
-
 -- and in no fewer, where its highest bit is not 0
 pub bytes_for-least : (bits n width : ℕ) → 2 ^ bits ≤ 2 * n + 1 → n < 256 ^ width → bytes_for bits ≤ width
 bytes_for-least bits n width high fits = elim (cases_lt (8 * width) bits) [
   | inl more ↦
-      let grown : 2 ^ (8 * width + 1) ≤ 2 ^ bits = pow_mono (next_below more) in
+      let grown : 2 ^ (8 * width + 1) ≤ 2 ^ bits = pow_mono (omega (arith, more)) in
       let double : 2 ^ (8 * width + 1) ≡ 2 ^ (8 * width) * 2 = pow-add 2 (8 * width) 1 in
       let power = power_of_bytes width in
       absurd (omega arith)

@@ -1,8 +1,6 @@
 -- What a decoder answers, from what reading gives.
-use Rattle.std.proofs.Common.{◌≡◌, ℕ, List, ◌++◌, drop, Result, Ok, Err, refl, sym, ap, ◌∙◌, subst}
-use Rattle.std.specs.Result.{IfOk}
-use Rattle.p3_fs_core.specs.Errors.{Decodes, IsBadShape}
-use Rattle.p3_fs_core.specs.declared.error.TranscriptError.{TranscriptError}
+use Rattle.std.{proofs.Common.{◌≡◌, ℕ, List, ◌++◌, drop, Result, Ok, Err, refl, sym, ap, ◌∙◌, subst}, specs.Result.IfOk}
+use Rattle.p3_fs_core.specs.{Errors.{Decodes, IsBadShape}, declared.error.TranscriptError.TranscriptError}
 
 module _ {T : Type 0} (encoding : T → List ℕ) (reading : List ℕ → Result (T × List ℕ) (List ℕ)) where
   module _ (width : ℕ) (bytes : List ℕ) (reads_only : (x : T) (rest : List ℕ) → reading bytes ≡ Ok (x, rest) →

@@ -1,24 +1,19 @@
 -- Refusals of a transcript.
 use Rattle.std.specs.Prelude.{◌≡◌, ℕ, List, Result, Ok, Err}
-use Rattle.p3_fs_core.specs.Interactions.{step_of}
-use Rattle.p3_fs_core.specs.Steps.{Step}
-use Rattle.p3_fs_core.specs.declared.interaction.Interaction.{Interaction}
-use Rattle.p3_fs_core.specs.declared.error.PatternError.{PatternError}
+use Rattle.p3_fs_core.specs.{Interactions.step_of, Steps.Step, declared.interaction.Interaction.Interaction}
+use Rattle.p3_fs_core.specs.declared.error.{PatternError.PatternError, PatternError.TheVariants.OverCap}
 use Rattle.p3_fs_core.specs.declared.error.PatternError.TheVariants.{Finished, NoMoreSteps, WrongStep, Unplayed}
-use Rattle.p3_fs_core.specs.declared.error.PatternError.TheVariants.{OverCap}
-use Rattle.p3_challenger_core.specs.declared.error.ChallengerError.{ChallengerError}
-use Rattle.p3_challenger_core.specs.declared.error.ChallengerError.TheVariants as challenger
 use Rattle.p3_fs_core.specs.declared.error.TranscriptError.{TranscriptError}
 use Rattle.p3_fs_core.specs.declared.error.TranscriptError.TheVariants.{MissingBegin, InvalidKind, MismatchedBeginEnd}
 use Rattle.p3_fs_core.specs.declared.error.TranscriptError.TheVariants.{MissingEnd, BadProofShape, Pattern}
 use Rattle.p3_fs_core.specs.declared.error.TranscriptError.TheVariants.{Challenger, LabelTooLong, OutOfMemory}
+use Rattle.p3_challenger_core.specs.declared.error.ChallengerError.{ChallengerError}
+use Rattle.p3_challenger_core.specs.declared.error.ChallengerError.TheVariants as challenger
 
 -- a challenger's refusal inside a transcript: being out of memory is the transcript's own
 abbrev pub transcript_error : ChallengerError → TranscriptError
 transcript_error challenger.OutOfMemory = OutOfMemory
-transcript_error challenger.DrawLimit = Challenger challenger.DrawLimit
-transcript_error challenger.NoWitness = Challenger challenger.NoWitness
-transcript_error challenger.TooLong = Challenger challenger.TooLong
+transcript_error e = Challenger e
 
 -- the error is a proof of a bad shape, for this reason
 abbrev pub IsBadShape : List ℕ → TranscriptError → Type 0
@@ -28,9 +23,8 @@ IsBadShape reason _ = ⊥
 -- what a decoder answers is what reading gives: the value, or the reason why there is none
 abbrev pub Decodes : {T : Type 0} → Result (T × List ℕ) (List ℕ) → Result T TranscriptError → Type 0
 Decodes (Ok found) (Ok x) = x ≡ found.0
-Decodes (Ok found) (Err e) = ⊥
-Decodes (Err reason) (Ok x) = ⊥
 Decodes (Err reason) (Err e) = IsBadShape reason e
+Decodes _ _ = ⊥
 
 -- ---- what an error says
 

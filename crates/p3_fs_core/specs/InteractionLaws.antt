@@ -1,10 +1,7 @@
 -- Laws of the steps of a program.
-use Rattle.std.specs.Prelude.{◌≡◌, List, [], ◌∷◌, map, refl}
-use Rattle.std.proofs.Common.{ap}
-use Rattle.p3_fs_core.specs.declared.interaction.Interaction.{Interaction}
-use Rattle.p3_fs_core.specs.Interactions.{step_of, interactions_of}
-use Rattle.p3_fs_core.specs.StepFits.{AreProgramSteps}
-use Rattle.p3_fs_core.specs.Steps.{Step}
+use Rattle.std.{specs.Prelude.{◌≡◌, List, [], ◌∷◌, map, refl}, proofs.Common.ap}
+use Rattle.p3_fs_core.specs.{declared.interaction.Interaction.Interaction, Interactions.{step_of, interactions_of}}
+use Rattle.p3_fs_core.specs.{StepFits.AreProgramSteps, Steps.Step}
 
 -- a program can hold the steps that it holds
 pub each-fits : (interactions : List Interaction) → AreProgramSteps (map step_of interactions)

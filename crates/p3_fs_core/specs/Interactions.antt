@@ -1,7 +1,6 @@
 -- The steps of a program, as contracts see them.
 use Rattle.std.specs.Prelude.{List, [], ◌∷◌}
-use Rattle.p3_fs_core.specs.declared.interaction.Interaction.{Interaction}
-use Rattle.p3_fs_core.specs.StepFits.{IsProgramStep, AreProgramSteps}
+use Rattle.p3_fs_core.specs.{declared.interaction.Interaction.Interaction, StepFits.{IsProgramStep, AreProgramSteps}}
 use Rattle.p3_fs_core.specs.Steps.{Step, step_with}
 
 -- an interaction as a step, wherever its texts lie

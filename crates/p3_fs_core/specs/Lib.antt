@@ -12,6 +12,7 @@ pub mod Packing
 pub mod PackingLaws
 pub mod Scalar
 pub mod ScalarLaws
+pub mod StepCodeLaws
 pub mod StepCodes
 pub mod StepFitLaws
 pub mod StepFits

@@ -32,6 +32,10 @@ packed_chunks r size bytes = map (λ chunk. r.of (little_endian chunk)) (chunks 
 abbrev pub packed : {F : Type 0} → Residues F → ℕ → List ℕ → List F
 packed r size bytes = r.of (length bytes) ∷ packed_chunks r size bytes
 
+-- the same in a field whose order has so many bits
+abbrev pub packed_elements : {F : Type 0} → Residues F → ℕ → List ℕ → List F
+packed_elements r bits bytes = packed r (chunk_bytes bits) bytes
+
 -- a byte string is one of these where its length is an element
 abbrev pub IsPackable : {F : Type 0} → Residues F → List ℕ → Type 0
 IsPackable r bytes = AreBytes bytes × (length bytes < r.order)

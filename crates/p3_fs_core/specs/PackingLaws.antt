@@ -1,52 +1,35 @@
 -- Laws of byte strings as elements of a field.
 use Rattle.std.proofs.Common.{◌≡◌, ℕ, zero, suc, ◌<◌, ◌≤◌, ◌+◌, ◌-◌, ◌*◌, ◌/◌, ◌^◌, List, [], ◌∷◌, ◌++◌, length, map}
-use Rattle.std.proofs.Common.{take, drop, min, replicate, append-nil, inl, inr, refl, sym, ap, ◌∙◌, subst, lit<}
-use Rattle.std.proofs.Common.{arith, pow-suc, pow_mono}
+use Rattle.std.proofs.Common.{take, drop, min, replicate, append-nil, inl, inr, refl, sym, ap, ◌∙◌, lit<}
+use Rattle.std.proofs.{Common.{arith, pow-suc, pow_mono}, Math.Nat.div-one, lemmas.Nat.{pow-add, le_bytes_8}}
 use Rattle.std.proofs.Math.Nat.{mul_comm, mul_assoc, lt-mul-div-succ, add-mul-div_left, div-eq_of_lt, div-eq_of_lt-le}
-use Rattle.std.proofs.Math.Nat.{div-one}
-use Rattle.std.proofs.lemmas.Nat.{pow-add, le_bytes_8}
-use Rattle.std.proofs.lemmas.List.{take-append-drop, take_all, drop_all, drop-replicate, length-append}
+use Rattle.std.proofs.lemmas.{List.{take-append-drop, take_all, drop_all, drop-replicate, length-append}, Bool.cases_lt}
 use Rattle.std.proofs.lemmas.List.{length-replicate, length-take, length-drop, nil_from_length}
-use Rattle.std.proofs.lemmas.Bool.{cases_lt}
 use Rattle.std.specs.Int.{w64, byte_at, bytes_low_first, from_le_bytes}
-use Rattle.p3_field_core.specs.Residues.{Residues, IsResidues}
-use Rattle.p3_field_core.specs.ResidueLaws.{of-injective}
+use Rattle.p3_field_core.specs.{Residues.{Residues, IsResidues}, ResidueLaws.of-injective}
 use Rattle.p3_challenger_core.specs.Reading.{IsPrefixCodeOn, OneBegins, AreBytes}
 use Rattle.p3_fs_core.specs.BigEndianLaws.{AreBytes-take, AreBytes-drop, one_more, take-front, drop-front}
-use Rattle.p3_fs_core.specs.BigEndianLaws.{power_of_bytes}
-use Rattle.p3_fs_core.specs.AlphabetLaws.{begins_itself}
+use Rattle.p3_fs_core.specs.{BigEndianLaws.power_of_bytes, AlphabetLaws.begins_itself}
 use Rattle.p3_fs_core.specs.Packing.{little_endian, chunk_bytes, chunk_count, first_chunks, chunks, packed, IsPackable}
 
 -- ---- numbers of bytes
-
-one_more-below : (byte rest power : ℕ) → byte < 256 → rest < power → byte + 256 * rest < power * 256
-one_more-below byte rest power small below = omega (arith, small, below)
 
 -- the number of k bytes is below the number of all of them
 pub little_endian-below : (bytes : List ℕ) → AreBytes bytes → little_endian bytes < 256 ^ length bytes
 little_endian-below [] h = lit< tt
 little_endian-below (byte ∷ bytes) h =
-    subst (λ (m : ℕ). byte + 256 * little_endian bytes < m) (sym (pow-suc 256 (length bytes)))
-    (one_more-below byte (little_endian bytes) (256 ^ length bytes) (h zero)
-    (little_endian-below bytes (λ i. h (suc i))))
-
-same_byte : (a b x y : ℕ) → a < 256 → b < 256 → a + 256 * x ≡ b + 256 * y → (a ≡ b) × (x ≡ y)
-same_byte a b x y a_small b_small same =
-    let byte : a ≡ b = omega (arith, a_small, b_small, same) in
-    let rest : x ≡ y = omega (arith, a_small, b_small, same) in
-    (byte, rest)
+    let below = little_endian-below bytes (λ i. h (suc i)) in omega (arith, pow-suc 256 (length bytes), h zero, below)
 
 -- as many bytes of one number are the same
 pub little_endian-injective : (a b : List ℕ) → AreBytes a → AreBytes b → length a ≡ length b →
     little_endian a ≡ little_endian b → a ≡ b
 little_endian-injective [] [] a_are b_are same e = refl
-little_endian-injective [] (y ∷ b) a_are b_are same e = absurd (omega (arith, same))
-little_endian-injective (x ∷ a) [] a_are b_are same e = absurd (omega (arith, same))
 little_endian-injective (x ∷ a) (y ∷ b) a_are b_are same e =
-    let bytes = same_byte x y (little_endian a) (little_endian b) (a_are zero) (b_are zero) e in
+    let byte : x ≡ y = omega (arith, a_are zero, b_are zero, e) in
+    let rest : little_endian a ≡ little_endian b = omega (arith, a_are zero, b_are zero, e) in
     let fewer : length a ≡ length b = omega (arith, same) in
-    ap (λ z. z ∷ a) bytes.0
-    ∙ ap (λ zs. y ∷ zs) (little_endian-injective a b (λ i. a_are (suc i)) (λ i. b_are (suc i)) fewer bytes.1)
+    let others = little_endian-injective a b (λ i. a_are (suc i)) (λ i. b_are (suc i)) fewer rest in cc
+little_endian-injective _ _ a_are b_are same e = absurd (omega (arith, same))
 
 -- ---- a machine word, the lowest byte first
 
@@ -123,11 +106,8 @@ written_before front bytes is =
 -- a chunk is shorter than the order of the field: its numbers are below it
 pub chunk-below : (bits order size : ℕ) → 2 ^ bits ≤ 2 * order → 0 < bits → size ≤ chunk_bytes bits → 256 ^ size ≤ order
 chunk-below bits order size least positive short =
-    let fewer : 8 * size + 1 ≤ bits = omega (arith, positive, short) in
-    let grown : 2 ^ (8 * size + 1) ≤ 2 ^ bits = pow_mono fewer in
-    let double : 2 ^ (8 * size + 1) ≡ 2 ^ (8 * size) * 2 = pow-add 2 (8 * size) 1 in
-    let power = power_of_bytes size in
-    omega (arith, grown, double, power, least)
+    let grown : 2 ^ (8 * size + 1) ≤ 2 ^ bits = pow_mono (omega (arith, positive, short)) in
+    omega (arith, grown, pow-add 2 (8 * size) 1, power_of_bytes size, least)
 
 -- ---- chunks
 
@@ -154,25 +134,19 @@ count-more size len positive some = elim (cases_lt len size) [
 ]
 
 -- a chunk is as long as the size, or it is the last
-front_of : (size : ℕ) (chunk rest all : List ℕ) → length chunk ≡ min size (length all) → all ≡ chunk ++ rest →
-    take size (chunk ++ rest) ≡ chunk
-front_of size chunk rest all short parts = elim (cases_lt (length all) size) [
+cut_off : (size : ℕ) (chunk rest all : List ℕ) → length chunk ≡ min size (length all) → all ≡ chunk ++ rest →
+    (take size (chunk ++ rest) ≡ chunk) × (drop size (chunk ++ rest) ≡ rest)
+cut_off size chunk rest all short parts = elim (cases_lt (length all) size) [
   | inl last ↦
       let none : length rest ≡ 0 = omega (arith, short, last, ap length parts, length-append chunk rest) in
       let empty = nil_from_length rest none in
-      let whole : length (chunk ++ rest) ≤ size = omega (arith, last, ap length parts) in
-      take_all size (chunk ++ rest) whole ∙ ap (λ l. chunk ++ l) empty ∙ append-nil chunk
-  | inr full ↦ take-front size chunk rest (omega (arith, short, full))
-]
-
-end_of : (size : ℕ) (chunk rest all : List ℕ) → length chunk ≡ min size (length all) → all ≡ chunk ++ rest →
-    drop size (chunk ++ rest) ≡ rest
-end_of size chunk rest all short parts = elim (cases_lt (length all) size) [
-  | inl last ↦
-      let none : length rest ≡ 0 = omega (arith, short, last, ap length parts, length-append chunk rest) in
-      let whole : length (chunk ++ rest) ≤ size = omega (arith, last, ap length parts) in
-      drop_all size (chunk ++ rest) whole ∙ sym (nil_from_length rest none)
-  | inr full ↦ drop-front size chunk rest (omega (arith, short, full))
+      let whole : length (chunk ++ rest) ≤ size = omega (arith, last, ap length parts) in (
+        take_all size (chunk ++ rest) whole ∙ ap (λ l. chunk ++ l) empty ∙ append-nil chunk,
+        drop_all size (chunk ++ rest) whole ∙ sym empty,
+      )
+  | inr full ↦
+      let long : length chunk ≡ size = omega (arith, short, full) in
+      (take-front size chunk rest long, drop-front size chunk rest long)
 ]
 
 -- the first chunk, and the chunks of what is after it
@@ -183,8 +157,9 @@ chunks-step size all chunk rest positive some parts short =
     let following : length rest ≡ length all - size = omega (arith, short, ap length parts, length-append chunk rest) in
     let count : chunk_count size (length all) ≡ suc (chunk_count size (length rest)) =
     count-more size (length all) positive some ∙ ap (λ k. suc (chunk_count size k)) (sym following) in
-    let front : take size all ≡ chunk = ap (take size) parts ∙ front_of size chunk rest all short parts in
-    let end : drop size all ≡ rest = ap (drop size) parts ∙ end_of size chunk rest all short parts in
+    let cut = cut_off size chunk rest all short parts in
+    let front : take size all ≡ chunk = ap (take size) parts ∙ cut.0 in
+    let end : drop size all ≡ rest = ap (drop size) parts ∙ cut.1 in
     ap (λ k. first_chunks size k all) count
     ∙ ap (λ c. c ∷ first_chunks size (chunk_count size (length rest)) (drop size all)) front
     ∙ ap (λ l. chunk ∷ first_chunks size (chunk_count size (length rest)) l) end
@@ -197,11 +172,8 @@ chunks-end size all positive none =
 
 pub power_grows : (i j : ℕ) → i ≤ j → 256 ^ i ≤ 256 ^ j
 power_grows i j less =
-    let bits : 8 * i ≤ 8 * j = omega (arith, less) in
-    let grown : 2 ^ (8 * i) ≤ 2 ^ (8 * j) = pow_mono bits in
-    let low = power_of_bytes i in
-    let high = power_of_bytes j in
-    omega (arith, grown, low, high)
+    let grown : 2 ^ (8 * i) ≤ 2 ^ (8 * j) = pow_mono (omega (arith, less)) in
+    omega (arith, grown, power_of_bytes i, power_of_bytes j)
 
 -- the chunks hold all the bytes
 pub chunks-enough : (size len : ℕ) → 0 < size → len ≤ chunk_count size len * size

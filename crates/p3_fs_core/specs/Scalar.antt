@@ -2,8 +2,7 @@
 -- as the order needs.
 use Rattle.std.specs.Prelude.{ℕ, List, length, take, drop, codes, nat_lt, Result, Ok, Err, if◌then◌else◌}
 use Rattle.p3_field_core.specs.Residues.{Residues}
-use Rattle.p3_fs_core.specs.BigEndian.{big_endian, in_bytes, bytes_for}
-use Rattle.p3_fs_core.specs.Encoding.{Encoding}
+use Rattle.p3_fs_core.specs.{BigEndian.{big_endian, in_bytes, bytes_for}, Encoding.Encoding}
 
 -- the one encoding of an element
 abbrev pub wire : {F : Type 0} → Residues F → ℕ → F → List ℕ

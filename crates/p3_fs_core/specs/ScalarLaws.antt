@@ -1,18 +1,14 @@
 -- Laws of an element's encoding.
 use Rattle.std.proofs.Common.{◌≡◌, ℕ, zero, suc, ◌<◌, ◌≤◌, ◌*◌, ◌^◌, List, ◌++◌, length, take, drop, Bool, true}
 use Rattle.std.proofs.Common.{false, nat_lt, if◌then◌else◌, Result, Ok, Err, refl, sym, ap, ◌∙◌, inl, inr, pow_mono}
-use Rattle.std.proofs.Common.{arith}
-use Rattle.std.proofs.lemmas.Bool.Decides.{nat_tests}
+use Rattle.std.proofs.{Common.arith, lemmas.Bool.Decides.nat_tests, lemmas.Bool.cases_lt}
 use Rattle.std.proofs.lemmas.List.{take-append-drop, length-take-le, length-append}
-use Rattle.p3_field_core.specs.Residues.{Residues, IsResidues}
-use Rattle.p3_field_core.specs.ResidueLaws.{number_of-below}
+use Rattle.p3_field_core.specs.{Residues.{Residues, IsResidues}, ResidueLaws.number_of-below}
 use Rattle.p3_challenger_core.specs.Reading.{IsPrefixCode, AreBytes}
-use Rattle.std.proofs.lemmas.Bool.{cases_lt}
-use Rattle.p3_fs_core.specs.BigEndian.{big_endian, in_bytes, bytes_for}
+use Rattle.p3_fs_core.specs.{BigEndian.{big_endian, in_bytes, bytes_for}, Encoding.IsEncoding}
 use Rattle.p3_fs_core.specs.BigEndianLaws.{big_endian-in_bytes, in_bytes-big_endian, length-in_bytes, AreBytes-take}
 use Rattle.p3_fs_core.specs.BigEndianLaws.{take-front, drop-front, fits-bytes_for}
 use Rattle.p3_fs_core.specs.Scalar.{wire, read, element_of, encoding, not_enough_bytes, outside_range}
-use Rattle.p3_fs_core.specs.Encoding.{IsEncoding}
 
 -- a choice of two results: which one it is, and how the test went
 pub chosen : {A E : Type 0} (b : Bool) (e : E) (r : Result A E) (x : A) → (if b then Err e else r) ≡ Ok x →

@@ -1,24 +1,19 @@
 -- What is so of every step that a program holds: each fact has one proof at most. So steps are told
 -- apart by their parts alone.
-use Rattle.std.specs.Prelude.{ℕ, List, [], ◌∷◌, length}
-use Rattle.std.specs.Coded.{×_prop, Unit-prop, le_prop, Coded-set, coded_ℕ}
+use Rattle.std.specs.{Prelude.{ℕ, List, [], ◌∷◌, length}, Coded.{×_prop, Unit-prop, le_prop, Coded-set, coded_ℕ}}
 use Rattle.p3_challenger_core.specs.Reading.{AreBytes}
-use Rattle.p3_fs_core.specs.declared.step.Length.{Length}
-use Rattle.p3_fs_core.specs.declared.step.Length.TheVariants.{None, Scalar, Fixed, Bounded}
-use Rattle.p3_fs_core.specs.declared.step.TypeTag.{TypeTag}
-use Rattle.p3_fs_core.specs.declared.step.TypeTag.TheVariants.{Marker, Bytes, Algebra, BinaryTower, BinaryPolynomial}
-use Rattle.p3_fs_core.specs.declared.step.TypeTag.TheVariants.{Opaque, Bits, UniformBits}
-use Rattle.p3_fs_core.specs.Steps.{Step}
+use Rattle.p3_fs_core.specs.declared.step.{Length.Length, Length.TheVariants.{Fixed, Bounded}, TypeTag.TypeTag}
+use Rattle.p3_fs_core.specs.{declared.step.TypeTag.TheVariants.{Algebra, BinaryTower, BinaryPolynomial}, Steps.Step}
+use Rattle.p3_fs_core.specs.declared.step.TypeTag.TheVariants.{Bits, UniformBits}
 use Rattle.p3_fs_core.specs.StepFits.{FitsLength, IsEnd, FitsTag, FitsTypes, IsProgramStep, AreProgramSteps}
 
 pub AreBytes-prop : (bytes : List ℕ) → IsProp (AreBytes bytes)
 AreBytes-prop bytes x y = λ k i. le_prop (x i) (y i) k
 
 FitsLength-prop : (carried : Length) → IsProp (FitsLength carried)
-FitsLength-prop None = Unit-prop
-FitsLength-prop Scalar = Unit-prop
 FitsLength-prop (Fixed count) = le_prop
 FitsLength-prop (Bounded most) = le_prop
+FitsLength-prop _ = Unit-prop
 
 IsEnd-prop : (degree : ℕ) (basis : List ℕ) → IsProp (IsEnd degree basis)
 IsEnd-prop degree basis x y = λ k. (
@@ -28,15 +23,13 @@ IsEnd-prop degree basis x y = λ k. (
 )
 
 FitsTag-prop : (tag : TypeTag) → IsProp (FitsTag tag)
-FitsTag-prop Marker = Unit-prop
-FitsTag-prop Bytes = Unit-prop
 FitsTag-prop (Algebra modulus degree basis) = ×_prop le_prop (IsEnd-prop degree basis)
 FitsTag-prop (BinaryTower bits degree basis) = ×_prop le_prop (IsEnd-prop degree basis)
 FitsTag-prop (BinaryPolynomial bits modulus degree basis) =
     λ x y k. (le_prop x.0 y.0 k, le_prop x.1 y.1 k, IsEnd-prop degree basis x.2 y.2 k)
-FitsTag-prop Opaque = Unit-prop
 FitsTag-prop (Bits width) = le_prop
 FitsTag-prop (UniformBits width) = le_prop
+FitsTag-prop _ = Unit-prop
 
 FitsTypes-prop : (s : Step) → IsProp (FitsTypes s)
 FitsTypes-prop s x y = λ k. record {

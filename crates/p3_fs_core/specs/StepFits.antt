@@ -1,19 +1,15 @@
 -- What is so of every step that a program holds.
 use Rattle.std.specs.Prelude.{◌≡◌, ℕ, ◌<◌, ◌^◌, List, [], ◌∷◌, length}
 use Rattle.p3_challenger_core.specs.Reading.{AreBytes}
-use Rattle.p3_fs_core.specs.declared.step.Length.{Length}
-use Rattle.p3_fs_core.specs.declared.step.Length.TheVariants.{None, Scalar, Fixed, Bounded}
-use Rattle.p3_fs_core.specs.declared.step.TypeTag.{TypeTag}
-use Rattle.p3_fs_core.specs.declared.step.TypeTag.TheVariants.{Marker, Bytes, Algebra, BinaryTower, BinaryPolynomial}
-use Rattle.p3_fs_core.specs.declared.step.TypeTag.TheVariants.{Opaque, Bits, UniformBits}
-use Rattle.p3_fs_core.specs.Steps.{Step}
+use Rattle.p3_fs_core.specs.declared.step.{Length.Length, Length.TheVariants.{Fixed, Bounded}, TypeTag.TypeTag}
+use Rattle.p3_fs_core.specs.{declared.step.TypeTag.TheVariants.{Algebra, BinaryTower, BinaryPolynomial}, Steps.Step}
+use Rattle.p3_fs_core.specs.declared.step.TypeTag.TheVariants.{Bits, UniformBits}
 
 -- the number of a length fits its type
 abbrev pub FitsLength : Length → Type 0
-FitsLength None = Unit {0}
-FitsLength Scalar = Unit {0}
 FitsLength (Fixed count) = count < 2 ^ 64
 FitsLength (Bounded most) = most < 2 ^ 64
+FitsLength _ = Unit {0}
 
 -- a degree fits its type, and a basis is 32 bytes
 abbrev pub IsEnd : ℕ → List ℕ → Type 0
@@ -21,14 +17,12 @@ IsEnd degree basis = (degree < 2 ^ 64) × (length basis ≡ 32) × AreBytes basi
 
 -- the numbers of a tag fit their types, and its basis is 32 bytes
 abbrev pub FitsTag : TypeTag → Type 0
-FitsTag Marker = Unit {0}
-FitsTag Bytes = Unit {0}
 FitsTag (Algebra modulus degree basis) = (modulus < 2 ^ 64) × IsEnd degree basis
 FitsTag (BinaryTower bits degree basis) = (bits < 2 ^ 64) × IsEnd degree basis
 FitsTag (BinaryPolynomial bits modulus degree basis) = (bits < 2 ^ 64) × (modulus < 2 ^ 128) × IsEnd degree basis
-FitsTag Opaque = Unit {0}
 FitsTag (Bits width) = width < 2 ^ 64
 FitsTag (UniformBits width) = width < 2 ^ 64
+FitsTag _ = Unit {0}
 
 -- the numbers of a step fit their types
 pub record FitsTypes (s : Step) : Type 0 where

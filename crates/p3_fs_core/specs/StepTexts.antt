@@ -1,16 +1,11 @@
 -- What the types of steps print as.
-use Rattle.std.specs.Prelude.{ℕ, ◌/◌, ◌%◌, false, List, [], ◌∷◌, ◌++◌, codes}
-use Rattle.std.specs.List.{flat_map}
+use Rattle.std.specs.{Prelude.{ℕ, ◌/◌, ◌%◌, false, List, [], ◌∷◌, ◌++◌, codes}, List.flat_map}
 use Rattle.std.specs.Fmt.{decimal, digits, digit_glyph}
-use Rattle.p3_fs_core.specs.declared.step.Hierarchy.{Hierarchy}
-use Rattle.p3_fs_core.specs.declared.step.Hierarchy.TheVariants.{Atomic, Begin, End}
-use Rattle.p3_fs_core.specs.declared.step.Kind.{Kind}
+use Rattle.p3_fs_core.specs.declared.step.{Hierarchy.Hierarchy, Hierarchy.TheVariants.{Atomic, Begin, End}, Kind.Kind}
 use Rattle.p3_fs_core.specs.declared.step.Kind.TheVariants.{Protocol, Public, Message, Hint, Challenge, Pow, Salt}
-use Rattle.p3_fs_core.specs.declared.step.Length.{Length}
-use Rattle.p3_fs_core.specs.declared.step.Length.TheVariants.{None, Scalar, Fixed, Bounded}
-use Rattle.p3_fs_core.specs.declared.step.TypeTag.{TypeTag}
+use Rattle.p3_fs_core.specs.declared.step.{Length.Length, Length.TheVariants.{None, Scalar, Fixed, Bounded}}
+use Rattle.p3_fs_core.specs.declared.step.{TypeTag.TypeTag, TypeTag.TheVariants.{Opaque, Bits, UniformBits}}
 use Rattle.p3_fs_core.specs.declared.step.TypeTag.TheVariants.{Marker, Bytes, Algebra, BinaryTower, BinaryPolynomial}
-use Rattle.p3_fs_core.specs.declared.step.TypeTag.TheVariants.{Opaque, Bits, UniformBits}
 
 abbrev pub hierarchy_text : Hierarchy → List ℕ
 hierarchy_text Atomic = codes "Atomic"

@@ -1,12 +1,7 @@
 -- Steps of an interactive protocol, as contracts see them.
-use Rattle.std.specs.Prelude.{◌≡◌, ℕ, List, ◌++◌, length, codes}
-use Rattle.std.specs.Fmt.{decimal}
-use Rattle.p3_fs_core.specs.declared.step.Hierarchy.{Hierarchy}
-use Rattle.p3_fs_core.specs.declared.step.Hierarchy.TheVariants.{Begin, End}
-use Rattle.p3_fs_core.specs.declared.step.Kind.{Kind}
-use Rattle.p3_fs_core.specs.declared.step.Length.{Length}
-use Rattle.p3_fs_core.specs.declared.step.Length.TheVariants.{None}
-use Rattle.p3_fs_core.specs.declared.step.TypeTag.{TypeTag}
+use Rattle.std.specs.{Prelude.{◌≡◌, ℕ, List, ◌++◌, length, codes}, Fmt.decimal}
+use Rattle.p3_fs_core.specs.declared.step.{Hierarchy.Hierarchy, Hierarchy.TheVariants.{Begin, End}, Kind.Kind}
+use Rattle.p3_fs_core.specs.declared.step.{Length.Length, Length.TheVariants.None, TypeTag.TypeTag}
 use Rattle.p3_fs_core.specs.declared.step.TypeTag.TheVariants.{Marker}
 use Rattle.p3_fs_core.specs.StepTexts.{hierarchy_text, kind_text, length_text, type_tag_text}
 

@@ -1,5 +1,5 @@
 //! Numbers as bytes, the highest first.
-ghost use Rattle.std.specs.Prelude.{◌≡◌, ◌-◌, ◌<◌, ◌≤◌, ◌++◌, length, replicate};
+ghost use Rattle.std.specs.Prelude.{◌≡◌, ◌-◌, ◌≤◌, ◌++◌, length, replicate};
 ghost use Rattle.p3_fs_core.specs.BigEndian.{big_endian, in_bytes};
 
 // The lowest `width` bytes of a number in the first places, with zeros after.

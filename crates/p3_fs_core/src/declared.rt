@@ -1,9 +1,7 @@
 //! What a step says of the algebra whose elements it carries.
 ghost use Rattle.std.specs.Prelude.{ℕ, List};
-ghost use Rattle.p3_fs_core.specs.Algebras.{NamedAlgebra, algebra_of, algebra_step};
-ghost use Rattle.p3_fs_core.specs.Steps.{Step};
-ghost use Rattle.p3_fs_core.specs.declared.step.Kind.{Kind};
-ghost use Rattle.p3_fs_core.specs.declared.step.Length.{Length};
+ghost use Rattle.p3_fs_core.specs.{Algebras.{NamedAlgebra, algebra_of, algebra_step}, Steps.Step};
+ghost use Rattle.p3_fs_core.specs.declared.step.{Kind.Kind, Length.Length};
 
 use crate::{Kind, Length, TranscriptField};
 use p3_field_core::{AlgebraIdentity, Named};
@@ -22,7 +20,8 @@ pub trait Declared<F, D> {
 }
 
 impl<F: TranscriptField, A: AlgebraIdentity<F> + Named, D: DigestHasher> Declared<F, D> for A {
-    ghost algebra = { algebra_of F.residues.order A.DIMENSION (D.digest_of A.identity) A.name_bytes };
+    ghost algebra = { algebra_of F.residues.order A.DIMENSION (D.digest_of A.identity)
+        A.name_bytes };
 
     ghost step = { λ kind label length. algebra_step kind label
         (algebra_of F.residues.order A.DIMENSION (D.digest_of A.identity) A.name_bytes) length };

@@ -191,8 +191,8 @@ impl PatternError {
     /// A law: the body is empty, and a caller cites the clause.
     #[tactic(auto, using(crate::proofs::ErrorEquality::equal_pattern_errors))]
     pub fn compared_by_parts()
-        ensures { (a b : PatternError Interaction) →
-            (⟦<PatternError as PartialEq>⟧.eq a b ≡ true ↔ pattern_error_of a ≡ pattern_error_of b) }
+        ensures { (a b : PatternError Interaction) → (⟦<PatternError as PartialEq>⟧.eq a b ≡ true
+            ↔ pattern_error_of a ≡ pattern_error_of b) }
     {}
 }
 

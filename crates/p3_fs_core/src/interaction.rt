@@ -1,7 +1,6 @@
 //! One step of an interactive protocol.
-ghost use Rattle.std.specs.Prelude.{◌≡◌, ◌↔◌, ℕ, true, Some, codes, IsTrue};
-ghost use Rattle.p3_fs_core.specs.Algebras.{tag_of};
-ghost use Rattle.p3_fs_core.specs.StepFits.{FitsLength, IsEnd, FitsTag, IsProgramStep};
+ghost use Rattle.std.specs.Prelude.{◌≡◌, ◌↔◌, true, Some, codes, IsTrue};
+ghost use Rattle.p3_fs_core.specs.{Algebras.tag_of, StepFits.{FitsLength, IsEnd, FitsTag, IsProgramStep}};
 ghost use Rattle.p3_fs_core.specs.StepFitLaws.{IsProgramStep-prop};
 ghost use Rattle.p3_fs_core.specs.Steps.{step_with, marker_of, Closes, carried_by, plain_text, alternate_text};
 
@@ -29,8 +28,8 @@ pub struct Interaction {
     type_name: &'static str,
     length: Length,
     /// Its numbers fit their types, and its texts are bytes.
-    pub ghost fits: { IsProgramStep
-        (step_with hierarchy kind label.now type_tag type_name.now length) } by { IsProgramStep-prop _ },
+    pub ghost fits: { IsProgramStep (step_with hierarchy kind label.now type_tag type_name.now
+        length) } by { IsProgramStep-prop _ },
 }
 
 impl Interaction {
@@ -45,7 +44,8 @@ impl Interaction {
         type_name: &'static str,
         length: Length,
     ) -> Self
-        ensures { step_of result ≡ step_with hierarchy kind label.now type_tag type_name.now length }
+        ensures { step_of result
+            ≡ step_with hierarchy kind label.now type_tag type_name.now length }
     {
         fits_tag(type_tag);
         fits_length(length);
@@ -67,8 +67,8 @@ impl Interaction {
         label: Label,
         length: Length,
     ) -> Self
-        ensures { let algebra = ⟦<A as Declared<F, D>>⟧.algebra in
-            step_of result ≡ step_with hierarchy kind label.now (tag_of algebra) algebra.name length }
+        ensures { let algebra = ⟦<A as Declared<F, D>>⟧.algebra in step_of result
+            ≡ step_with hierarchy kind label.now (tag_of algebra) algebra.name length }
     {
         let type_tag = F::algebra_tag(A::DIMENSION, D::digest(A::algebra_id()));
         Self::with_parts(hierarchy, kind, label, type_tag, A::type_name(), length)
@@ -76,7 +76,8 @@ impl Interaction {
 
     /// A step that carries bytes as they are. The name of its type is `u8`.
     pub fn bytes(hierarchy: Hierarchy, kind: Kind, label: Label, length: Length) -> Self
-        ensures { step_of result ≡ step_with hierarchy kind label.now TypeTag.Bytes (codes "u8") length }
+        ensures { step_of result
+            ≡ step_with hierarchy kind label.now TypeTag.Bytes (codes "u8") length }
     {
         Self::with_parts(
             hierarchy,
@@ -90,7 +91,8 @@ impl Interaction {
 
     /// A step whose value the challenger alone knows how to observe. The name of its type is `opaque`.
     pub fn opaque(hierarchy: Hierarchy, kind: Kind, label: Label, length: Length) -> Self
-        ensures { step_of result ≡ step_with hierarchy kind label.now TypeTag.Opaque (codes "opaque") length }
+        ensures { step_of result
+            ≡ step_with hierarchy kind label.now TypeTag.Opaque (codes "opaque") length }
     {
         Self::with_parts(hierarchy, kind, label, TypeTag::Opaque, "opaque", length)
     }
@@ -104,7 +106,8 @@ impl Interaction {
         width: usize,
         length: Length,
     ) -> Self
-        ensures { step_of result ≡ step_with hierarchy kind label.now (TypeTag.Bits width) (codes "usize") length }
+        ensures { step_of result
+            ≡ step_with hierarchy kind label.now (TypeTag.Bits width) (codes "usize") length }
     {
         Self::with_parts(
             hierarchy,
@@ -248,14 +251,14 @@ impl Interaction {
     /// A law: the body is empty, and a caller cites the clause.
     #[tactic(auto, using(crate::proofs::StepEquality::equal_steps))]
     pub fn compared_by_parts()
-        ensures { (a b : Interaction) → (⟦<Interaction as PartialEq>⟧.eq a b ≡ true ↔ step_of a ≡ step_of b) }
+        ensures { (a b : Interaction) →
+            (⟦<Interaction as PartialEq>⟧.eq a b ≡ true ↔ step_of a ≡ step_of b) }
     {}
 }
 
 impl fmt::Display for Interaction {
     ghost use Rattle.std.specs.Prelude.{Some};
-    ghost use Rattle.p3_fs_core.specs.Interactions.{step_of};
-    ghost use Rattle.p3_fs_core.specs.Steps.{plain_text};
+    ghost use Rattle.p3_fs_core.specs.{Interactions.step_of, Steps.plain_text};
 
     ghost output = { λ i. Some (plain_text (step_of i)) };
 
@@ -282,8 +285,7 @@ pub struct Alternate<'a>(pub &'a Interaction);
 
 impl fmt::Display for Alternate<'_> {
     ghost use Rattle.std.specs.Prelude.{Some};
-    ghost use Rattle.p3_fs_core.specs.Interactions.{step_of};
-    ghost use Rattle.p3_fs_core.specs.Steps.{alternate_text};
+    ghost use Rattle.p3_fs_core.specs.{Interactions.step_of, Steps.alternate_text};
 
     ghost output = { λ alternate. Some (alternate_text (step_of alternate.0.now)) };
 

@@ -1,10 +1,8 @@
 //! Byte strings as elements of a field.
-ghost use Rattle.std.specs.Prelude.{◌≡◌, ◌<◌, ◌≤◌, ◌*◌, ◌^◌, true, [], ◌∷◌, ◌++◌, length, take, drop, OnOk};
-ghost use Rattle.std.specs.Prelude.{IfOk, IfErr};
+ghost use Rattle.std.specs.Prelude.{◌≡◌, ◌<◌, ◌≤◌, ◌*◌, ◌^◌, true, ◌++◌, length, take, drop, OnOk, IfOk, IfErr};
 ghost use Rattle.std.specs.Mem.{type_size};
-ghost use Rattle.p3_challenger_core.specs.CallLaws.{GoesOn};
-ghost use Rattle.p3_challenger_core.specs.Observation.{observed_all, LeavesInCalls, RefusesObserve};
-ghost use Rattle.p3_fs_core.specs.Packing.{packed, packed_chunks, chunk_bytes, little_endian};
+ghost use Rattle.p3_challenger_core.specs.{CallLaws.GoesOn, Observation.{observed_all, LeavesInCalls, RefusesObserve}};
+ghost use Rattle.p3_fs_core.specs.Packing.{packed_chunks, packed_elements, chunk_bytes, little_endian};
 
 use crate::little_endian::number_of_chunk;
 use p3_challenger_core::{CanObserve, ChallengerError};
@@ -42,8 +40,8 @@ fn pack_chunks<F: PrimeField64>(elements: &mut [F], bytes: &[u8], size: usize) -
     ensures fits { result ≤ length elements.old }
     ensures whole { size * result ≤ length bytes.now }
     ensures some { 0 < length elements.old → size ≤ length bytes.now → 0 < result }
-    ensures packed { packed_chunks F.residues size bytes.now
-        ≡ take result elements.new ++ packed_chunks F.residues size (drop (size * result) bytes.now) }
+    ensures packed { packed_chunks F.residues size bytes.now ≡ take result elements.new
+        ++ packed_chunks F.residues size (drop (size * result) bytes.now) }
 {
     let count = elements.len().min(bytes.len() / size);
     for i in 0..count {
@@ -66,12 +64,12 @@ fn observe_blocks<'a, F: PrimeField64, C: CanObserve<F>>(
     bytes: &'a [u8],
 ) -> Result<&'a [u8], ChallengerError>
     requires { 256 < F.residues.order }
-    ensures ok { IfOk result (λ rest. GoesOn C.observation.observed C.observation.may_leave (C.state challenger.old)
-        (packed_chunks F.residues (chunk_bytes F.bit_length) bytes.now) (C.state challenger.new)
-        (packed_chunks F.residues (chunk_bytes F.bit_length) rest.now)) }
-    ensures err { IfErr result (λ e. RefusesObserve (LeavesInCalls C.observation.observed C.observation.may_leave
-        (C.state challenger.old) (packed_chunks F.residues (chunk_bytes F.bit_length) bytes.now))
-        e (C.state challenger.new)) }
+    ensures ok { IfOk result (λ rest. GoesOn C.observation.observed C.observation.may_leave
+        (C.state challenger.old) (packed_chunks F.residues (chunk_bytes F.bit_length) bytes.now)
+        (C.state challenger.new) (packed_chunks F.residues (chunk_bytes F.bit_length) rest.now)) }
+    ensures err { IfErr result (λ e. RefusesObserve (LeavesInCalls C.observation.observed
+        C.observation.may_leave (C.state challenger.old) (packed_chunks F.residues
+        (chunk_bytes F.bit_length) bytes.now)) e (C.state challenger.new)) }
 {
     if !block_fits::<F>() {
         return Ok(bytes);
@@ -95,11 +93,11 @@ pub(crate) fn observe_packed<F: PrimeField64, C: CanObserve<F>>(
     bytes: &[u8],
 ) -> Result<(), ChallengerError>
     requires { 256 < F.residues.order }
-    ensures ok { OnOk result (C.state challenger.new
-        ≡ observed_all C.observation.observed (C.state challenger.old)
-        (packed F.residues (chunk_bytes F.bit_length) bytes.now)) }
-    ensures err { IfErr result (λ e. RefusesObserve (LeavesInCalls C.observation.observed C.observation.may_leave
-        (C.state challenger.old) (packed F.residues (chunk_bytes F.bit_length) bytes.now)) e (C.state challenger.new)) }
+    ensures ok { OnOk result (C.state challenger.new ≡ observed_all C.observation.observed
+        (C.state challenger.old) (packed_elements F.residues F.bit_length bytes.now)) }
+    ensures err { IfErr result (λ e. RefusesObserve (LeavesInCalls C.observation.observed
+        C.observation.may_leave (C.state challenger.old)
+        (packed_elements F.residues F.bit_length bytes.now)) e (C.state challenger.new)) }
 {
     challenger.observe(F::from_u64(bytes.len() as u64))?;
     let rest = observe_blocks(challenger, bytes)?;

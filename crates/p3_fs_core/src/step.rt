@@ -1,7 +1,6 @@
 //! What a step of an interactive protocol is: where it stands, what it is for, and what it carries.
 
-ghost use Rattle.std.specs.Prelude.{◌≡◌, Some};
-ghost use Rattle.std.specs.Str.{IsAscii};
+ghost use Rattle.std.specs.{Prelude.{◌≡◌, Some}, Str.IsAscii};
 ghost use Rattle.p3_field_core.specs.Equality.{IsExact};
 ghost use Rattle.p3_fs_core.specs.StepTexts.{hierarchy_text, kind_text, length_text, type_tag_text, hex_text};
 ghost use Rattle.p3_fs_core.specs.StepTexts.{hex_number};

@@ -1,14 +1,10 @@
 //! What a prime field has in a transcript: its encoding, and how a challenger of it observes a seed.
-ghost use Rattle.std.specs.Prelude.{◌≡◌, ℕ, ◌<◌, ◌≤◌, List, [], ◌∷◌, ◌++◌, length, take, drop, flat_map, Ok, OnOk};
-ghost use Rattle.std.specs.Prelude.{OnErr, IfOk, IfErr};
-ghost use Rattle.p3_challenger_core.specs.Observation.{observed_all, LeavesInCalls};
-ghost use Rattle.p3_challenger_core.specs.Sponge.{IsFed};
-ghost use Rattle.p3_fs_core.specs.Alphabet.{RefusesBytes};
-ghost use Rattle.p3_fs_core.specs.Packing.{packed, chunk_bytes};
-ghost use Rattle.p3_challenger_core.specs.Reading.{IsPrefixCode, AreBytes};
-ghost use Rattle.p3_fs_core.specs.Encoding.{IsEncoding};
+ghost use Rattle.std.specs.Prelude.{◌≡◌, ℕ, ◌<◌, ◌≤◌, List, ◌++◌, length, take, drop, flat_map, Ok, OnOk, OnErr, IfOk};
+ghost use Rattle.std.specs.Prelude.{IfErr};
+ghost use Rattle.p3_challenger_core.specs.{Observation.{observed_all, LeavesInCalls}, Sponge.IsFed};
+ghost use Rattle.p3_challenger_core.specs.Reading.{IsPrefixCode};
+ghost use Rattle.p3_fs_core.specs.{Alphabet.RefusesBytes, Packing.packed_elements, Encoding.IsEncoding, Errors.Decodes};
 ghost use Rattle.p3_fs_core.specs.Scalar.{encoding};
-ghost use Rattle.p3_fs_core.specs.Errors.{Decodes};
 
 use crate::big_endian::number_of_bytes;
 use crate::packing::observe_packed;
@@ -46,18 +42,18 @@ pub trait TranscriptField: PrimeField64 {
         requires { 256 < Self.residues.order }
         ensures ok { OnOk result ((Self.residues.order ≤ length bytes.now → ⊥)
             × (C.state challenger.new ≡ observed_all C.observation.observed (C.state challenger.old)
-            (packed Self.residues (chunk_bytes Self.bit_length) bytes.now))) }
+            (packed_elements Self.residues Self.bit_length bytes.now))) }
         ensures err { IfErr result (λ e. RefusesBytes (Self.residues.order ≤ length bytes.now)
             (LeavesInCalls C.observation.observed C.observation.may_leave (C.state challenger.old)
-            (packed Self.residues (chunk_bytes Self.bit_length) bytes.now))
+            (packed_elements Self.residues Self.bit_length bytes.now))
             (C.state challenger.old) e (C.state challenger.new)) }
         // What is observed is what the elements feed; exactly so, where the challenger feeds them as a prefix code.
         ensures fed { OnOk result (IsFed C.fed (C.state challenger.old)
-            (flat_map C.observation.symbols (packed Self.residues (chunk_bytes Self.bit_length) bytes.now))
-            (C.state challenger.new)) }
-        ensures fed_exactly { IsPrefixCode C.observation.symbols → OnOk result (C.state challenger.new
-            ≡ C.fed (C.state challenger.old)
-            (flat_map C.observation.symbols (packed Self.residues (chunk_bytes Self.bit_length) bytes.now))) }
+            (flat_map C.observation.symbols (packed_elements Self.residues Self.bit_length
+            bytes.now)) (C.state challenger.new)) }
+        ensures fed_exactly { IsPrefixCode C.observation.symbols → OnOk result
+            (C.state challenger.new ≡ C.fed (C.state challenger.old) (flat_map C.observation.symbols
+            (packed_elements Self.residues Self.bit_length bytes.now))) }
     {
         if bytes.len() as u64 >= Self::ORDER_U64 {
             return Err(ChallengerError::TooLong);

@@ -1,19 +1,9 @@
 -- Steps have one first fault at most.
 use Rattle.std.proofs.Common.{◌≡◌, ℕ, ◌⊎◌, List, [], ◌∷◌, ◌++◌, length, refl, sym, ap, subst, ◌∙◌, inl, inr}
-use Rattle.std.proofs.Common.{append_assoc}
-use Rattle.p3_fs_core.specs.declared.step.Hierarchy.TheVariants.{End}
-use Rattle.p3_fs_core.specs.declared.step.Kind.TheVariants.{Protocol}
-use Rattle.p3_fs_core.specs.Steps.{Step}
+use Rattle.p3_fs_core.specs.{declared.step.Hierarchy.TheVariants.End, Steps.Step}
 use Rattle.p3_fs_core.specs.Errors.{Fault, missing_begin, invalid_kind, mismatched_begin_end, missing_end}
-use Rattle.p3_patterns.specs.PatternGrammar.{IsPattern, IsViable, IsInnermost, IsNoneOpen, StopsAt, IsFirstFault}
-use Rattle.p3_patterns.proofs.PatternGrammarLaws.{only-innermost}
-use Rattle.p3_patterns.proofs.FirstFaults.{viable-front}
-
--- steps that begin a pattern begin one up to each of them
-front-viable : (before rest : List Step) (s : Step) → IsViable (before ++ (s ∷ rest)) → IsViable (before ++ (s ∷ []))
-front-viable before rest s viable =
-    viable-front before (rest ++ viable.0) s
-    (subst (IsPattern Protocol) (append_assoc before (s ∷ rest) viable.0) viable.1)
+use Rattle.p3_patterns.specs.PatternGrammar.{IsViable, IsInnermost, IsNoneOpen, StopsAt, IsFirstFault}
+use Rattle.p3_patterns.proofs.{PatternGrammarLaws.only-innermost, FirstFaults.{viable-front, no-stop}}
 
 -- of two steps of a list one is the other, or stands before it
 abbrev Apart : List Step → Step → List Step → Type 0
@@ -42,7 +32,7 @@ module _ (steps : List Step) where
   not-past : (p : ℕ) (s : Step) (stop : StopsAt steps p s) (before : List Step) → IsViable before →
       Apart stop.before s before → ⊥
   not-past p s stop before viable apart =
-      stop.stuck (front-viable stop.before apart.0 s (subst IsViable apart.1 viable))
+      stop.stuck (viable-front stop.before apart.0 s (subst IsViable apart.1 viable))
 
   one_stop : (p q : ℕ) (s t : Step) (first : StopsAt steps p s) (second : StopsAt steps q t) →
       (first.before ≡ second.before) × (p ≡ q) × (s ≡ t)
@@ -52,10 +42,6 @@ module _ (steps : List Step) where
         | inr (inl apart) ↦ absurd (not-past p s first second.before second.viable apart)
         | inr (inr apart) ↦ absurd (not-past q t second first.before first.viable apart)
       ]
-
-  -- viable steps have no stop
-  no-stop : (p : ℕ) (s : Step) → StopsAt steps p s → IsViable steps → ⊥
-  no-stop p s stop viable = stop.stuck (front-viable stop.before stop.rest s (subst IsViable stop.split viable))
 
   -- the innermost openers before one stop
   one_opener : (p q m n : ℕ) (s t a b : Step) (first : StopsAt steps p s) (second : StopsAt steps q t) →
@@ -83,24 +69,24 @@ module _ (steps : List Step) where
       ap (λ n. missing_begin n s) stop.1 ∙ ap (missing_begin q) stop.2
   one_fault (missing_begin p s) (invalid_kind n b q t) h k = absurd (closes-and-not p q s t h.0 k.0 h.1 k.1)
   one_fault (missing_begin p s) (mismatched_begin_end n b q t) h k = absurd (none-and-one p q n s t b h.0 k.0 h.2 k.2)
-  one_fault (missing_begin p s) (missing_end n b) h k = absurd (no-stop p s h.0 k.0)
+  one_fault (missing_begin p s) (missing_end n b) h k = absurd (no-stop steps p s h.0 k.0)
   one_fault (invalid_kind m a p s) (missing_begin q t) h k = absurd (closes-and-not q p t s k.0 h.0 k.1 h.1)
   one_fault (invalid_kind m a p s) (invalid_kind n b q t) h k =
       let stop = one_stop p q s t h.0 k.0 in
       let opener = one_opener p q m n s t a b h.0 k.0 h.2 k.2 in
       (λ i. invalid_kind (opener.0 i) (opener.1 i) (stop.1 i) (stop.2 i))
   one_fault (invalid_kind m a p s) (mismatched_begin_end n b q t) h k = absurd (closes-and-not q p t s k.0 h.0 k.1 h.1)
-  one_fault (invalid_kind m a p s) (missing_end n b) h k = absurd (no-stop p s h.0 k.0)
+  one_fault (invalid_kind m a p s) (missing_end n b) h k = absurd (no-stop steps p s h.0 k.0)
   one_fault (mismatched_begin_end m a p s) (missing_begin q t) h k = absurd (none-and-one q p m t s a k.0 h.0 k.2 h.2)
   one_fault (mismatched_begin_end m a p s) (invalid_kind n b q t) h k = absurd (closes-and-not p q s t h.0 k.0 h.1 k.1)
   one_fault (mismatched_begin_end m a p s) (mismatched_begin_end n b q t) h k =
       let stop = one_stop p q s t h.0 k.0 in
       let opener = one_opener p q m n s t a b h.0 k.0 h.2 k.2 in
       (λ i. mismatched_begin_end (opener.0 i) (opener.1 i) (stop.1 i) (stop.2 i))
-  one_fault (mismatched_begin_end m a p s) (missing_end n b) h k = absurd (no-stop p s h.0 k.0)
-  one_fault (missing_end m a) (missing_begin q t) h k = absurd (no-stop q t k.0 h.0)
-  one_fault (missing_end m a) (invalid_kind n b q t) h k = absurd (no-stop q t k.0 h.0)
-  one_fault (missing_end m a) (mismatched_begin_end n b q t) h k = absurd (no-stop q t k.0 h.0)
+  one_fault (mismatched_begin_end m a p s) (missing_end n b) h k = absurd (no-stop steps p s h.0 k.0)
+  one_fault (missing_end m a) (missing_begin q t) h k = absurd (no-stop steps q t k.0 h.0)
+  one_fault (missing_end m a) (invalid_kind n b q t) h k = absurd (no-stop steps q t k.0 h.0)
+  one_fault (missing_end m a) (mismatched_begin_end n b q t) h k = absurd (no-stop steps q t k.0 h.0)
   one_fault (missing_end m a) (missing_end n b) h k =
       let opener = only-innermost steps m n a b h.2 k.2 in
       (λ i. missing_end (opener.0 i) (opener.1 i))

@@ -1,17 +1,12 @@
 -- Patterns compare as the lists of their steps, and equal exactly where they have the same.
 use Rattle.std.proofs.Common.{◌≡◌, ◌↔◌, true, List, [], ◌∷◌, map, refl, sym, ap, subst, ◌∙◌}
-use Rattle.std.proofs.lemmas.Bool.Decides.{Decides-and, Decides-like}
-use Rattle.std.specs.Cmp.Lexicographic.{pointwise}
+use Rattle.std.{proofs.lemmas.Bool.Decides.{Decides-and, Decides-like}, specs.Cmp.Lexicographic.pointwise}
 use Rattle.p3_field_core.specs.Equality.{IsExact}
-use Rattle.p3_fs_core.specs.declared.interaction.Interaction.{Interaction}
-use Rattle.p3_fs_core.specs.Interactions.{step_of, interaction_of, interactions_of}
-use Rattle.p3_fs_core.specs.InteractionLaws.{steps-of_interactions}
-use Rattle.p3_fs_core.specs.StepFitLaws.{IsProgramStep-prop}
-use Rattle.p3_fs_core.specs.StepFits.{AreProgramSteps}
-use Rattle.p3_fs_core.specs.Steps.{Step}
+use Rattle.p3_fs_core.specs.{declared.interaction.Interaction.Interaction, InteractionLaws.steps-of_interactions}
+use Rattle.p3_fs_core.specs.{Interactions.{step_of, interaction_of, interactions_of}, StepFitLaws.IsProgramStep-prop}
+use Rattle.p3_fs_core.specs.{StepFits.AreProgramSteps, Steps.Step}
+use Rattle.p3_patterns.specs.{PatternStepLaws.PatternSteps-same, PatternSteps.{PatternSteps, interactions_in}}
 use Rattle.p3_fs_core.specs.contracts.interaction.InteractionPartialEq.TheImpl as interactions
-use Rattle.p3_patterns.specs.PatternStepLaws.{PatternSteps-same}
-use Rattle.p3_patterns.specs.PatternSteps.{PatternSteps, interactions_of_pattern}
 use Rattle.p3_patterns.specs.contracts.comparison.InteractionPatternPartialEq.TheImpl as patterns
 
 -- ---- interactions with their texts at one place
@@ -27,18 +22,11 @@ all-placed (x ∷ xs) fit =
 
 -- a pattern's interactions are those that have its steps, but for the places of the texts
 pub pattern-placed : (xs : List Interaction) (pattern : PatternSteps) → map step_of xs ≡ pattern.steps →
-    interactions_of_pattern pattern ≡ map placed xs
+    interactions_in pattern ≡ map placed xs
 pattern-placed xs pattern same =
     let IsPlaced : List Step → Type 0 = λ (steps : List Step). (fit : AreProgramSteps steps) →
     interactions_of steps fit ≡ map placed xs in
     subst IsPlaced same (all-placed xs) pattern.fit
-
--- so what is made of both lists is made of both patterns
-pub as_patterns : {A : Type 0} (F : List Interaction → List Interaction → A) (xs ys : List Interaction)
-    (a b : PatternSteps) → map step_of xs ≡ a.steps → map step_of ys ≡ b.steps →
-    F (map placed xs) (map placed ys) ≡ F (interactions_of_pattern a) (interactions_of_pattern b)
-as_patterns F xs ys a b first second =
-    λ i. F (sym (pattern-placed xs a first) i) (sym (pattern-placed ys b second) i)
 
 -- ---- equality
 
@@ -59,4 +47,4 @@ module _ (compared : (a b : Interaction) → (interactions.ghosts.eq a b ≡ tru
       Decides-like _
       (λ e. PatternSteps-same a b (sym first ∙ e ∙ second))
       (λ e. first ∙ ap (λ p. p.steps) e ∙ sym second)
-      (equal_items (interactions_of_pattern a) (interactions_of_pattern b))
+      (equal_items (interactions_in a) (interactions_in b))

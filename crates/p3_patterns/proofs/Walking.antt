@@ -1,20 +1,12 @@
 -- What open containers say of whole patterns.
 use Rattle.std.proofs.Common.{◌≡◌, ◌⊎◌, ℕ, ◌≤◌, List, [], ◌∷◌, map, length, take, refl, subst, ⊎_elim}
-use Rattle.std.proofs.lemmas.List.{take_all}
-use Rattle.std.specs.Prelude.{Result, Ok, Err, IfErr}
-use Rattle.p3_fs_core.specs.declared.error.TranscriptError.{TranscriptError}
-use Rattle.p3_fs_core.specs.declared.error.TranscriptError.TheVariants.{OutOfMemory}
-use Rattle.p3_fs_core.specs.declared.step.Kind.TheVariants.{Protocol}
-use Rattle.p3_fs_core.specs.declared.interaction.Interaction.{Interaction}
-use Rattle.p3_fs_core.specs.Interactions.{step_of}
-use Rattle.p3_fs_core.specs.Steps.{Step}
-use Rattle.p3_patterns.specs.PatternGrammar.{IsPattern}
-use Rattle.p3_patterns.specs.OpenContainers.{OpensAt, AreOpen}
-use Rattle.p3_patterns.specs.PatternFaults.{NamesFirstFault}
-use Rattle.p3_patterns.specs.Walks.{WalksTo}
-use Rattle.p3_patterns.proofs.FirstFaults.{names-no_pattern}
-use Rattle.p3_patterns.proofs.PatternGrammarLaws.{pattern-none_open}
-use Rattle.p3_patterns.proofs.OpenPositions.{open-pattern}
+use Rattle.std.{proofs.lemmas.List.take_all, specs.Prelude.{Result, Ok, Err, IfErr}}
+use Rattle.p3_fs_core.specs.declared.error.{TranscriptError.TranscriptError, TranscriptError.TheVariants.OutOfMemory}
+use Rattle.p3_fs_core.specs.declared.{step.Kind.TheVariants.Protocol, interaction.Interaction.Interaction}
+use Rattle.p3_fs_core.specs.{Interactions.step_of, Steps.Step}
+use Rattle.p3_patterns.specs.{PatternGrammar.IsPattern, OpenContainers.{OpensAt, AreOpen}, Walks.WalksTo}
+use Rattle.p3_patterns.{specs.PatternFaults.NamesFirstFault, proofs.FirstFaults.names-no_pattern}
+use Rattle.p3_patterns.proofs.{PatternGrammarLaws.{innermost-of, pattern-none_open}, OpenPositions.open-pattern}
 
 -- steps that leave none open are a pattern
 pub closed-pattern : (steps : List Step) (positions : List ℕ) → AreOpen steps positions → positions ≡ []
@@ -25,8 +17,7 @@ unclosed : (openers steps : List Step) (positions : List ℕ) → OpensAt opener
     → IsPattern Protocol steps → ⊥
 unclosed [] steps positions h some pattern = some h.0
 unclosed (opener ∷ below) steps positions h some pattern =
-    pattern-none_open steps pattern (length h.0) opener
-    (record { before = h.0; inside = h.1; split = h.3; place = refl; begins = h.5; pattern = h.7 })
+    pattern-none_open steps pattern (length h.0) opener (innermost-of opener below steps positions h)
 
 -- steps that leave one open are none
 pub open-no_pattern : (steps : List Step) (positions : List ℕ) → AreOpen steps positions → (positions ≡ [] → ⊥)

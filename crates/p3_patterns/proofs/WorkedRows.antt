@@ -1,18 +1,16 @@
 -- Worked rows, computed on the definitions.
-use Rattle.std.proofs.Common.{◌≡◌, List, [], ◌∷◌, ◌++◌, ℕ, codes, get_or, refl, ap, inl, inr, arith}
+use Rattle.std.proofs.Common.{◌≡◌, List, [], ◌∷◌, ◌++◌, ℕ, length, codes, get_or, refl, ap, inl, ⊎_elim, arith}
 use Rattle.std.specs.Fmt.{digits}
 use Rattle.p3_fs_core.specs.Steps.{Step, step_with, marker_of, Closes, plain_text, alternate_text}
-use Rattle.p3_patterns.specs.Rendering.{rendering}
 use Rattle.p3_fs_core.specs.Errors.{missing_begin, invalid_kind, mismatched_begin_end, missing_end}
-use Rattle.p3_patterns.specs.PatternGrammar.{nothing, leaf, container, IsViable, IsFirstFault}
-use Rattle.p3_patterns.specs.OpenContainers.{AreOpen}
-use Rattle.p3_patterns.proofs.FirstFaults.{first-missing_begin, first-invalid_kind, first-mismatched, first-missing_end}
-use Rattle.p3_fs_core.specs.declared.step.Hierarchy.{Hierarchy}
-use Rattle.p3_fs_core.specs.declared.step.Hierarchy.TheVariants.{Atomic, Begin, End}
-use Rattle.p3_fs_core.specs.declared.step.Kind.{Kind}
-use Rattle.p3_fs_core.specs.declared.step.Kind.TheVariants.{Protocol, Message, Challenge}
-use Rattle.p3_fs_core.specs.declared.step.Length.TheVariants.{Scalar}
+use Rattle.p3_fs_core.specs.declared.step.{Hierarchy.Hierarchy, Hierarchy.TheVariants.{Atomic, Begin, End}}
+use Rattle.p3_fs_core.specs.declared.step.{Kind.TheVariants.{Protocol, Message, Challenge}, Length.TheVariants.Scalar}
 use Rattle.p3_fs_core.specs.declared.step.TypeTag.TheVariants.{Opaque}
+use Rattle.p3_patterns.specs.{Rendering.rendering, OpenContainers.{OpensAt, AreOpen}}
+use Rattle.p3_patterns.specs.PatternGrammar.{Allows, nothing, IsViable, IsInnermost, IsFirstFault}
+use Rattle.p3_patterns.proofs.FirstFaults.{stops, first-missing_end}
+use Rattle.p3_patterns.proofs.PatternGrammarLaws.{opens-leaf, opens-opener, opens-viable, pattern-none_open}
+use Rattle.p3_patterns.proofs.PatternGrammarLaws.{closer-at_top, next-innermost}
 
 -- a marker of the type (), and an opaque value
 abbrev outer : Hierarchy → Step
@@ -52,116 +50,73 @@ no_steps = refl
 
 -- a lone closer, at position 0
 lone : IsFirstFault (outer End ∷ []) (missing_begin 0 (outer End))
-lone = first-missing_begin [] [] (outer End) 0 refl ([], nothing Protocol) (nothing Protocol) refl
+lone = (
+  stops [] [] (outer End) 0 refl ([], nothing Protocol) (closer-at_top [] (outer End) (nothing Protocol) refl),
+  refl,
+  pattern-none_open [] (nothing Protocol),
+)
 
--- the opener and the closer of a container of messages, and a challenge
-messages : Hierarchy → Step
-messages hierarchy = record (outer hierarchy) { kind = Message }
+-- an opener, and an opener after it
+one_open : (s : Step) → s.hierarchy ≡ Begin → OpensAt (s ∷ []) (0 ∷ []) (s ∷ [])
+one_open s begins = opens-opener [] [] [] s (refl, nothing Protocol) begins (inl refl)
+
+two_open : (s t : Step) → s.hierarchy ≡ Begin → t.hierarchy ≡ Begin → Allows s.kind t → IsViable (s ∷ t ∷ [])
+two_open s t begins also allowed =
+    opens-viable (t ∷ s ∷ []) (s ∷ t ∷ []) (0 ∷ 1 ∷ [])
+    (opens-opener (s ∷ []) (s ∷ []) (0 ∷ []) t (one_open s begins) also allowed)
+
+last_opener : (before : List Step) (s : Step) → s.hierarchy ≡ Begin → IsInnermost (before ++ (s ∷ [])) (length before) s
+last_opener before s begins =
+    record { before = before; inside = []; split = refl; place = refl; begins = begins; pattern = nothing s.kind }
+
+-- the opener of a container of messages, and in it one of challenges, at position 1
+messages : Step
+messages = record (outer Begin) { kind = Message }
 
 challenge : Step
 challenge = record (outer Begin) { kind = Challenge }
 
-closed : (kind : Kind) → Closes (record (outer End) { kind = kind }) (record (outer Begin) { kind = kind })
-closed kind =
-    record { ends = refl; begins = refl; kind = refl; label = refl; type_tag = refl; type_name = refl; length = refl }
-
-one_open : (kind : Kind) → IsViable (record (outer Begin) { kind = kind } ∷ [])
-one_open kind = (
-  record (outer End) { kind = kind } ∷ [],
-  container Protocol _ _ [] [] (inl refl) (nothing kind) (closed kind)
-      (nothing Protocol),
-)
-
--- in a container of messages the opener of one of challenges, at position 1
-foreign : IsFirstFault (messages Begin ∷ challenge ∷ []) (invalid_kind 0 (messages Begin) 1 challenge)
+foreign : IsFirstFault (messages ∷ challenge ∷ []) (invalid_kind 0 messages 1 challenge)
 unfolding messages challenge
 foreign =
-    first-invalid_kind (messages Begin ∷ []) [] challenge 1 0 (messages Begin) refl (one_open Message)
-    (record { before = []; inside = []; split = refl; place = refl; begins = refl; pattern = nothing Message })
-    (λ is. absurd (cc))
-    (λ allowed. elim allowed [ inl is ↦ absurd (cc) | inr is ↦ absurd (cc) ])
+    let is = last_opener [] messages refl in (
+      stops (messages ∷ []) [] challenge 1 refl (opens-viable (messages ∷ []) _ (0 ∷ []) (one_open messages refl))
+          (λ more. ⊎_elim (λ fits. ⊎_elim (λ e. absurd (cc)) (λ e. absurd (cc)) fits.1)
+          (λ closes. let ends = closes.ends in absurd (cc)) (next-innermost (messages ∷ []) challenge 0 messages is more)),
+      (λ ends. absurd (cc)),
+      is,
+    )
 
 -- two openers, of which the second is named
-two_open : IsFirstFault (outer Begin ∷ outer Begin ∷ []) (missing_end 1 (outer Begin))
-two_open =
-    first-missing_end (outer Begin ∷ outer Begin ∷ []) 1 (outer Begin) (
-      outer End ∷ outer End ∷ [],
-      container Protocol _ (outer End) (outer Begin ∷ outer End ∷ []) [] (inl refl)
-          (container Protocol _ (outer End) [] [] (inl refl) (nothing Protocol) (closed Protocol) (nothing Protocol))
-          (closed Protocol) (nothing Protocol),
-    )
-    (record {
-      before = outer Begin ∷ [];
-      inside = [];
-      split = refl;
-      place = refl;
-      begins = refl;
-      pattern = nothing Protocol;
-    })
+unclosed : IsFirstFault (outer Begin ∷ outer Begin ∷ []) (missing_end 1 (outer Begin))
+unclosed =
+    first-missing_end (outer Begin ∷ outer Begin ∷ []) 1 (outer Begin)
+    (two_open (outer Begin) (outer Begin) refl refl (inl refl)) (last_opener (outer Begin ∷ []) (outer Begin) refl)
 
 -- under two openers the inner one is named: a closer of another label, at position 2
 inner : Step
 inner = record (outer Begin) { label = codes "inner" }
 
-under_two : IsViable (outer Begin ∷ inner ∷ [])
-unfolding inner
-under_two = (
-  record (outer End) { label = codes "inner" } ∷ outer End ∷ [],
-  container Protocol _ (outer End) (inner ∷ record (outer End) { label = codes "inner" } ∷ []) [] (inl refl)
-      (container Protocol _ (record (outer End) { label = codes "inner" }) [] [] (inl refl) (nothing Protocol)
-      (record {
-        ends = refl;
-        begins = refl;
-        kind = refl;
-        label = refl;
-        type_tag = refl;
-        type_name = refl;
-        length = refl;
-      }) (nothing Protocol)) (closed Protocol) (nothing Protocol),
-)
-
 mismatched : IsFirstFault (outer Begin ∷ inner ∷ outer End ∷ []) (mismatched_begin_end 1 inner 2 (outer End))
 unfolding inner
 mismatched =
-    first-mismatched (outer Begin ∷ inner ∷ []) [] (outer End) 2 1 inner refl under_two
-    (record {
-      before = outer Begin ∷ [];
-      inside = [];
-      split = refl;
-      place = refl;
-      begins = refl;
-      pattern = nothing Protocol;
-    })
-    refl
-    (λ closes. let first : 111 ≡ 105 = ap (λ (label : List ℕ). get_or label 0 0) closes.label in
-    absurd (omega (arith, first)))
+    let is = last_opener (outer Begin ∷ []) inner refl in
+    let not_closed : Closes (outer End) inner → ⊥ = λ closes. let first : 111 ≡ 105 = ap (λ (label : List ℕ). get_or
+    label 0 0) closes.label in omega (arith, first) in (
+      stops (outer Begin ∷ inner ∷ []) [] (outer End) 2 refl (two_open (outer Begin) inner refl refl (inl refl))
+          (λ more. ⊎_elim (λ fits. fits.0 refl) not_closed
+          (next-innermost (outer Begin ∷ inner ∷ []) (outer End) 1 inner is more)),
+      refl,
+      is,
+    )
 
 -- ---- open containers
 
 -- after an opener, a leaf and an opener these two are open, at positions 0 and 2
 two_positions : AreOpen (outer Begin ∷ commit ∷ inner ∷ []) (0 ∷ 2 ∷ [])
 unfolding inner
-two_positions = (
-  inner ∷ outer Begin ∷ [],
-  (
-    outer Begin ∷ commit ∷ [],
-    [],
-    0 ∷ [],
-    refl,
-    refl,
-    refl,
-    inl refl,
-    nothing Protocol,
-    (
-      [],
-      commit ∷ [],
-      [],
-      refl,
-      refl,
-      refl,
-      inl refl,
-      leaf Protocol commit [] refl (inl refl) (nothing Protocol),
-      (refl, nothing Protocol),
-    ),
-  ),
-)
+two_positions =
+    let one = one_open (outer Begin) refl in
+    let more = opens-leaf (outer Begin ∷ []) (outer Begin ∷ []) (0 ∷ []) commit one refl (inl refl) in
+    let opens = opens-opener (outer Begin ∷ []) (outer Begin ∷ commit ∷ []) (0 ∷ []) inner more refl (inl refl) in
+    (inner ∷ outer Begin ∷ [], opens)

@@ -1,10 +1,7 @@
 -- The containers that steps leave open, and where their openers stand.
 use Rattle.std.specs.Prelude.{◌≡◌, ℕ, List, [], ◌∷◌, ◌++◌, ◌-◌, length, take}
-use Rattle.p3_fs_core.specs.declared.step.Hierarchy.{Hierarchy}
-use Rattle.p3_fs_core.specs.declared.step.Hierarchy.TheVariants.{Atomic, Begin, End}
-use Rattle.p3_fs_core.specs.declared.step.Kind.{Kind}
-use Rattle.p3_fs_core.specs.declared.step.Kind.TheVariants.{Protocol}
-use Rattle.p3_fs_core.specs.Steps.{Step}
+use Rattle.p3_fs_core.specs.declared.step.{Hierarchy.Hierarchy, Hierarchy.TheVariants.{Atomic, Begin, End}, Kind.Kind}
+use Rattle.p3_fs_core.specs.{declared.step.Kind.TheVariants.Protocol, Steps.Step}
 use Rattle.p3_patterns.specs.PatternGrammar.{Allows, IsPattern}
 
 -- the kind of the innermost of the containers that are open; at the top any step may stand

@@ -1,10 +1,8 @@
 -- Patterns of steps: which lists of steps they are, and what is first wrong with a list that is none.
 use Rattle.std.specs.Prelude.{◌≡◌, ℕ, ◌⊎◌, List, [], ◌∷◌, ◌++◌, length}
-use Rattle.p3_fs_core.specs.declared.step.Hierarchy.TheVariants.{Atomic, Begin, End}
-use Rattle.p3_fs_core.specs.declared.step.Kind.{Kind}
-use Rattle.p3_fs_core.specs.declared.step.Kind.TheVariants.{Protocol}
+use Rattle.p3_fs_core.specs.declared.step.{Hierarchy.TheVariants.{Atomic, Begin, End}, Kind.Kind}
+use Rattle.p3_fs_core.specs.{declared.step.Kind.TheVariants.Protocol, Steps.{Step, Closes}}
 use Rattle.p3_fs_core.specs.Errors.{Fault, missing_begin, invalid_kind, mismatched_begin_end, missing_end}
-use Rattle.p3_fs_core.specs.Steps.{Step, Closes}
 
 -- the step may stand directly in a container of the kind: a protocol takes any, another kind its own alone
 abbrev pub Allows : Kind → Step → Type 0
@@ -23,6 +21,10 @@ pub data IsPattern : Kind → List Step → Type 0 where
 -- some pattern begins with the steps
 abbrev pub IsViable : List Step → Type 0
 IsViable steps = (more : List Step) × IsPattern Protocol (steps ++ more)
+
+-- the step may come next after those: some pattern begins with them and this one
+abbrev pub MayFollow : Step → List Step → Type 0
+MayFollow s steps = IsViable (steps ++ (s ∷ []))
 
 -- The opener at the position is the innermost one that is still open: what stands after it is a pattern of
 -- its kind. No two openers of a list are so, hence it is the last one.
@@ -46,7 +48,7 @@ pub record StopsAt (steps : List Step) (position : ℕ) (s : Step) : Type 0 wher
   pub split : steps ≡ before ++ (s ∷ rest)
   pub place : length before ≡ position
   pub viable : IsViable before
-  pub stuck : IsViable (before ++ (s ∷ [])) → ⊥
+  pub stuck : MayFollow s before → ⊥
 
 -- the fault is the first one of the steps
 abbrev pub IsFirstFault : List Step → Fault → Type 0

@@ -1,15 +1,10 @@
 -- Laws of patterns: one is its steps alone.
-use Rattle.std.specs.Prelude.{◌≡◌, ◌<◌, ◌^◌, List, length}
-use Rattle.std.proofs.Common.{subst}
+use Rattle.std.{specs.Prelude.{◌≡◌, ◌<◌, ◌^◌, List, length}, proofs.Common.subst}
 use Rattle.std.specs.Coded.{Coded, coded_list, le_prop}
 use base.Stored.{coded_via}
-use Rattle.p3_fs_core.specs.declared.step.Kind.TheVariants.{Protocol}
-use Rattle.p3_fs_core.specs.StepCodes.{step_code}
-use Rattle.p3_fs_core.specs.StepFitLaws.{AreProgramSteps-prop}
-use Rattle.p3_fs_core.specs.StepFits.{AreProgramSteps}
-use Rattle.p3_fs_core.specs.Steps.{Step}
-use Rattle.p3_patterns.specs.PatternGrammar.{IsPattern}
-use Rattle.p3_patterns.specs.PatternSteps.{PatternSteps}
+use Rattle.p3_fs_core.specs.{declared.step.Kind.TheVariants.Protocol, StepCodes.step_code, StepFits.AreProgramSteps}
+use Rattle.p3_fs_core.specs.{StepFitLaws.AreProgramSteps-prop, Steps.Step}
+use Rattle.p3_patterns.specs.{PatternGrammar.IsPattern, PatternSteps.PatternSteps}
 
 -- patterns with the same steps are one
 pub PatternSteps-same : (x y : PatternSteps) → x.steps ≡ y.steps → x ≡ y

@@ -1,10 +1,7 @@
 -- What a pattern is: a list of steps, and what is so of every one that a program holds.
-use Rattle.std.specs.Prelude.{◌<◌, ◌^◌, List, length}
-use Rattle.p3_fs_core.specs.declared.interaction.Interaction.{Interaction}
-use Rattle.p3_fs_core.specs.declared.step.Kind.TheVariants.{Protocol}
-use Rattle.p3_fs_core.specs.Interactions.{interactions_of}
-use Rattle.p3_fs_core.specs.StepFits.{AreProgramSteps}
-use Rattle.p3_fs_core.specs.Steps.{Step}
+use Rattle.std.specs.Prelude.{◌≡◌, ◌<◌, ◌^◌, List, length}
+use Rattle.p3_fs_core.specs.declared.{interaction.Interaction.Interaction, step.Kind.TheVariants.Protocol}
+use Rattle.p3_fs_core.specs.{Interactions.interactions_of, StepFits.AreProgramSteps, Steps.Step}
 use Rattle.p3_patterns.specs.PatternGrammar.{IsPattern}
 
 -- the steps of a pattern: they are one by the grammar, fewer than a length can count, and steps of a program
@@ -17,6 +14,10 @@ pub record PatternSteps : Type 0 where
 abbrev pub steps_of : PatternSteps → List Step
 steps_of pattern = pattern.steps
 
+-- the pattern has these steps, and they are one by the grammar
+abbrev pub IsPatternOf : PatternSteps → List Step → Type 0
+IsPatternOf pattern steps = (steps_of pattern ≡ steps) × IsPattern Protocol (steps_of pattern)
+
 -- some interactions that are its steps
-abbrev pub interactions_of_pattern : PatternSteps → List Interaction
-interactions_of_pattern pattern = interactions_of pattern.steps pattern.fit
+abbrev pub interactions_in : PatternSteps → List Interaction
+interactions_in pattern = interactions_of pattern.steps pattern.fit

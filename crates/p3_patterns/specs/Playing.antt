@@ -1,12 +1,9 @@
 -- Playing a pattern step by step.
 use Rattle.std.specs.Prelude.{◌≡◌, ℕ, ◌+◌, ◌⊎◌, Bool, true, false, Option, Some, None, slice_get, length}
-use Rattle.p3_fs_core.specs.declared.error.TranscriptError.{TranscriptError}
-use Rattle.p3_fs_core.specs.declared.error.TranscriptError.TheVariants.{Pattern}
-use Rattle.p3_fs_core.specs.declared.error.PatternError.{PatternError}
+use Rattle.p3_fs_core.specs.declared.error.{TranscriptError.TranscriptError, TranscriptError.TheVariants.Pattern}
+use Rattle.p3_fs_core.specs.declared.{error.PatternError.PatternError, interaction.Interaction.Interaction}
 use Rattle.p3_fs_core.specs.declared.error.PatternError.TheVariants.{Finished, NoMoreSteps, WrongStep, Unplayed}
-use Rattle.p3_fs_core.specs.declared.interaction.Interaction.{Interaction}
-use Rattle.p3_fs_core.specs.Errors.{pattern_error_of}
-use Rattle.p3_fs_core.specs.Steps.{Step}
+use Rattle.p3_fs_core.specs.{Errors.pattern_error_of, Steps.Step}
 use Rattle.p3_patterns.specs.PatternSteps.{PatternSteps}
 
 -- a player: its pattern, how many of its steps were taken, and whether a step was refused since

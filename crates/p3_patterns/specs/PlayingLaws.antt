@@ -1,9 +1,6 @@
 -- How the logic stores a player: as the tuple of its parts.
-use Rattle.std.specs.Prelude.{ℕ, Bool, refl}
-use Rattle.std.specs.Coded.{Coded, code_by, coded×, coded_ℕ, coded_bool}
-use Rattle.p3_patterns.specs.PatternStepLaws.{pattern_steps_code}
-use Rattle.p3_patterns.specs.PatternSteps.{PatternSteps}
-use Rattle.p3_patterns.specs.Playing.{Playing}
+use Rattle.std.specs.{Prelude.{ℕ, Bool, refl}, Coded.{Coded, code_by, coded×, coded_ℕ, coded_bool}}
+use Rattle.p3_patterns.specs.{PatternStepLaws.pattern_steps_code, PatternSteps.PatternSteps, Playing.Playing}
 
 abbrev pub playing_code : Coded Playing
 playing_code =

@@ -1,13 +1,9 @@
 -- Recording a pattern step by step.
 use Rattle.std.specs.Prelude.{◌≡◌, ◌⊎◌, Bool, true, false, List, [], ◌∷◌, ◌++◌}
-use Rattle.p3_fs_core.specs.declared.error.TranscriptError.{TranscriptError}
-use Rattle.p3_fs_core.specs.declared.error.TranscriptError.TheVariants.{MissingEnd, Pattern, OutOfMemory}
-use Rattle.p3_fs_core.specs.declared.error.PatternError.TheVariants.{Finished}
-use Rattle.p3_fs_core.specs.Errors.{missing_end}
-use Rattle.p3_fs_core.specs.Steps.{Step}
-use Rattle.p3_fs_core.specs.Interactions.{step_of}
-use Rattle.p3_patterns.specs.PatternGrammar.{IsViable, IsFirstFault}
-use Rattle.p3_patterns.specs.PatternFaults.{NamesFirstFault}
+use Rattle.p3_fs_core.specs.declared.error.{TranscriptError.TranscriptError, PatternError.TheVariants.Finished}
+use Rattle.p3_fs_core.specs.{declared.error.TranscriptError.TheVariants.{MissingEnd, Pattern, OutOfMemory}, Steps.Step}
+use Rattle.p3_fs_core.specs.{Errors.missing_end, Interactions.step_of}
+use Rattle.p3_patterns.specs.{PatternGrammar.{MayFollow, IsFirstFault}, PatternFaults.NamesFirstFault}
 
 -- a recorder: the steps that it took, and whether it refused one since
 pub record Recording : Type 0 where
@@ -17,24 +13,19 @@ pub record Recording : Type 0 where
 -- the step is taken: nothing was refused before, and some pattern begins with the steps and this one
 pub record Records (before : Recording) (s : Step) (after : Recording) : Type 0 where
   pub going : before.finished ≡ false
-  pub viable : IsViable (before.steps ++ (s ∷ []))
+  pub viable : MayFollow s before.steps
   pub recorded : after ≡ record { steps = before.steps ++ (s ∷ []); finished = false }
 
 -- why the step is refused after those: no pattern begins with them and this one, and this is their first
 -- fault; or some pattern does, and memory was refused
 abbrev pub FaultOfNext : List Step → Step → TranscriptError → Type 0
 FaultOfNext steps s e =
-    ((IsViable (steps ++ (s ∷ [])) → ⊥) × NamesFirstFault (steps ++ (s ∷ [])) e)
-    ⊎ (IsViable (steps ++ (s ∷ [])) × (e ≡ OutOfMemory))
+    ((MayFollow s steps → ⊥) × NamesFirstFault (steps ++ (s ∷ [])) e) ⊎ (MayFollow s steps × (e ≡ OutOfMemory))
 
--- why the step is refused: one was refused before, or this one may not come next
-abbrev pub FaultOfStep : Recording → Step → TranscriptError → Type 0
-FaultOfStep before s e =
-    ((before.finished ≡ true) × (e ≡ Pattern Finished)) ⊎ ((before.finished ≡ false) × FaultOfNext before.steps s e)
-
--- the step is refused: nothing may follow it
+-- The step is refused, since one was refused before, or since this one may not come next. Nothing may follow it.
 pub record RefusesToRecord (before : Recording) (s : Step) (e : TranscriptError) (after : Recording) : Type 0 where
-  pub fault : FaultOfStep before s e
+  pub fault : ((before.finished ≡ true) × (e ≡ Pattern Finished))
+      ⊎ ((before.finished ≡ false) × FaultOfNext before.steps s e)
   pub finished : after ≡ record { steps = before.steps; finished = true }
 
 -- the error names the innermost opener that the steps leave open at their end
@@ -44,6 +35,5 @@ NamesMissingEnd steps _ = ⊥
 
 -- why a recording is no pattern in the end: a step was refused, or a container is still open
 abbrev pub FaultOfEnd : Recording → TranscriptError → Type 0
-FaultOfEnd recording e =
-    ((recording.finished ≡ true) × (e ≡ Pattern Finished))
-    ⊎ ((recording.finished ≡ false) × NamesMissingEnd recording.steps e)
+FaultOfEnd taken e =
+    ((taken.finished ≡ true) × (e ≡ Pattern Finished)) ⊎ ((taken.finished ≡ false) × NamesMissingEnd taken.steps e)

@@ -1,10 +1,8 @@
 -- The text of a list of steps.
-use Rattle.std.specs.Prelude.{◌≡◌, ℕ, ◌+◌, ◌-◌, ◌*◌, List, [], ◌∷◌, ◌++◌, length, map, replicate, codes}
+use Rattle.std.specs.Prelude.{◌≡◌, ℕ, ◌+◌, ◌-◌, ◌*◌, Bool, List, [], ◌∷◌, ◌++◌, length, map, replicate, codes, if◌then◌else◌}
 use Rattle.std.specs.Fmt.{decimal}
-use Rattle.p3_fs_core.specs.declared.step.Hierarchy.{Hierarchy}
-use Rattle.p3_fs_core.specs.declared.step.Hierarchy.TheVariants.{Atomic, Begin, End}
-use Rattle.p3_fs_core.specs.Steps.{Step}
-use Rattle.p3_fs_core.specs.StepFits.{FitsTypes}
+use Rattle.p3_fs_core.specs.declared.step.{Hierarchy.Hierarchy, Hierarchy.TheVariants.{Atomic, Begin, End}}
+use Rattle.p3_fs_core.specs.{Steps.{Step, plain_text, alternate_text}, StepFits.FitsTypes}
 
 -- how many containers are open after a step
 abbrev pub depth_after : Hierarchy → ℕ → ℕ
@@ -14,35 +12,38 @@ depth_after End depth = depth - 1
 
 -- how far a step is indented: a closer stands where its opener does
 abbrev pub indentation : Hierarchy → ℕ → ℕ
-indentation Atomic depth = depth
-indentation Begin depth = depth
 indentation End depth = depth - 1
+indentation _ depth = depth
 
 -- a number in so many digits or more, with zeros in front
 abbrev pub padded : ℕ → ℕ → List ℕ
 padded digits n = replicate (digits - length (decimal n)) 48 ++ decimal n
 
--- The line of a step: its position, a space, two spaces for each container that is open there, and its text.
+-- the text of a step, which is the alternate one or the plain one
+abbrev pub text_of : Bool → Step → List ℕ
+text_of alternate s = if alternate then alternate_text s else plain_text s
+
+-- The line of a step: its position, a space, two spaces for each container that it is indented by, and its text.
 abbrev pub line : (Step → List ℕ) → ℕ → ℕ → ℕ → Step → List ℕ
-line text digits position depth s =
-    padded digits position
-    ++ (codes " " ++ (replicate (2 * indentation s.hierarchy depth) 32 ++ (text s ++ codes "\n")))
+line text digits position indented s =
+    padded digits position ++ (codes " " ++ (replicate (2 * indented) 32 ++ (text s ++ codes "\n")))
 
 -- the lines of the steps from a position on, where so many containers are open
 abbrev pub lines : (Step → List ℕ) → ℕ → ℕ → ℕ → List Step → List ℕ
 lines text digits position depth [] = []
 lines text digits position depth (s ∷ rest) =
-    line text digits position depth s ++ lines text digits (position + 1) (depth_after s.hierarchy depth) rest
+    line text digits position (indentation s.hierarchy depth) s
+    ++ lines text digits (position + 1) (depth_after s.hierarchy depth) rest
 
--- how many digits the positions of so many steps take: those of the last one
-abbrev pub position_digits : ℕ → ℕ
-position_digits count = length (decimal (count - 1))
-
--- the text of the steps, each printed in the same way
+-- The text of the steps, each printed in the same way. Positions take as many digits as the last one.
 abbrev pub rendering : (Step → List ℕ) → List Step → List ℕ
 rendering text steps =
     codes "Plonky3 Fiat-Shamir Transcript ("
-    ++ (decimal (length steps) ++ (codes " interactions)\n" ++ lines text (position_digits (length steps)) 0 0 steps))
+    ++ (decimal (length steps) ++ (codes " interactions)\n" ++ lines text (length (decimal (length steps - 1))) 0 0 steps))
+
+-- the text of the steps that is hashed
+abbrev pub hashed_text : List Step → List ℕ
+hashed_text steps = rendering alternate_text steps
 
 -- ---- what the text tells apart
 

@@ -1,9 +1,7 @@
 -- A walk over steps, up to the first one that may not stand where it does.
-use Rattle.std.specs.Prelude.{ℕ, ◌<◌, ◌≤◌, List, [], ◌∷◌, ◌++◌, length, map, take, slice_index_or}
-use Rattle.p3_fs_core.specs.declared.interaction.Interaction.{Interaction}
-use Rattle.p3_fs_core.specs.Interactions.{step_of}
-use Rattle.p3_patterns.specs.PatternGrammar.{IsViable}
-use Rattle.p3_patterns.specs.OpenContainers.{AreOpen}
+use Rattle.std.specs.Prelude.{ℕ, ◌<◌, ◌≤◌, List, length, map, take, slice_index_or}
+use Rattle.p3_fs_core.specs.{declared.interaction.Interaction.Interaction, Interactions.step_of}
+use Rattle.p3_patterns.specs.{PatternGrammar.MayFollow, OpenContainers.AreOpen}
 
 -- so many of the steps some pattern begins with, and they leave these positions open; with the next one, if there is
 -- one, none does
@@ -11,4 +9,4 @@ pub record WalksTo (steps : List Interaction) (walked : ℕ) (positions : List �
   pub within : walked ≤ length steps
   pub opens : AreOpen (map step_of (take walked steps)) positions
   pub stuck : (next : Interaction) → walked < length steps
-      → IsViable (map step_of (take walked steps) ++ (step_of (slice_index_or steps walked next) ∷ [])) → ⊥
+      → MayFollow (step_of (slice_index_or steps walked next)) (map step_of (take walked steps)) → ⊥

@@ -9,7 +9,7 @@ ghost use Rattle.p3_fs_core.specs.contracts.interaction.InteractionEq.TheImpl.La
 ghost use Rattle.p3_fs_core.specs.contracts.interaction.InteractionPartialOrd.TheImpl.Laws as partial_order;
 ghost use Rattle.p3_fs_core.specs.contracts.interaction.InteractionOrd.TheImpl.Laws as order;
 ghost use Rattle.p3_fs_core.specs.contracts.interaction.InteractionHash.TheImpl.Laws as hashes;
-ghost use Rattle.p3_patterns.specs.PatternSteps.{interactions_of_pattern};
+ghost use Rattle.p3_patterns.specs.PatternSteps.{interactions_in};
 
 use crate::InteractionPattern;
 use p3_fs_core::Interaction;
@@ -18,9 +18,9 @@ use std::hash::{Hash, Hasher};
 
 impl PartialEq for InteractionPattern {
     ghost eq = { λ a b.
-        pointwise ⟦<Interaction as PartialEq>⟧.eq (interactions_of_pattern a) (interactions_of_pattern b) };
+        pointwise ⟦<Interaction as PartialEq>⟧.eq (interactions_in a) (interactions_in b) };
 
-    ghost laws = { on_per interactions_of_pattern (lists_per partial_equality.laws-law) };
+    ghost laws = { on_per interactions_in (lists_per partial_equality.laws-law) };
 
     fn eq(&self, other: &Self) -> bool {
         self.interactions() == other.interactions()
@@ -28,14 +28,14 @@ impl PartialEq for InteractionPattern {
 }
 
 impl Eq for InteractionPattern {
-    ghost laws = { on_equiv interactions_of_pattern (lists_equiv equality.laws-law) };
+    ghost laws = { on_equiv interactions_in (lists_equiv equality.laws-law) };
 }
 
 impl PartialOrd for InteractionPattern {
     ghost partial_cmp = { λ a b. slice_partial_cmp ⟦<Interaction as PartialOrd>⟧.partial_cmp
-        (interactions_of_pattern a) (interactions_of_pattern b) };
+        (interactions_in a) (interactions_in b) };
 
-    ghost laws = { on_po interactions_of_pattern (lists_po partial_order.laws-law) };
+    ghost laws = { on_po interactions_in (lists_po partial_order.laws-law) };
 
     fn partial_cmp(&self, other: &Self) -> Option<Ordering> {
         self.interactions().partial_cmp(other.interactions())
@@ -44,15 +44,15 @@ impl PartialOrd for InteractionPattern {
 
 impl Ord for InteractionPattern {
     ghost cmp = { λ a b.
-        slice_cmp ⟦<Interaction as Ord>⟧.cmp (interactions_of_pattern a) (interactions_of_pattern b) };
+        slice_cmp ⟦<Interaction as Ord>⟧.cmp (interactions_in a) (interactions_in b) };
 
-    ghost total = { on_total interactions_of_pattern (lists_total order.total-law) };
+    ghost total = { on_total interactions_in (lists_total order.total-law) };
 
     ghost matches_partial_cmp = { λ a b. lists_agrees order.matches_partial_cmp-law
-        (interactions_of_pattern a) (interactions_of_pattern b) };
+        (interactions_in a) (interactions_in b) };
 
     ghost matches_eq = { λ a b. lists_ties ⟦<Interaction as Ord>⟧.cmp order.matches_eq-law
-        (interactions_of_pattern a) (interactions_of_pattern b) };
+        (interactions_in a) (interactions_in b) };
 
     fn cmp(&self, other: &Self) -> Ordering {
         self.interactions().cmp(other.interactions())
@@ -60,9 +60,9 @@ impl Ord for InteractionPattern {
 }
 
 impl Hash for InteractionPattern {
-    ghost hash_input = { λ a. fed.slice ⟦<Interaction as Hash>⟧.hash_input (interactions_of_pattern a) };
+    ghost hash_input = { λ a. fed.slice ⟦<Interaction as Hash>⟧.hash_input (interactions_in a) };
 
-    ghost respects_eq = { (on_Alike interactions_of_pattern
+    ghost respects_eq = { (on_Alike interactions_in
         (items_Alike (record { fed = hashes.respects_eq-law }))).fed };
 
     fn hash<H: Hasher>(&self, state: &mut H) {

@@ -1,7 +1,6 @@
 //! What takes the steps of a protocol: a recorder or a player.
 ghost use Rattle.std.specs.Prelude.{OnOk, IfErr};
-ghost use Rattle.p3_fs_core.specs.Steps.{Step, marker_of};
-ghost use Rattle.p3_fs_core.specs.Interactions.{step_of};
+ghost use Rattle.p3_fs_core.specs.{Steps.{Step, marker_of}, Interactions.step_of};
 
 use p3_field_core::Named;
 use p3_fs_core::{Hierarchy, Interaction, Kind, Label, TranscriptError};
@@ -40,10 +39,10 @@ pub trait Pattern {
     ///
     /// The errors are those of [`interact`](Pattern::interact).
     fn begin<T: Named>(&mut self, label: Label, kind: Kind) -> Result<(), TranscriptError>
-        ensures ok { OnOk result
-            (takes self.old (marker_of Hierarchy.Begin kind label.now T.name_bytes) self.new) }
-        ensures err { IfErr result
-            (λ e. refuses self.old (marker_of Hierarchy.Begin kind label.now T.name_bytes) e self.new) }
+        ensures ok { OnOk result (takes self.old
+            (marker_of Hierarchy.Begin kind label.now T.name_bytes) self.new) }
+        ensures err { IfErr result (λ e. refuses self.old
+            (marker_of Hierarchy.Begin kind label.now T.name_bytes) e self.new) }
     {
         self.interact(Interaction::marker::<T>(Hierarchy::Begin, kind, label))
     }
@@ -52,10 +51,10 @@ pub trait Pattern {
     ///
     /// The errors are those of [`interact`](Pattern::interact).
     fn end<T: Named>(&mut self, label: Label, kind: Kind) -> Result<(), TranscriptError>
-        ensures ok { OnOk result
-            (takes self.old (marker_of Hierarchy.End kind label.now T.name_bytes) self.new) }
-        ensures err { IfErr result
-            (λ e. refuses self.old (marker_of Hierarchy.End kind label.now T.name_bytes) e self.new) }
+        ensures ok { OnOk result (takes self.old
+            (marker_of Hierarchy.End kind label.now T.name_bytes) self.new) }
+        ensures err { IfErr result (λ e. refuses self.old
+            (marker_of Hierarchy.End kind label.now T.name_bytes) e self.new) }
     {
         self.interact(Interaction::marker::<T>(Hierarchy::End, kind, label))
     }
@@ -64,10 +63,10 @@ pub trait Pattern {
     ///
     /// The errors are those of [`interact`](Pattern::interact).
     fn begin_protocol<T: Named>(&mut self, label: Label) -> Result<(), TranscriptError>
-        ensures ok { OnOk result
-            (takes self.old (marker_of Hierarchy.Begin Kind.Protocol label.now T.name_bytes) self.new) }
-        ensures err { IfErr result
-            (λ e. refuses self.old (marker_of Hierarchy.Begin Kind.Protocol label.now T.name_bytes) e self.new) }
+        ensures ok { OnOk result (takes self.old
+            (marker_of Hierarchy.Begin Kind.Protocol label.now T.name_bytes) self.new) }
+        ensures err { IfErr result (λ e. refuses self.old
+            (marker_of Hierarchy.Begin Kind.Protocol label.now T.name_bytes) e self.new) }
     {
         self.begin::<T>(label, Kind::Protocol)
     }
@@ -76,10 +75,10 @@ pub trait Pattern {
     ///
     /// The errors are those of [`interact`](Pattern::interact).
     fn end_protocol<T: Named>(&mut self, label: Label) -> Result<(), TranscriptError>
-        ensures ok { OnOk result
-            (takes self.old (marker_of Hierarchy.End Kind.Protocol label.now T.name_bytes) self.new) }
-        ensures err { IfErr result
-            (λ e. refuses self.old (marker_of Hierarchy.End Kind.Protocol label.now T.name_bytes) e self.new) }
+        ensures ok { OnOk result (takes self.old
+            (marker_of Hierarchy.End Kind.Protocol label.now T.name_bytes) self.new) }
+        ensures err { IfErr result (λ e. refuses self.old
+            (marker_of Hierarchy.End Kind.Protocol label.now T.name_bytes) e self.new) }
     {
         self.end::<T>(label, Kind::Protocol)
     }

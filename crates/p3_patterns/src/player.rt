@@ -1,11 +1,9 @@
 //! Playing a pattern step by step.
 ghost use Rattle.std.specs.Prelude.{◌≡◌, ◌↔◌, ◌+◌, [], false, Some, length, option_copied, IsTrue, IfErr, OnOk, IsOk};
 ghost use Rattle.std.specs.Option.{option_map};
-ghost use Rattle.p3_fs_core.specs.Errors.{pattern_error_of};
-ghost use Rattle.p3_fs_core.specs.Interactions.{step_of};
-ghost use Rattle.p3_patterns.specs.PatternSteps.{steps_of};
+ghost use Rattle.p3_fs_core.specs.{Errors.pattern_error_of, Interactions.step_of};
+ghost use Rattle.p3_patterns.specs.{PatternSteps.steps_of, Playing.{IsPlayed, CarriesReceived, next_step}};
 ghost use Rattle.p3_patterns.specs.Playing.{Plays, RefusesToPlay, FaultOfPlay, FaultOfPlayEnd, IsPatternError};
-ghost use Rattle.p3_patterns.specs.Playing.{IsPlayed, CarriesReceived, next_step};
 
 use crate::{InteractionPattern, Pattern};
 use p3_fs_core::{Interaction, PatternError, TranscriptError};
@@ -27,15 +25,14 @@ pub struct PatternPlayer {
 
 impl Model for PatternPlayer {
     ghost use Rattle.std.specs.Prelude.{◌≤◌, length};
-    ghost use Rattle.p3_patterns.specs.PatternSteps.{steps_of};
-    ghost use Rattle.p3_patterns.specs.Playing.{Playing};
-    ghost use Rattle.p3_patterns.specs.PlayingLaws.{playing_code};
+    ghost use Rattle.p3_patterns.specs.{PatternSteps.steps_of, Playing.Playing, PlayingLaws.playing_code};
 
     ghost Value = { Playing };
 
     ghost coded = { playing_code };
 
-    ghost view = { λ p. record { pattern = p.pattern.value; position = p.position; finished = p.finished } };
+    ghost view = { λ p.
+        record { pattern = p.pattern.value; position = p.position; finished = p.finished } };
 
     ghost invariant = { λ p. p.position ≤ length (steps_of p.pattern.value) };
 }
@@ -108,7 +105,8 @@ impl PatternPlayer {
     /// next step where there is one. The player is spent then too. The Rust crate panics in place of both.
     pub fn finalize(self) -> Result<(), TranscriptError>
         ensures ok { OnOk result (IsPlayed self) }
-        ensures err { IfErr result (λ e. IsPatternError (λ m. FaultOfPlayEnd self (pattern_error_of m)) e) }
+        ensures err { IfErr result (IsPatternError (λ m.
+            FaultOfPlayEnd self (pattern_error_of m))) }
         ensures only { IsPlayed self → IsOk result }
     {
         let checked = self.check_end();
@@ -121,7 +119,8 @@ impl PatternPlayer {
 
     // Why the step may not be taken.
     fn fault_of(&self, received: Interaction) -> PatternError
-        requires { (self.now.finished ≡ false) × (next_step self.now ≡ Some (step_of received)) → ⊥ }
+        requires { (self.now.finished ≡ false)
+            × (next_step self.now ≡ Some (step_of received)) → ⊥ }
         ensures fault { FaultOfPlay self.now (step_of received) (pattern_error_of result) }
         ensures received { CarriesReceived received result }
     {

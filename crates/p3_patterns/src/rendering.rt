@@ -1,13 +1,9 @@
 //! The text of a whole pattern, and its digest.
-ghost use Rattle.std.specs.Prelude.{◌≡◌, ◌↔◌, ◌+◌, ◌*◌, ◌<◌, ◌^◌, ◌++◌, ℕ, List, Some, map, length, replicate, codes};
-ghost use Rattle.std.specs.Prelude.{IfOk, string_bytes, if◌then◌else◌};
-ghost use Rattle.std.specs.Fmt.{decimal};
+ghost use Rattle.std.specs.{Prelude.{◌≡◌, ◌↔◌, ◌<◌, ◌^◌, List, Some, map, length, IfOk, string_bytes}, Fmt.decimal};
 ghost use Rattle.std.specs.List.{repeat};
-ghost use Rattle.p3_fs_core.specs.Steps.{Step, plain_text, alternate_text};
-ghost use Rattle.p3_fs_core.specs.Interactions.{step_of};
-ghost use Rattle.p3_patterns.specs.PatternSteps.{steps_of};
-ghost use Rattle.p3_patterns.specs.Rendering.{depth_after, indentation, padded, rendering, SameButTypeNames};
-ghost use Rattle.p3_patterns.specs.Rendering.{AllFitTypes};
+ghost use Rattle.p3_fs_core.specs.{Steps.{Step, plain_text}, Interactions.step_of};
+ghost use Rattle.p3_patterns.specs.{PatternSteps.steps_of, Rendering.{SameButTypeNames, AllFitTypes}};
+ghost use Rattle.p3_patterns.specs.Rendering.{depth_after, indentation, text_of, line, rendering, hashed_text};
 
 use crate::InteractionPattern;
 use p3_fs_core::{Alternate, Hierarchy, Interaction};
@@ -36,7 +32,7 @@ impl InteractionPattern {
     /// The one error is that memory was refused. The pattern stays as it is. Not in the Rust crate, where `{:#}`
     /// alone prints it.
     pub fn alternate(&self) -> Result<String, AllocError>
-        ensures { IfOk result (λ text. string_bytes text ≡ rendering alternate_text (steps_of self.now)) }
+        ensures { IfOk result (λ text. string_bytes text ≡ hashed_text self.now.steps) }
     {
         let rendering = Rendering {
             steps: self.interactions(),
@@ -53,7 +49,7 @@ impl InteractionPattern {
     /// The one error is that memory for the text was refused. The pattern stays as it is. In the Rust crate it is
     /// Keccak-256, and answers no error.
     pub fn pattern_hash<D: DigestHasher>(&self) -> Result<[u8; 32], AllocError>
-        ensures digest { IfOk result (λ digest. digest ≡ D.digest_of (rendering alternate_text (steps_of self.now))) }
+        ensures digest { IfOk result (λ digest. digest ≡ D.digest_of (hashed_text self.now.steps)) }
         ensures fits { AllFitTypes (steps_of self.now) × (length (steps_of self.now) < 2 ^ 64) }
     {
         let text = self.alternate()?;
@@ -67,11 +63,10 @@ impl InteractionPattern {
 /// A law: the body is empty, and a caller cites a clause.
 #[tactic(auto, using(crate::specs::RenderingLaws::rendering_injective))]
 pub fn equal_renderings_are_equal_patterns()
-    ensures steps { (x y : List Step) → AllFitTypes x → AllFitTypes y → length x < 2 ^ 64 → length y < 2 ^ 64
-        → (rendering alternate_text x ≡ rendering alternate_text y ↔ SameButTypeNames x y) }
+    ensures steps { (x y : List Step) → AllFitTypes x → AllFitTypes y → length x < 2 ^ 64
+        → length y < 2 ^ 64 → (hashed_text x ≡ hashed_text y ↔ SameButTypeNames x y) }
     ensures patterns { (x y : InteractionPattern) →
-        (rendering alternate_text (steps_of x) ≡ rendering alternate_text (steps_of y)
-        ↔ SameButTypeNames (steps_of x) (steps_of y)) }
+        (hashed_text x.steps ≡ hashed_text y.steps ↔ SameButTypeNames x.steps y.steps) }
 {}
 
 // Steps that print below a header, a line each.
@@ -82,8 +77,7 @@ struct Rendering<'a> {
 }
 
 impl fmt::Display for Rendering<'_> {
-    ghost output = { λ all. Some (rendering (λ s. if all.alternate then alternate_text s else plain_text s)
-        (map step_of all.steps.now)) };
+    ghost output = { λ all. Some (rendering (text_of all.alternate) (map step_of all.steps.now)) };
 
     fn fmt<W: fmt::Write>(&self, f: &mut fmt::Formatter<W>) -> fmt::Result {
         let count = self.steps.len();
@@ -151,11 +145,8 @@ struct Line<'a> {
 }
 
 impl fmt::Display for Line<'_> {
-    ghost output = { λ line. Some (
-        padded line.digits line.position ++ (codes " " ++ (replicate (2 * line.indentation) 32 ++
-        ((if line.alternate then alternate_text (step_of line.step.now) else plain_text (step_of line.step.now))
-        ++ codes "\n")))
-        ) };
+    ghost output = { λ all. Some (line (text_of all.alternate) all.digits all.position
+        all.indentation (step_of all.step.now)) };
 
     fn fmt<W: fmt::Write>(&self, f: &mut fmt::Formatter<W>) -> fmt::Result {
         let zeros = Repeated(

@@ -4,19 +4,14 @@
 //! a recorder's steps, or a list  ->  InteractionPattern  ->  its text and digest, for the separator
 //!                                                        ->  a player, which drivers hold their steps against
 //! ```
-ghost use Rattle.std.specs.Prelude.{◌≡◌, ◌↔◌, ◌⊎◌, ◌<◌, ◌^◌, [], ◌∷◌, ◌++◌, List, map, length, IfOk, IfErr, IfSome};
-ghost use Rattle.std.specs.Prelude.{IfNone, OnOk, IsOk, IsTrue};
+ghost use Rattle.std.specs.Prelude.{◌≡◌, ◌↔◌, ◌⊎◌, ◌<◌, ◌^◌, [], ◌∷◌, ◌++◌, List, map, length, IfOk, IfErr, OnOk, IsOk};
+ghost use Rattle.std.specs.Prelude.{IsTrue};
 ghost use Rattle.p3_field_core.specs.Equality.{IsExact};
-ghost use Rattle.p3_fs_core.specs.declared.step.Kind.TheVariants.{Protocol};
-ghost use Rattle.p3_fs_core.specs.Errors.{Fault};
-ghost use Rattle.p3_fs_core.specs.Interactions.{step_of};
+ghost use Rattle.p3_fs_core.specs.{declared.step.Kind.TheVariants.Protocol, Errors.Fault, Interactions.step_of};
 ghost use Rattle.p3_fs_core.specs.Steps.{Step, Closes};
-ghost use Rattle.p3_patterns.specs.PatternGrammar.{Allows, IsPattern, IsViable, IsFirstFault};
-ghost use Rattle.p3_patterns.specs.PatternFaults.{NamesFirstFault};
-ghost use Rattle.p3_patterns.specs.PatternSteps.{steps_of};
-ghost use Rattle.p3_patterns.specs.OpenContainers.{AreOpen};
-ghost use Rattle.p3_patterns.specs.Recording.{NamesMissingEnd};
-ghost use Rattle.p3_patterns.specs.Walks.{WalksTo};
+ghost use Rattle.p3_patterns.specs.{PatternGrammar.{Allows, IsPattern, MayFollow, IsFirstFault}, Walks.WalksTo};
+ghost use Rattle.p3_patterns.specs.{PatternFaults.NamesFirstFault, PatternSteps.{steps_of, IsPatternOf}};
+ghost use Rattle.p3_patterns.specs.{OpenContainers.AreOpen, Recording.NamesMissingEnd};
 ghost use Rattle.p3_fs_core.specs.declared.error.TranscriptError.TheVariants as error;
 
 use crate::open_containers::OpenContainers;
@@ -44,10 +39,8 @@ pub struct InteractionPattern {
 
 impl Model for InteractionPattern {
     ghost use Rattle.std.specs.Prelude.{map};
-    ghost use Rattle.p3_fs_core.specs.InteractionLaws.{each-fits};
-    ghost use Rattle.p3_fs_core.specs.Interactions.{step_of};
-    ghost use Rattle.p3_patterns.specs.PatternStepLaws.{pattern_steps_code};
-    ghost use Rattle.p3_patterns.specs.PatternSteps.{PatternSteps};
+    ghost use Rattle.p3_fs_core.specs.{InteractionLaws.each-fits, Interactions.step_of};
+    ghost use Rattle.p3_patterns.specs.{PatternStepLaws.pattern_steps_code, PatternSteps.PatternSteps};
 
     ghost Value = { PatternSteps };
 
@@ -69,14 +62,14 @@ impl InteractionPattern {
     /// [`TranscriptError::MissingEnd`]. The error is [`TranscriptError::OutOfMemory`] where no memory is given for
     /// the positions of the containers that are open. The steps are gone then.
     pub fn new(interactions: Vec<Interaction>) -> Result<Self, TranscriptError>
-        ensures ok { IfOk result (λ pattern. (steps_of pattern ≡ map step_of interactions.items)
-            × IsPattern Kind.Protocol (steps_of pattern)) }
+        ensures ok { IfOk result (λ pattern. IsPatternOf pattern (map step_of interactions.items)) }
         ensures err { IfErr result (λ e.
             NamesFirstFault (map step_of interactions.items) e ⊎ (e ≡ error.OutOfMemory)) }
         ensures only { IsPattern Kind.Protocol (map step_of interactions.items) →
             IfErr result (λ e. e ≡ error.OutOfMemory) }
         // A list of steps has one first fault at most.
-        ensures one_fault { (steps : List Step) (f g : Fault) → IsFirstFault steps f → IsFirstFault steps g → f ≡ g }
+        ensures one_fault { (steps : List Step) (f g : Fault)
+            → IsFirstFault steps f → IsFirstFault steps g → f ≡ g }
     {
         let mut containers = OpenContainers::new(*interactions.allocator());
         let Ok(walked) = walk(&interactions, &mut containers) else {
@@ -99,8 +92,7 @@ impl InteractionPattern {
         containers: OpenContainers,
     ) -> Result<Self, TranscriptError>
         requires { AreOpen (map step_of interactions.items) containers.openers.items }
-        ensures ok { IfOk result (λ pattern. (steps_of pattern ≡ map step_of interactions.items)
-            × IsPattern Kind.Protocol (steps_of pattern)) }
+        ensures ok { IfOk result (λ pattern. IsPatternOf pattern (map step_of interactions.items)) }
         ensures err { IfErr result (λ e. NamesMissingEnd (map step_of interactions.items) e) }
         ensures only { IsPattern Kind.Protocol (map step_of interactions.items) → IsOk result }
     {
@@ -232,7 +224,7 @@ pub(crate) fn may_follow(
     next: &Interaction,
 ) -> bool
     requires { AreOpen (map step_of before.now) containers.now.openers.items }
-    ensures { IsTrue result ↔ IsViable (map step_of before.now ++ (step_of next.now ∷ [])) }
+    ensures { IsTrue result ↔ MayFollow (step_of next.now) (map step_of before.now) }
 {
     match containers.innermost(before) {
         None => !is_closer(next),
@@ -253,8 +245,9 @@ pub(crate) fn fault_of_next(
     next: &Interaction,
 ) -> TranscriptError
     requires open { AreOpen (map step_of before.now) containers.now.openers.items }
-    requires stuck { IsViable (map step_of before.now ++ (step_of next.now ∷ [])) → ⊥ }
-    ensures { (rest : List Step) → NamesFirstFault (map step_of before.now ++ (step_of next.now ∷ rest)) result }
+    requires stuck { MayFollow (step_of next.now) (map step_of before.now) → ⊥ }
+    ensures { (rest : List Step)
+        → NamesFirstFault (map step_of before.now ++ (step_of next.now ∷ rest)) result }
 {
     let position = before.len();
     let Some((begin_position, begin)) = containers.innermost(before) else {

@@ -1,10 +1,9 @@
 //! Recording a pattern step by step.
-ghost use Rattle.std.specs.Prelude.{◌≡◌, [], ◌∷◌, ◌++◌, true, false, map, Ok, IfOk, IfErr, OnOk, IsOk};
+ghost use Rattle.std.specs.Prelude.{◌≡◌, [], ◌∷◌, ◌++◌, true, false, map, Ok, IfOk, IfErr, OnOk, OnErr, IsOk};
 ghost use Rattle.p3_fs_core.specs.declared.error.PatternError.TheVariants.{Finished};
 ghost use Rattle.p3_fs_core.specs.declared.error.TranscriptError.TheVariants as error;
 ghost use Rattle.p3_fs_core.specs.Interactions.{step_of};
-ghost use Rattle.p3_patterns.specs.PatternGrammar.{IsPattern, IsViable};
-ghost use Rattle.p3_patterns.specs.OpenContainers.{AreOpen};
+ghost use Rattle.p3_patterns.specs.{PatternGrammar.{IsPattern, MayFollow}, OpenContainers.AreOpen};
 ghost use Rattle.p3_patterns.specs.PatternSteps.{steps_of};
 ghost use Rattle.p3_patterns.specs.Recording.{Recording, Records, RefusesToRecord, FaultOfNext, FaultOfEnd};
 
@@ -35,14 +34,15 @@ impl<U> Model for PatternState<U> {
     ghost use Rattle.p3_fs_core.specs.declared.error.PatternError.TheVariants.{Finished};
     ghost use Rattle.p3_fs_core.specs.declared.error.TranscriptError.TheVariants as error;
     ghost use Rattle.p3_fs_core.specs.Interactions.{step_of};
-    ghost use Rattle.p3_patterns.specs.OpenContainers.{AreOpen};
-    ghost use Rattle.p3_patterns.specs.Recording.{Recording};
+    ghost use Rattle.p3_patterns.specs.{OpenContainers.AreOpen, Recording.Recording};
 
     ghost Value = { Recording };
 
-    ghost view = { λ r. record { steps = map step_of r.interactions.items; finished = r.finished } };
+    ghost view = { λ r.
+        record { steps = map step_of r.interactions.items; finished = r.finished } };
 
-    ghost invariant = { λ r. AreOpen (map step_of r.interactions.items) r.containers.openers.items };
+    ghost invariant = { λ r.
+        AreOpen (map step_of r.interactions.items) r.containers.openers.items };
 }
 
 impl<U> PatternState<U> {
@@ -65,8 +65,8 @@ impl<U> PatternState<U> {
     /// with the innermost opener that is still open. It takes no memory. The recorder and its steps are gone then.
     /// The Rust crate panics in place of both.
     pub fn finalize(self) -> Result<InteractionPattern, TranscriptError>
-        ensures ok { IfOk result (λ pattern. (self.finished ≡ false) × (steps_of pattern ≡ self.steps)
-            × IsPattern Kind.Protocol (steps_of pattern)) }
+        ensures ok { IfOk result (λ pattern. (self.finished ≡ false)
+            × (steps_of pattern ≡ self.steps) × IsPattern Kind.Protocol (steps_of pattern)) }
         ensures err { IfErr result (λ e. FaultOfEnd self e) }
         ensures only { self.finished ≡ false → IsPattern Kind.Protocol self.steps → IsOk result }
     {
@@ -97,10 +97,7 @@ impl<U> Pattern for PatternState<U> {
         } = self;
     }
 
-    fn interact(&mut self, interaction: Interaction) -> Result<(), TranscriptError>
-        ensures ok { OnOk result (Records self.old (step_of interaction) self.new) }
-        ensures err { IfErr result (λ e. RefusesToRecord self.old (step_of interaction) e self.new) }
-    {
+    fn interact(&mut self, interaction: Interaction) -> Result<(), TranscriptError> {
         if self.finished {
             return refuse_all();
         }
@@ -139,13 +136,14 @@ fn take(
     next: &Interaction,
 ) -> Result<bool, AllocError>
     requires { AreOpen (map step_of steps.old.items) containers.old.openers.items }
-    ensures taken { result ≡ Ok true → IsViable (map step_of steps.old.items ++ (step_of next.now ∷ []))
+    ensures taken { result ≡ Ok true → MayFollow (step_of next.now) (map step_of steps.old.items)
         × AreOpen (map step_of steps.new.items) containers.new.openers.items
         × (map step_of steps.new.items ≡ map step_of steps.old.items ++ (step_of next.now ∷ [])) }
     ensures other { (result ≡ Ok true → ⊥) → (steps.new.items ≡ steps.old.items)
         × (containers.new.openers.items ≡ containers.old.openers.items) }
-    ensures stuck { result ≡ Ok false → IsViable (map step_of steps.old.items ++ (step_of next.now ∷ [])) → ⊥ }
-    ensures memory { IfErr result (λ _. IsViable (map step_of steps.old.items ++ (step_of next.now ∷ []))) }
+    ensures stuck { result ≡ Ok false
+        → MayFollow (step_of next.now) (map step_of steps.old.items) → ⊥ }
+    ensures memory { OnErr result (MayFollow (step_of next.now) (map step_of steps.old.items)) }
 {
     if !may_follow(steps, containers, next) {
         return Ok(false);
@@ -168,8 +166,8 @@ fn refuse(
 ) -> Result<(), TranscriptError>
     requires open { AreOpen (map step_of steps.now) containers.now.openers.items }
     requires not_taken { taken ≡ Ok true → ⊥ }
-    requires stuck { taken ≡ Ok false → IsViable (map step_of steps.now ++ (step_of next.now ∷ [])) → ⊥ }
-    requires memory { IfErr taken (λ _. IsViable (map step_of steps.now ++ (step_of next.now ∷ []))) }
+    requires stuck { taken ≡ Ok false → MayFollow (step_of next.now) (map step_of steps.now) → ⊥ }
+    requires memory { OnErr taken (MayFollow (step_of next.now) (map step_of steps.now)) }
     ensures ok { OnOk result ⊥ }
     ensures err { IfErr result (λ e. FaultOfNext (map step_of steps.now) (step_of next.now) e) }
 {

@@ -2,9 +2,7 @@
 use Rattle.std.proofs.Common.{◌≡◌, ℕ, zero, suc, ◌*◌, ◌≤◌, List, length, Result, Ok, Err, refl, ap, arith}
 use Rattle.std.proofs.lemmas.List.{length-append}
 use Rattle.p3_challenger_core.specs.Reading.{AreBytes}
-use Rattle.p3_fs_core.specs.Encoding.{Encoding, IsEncoding}
-use Rattle.p3_fs_core.specs.Scalar.{outside_range}
-use Rattle.p3_fs_core.specs.ScalarLaws.{not_below}
+use Rattle.p3_fs_core.specs.{Encoding.{Encoding, IsEncoding}, Scalar.outside_range, ScalarLaws.not_below}
 use Rattle.p3_codecs.specs.Extension.{and_then, read_all, read}
 use Rattle.p3_step_laws.proofs.ReadOnly.{are_left}
 

@@ -1,15 +1,11 @@
 -- From one state, a step is refused for one reason.
-use Rattle.std.proofs.Common.{◌≤◌, ◌⊎◌, ℕ, List, length, arith}
+use Rattle.std.proofs.Common.{ℕ, List, length, arith}
 use Rattle.p3_challenger_core.specs.Observation.{Observation}
 use Rattle.p3_challenger_core.specs.declared.error.ChallengerError.TheVariants.{DrawLimit, NoWitness}
-use Rattle.p3_fs_core.specs.Alphabet.{Alphabet}
-use Rattle.p3_fs_core.specs.Steps.{Step}
-use Rattle.p3_driver_core.specs.Meanings.{observed, observed_bounded}
-use Rattle.p3_driver_core.specs.Reads.{Reading}
-use Rattle.p3_driver_core.specs.Transcripts.{Meaning, Transcript, RefusesStep, RefusesLength}
-use Rattle.p3_driver_core.specs.Verifying.{RefusesToRead}
-use Rattle.p3_step_laws.specs.Limits.{TellsLimits}
-use Rattle.p3_step_laws.specs.OneReason.{TellOneReason}
+use Rattle.p3_fs_core.specs.{Alphabet.Alphabet, Steps.Step}
+use Rattle.p3_driver_core.specs.{Meanings.{observed, observed_bounded}, Reads.Reading, Verifying.RefusesToRead}
+use Rattle.p3_driver_core.specs.Transcripts.{Meaning, RefusesStep}
+use Rattle.p3_step_laws.specs.{Limits.TellsLimits, OneReason.{TellOneReason, RefusesStepWithin}}
 
 -- a step of which nothing is too long
 pub short-one_reason : {S Symbol A : Type 0} (m : Meaning S Symbol A) → TellsLimits m.effect → m.effect.fits →
@@ -25,9 +21,7 @@ module _ {S Symbol A : Type 0} (step : Step) (o : Observation S Symbol A) where
     pub counted-one_reason : TellOneReason (RefusesStep (observed_bounded step a max o xs))
     counted-one_reason = grind arith
 
-    pub within-one_reason : TellOneReason {V = Transcript S} (λ before e after.
-        RefusesLength (length xs) max before.playing e after.playing
-        ⊎ ((length xs ≤ max) × RefusesStep (observed_bounded step a max o xs) before e after))
+    pub within-one_reason : TellOneReason (RefusesStepWithin (length xs) max (observed_bounded step a max o xs))
     within-one_reason = grind arith
 
 -- a step that reads, where what is then done meets no limit but that it is too long

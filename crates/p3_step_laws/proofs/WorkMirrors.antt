@@ -1,19 +1,11 @@
 -- A witness that a prover has found passes the verifier's check.
 use Rattle.std.proofs.Common.{◌≡◌, List, ◌++◌, ℕ, refl, ap, inl, inr, rules}
-use Rattle.p3_fs_core.specs.Encoding.{Encoding, IsEncoding}
-use Rattle.p3_fs_core.specs.declared.error.TranscriptError.{TranscriptError}
-use Rattle.p3_driver_core.specs.Transcripts.{Transcript, PlaysStep}
-use Rattle.p3_driver_core.specs.Working.{Work, checking, sent_work}
-use Rattle.p3_driver_core.specs.WorkingLaws.{where_passed-true}
-use Rattle.p3_step_laws.proofs.OnlyMemory.{only_memory_to_read}
-use Rattle.p3_step_laws.proofs.ReadBack.{value-back}
-use Rattle.p3_step_laws.specs.Completeness.{CompletesWork}
-use Rattle.p3_step_laws.specs.CompletenessLaws.{read_back-completes}
-use Rattle.p3_step_laws.specs.Limits.{TellsLimits}
-use Rattle.p3_step_laws.specs.ReadBack.{ReadsBack}
-use Rattle.p3_driver_core.specs.Reads.{received_work}
-use Rattle.p3_driver_core.specs.Driving.{Driving}
+use Rattle.p3_fs_core.specs.{Encoding.{Encoding, IsEncoding}, declared.error.TranscriptError.TranscriptError}
+use Rattle.p3_driver_core.specs.{Transcripts.{Transcript, PlaysStep}, Working.{Work, checking, sent_work}}
+use Rattle.p3_driver_core.specs.{WorkingLaws.where_passed-true, Reads.received_work, Driving.Driving}
 use Rattle.p3_driver_core.specs.Verifying.{FailsWork}
+use Rattle.p3_step_laws.{proofs.OnlyMemory.only_memory_to_read, proofs.ReadBack.value-back, specs.Limits.TellsLimits}
+use Rattle.p3_step_laws.specs.{Completeness.CompletesWork, CompletenessLaws.read_back-completes, ReadBack.ReadsBack}
 
 module _ {S Symbol W : Type 0} (work : Work S Symbol W) (x : W) (enc : Encoding W) (encodes : IsEncoding enc) where
   -- a witness that is sent is received

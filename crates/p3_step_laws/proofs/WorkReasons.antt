@@ -2,8 +2,7 @@
 use Rattle.std.proofs.Common.{◌⊎◌, arith}
 use Rattle.p3_fs_core.specs.Encoding.{Encoding}
 use Rattle.p3_grinding.specs.CheckLaws.{LimitGivesNone}
-use Rattle.p3_driver_core.specs.Working.{Work, RefusesToCheck, RefusesToGrind}
-use Rattle.p3_driver_core.specs.Reads.{received_work}
+use Rattle.p3_driver_core.specs.{Working.{Work, RefusesToCheck, RefusesToGrind}, Reads.received_work}
 use Rattle.p3_driver_core.specs.Verifying.{RefusesToRead, FailsWork}
 use Rattle.p3_step_laws.specs.OneReason.{TellOneReason}
 

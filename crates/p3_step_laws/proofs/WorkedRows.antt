@@ -2,8 +2,8 @@
 use Rattle.std.proofs.Common.{◌≡◌, ℕ, List, [], ◌∷◌, ◌++◌, length, refl, sym, ◌∙◌}
 use Rattle.p3_fs_core.specs.Steps.{Step}
 use Rattle.p3_driver_core.specs.Transcripts.{Transcript}
-use Rattle.p3_step_laws.specs.RoundLaws.{rounds-written, rounds-same}
-use Rattle.p3_step_laws.specs.Rounds.{AreRounds, StandsBefore, steps_of_rounds}
+use Rattle.p3_step_laws.specs.RoundLaws.{StandsBefore, rounds-written, rounds-same}
+use Rattle.p3_step_laws.specs.Rounds.{AreRounds, steps_of_rounds}
 
 -- a byte is added to those sent before, and is the next one of those left to read
 abbrev Sends : List ℕ → ℕ → List ℕ → Type 0

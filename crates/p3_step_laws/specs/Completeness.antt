@@ -1,13 +1,10 @@
 -- What a verifier does at a step that a prover has played: the same.
 use Rattle.std.specs.Prelude.{◌≡◌, ℕ, List, ◌++◌, ◌⊎◌}
-use Rattle.p3_fs_core.specs.Encoding.{Encoding}
-use Rattle.p3_fs_core.specs.declared.error.TranscriptError.{TranscriptError}
+use Rattle.p3_fs_core.specs.{Encoding.Encoding, declared.error.TranscriptError.TranscriptError}
 use Rattle.p3_fs_core.specs.declared.error.TranscriptError.TheVariants.{Challenger, OutOfMemory}
-use Rattle.p3_driver_core.specs.Transcripts.{Meaning, Transcript, PlaysStep, RefusesStep}
+use Rattle.p3_driver_core.specs.{Transcripts.{Meaning, Transcript, PlaysStep, RefusesStep}, Driving.Driving}
 use Rattle.p3_driver_core.specs.Working.{Work, sent_work, observed_work, RefusesToCheck}
-use Rattle.p3_driver_core.specs.Reads.{Reading, received_work}
-use Rattle.p3_driver_core.specs.Driving.{Driving}
-use Rattle.p3_driver_core.specs.Verifying.{Receives, RefusesToRead, FailsWork}
+use Rattle.p3_driver_core.specs.{Reads.{Reading, received_work}, Verifying.{Receives, RefusesToRead, FailsWork}}
 
 -- the challenger refuses, or memory is refused: nothing is wrong with the step or with the proof
 abbrev pub IsOwnRefusal : TranscriptError → Type 0

@@ -1,8 +1,7 @@
 -- What a verifier's step reads is what a prover's step writes.
 use Rattle.std.specs.Prelude.{◌≡◌, ℕ, List, ◌++◌, Ok}
 use Rattle.p3_challenger_core.specs.Reading.{AreBytes}
-use Rattle.p3_driver_core.specs.Transcripts.{Meaning}
-use Rattle.p3_driver_core.specs.Reads.{Reading}
+use Rattle.p3_driver_core.specs.{Transcripts.Meaning, Reads.Reading}
 
 -- where a step reads one value, each value of its type fits
 abbrev pub AnyValue : {A : Type 0} → A → Type 0

@@ -3,6 +3,7 @@ pub mod CompletenessLaws
 pub mod Limits
 pub mod Memory
 pub mod MemoryLaws
+pub mod Mirrored
 pub mod OneReason
 pub mod ReadBack
 pub mod RoundLaws

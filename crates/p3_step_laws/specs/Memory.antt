@@ -1,11 +1,8 @@
 -- A step that a prover has played is refused to a verifier only when out of memory.
 use Rattle.std.specs.Prelude.{◌≡◌, ℕ, List, ◌++◌}
-use Rattle.p3_fs_core.specs.declared.error.TranscriptError.{TranscriptError}
-use Rattle.p3_fs_core.specs.declared.error.TranscriptError.TheVariants.{OutOfMemory}
-use Rattle.p3_driver_core.specs.Transcripts.{Meaning, Transcript, PlaysStep, RefusesStep}
-use Rattle.p3_driver_core.specs.Reads.{Reading}
-use Rattle.p3_driver_core.specs.Driving.{Driving}
-use Rattle.p3_driver_core.specs.Verifying.{RefusesToRead}
+use Rattle.p3_fs_core.specs.declared.error.{TranscriptError.TranscriptError, TranscriptError.TheVariants.OutOfMemory}
+use Rattle.p3_driver_core.specs.{Transcripts.{Meaning, Transcript, PlaysStep, RefusesStep}, Reads.Reading}
+use Rattle.p3_driver_core.specs.{Driving.Driving, Verifying.RefusesToRead}
 
 -- A prover has played the step, and a verifier stands at the same state, with the step's bytes next. Then the
 -- verifier's step is refused only when out of memory.

@@ -1,7 +1,6 @@
 -- What the prover writes is what the verifier reads: a step that sends, and the step that receives.
 use Rattle.std.specs.Prelude.{◌≡◌, ℕ, List, ◌++◌, Ok}
-use Rattle.p3_driver_core.specs.Transcripts.{Meaning}
-use Rattle.p3_driver_core.specs.Reads.{Reading}
+use Rattle.p3_driver_core.specs.{Transcripts.Meaning, Reads.Reading}
 
 -- A step that sends a value is mirrored by one that reads: both must be next in the pattern alike; of the bytes that
 -- the first one writes, whatever follows them, the second one reads the value and leaves what follows; and it does to

@@ -1,14 +1,25 @@
 -- Laws of rounds one after another: what is so of one makes what is so of many.
 use Rattle.std.proofs.Common.{◌≡◌, ℕ, zero, suc, ◌+◌, ◌<◌, ◌≤◌, false, List, [], ◌∷◌, ◌++◌, length, take, get_or, refl}
-use Rattle.std.proofs.Common.{sym, ap, subst, ◌∙◌, arith, add-one, append-nil, append_assoc}
-use Rattle.std.proofs.Math.Seq.{take-suc}
-use Rattle.std.proofs.lemmas.List.{length-append}
-use Rattle.std.specs.List.{flat_map}
+use Rattle.std.proofs.{Common.{sym, ap, subst, ◌∙◌, arith, add-one, append-nil, append_assoc}, Math.Seq.take-suc}
+use Rattle.std.{proofs.lemmas.List.length-append, specs.List.flat_map}
 use Rattle.p3_fs_core.specs.Steps.{Step}
 use Rattle.p3_patterns.specs.Playing.{Playing, IsPlayed}
-use Rattle.p3_driver_core.specs.Transcripts.{Transcript, AreNext, step_on, steps_on}
-use Rattle.p3_driver_core.specs.Driving.{Driving}
-use Rattle.p3_step_laws.specs.Rounds.{AreRounds, CompletesSoFar, StandsBefore, steps_of_rounds}
+use Rattle.p3_driver_core.specs.{Transcripts.{Transcript, AreNext, step_on, steps_on}, Driving.Driving}
+use Rattle.p3_step_laws.specs.Rounds.{AreRounds, steps_of_rounds}
+
+-- a verifier stands before rounds: at this state, with their bytes next, and then the rest
+abbrev pub StandsBefore : {S X : Type 0} → (X → List ℕ) → List ℕ → Transcript S → List X → Driving S → Type 0
+StandsBefore wire rest transcript xs v = v ≡ record { transcript = transcript; bytes = flat_map wire xs ++ rest }
+
+-- Of rounds that one side has played to its end, another side has played these, and is here now: they are the first
+-- ones. And this is so of the two sides before those that are left.
+pub record CompletesSoFar {V W X : Type 0} (IsRound : V → X → V → Type 0) (IsBefore : V → List X → W → Type 0)
+    (rounds : List X) (end : V) (so_far : List X) (here : W) : Type 0 where
+  pub start : V
+  pub left : List X
+  pub split : rounds ≡ so_far ++ left
+  pub plays : AreRounds IsRound start left end
+  pub before : IsBefore start left here
 
 module _ {V X : Type 0} (IsRound : V → X → V → Type 0) where
   -- rounds, and others after them
@@ -29,10 +40,8 @@ module _ {V X : Type 0} (IsRound : V → X → V → Type 0) where
       x ≡ get_or xs i x → AreRounds IsRound before (take i xs) here → IsRound here x after →
       AreRounds IsRound before (take (i + 1) xs) after
   rounds-taken before xs i here x after below is so_far more =
-      let taken : take (i + 1) xs ≡ take i xs ++ (x ∷ [])
-      = ap (λ n. take n xs) (add-one i) ∙ take-suc xs i x below ∙ ap (λ z. take i xs ++ (z ∷ [])) (sym is) in
-      subst (λ rounds. AreRounds IsRound before rounds after) (sym taken)
-      (rounds-more before (take i xs) here x after so_far more)
+      let taken : take (i + 1) xs ≡ take i xs ++ (x ∷ []) = rw (add-one, take-suc xs i x below, ← is) in
+      rw taken (rounds-more before (take i xs) here x after so_far more)
 
   -- what is seen of each round, through a part of the states, is seen of all
   pub rounds-seen : {W : Type 0} (seen : V → W) (IsSeen : W → X → W → Type 0) → ((before : V) (x : X) (after : V) →
@@ -48,9 +57,7 @@ module _ {V X : Type 0} (IsRound : V → X → V → Type 0) where
       AreRounds IsRound before xs after → written after ≡ written before ++ flat_map wire xs
   rounds-written written wire each before [] after rounds = ap written rounds ∙ sym (append-nil (written before))
   rounds-written written wire each before (x ∷ xs) after rounds =
-      rounds-written written wire each rounds.0 xs after rounds.2
-      ∙ ap (λ bytes. bytes ++ flat_map wire xs) (each before x rounds.0 rounds.1)
-      ∙ append_assoc (written before) (wire x) (flat_map wire xs)
+      rw (rounds-written written wire each rounds.0 xs after rounds.2, each before x rounds.0 rounds.1, append_assoc)
 
   -- what each round reads, all read in order; what this takes of a state, as that what it has left are bytes, each
   -- keeps
@@ -61,10 +68,8 @@ module _ {V X : Type 0} (IsRound : V → X → V → Type 0) where
   rounds-read Is unread wire each before [] after is rounds = (ap unread (sym rounds), subst Is (sym rounds) is)
   rounds-read Is unread wire each before (x ∷ xs) after is rounds =
       let first = each before x rounds.0 is rounds.1 in
-      let then = rounds-read Is unread wire each rounds.0 xs after first.1 rounds.2 in (
-        first.0 ∙ ap (λ bytes. wire x ++ bytes) then.0 ∙ sym (append_assoc (wire x) (flat_map wire xs) (unread after)),
-        then.1,
-      )
+      let then = rounds-read Is unread wire each rounds.0 xs after first.1 rounds.2 in
+      (rw (first.0, then.0, append_assoc), then.1)
 
 -- ---- two sides, where something is so of them before rounds that are left
 
@@ -99,12 +104,10 @@ module _ {V W X : Type 0} (IsRound : V → X → V → Type 0) (IsOther : W → 
     rounds-completed v (x ∷ xs) end w (y ∷ ys) u before rounds others few =
         let first = each v x xs rounds.0 w y others.0 before rounds.1 others.1 in
         let then = rounds-completed rounds.0 xs end others.0 ys u first.1 rounds.2 others.2 (omega (arith, few)) in
-        let same = first.0 in
-        let split = then.split in
         record {
           start = then.start;
           left = then.left;
-          split = λ i. sym same i ∷ split i;
+          split = cc (first.0, then.split);
           plays = then.plays;
           before = then.before;
         }
@@ -126,12 +129,10 @@ module _ {V W X : Type 0} (IsRound : V → X → V → Type 0) (IsOther : W → 
 
 -- a verifier that stands before rounds has the bytes of the first one next
 pub StandsBefore-first : {S X : Type 0} (wire : X → List ℕ) (rest : List ℕ) (transcript : Transcript S) (x : X)
-    (xs : List X)
-    (v : Driving S) → StandsBefore wire rest transcript (x ∷ xs) v →
+    (xs : List X) (v : Driving S) → StandsBefore wire rest transcript (x ∷ xs) v →
     v ≡ record { transcript = transcript; bytes = wire x ++ (flat_map wire xs ++ rest) }
 StandsBefore-first wire rest transcript x xs v stands =
-    let bytes = append_assoc (wire x) (flat_map wire xs) rest in
-    stands ∙ (λ i. record { transcript = transcript; bytes = bytes i })
+    rw append_assoc at stands
 
 -- ---- the steps of a pattern
 
@@ -154,12 +155,9 @@ pub rounds-steps : {V X : Type 0} (IsRound : V → X → V → Type 0) (playing 
 rounds-steps IsRound playing steps each before [] after rounds = (tt, ap playing rounds)
 rounds-steps IsRound playing steps each before (x ∷ xs) after rounds =
     let first = each before x rounds.0 rounds.1 in
-    let then = rounds-steps IsRound playing steps each rounds.0 xs after rounds.2 in (
-      next-append (steps x) (flat_map steps xs) (playing before) first.0
-          (subst (AreNext (flat_map steps xs)) first.1 then.0),
-      then.1 ∙ ap (steps_on (flat_map steps xs)) first.1
-          ∙ sym (steps_on-append (steps x) (flat_map steps xs) (playing before)),
-    )
+    let then = rounds-steps IsRound playing steps each rounds.0 xs after rounds.2 in
+    let later = rw first.1 at then.0 in
+    (next-append (steps x) (flat_map steps xs) (playing before) first.0 later, rw (then.1, first.1, steps_on-append))
 
 -- the steps of rounds that have the same ones
 pub steps_of_rounds-flat : {X : Type 0} (steps : List Step) (xs : List X) →
@@ -173,8 +171,7 @@ pub steps_of_rounds-then : (steps : List Step) (n k : ℕ) →
 steps_of_rounds-then steps zero k = ap (steps_of_rounds steps) (omega arith)
 steps_of_rounds-then steps (suc n) k =
     let next : suc n + k ≡ suc (n + k) = omega arith in
-    ap (steps_of_rounds steps) next ∙ ap (λ others. steps ++ others) (steps_of_rounds-then steps n k)
-    ∙ sym (append_assoc steps (steps_of_rounds steps n) (steps_of_rounds steps k))
+    rw (next, steps_of_rounds-then steps n k, append_assoc)
 
 -- a player that passes the last steps of its pattern has played it
 pub listed-played : (before steps : List Step) (playing : Playing) → playing.pattern.steps ≡ before ++ steps →

@@ -4,16 +4,13 @@
 //! played, and the verifier stands at the state before it, what comes of the verifier's step is the same, and so is the
 //! state after it; or it is refused for the sake of the challenger or of memory alone.
 ghost use Rattle.std.specs.Prelude.{◌≡◌, ◌<◌, ◌≤◌, ℕ, List, true, false};
-ghost use Rattle.p3_fs_core.specs.Steps.{Step};
-ghost use Rattle.p3_fs_core.specs.declared.error.TranscriptError.{TranscriptError};
+ghost use Rattle.p3_fs_core.specs.{Steps.Step, declared.error.TranscriptError.TranscriptError};
 ghost use Rattle.p3_patterns.specs.Playing.{next_step};
-ghost use Rattle.p3_driver_core.specs.Meanings as meaning;
-ghost use Rattle.p3_driver_core.specs.Rejecting.{Rule, drawn_rejecting};
+ghost use Rattle.p3_driver_core.specs.Meanings.{marked, observed, observed_list, observed_bounded, drawn, drawn_list};
+ghost use Rattle.p3_driver_core.specs.{Rejecting.{Rule, drawn_rejecting}, Working.work_of, Driving.Driving};
 ghost use Rattle.p3_driver_core.specs.Transcripts.{IsNext, IsOtherLength, longer_list, another_length};
-ghost use Rattle.p3_driver_core.specs.Working.{work_of};
-ghost use Rattle.p3_step_laws.specs.Completeness.{CompletesAlike, CompletesCarriedWork};
-ghost use Rattle.p3_driver_core.specs.Driving.{Driving};
 ghost use Rattle.p3_driver_core.specs.Verifying.{RefusesCarriedList, EndsReading, RefusesEnd};
+ghost use Rattle.p3_step_laws.specs.Completeness.{CompletesAlike, CompletesCarriedWork};
 
 use p3_challenger_core::{CanObserve, CanSampleBits, Sponge};
 use p3_codecs::{AlphabetOf, Codec, Unit};
@@ -24,44 +21,40 @@ use p3_grinding::{CanSampleUniformBits, GrindingChallenger};
 ///
 /// A law: the body is empty, and a caller cites the clause.
 pub fn markers_agree<C: Sponge>()
-    ensures { (step : Step) → CompletesAlike {S = C.State} {Symbol = C.Symbol}
-        (meaning.marked step) }
+    ensures { (step : Step) → CompletesAlike {S = C.State} {Symbol = C.Symbol} (marked step) }
 {}
 
 /// One value, and the values of a list, are observed alike.
 ///
 /// A law: the body is empty, and a caller cites the clauses.
 pub fn observed_values_agree<A, C: Sponge, Cdc: Codec<C, A>>()
-    ensures value { (step : Step) (x : A) →
-        CompletesAlike (meaning.observed step Cdc.observation x) }
+    ensures value { (step : Step) (x : A) → CompletesAlike (observed step Cdc.observation x) }
     ensures list { (step : Step) (xs : List A) →
-        CompletesAlike (meaning.observed_list step Cdc.observation xs) }
+        CompletesAlike (observed_list step Cdc.observation xs) }
 {}
 
 /// The values of a list of at most so many are observed alike, after their count.
 ///
 /// A law: the body is empty, and a caller cites the clause.
 pub fn observed_counted_values_agree<A, U: Unit, C: CanObserve<U::Item>, Cdc: Codec<C, A>>()
-    ensures { let alphabet = ⟦<U as AlphabetOf<C>>⟧.alphabet in
-        (step : Step) (max : ℕ) (xs : List A) → CompletesAlike
-        (meaning.observed_bounded step alphabet max Cdc.observation xs) }
+    ensures { (step : Step) (max : ℕ) (xs : List A) → CompletesAlike
+        (observed_bounded step ⟦<U as AlphabetOf<C>>⟧.alphabet max Cdc.observation xs) }
 {}
 
 /// A value is observed alike as the challenger itself knows how.
 ///
 /// A law: the body is empty, and a caller cites the clause.
 pub fn opaque_values_agree<T, C: CanObserve<T>>()
-    ensures { (step : Step) (x : T) → CompletesAlike (meaning.observed step C.observation x) }
+    ensures { (step : Step) (x : T) → CompletesAlike (observed step C.observation x) }
 {}
 
 /// One value, so many values, and so many that a rule takes, are drawn alike.
 ///
 /// A law: the body is empty, and a caller cites the clauses.
 pub fn drawn_values_agree<A, C: Sponge, Cdc: Codec<C, A>>()
-    ensures value { (step : Step) → CompletesAlike {Symbol = C.Symbol}
-        (meaning.drawn step Cdc.sampling) }
-    ensures list { (step : Step) (n : ℕ) → CompletesAlike {Symbol = C.Symbol}
-        (meaning.drawn_list step Cdc.sampling n) }
+    ensures value { (step : Step) → CompletesAlike {Symbol = C.Symbol} (drawn step Cdc.sampling) }
+    ensures list { (step : Step) (n : ℕ) →
+        CompletesAlike {Symbol = C.Symbol} (drawn_list step Cdc.sampling n) }
     ensures rejecting { (step : Step) (rule : Rule A) (limit n : ℕ) →
         CompletesAlike {Symbol = C.Symbol} (drawn_rejecting step Cdc.sampling rule limit n) }
 {}
@@ -71,7 +64,7 @@ pub fn drawn_values_agree<A, C: Sponge, Cdc: Codec<C, A>>()
 /// A law: the body is empty, and a caller cites the clause.
 pub fn drawn_bits_agree<C: CanSampleBits<usize>>()
     ensures { (step : Step) (width n : ℕ) →
-        CompletesAlike {Symbol = C.Symbol} (meaning.drawn_list step (C.bits_sampling width) n) }
+        CompletesAlike {Symbol = C.Symbol} (drawn_list step (C.bits_sampling width) n) }
 {}
 
 /// So many numbers of so many uniform bits, and so many that a rule takes, are drawn alike.
@@ -79,7 +72,7 @@ pub fn drawn_bits_agree<C: CanSampleBits<usize>>()
 /// A law: the body is empty, and a caller cites the clauses.
 pub fn drawn_uniform_bits_agree<F, C: CanSampleUniformBits<F>>()
     ensures list { (step : Step) (width n : ℕ) →
-        CompletesAlike {Symbol = C.Symbol} (meaning.drawn_list step (C.uniform true width).draw n) }
+        CompletesAlike {Symbol = C.Symbol} (drawn_list step (C.uniform true width).draw n) }
     ensures rejecting { (step : Step) (width : ℕ) (rule : Rule ℕ) (limit n : ℕ) →
         CompletesAlike {Symbol = C.Symbol}
         (drawn_rejecting step (C.uniform true width).draw rule limit n) }

@@ -5,12 +5,12 @@
 //! value begin with the one encoding of that value. So a proof that is read to its end is what a prover writes of the
 //! values that were read.
 ghost use Rattle.std.specs.Prelude.{◌≡◌, ◌≤◌, ℕ, List, length};
-ghost use Rattle.p3_fs_core.specs.Scalar.{encoding};
 ghost use Rattle.p3_fs_core.specs.Steps.{Step};
-ghost use Rattle.p3_driver_core.specs.Meanings as meaning;
-ghost use Rattle.p3_driver_core.specs.Working.{work_of, sent_work};
-ghost use Rattle.p3_driver_core.specs.Reads as reads;
-ghost use Rattle.p3_step_laws.specs.Encoded.{OnlyReads, AnyValue};
+ghost use Rattle.p3_driver_core.specs.Meanings.{sent, sent_list, sent_bounded, sent_bytes, sent_bytes_bounded, hinted};
+ghost use Rattle.p3_driver_core.specs.{Meanings.hinted_bounded, Working.sent_work, Reads.received_work};
+ghost use Rattle.p3_driver_core.specs.Reads.{received, received_list, received_bounded, received_bytes};
+ghost use Rattle.p3_driver_core.specs.Reads.{received_bytes_bounded, hint_received, hint_received_bounded};
+ghost use Rattle.p3_step_laws.specs.{Encoded.{OnlyReads, AnyValue}, Mirrored.EachWork};
 
 use p3_challenger_core::{CanObserve, Sponge};
 use p3_codecs::{AlphabetOf, Codec, Unit};
@@ -23,17 +23,14 @@ use p3_grinding::GrindingChallenger;
 ///
 /// A law: the body is empty, and a caller cites the clauses.
 pub fn read_values_are_encoded<A, U: Unit, C: CanObserve<U::Item>, Cdc: Codec<C, A>>()
-    ensures value { (step : Step) → OnlyReads (reads.received step Cdc.observation Cdc.encoding)
-        AnyValue
-        (λ x. meaning.sent step Cdc.observation Cdc.encoding x) }
-    ensures list { (step : Step) (n : ℕ) → OnlyReads
-        (reads.received_list step Cdc.observation Cdc.encoding n)
-        (λ xs. length xs ≡ n) (λ xs. meaning.sent_list step Cdc.observation Cdc.encoding xs) }
-    ensures counted { let alphabet = ⟦<U as AlphabetOf<C>>⟧.alphabet in
-        (step : Step) (max : ℕ) → OnlyReads
-        (reads.received_bounded step alphabet max Cdc.observation Cdc.encoding)
-        (λ xs. length xs ≤ max) (λ xs. meaning.sent_bounded step alphabet max Cdc.observation
-        Cdc.encoding xs) }
+    ensures value { (step : Step) → OnlyReads (received step Cdc.observation Cdc.encoding) AnyValue
+        (sent step Cdc.observation Cdc.encoding) }
+    ensures list { (step : Step) (n : ℕ) →
+        OnlyReads (received_list step Cdc.observation Cdc.encoding n) (λ xs. length xs ≡ n)
+        (sent_list step Cdc.observation Cdc.encoding) }
+    ensures counted { let alphabet = ⟦<U as AlphabetOf<C>>⟧.alphabet in (step : Step) (max : ℕ) →
+        OnlyReads (received_bounded step alphabet max Cdc.observation Cdc.encoding)
+        (λ xs. length xs ≤ max) (sent_bounded step alphabet max Cdc.observation Cdc.encoding) }
 {}
 
 /// Where a verifier's step reads so many bytes, they are so many, and the proof's bytes begin with them. Where it reads
@@ -42,13 +39,11 @@ pub fn read_values_are_encoded<A, U: Unit, C: CanObserve<U::Item>, Cdc: Codec<C,
 /// A law: the body is empty, and a caller cites the clauses.
 pub fn read_bytes_are_encoded<U: Unit, C: CanObserve<U::Item>>()
     ensures fixed { let alphabet = ⟦<U as AlphabetOf<C>>⟧.alphabet in
-        (kind : Kind) (label : List ℕ) (n : ℕ) →
-        OnlyReads (reads.received_bytes kind label alphabet n)
-        (λ bytes. length bytes ≡ n) (λ bytes. meaning.sent_bytes kind label alphabet bytes) }
+        (kind : Kind) (label : List ℕ) (n : ℕ) → OnlyReads (received_bytes kind label alphabet n)
+        (λ bytes. length bytes ≡ n) (sent_bytes kind label alphabet) }
     ensures counted { let alphabet = ⟦<U as AlphabetOf<C>>⟧.alphabet in
-        (label : List ℕ) (max : ℕ) → OnlyReads (reads.received_bytes_bounded label alphabet max)
-        (λ bytes. length bytes ≤ max)
-        (λ bytes. meaning.sent_bytes_bounded Kind.Message label alphabet max bytes) }
+        (label : List ℕ) (max : ℕ) → OnlyReads (received_bytes_bounded label alphabet max)
+        (λ bytes. length bytes ≤ max) (sent_bytes_bounded Kind.Message label alphabet max) }
 {}
 
 /// The same of a hint.
@@ -56,20 +51,16 @@ pub fn read_bytes_are_encoded<U: Unit, C: CanObserve<U::Item>>()
 /// A law: the body is empty, and a caller cites the clauses.
 pub fn read_hints_are_encoded<C: Sponge>()
     ensures fixed { (label : List ℕ) (n : ℕ) → OnlyReads {S = C.State} {Symbol = C.Symbol}
-        (reads.hint_received label n) (λ bytes. length bytes ≡ n)
-        (λ bytes. meaning.hinted label bytes) }
+        (hint_received label n) (λ bytes. length bytes ≡ n) (hinted label) }
     ensures counted { (label : List ℕ) (max : ℕ) → OnlyReads {S = C.State} {Symbol = C.Symbol}
-        (reads.hint_received_bounded label max) (λ bytes. length bytes ≤ max)
-        (λ bytes. meaning.hinted_bounded label max bytes) }
+        (hint_received_bounded label max) (λ bytes. length bytes ≤ max) (hinted_bounded label max) }
 {}
 
 /// Where a verifier's step reads a witness, the bytes begin with its encoding, whether or not it then passes.
 ///
 /// A law: the body is empty, and a caller cites the clause.
 pub fn read_work_is_encoded<C: GrindingChallenger>()
-    ensures { (step : Step) (bits : ℕ) →
-        let work = work_of step C.Witness.residues C.before_witness C.observation C.bits_sampling
-        bits in
-        let wire = encoding C.Witness.residues C.Witness.bit_length in
-        OnlyReads (reads.received_work work wire) AnyValue (λ x. sent_work work wire x) }
+    ensures { EachWork (λ work wire.
+        OnlyReads (received_work work wire) AnyValue (sent_work work wire))
+        C.Witness.residues C.Witness.bit_length C.before_witness C.observation C.bits_sampling }
 {}

@@ -1,13 +1,10 @@
 //! A challenger or an alphabet refuses a step only where a limit is met, and the error says which: a draw that meets
 //! its limit, or bytes that are too long for the alphabet. Laws, of every challenger, codec and alphabet.
 ghost use Rattle.std.specs.Prelude.{ℕ, List, length, true};
-ghost use Rattle.p3_fs_core.specs.Counts.{count_bytes};
-ghost use Rattle.p3_driver_core.specs.Effects.{untouched, observing, observing_list};
-ghost use Rattle.p3_driver_core.specs.Effects.{observing_bytes};
-ghost use Rattle.p3_driver_core.specs.Effects.{drawing, drawing_list, in_sequence};
-ghost use Rattle.p3_driver_core.specs.Rejecting.{Rule, drawing_rejecting};
+ghost use Rattle.p3_fs_core.specs.{Counts.count_bytes, Steps.Step};
+ghost use Rattle.p3_driver_core.specs.Effects.{untouched, observing, observing_list, observing_bytes, drawing};
+ghost use Rattle.p3_driver_core.specs.{Effects.{drawing_list, in_sequence}, Rejecting.{Rule, drawing_rejecting}};
 ghost use Rattle.p3_driver_core.specs.Working.{work_of, checking};
-ghost use Rattle.p3_fs_core.specs.Steps.{Step};
 ghost use Rattle.p3_step_laws.specs.Limits.{TellsLimits};
 
 use p3_challenger_core::{CanObserve, CanSampleBits, Sponge};
@@ -37,10 +34,9 @@ pub fn opaque_values_tell_limits<T, C: CanObserve<T>>()
 ///
 /// A law: the body is empty, and a caller cites the clauses.
 pub fn bytes_tell_limits<U: Unit, C: CanObserve<U::Item>>()
-    ensures fixed { (bytes : List ℕ) → TellsLimits
-        (observing_bytes ⟦<U as AlphabetOf<C>>⟧.alphabet bytes) }
-    ensures counted { (max : ℕ) (bytes : List ℕ) →
-        let alphabet = ⟦<U as AlphabetOf<C>>⟧.alphabet in
+    ensures fixed { (bytes : List ℕ) →
+        TellsLimits (observing_bytes ⟦<U as AlphabetOf<C>>⟧.alphabet bytes) }
+    ensures counted { (max : ℕ) (bytes : List ℕ) → let alphabet = ⟦<U as AlphabetOf<C>>⟧.alphabet in
         TellsLimits (in_sequence (observing_bytes alphabet (count_bytes max (length bytes)))
         (observing_bytes alphabet bytes)) }
 {}
@@ -67,8 +63,8 @@ pub fn draws_tell_limits<A, C: Sponge, Cdc: Codec<C, A>>()
 ///
 /// A law: the body is empty, and a caller cites the clauses.
 pub fn bit_draws_tell_limits<C: CanSampleBits<usize>>()
-    ensures list { (width n : ℕ) → TellsLimits {Symbol = C.Symbol}
-        (drawing_list (C.bits_sampling width) n) }
+    ensures list { (width n : ℕ) →
+        TellsLimits {Symbol = C.Symbol} (drawing_list (C.bits_sampling width) n) }
     ensures rejecting { (width : ℕ) (rule : Rule ℕ) (limit n : ℕ) →
         TellsLimits {Symbol = C.Symbol} (drawing_rejecting (C.bits_sampling width) rule limit n) }
 {}

@@ -4,12 +4,13 @@
 //! The laws of mirrors and agreements say what comes of the verifier's step where it is played, and that no fault of
 //! the pattern or of the proof refuses it. These say that no limit does either. Its laws on proof of work say so
 //! themselves.
-ghost use Rattle.std.specs.Prelude.{◌^◌, ◌<◌, ◌≤◌, ℕ, List, length, true};
+ghost use Rattle.std.specs.Prelude.{ℕ, List, true};
 ghost use Rattle.p3_fs_core.specs.Steps.{Step};
-ghost use Rattle.p3_driver_core.specs.Meanings as meaning;
+ghost use Rattle.p3_driver_core.specs.Meanings.{marked, observed, observed_list, observed_bounded, drawn, drawn_list};
 ghost use Rattle.p3_driver_core.specs.Rejecting.{Rule, drawn_rejecting};
-ghost use Rattle.p3_driver_core.specs.Reads as reads;
 ghost use Rattle.p3_step_laws.specs.Memory.{OnlyMemoryRefuses, OnlyMemoryRefusesToRead};
+ghost use Rattle.p3_step_laws.specs.Mirrored.{EachValue, EachList, EachCountedList, EachBytes, EachCountedBytes};
+ghost use Rattle.p3_step_laws.specs.Mirrored.{EachHint, EachCountedHint};
 
 use crate::mirrors::{
     counted_hint_is_received, hint_is_received, sent_bytes_are_received,
@@ -26,17 +27,10 @@ use p3_grinding::CanSampleUniformBits;
 ///
 /// A law: the body does nothing, and a caller cites the clauses. The most is below 2^64, as a `usize` is.
 pub fn only_memory_refuses_sent_values<A, U: Unit, C: CanObserve<U::Item>, Cdc: Codec<C, A>>()
-    ensures value { (step : Step) (x : A) → OnlyMemoryRefusesToRead
-        (meaning.sent step Cdc.observation Cdc.encoding x)
-        (reads.received step Cdc.observation Cdc.encoding) x }
-    ensures list { (step : Step) (xs : List A) → OnlyMemoryRefusesToRead
-        (meaning.sent_list step Cdc.observation Cdc.encoding xs)
-        (reads.received_list step Cdc.observation Cdc.encoding (length xs)) xs }
-    ensures counted { let alphabet = ⟦<U as AlphabetOf<C>>⟧.alphabet in
-        (step : Step) (max : ℕ) (xs : List A) → length xs ≤ max → max < 2 ^ 64 →
-        OnlyMemoryRefusesToRead
-        (meaning.sent_bounded step alphabet max Cdc.observation Cdc.encoding xs)
-        (reads.received_bounded step alphabet max Cdc.observation Cdc.encoding) xs }
+    ensures value { EachValue OnlyMemoryRefusesToRead Cdc.observation Cdc.encoding }
+    ensures list { EachList OnlyMemoryRefusesToRead Cdc.observation Cdc.encoding }
+    ensures counted { EachCountedList OnlyMemoryRefusesToRead ⟦<U as AlphabetOf<C>>⟧.alphabet
+        Cdc.observation Cdc.encoding }
 {
     sent_value_is_received::<A, C, Cdc>();
     sent_values_are_received::<A, C, Cdc>();
@@ -48,15 +42,8 @@ pub fn only_memory_refuses_sent_values<A, U: Unit, C: CanObserve<U::Item>, Cdc: 
 ///
 /// A law: the body does nothing, and a caller cites the clauses. The most is below 2^64, as a `usize` is.
 pub fn only_memory_refuses_sent_bytes<U: Unit, C: CanObserve<U::Item>>()
-    ensures fixed { let alphabet = ⟦<U as AlphabetOf<C>>⟧.alphabet in
-        (kind : Kind) (label bytes : List ℕ) →
-        OnlyMemoryRefusesToRead (meaning.sent_bytes kind label alphabet bytes)
-        (reads.received_bytes kind label alphabet (length bytes)) bytes }
-    ensures counted { let alphabet = ⟦<U as AlphabetOf<C>>⟧.alphabet in
-        (label : List ℕ) (max : ℕ) (bytes : List ℕ) → length bytes ≤ max → max < 2 ^ 64 →
-        OnlyMemoryRefusesToRead
-        (meaning.sent_bytes_bounded Kind.Message label alphabet max bytes)
-        (reads.received_bytes_bounded label alphabet max) bytes }
+    ensures fixed { EachBytes OnlyMemoryRefusesToRead ⟦<U as AlphabetOf<C>>⟧.alphabet }
+    ensures counted { EachCountedBytes OnlyMemoryRefusesToRead ⟦<U as AlphabetOf<C>>⟧.alphabet }
 {
     sent_bytes_are_received::<U, C>();
     sent_counted_bytes_are_received::<U, C>();
@@ -66,14 +53,8 @@ pub fn only_memory_refuses_sent_bytes<U: Unit, C: CanObserve<U::Item>>()
 ///
 /// A law: the body does nothing, and a caller cites the clauses. The most is below 2^64, as a `usize` is.
 pub fn only_memory_refuses_hints<C: Sponge>()
-    ensures fixed { (label bytes : List ℕ) →
-        OnlyMemoryRefusesToRead {S = C.State} {Symbol = C.Symbol}
-        (meaning.hinted label bytes) (reads.hint_received label (length bytes)) bytes }
-    ensures counted { (label : List ℕ) (max : ℕ) (bytes : List ℕ) → length bytes ≤ max →
-        max < 2 ^ 64 →
-        OnlyMemoryRefusesToRead {S = C.State} {Symbol = C.Symbol}
-        (meaning.hinted_bounded label max bytes)
-        (reads.hint_received_bounded label max) bytes }
+    ensures fixed { EachHint {S = C.State} {Symbol = C.Symbol} OnlyMemoryRefusesToRead }
+    ensures counted { EachCountedHint {S = C.State} {Symbol = C.Symbol} OnlyMemoryRefusesToRead }
 {
     hint_is_received::<C>();
     counted_hint_is_received::<C>();
@@ -83,28 +64,25 @@ pub fn only_memory_refuses_hints<C: Sponge>()
 ///
 /// A law: the body is empty, and a caller cites the clause.
 pub fn only_memory_refuses_markers<C: Sponge>()
-    ensures { (step : Step) → OnlyMemoryRefuses {S = C.State} {Symbol = C.Symbol}
-        (meaning.marked step) }
+    ensures { (step : Step) → OnlyMemoryRefuses {S = C.State} {Symbol = C.Symbol} (marked step) }
 {}
 
 /// Where one side has observed one value, a list, or a list after its count, only being out of memory refuses the other.
 ///
 /// A law: the body is empty, and a caller cites the clauses.
 pub fn only_memory_refuses_observed_values<A, U: Unit, C: CanObserve<U::Item>, Cdc: Codec<C, A>>()
-    ensures value { (step : Step) (x : A) →
-        OnlyMemoryRefuses (meaning.observed step Cdc.observation x) }
+    ensures value { (step : Step) (x : A) → OnlyMemoryRefuses (observed step Cdc.observation x) }
     ensures list { (step : Step) (xs : List A) →
-        OnlyMemoryRefuses (meaning.observed_list step Cdc.observation xs) }
-    ensures counted { let alphabet = ⟦<U as AlphabetOf<C>>⟧.alphabet in
-        (step : Step) (max : ℕ) (xs : List A) →
-        OnlyMemoryRefuses (meaning.observed_bounded step alphabet max Cdc.observation xs) }
+        OnlyMemoryRefuses (observed_list step Cdc.observation xs) }
+    ensures counted { (step : Step) (max : ℕ) (xs : List A) → OnlyMemoryRefuses
+        (observed_bounded step ⟦<U as AlphabetOf<C>>⟧.alphabet max Cdc.observation xs) }
 {}
 
 /// Where one side has observed a value as the challenger itself knows how, only being out of memory refuses the other.
 ///
 /// A law: the body is empty, and a caller cites the clause.
 pub fn only_memory_refuses_opaque_values<T, C: CanObserve<T>>()
-    ensures { (step : Step) (x : T) → OnlyMemoryRefuses (meaning.observed step C.observation x) }
+    ensures { (step : Step) (x : T) → OnlyMemoryRefuses (observed step C.observation x) }
 {}
 
 /// Where one side has drawn one value, so many values, or so many that a rule takes, only being out of memory refuses the
@@ -112,10 +90,10 @@ pub fn only_memory_refuses_opaque_values<T, C: CanObserve<T>>()
 ///
 /// A law: the body is empty, and a caller cites the clauses.
 pub fn only_memory_refuses_drawn_values<A, C: Sponge, Cdc: Codec<C, A>>()
-    ensures value { (step : Step) → OnlyMemoryRefuses {Symbol = C.Symbol}
-        (meaning.drawn step Cdc.sampling) }
+    ensures value { (step : Step) →
+        OnlyMemoryRefuses {Symbol = C.Symbol} (drawn step Cdc.sampling) }
     ensures list { (step : Step) (n : ℕ) →
-        OnlyMemoryRefuses {Symbol = C.Symbol} (meaning.drawn_list step Cdc.sampling n) }
+        OnlyMemoryRefuses {Symbol = C.Symbol} (drawn_list step Cdc.sampling n) }
     ensures rejecting { (step : Step) (rule : Rule A) (limit n : ℕ) →
         OnlyMemoryRefuses {Symbol = C.Symbol} (drawn_rejecting step Cdc.sampling rule limit n) }
 {}
@@ -125,7 +103,7 @@ pub fn only_memory_refuses_drawn_values<A, C: Sponge, Cdc: Codec<C, A>>()
 /// A law: the body is empty, and a caller cites the clause.
 pub fn only_memory_refuses_drawn_bits<C: CanSampleBits<usize>>()
     ensures { (step : Step) (width n : ℕ) →
-        OnlyMemoryRefuses {Symbol = C.Symbol} (meaning.drawn_list step (C.bits_sampling width) n) }
+        OnlyMemoryRefuses {Symbol = C.Symbol} (drawn_list step (C.bits_sampling width) n) }
 {}
 
 /// The same of numbers of so many uniform bits.
@@ -133,8 +111,7 @@ pub fn only_memory_refuses_drawn_bits<C: CanSampleBits<usize>>()
 /// A law: the body is empty, and a caller cites the clauses.
 pub fn only_memory_refuses_drawn_uniform_bits<F, C: CanSampleUniformBits<F>>()
     ensures list { (step : Step) (width n : ℕ) →
-        OnlyMemoryRefuses {Symbol = C.Symbol}
-        (meaning.drawn_list step (C.uniform true width).draw n) }
+        OnlyMemoryRefuses {Symbol = C.Symbol} (drawn_list step (C.uniform true width).draw n) }
     ensures rejecting { (step : Step) (width : ℕ) (rule : Rule ℕ) (limit n : ℕ) →
         OnlyMemoryRefuses {Symbol = C.Symbol}
         (drawn_rejecting step (C.uniform true width).draw rule limit n) }

@@ -1,11 +1,12 @@
 //! A step is refused for one reason: what an error says follows from the state before the step. Only being out of memory
 //! may come in its place. Here the steps that leave the proof as it is, and those that a prover writes.
-ghost use Rattle.std.specs.Prelude.{◌≤◌, ◌⊎◌, ℕ, List, length, true};
+ghost use Rattle.std.specs.Prelude.{ℕ, List, length, true};
 ghost use Rattle.p3_fs_core.specs.Steps.{Step};
-ghost use Rattle.p3_driver_core.specs.Meanings as meaning;
-ghost use Rattle.p3_driver_core.specs.Rejecting.{Rule, drawn_rejecting};
-ghost use Rattle.p3_driver_core.specs.Transcripts.{Transcript, RefusesStep, RefusesLength};
-ghost use Rattle.p3_step_laws.specs.OneReason.{TellOneReason};
+ghost use Rattle.p3_driver_core.specs.Meanings.{marked, observed, observed_list, observed_bounded, sent, sent_list};
+ghost use Rattle.p3_driver_core.specs.Meanings.{sent_bounded, sent_bytes, sent_bytes_bounded, hinted, hinted_bounded};
+ghost use Rattle.p3_driver_core.specs.{Meanings.{drawn, drawn_list}, Rejecting.{Rule, drawn_rejecting}};
+ghost use Rattle.p3_driver_core.specs.Transcripts.{RefusesStep};
+ghost use Rattle.p3_step_laws.specs.OneReason.{TellOneReason, RefusesStepWithin};
 
 use p3_challenger_core::{CanObserve, CanSampleBits, Sponge};
 use p3_codecs::{AlphabetOf, Codec, Unit};
@@ -16,8 +17,8 @@ use p3_grinding::CanSampleUniformBits;
 ///
 /// A law: the body is empty, and a caller cites the clause.
 pub fn markers_are_refused_for_one_reason<C: Sponge>()
-    ensures { (step : Step) → TellOneReason
-        (RefusesStep {S = C.State} {Symbol = C.Symbol} (meaning.marked step)) }
+    ensures { (step : Step) →
+        TellOneReason (RefusesStep {S = C.State} {Symbol = C.Symbol} (marked step)) }
 {}
 
 /// A step is refused for one reason that observes values which do not stand in the proof, or that a prover sends. So it
@@ -26,50 +27,36 @@ pub fn markers_are_refused_for_one_reason<C: Sponge>()
 /// A law: the body is empty, and a caller cites the clauses.
 pub fn values_are_refused_for_one_reason<A, U: Unit, C: CanObserve<U::Item>, Cdc: Codec<C, A>>()
     ensures observed { (step : Step) (x : A) →
-        TellOneReason (RefusesStep (meaning.observed step Cdc.observation x)) }
+        TellOneReason (RefusesStep (observed step Cdc.observation x)) }
     ensures observed_list { (step : Step) (xs : List A) →
-        TellOneReason (RefusesStep (meaning.observed_list step Cdc.observation xs)) }
-    ensures observed_counted { let alphabet = ⟦<U as AlphabetOf<C>>⟧.alphabet in
-        (step : Step) (max : ℕ) (xs : List A) →
-        TellOneReason (RefusesStep (meaning.observed_bounded step alphabet max Cdc.observation
-        xs)) }
+        TellOneReason (RefusesStep (observed_list step Cdc.observation xs)) }
+    ensures observed_counted { (step : Step) (max : ℕ) (xs : List A) → TellOneReason (RefusesStep
+        (observed_bounded step ⟦<U as AlphabetOf<C>>⟧.alphabet max Cdc.observation xs)) }
     ensures sent { (step : Step) (x : A) →
-        TellOneReason (RefusesStep (meaning.sent step Cdc.observation Cdc.encoding x)) }
+        TellOneReason (RefusesStep (sent step Cdc.observation Cdc.encoding x)) }
     ensures sent_list { (step : Step) (xs : List A) →
-        TellOneReason (RefusesStep (meaning.sent_list step Cdc.observation Cdc.encoding xs)) }
-    ensures sent_counted { let alphabet = ⟦<U as AlphabetOf<C>>⟧.alphabet in
-        (step : Step) (max : ℕ) (xs : List A) →
-        TellOneReason (RefusesStep (meaning.sent_bounded step alphabet max Cdc.observation
-        Cdc.encoding xs)) }
-    ensures observed_within { let alphabet = ⟦<U as AlphabetOf<C>>⟧.alphabet in
-        (step : Step) (max : ℕ) (xs : List A) →
-        TellOneReason {V = Transcript C.State} (λ before e after.
-        RefusesLength (length xs) max before.playing e after.playing ⊎ (length xs ≤ max
-        × RefusesStep (meaning.observed_bounded step alphabet max Cdc.observation xs) before e
-        after)) }
-    ensures sent_within { let alphabet = ⟦<U as AlphabetOf<C>>⟧.alphabet in
-        (step : Step) (max : ℕ) (xs : List A) →
-        TellOneReason {V = Transcript C.State} (λ before e after.
-        RefusesLength (length xs) max before.playing e after.playing ⊎ (length xs ≤ max
-        × RefusesStep (meaning.sent_bounded step alphabet max Cdc.observation Cdc.encoding xs)
-        before e after)) }
+        TellOneReason (RefusesStep (sent_list step Cdc.observation Cdc.encoding xs)) }
+    ensures sent_counted { (step : Step) (max : ℕ) (xs : List A) → TellOneReason (RefusesStep
+        (sent_bounded step ⟦<U as AlphabetOf<C>>⟧.alphabet max Cdc.observation Cdc.encoding xs)) }
+    ensures observed_within { (step : Step) (max : ℕ) (xs : List A) →
+        TellOneReason (RefusesStepWithin (length xs) max
+        (observed_bounded step ⟦<U as AlphabetOf<C>>⟧.alphabet max Cdc.observation xs)) }
+    ensures sent_within { (step : Step) (max : ℕ) (xs : List A) →
+        TellOneReason (RefusesStepWithin (length xs) max
+        (sent_bounded step ⟦<U as AlphabetOf<C>>⟧.alphabet max Cdc.observation Cdc.encoding xs)) }
 {}
 
 /// A step of bytes is refused to a prover for one reason, also where they may be refused first for being too many.
 ///
 /// A law: the body is empty, and a caller cites the clauses.
 pub fn bytes_are_refused_for_one_reason<U: Unit, C: CanObserve<U::Item>>()
-    ensures fixed { let alphabet = ⟦<U as AlphabetOf<C>>⟧.alphabet in
-        (kind : Kind) (label bytes : List ℕ) →
-        TellOneReason (RefusesStep (meaning.sent_bytes kind label alphabet bytes)) }
-    ensures counted { let alphabet = ⟦<U as AlphabetOf<C>>⟧.alphabet in
-        (kind : Kind) (label : List ℕ) (max : ℕ) (bytes : List ℕ) →
-        TellOneReason (RefusesStep (meaning.sent_bytes_bounded kind label alphabet max bytes)) }
-    ensures within { let alphabet = ⟦<U as AlphabetOf<C>>⟧.alphabet in
-        (kind : Kind) (label : List ℕ) (max : ℕ) (bytes : List ℕ) →
-        TellOneReason {V = Transcript C.State} (λ before e after.
-        RefusesLength (length bytes) max before.playing e after.playing ⊎ (length bytes ≤ max
-        × RefusesStep (meaning.sent_bytes_bounded kind label alphabet max bytes) before e after)) }
+    ensures fixed { (kind : Kind) (label bytes : List ℕ) →
+        TellOneReason (RefusesStep (sent_bytes kind label ⟦<U as AlphabetOf<C>>⟧.alphabet bytes)) }
+    ensures counted { (kind : Kind) (label : List ℕ) (max : ℕ) (bytes : List ℕ) → TellOneReason
+        (RefusesStep (sent_bytes_bounded kind label ⟦<U as AlphabetOf<C>>⟧.alphabet max bytes)) }
+    ensures within { (kind : Kind) (label : List ℕ) (max : ℕ) (bytes : List ℕ) →
+        TellOneReason (RefusesStepWithin (length bytes) max
+        (sent_bytes_bounded kind label ⟦<U as AlphabetOf<C>>⟧.alphabet max bytes)) }
 {}
 
 /// The same of a hint.
@@ -77,54 +64,48 @@ pub fn bytes_are_refused_for_one_reason<U: Unit, C: CanObserve<U::Item>>()
 /// A law: the body is empty, and a caller cites the clauses.
 pub fn hints_are_refused_for_one_reason<C: Sponge>()
     ensures fixed { (label bytes : List ℕ) →
-        TellOneReason (RefusesStep {S = C.State} {Symbol = C.Symbol} (meaning.hinted label bytes)) }
-    ensures counted { (label : List ℕ) (max : ℕ) (bytes : List ℕ) →
-        TellOneReason (RefusesStep {S = C.State} {Symbol = C.Symbol}
-        (meaning.hinted_bounded label max bytes)) }
+        TellOneReason (RefusesStep {S = C.State} {Symbol = C.Symbol} (hinted label bytes)) }
+    ensures counted { (label : List ℕ) (max : ℕ) (bytes : List ℕ) → TellOneReason
+        (RefusesStep {S = C.State} {Symbol = C.Symbol} (hinted_bounded label max bytes)) }
     ensures within { (label : List ℕ) (max : ℕ) (bytes : List ℕ) →
-        TellOneReason {V = Transcript C.State} (λ before e after.
-        RefusesLength (length bytes) max before.playing e after.playing ⊎ (length bytes ≤ max
-        × RefusesStep {Symbol = C.Symbol} (meaning.hinted_bounded label max bytes) before e
-        after)) }
+        TellOneReason (RefusesStepWithin {S = C.State} {Symbol = C.Symbol} (length bytes) max
+        (hinted_bounded label max bytes)) }
 {}
 
 /// A step is refused for one reason that observes a value as the challenger itself knows how.
 ///
 /// A law: the body is empty, and a caller cites the clause.
 pub fn opaque_values_are_refused_for_one_reason<T, C: CanObserve<T>>()
-    ensures { (step : Step) (x : T) → TellOneReason
-        (RefusesStep (meaning.observed step C.observation x)) }
+    ensures { (step : Step) (x : T) →
+        TellOneReason (RefusesStep (observed step C.observation x)) }
 {}
 
 /// A step that draws is refused for one reason: a step of one value, of so many, and of so many that a rule takes.
 ///
 /// A law: the body is empty, and a caller cites the clauses.
 pub fn draws_are_refused_for_one_reason<A, C: Sponge, Cdc: Codec<C, A>>()
-    ensures value { (step : Step) → TellOneReason
-        (RefusesStep {Symbol = C.Symbol} (meaning.drawn step Cdc.sampling)) }
+    ensures value { (step : Step) →
+        TellOneReason (RefusesStep {Symbol = C.Symbol} (drawn step Cdc.sampling)) }
     ensures list { (step : Step) (n : ℕ) →
-        TellOneReason (RefusesStep {Symbol = C.Symbol} (meaning.drawn_list step Cdc.sampling n)) }
-    ensures rejecting { (step : Step) (rule : Rule A) (limit n : ℕ) →
-        TellOneReason (RefusesStep {Symbol = C.Symbol}
-        (drawn_rejecting step Cdc.sampling rule limit n)) }
+        TellOneReason (RefusesStep {Symbol = C.Symbol} (drawn_list step Cdc.sampling n)) }
+    ensures rejecting { (step : Step) (rule : Rule A) (limit n : ℕ) → TellOneReason
+        (RefusesStep {Symbol = C.Symbol} (drawn_rejecting step Cdc.sampling rule limit n)) }
 {}
 
 /// The same of a step that draws numbers of so many bits.
 ///
 /// A law: the body is empty, and a caller cites the clause.
 pub fn bit_draws_are_refused_for_one_reason<C: CanSampleBits<usize>>()
-    ensures { (step : Step) (width n : ℕ) →
-        TellOneReason (RefusesStep {Symbol = C.Symbol}
-        (meaning.drawn_list step (C.bits_sampling width) n)) }
+    ensures { (step : Step) (width n : ℕ) → TellOneReason
+        (RefusesStep {Symbol = C.Symbol} (drawn_list step (C.bits_sampling width) n)) }
 {}
 
 /// The same of a step that draws numbers of so many uniform bits.
 ///
 /// A law: the body is empty, and a caller cites the clauses.
 pub fn uniform_draws_are_refused_for_one_reason<F, C: CanSampleUniformBits<F>>()
-    ensures list { (step : Step) (width n : ℕ) →
-        TellOneReason (RefusesStep {Symbol = C.Symbol}
-        (meaning.drawn_list step (C.uniform true width).draw n)) }
+    ensures list { (step : Step) (width n : ℕ) → TellOneReason
+        (RefusesStep {Symbol = C.Symbol} (drawn_list step (C.uniform true width).draw n)) }
     ensures rejecting { (step : Step) (width : ℕ) (rule : Rule ℕ) (limit n : ℕ) →
         TellOneReason (RefusesStep {Symbol = C.Symbol}
         (drawn_rejecting step (C.uniform true width).draw rule limit n)) }

@@ -1,16 +1,15 @@
 //! A step of a verifier that reads, or to which its caller carries a list, is refused for one reason: what an error
 //! says follows from the state before the step, and from the bytes that are left. So is proof of work, on either side.
 //! Only being out of memory may come in its place.
-ghost use Rattle.std.specs.Prelude.{◌<◌, ◌≤◌, ◌⊎◌, ℕ, List, length};
-ghost use Rattle.p3_fs_core.specs.Scalar.{encoding};
+ghost use Rattle.std.specs.Prelude.{◌⊎◌, ℕ, List, length};
 ghost use Rattle.p3_fs_core.specs.Steps.{Step};
-ghost use Rattle.p3_patterns.specs.Playing.{next_step};
-ghost use Rattle.p3_driver_core.specs.Meanings as meaning;
-ghost use Rattle.p3_driver_core.specs.Transcripts.{RefusesStep, IsOtherLength, longer_list, another_length};
+ghost use Rattle.p3_driver_core.specs.{Meanings.{observed_list, observed_bounded}, Reads.received_work};
 ghost use Rattle.p3_driver_core.specs.Working.{work_of, RefusesToCheck, RefusesToGrind};
-ghost use Rattle.p3_driver_core.specs.Reads as reads;
-ghost use Rattle.p3_driver_core.specs.Verifying.{RefusesToRead, RefusesCarriedList, FailsWork};
-ghost use Rattle.p3_step_laws.specs.OneReason.{TellOneReason};
+ghost use Rattle.p3_driver_core.specs.Reads.{received, received_list, received_bounded, received_bytes};
+ghost use Rattle.p3_driver_core.specs.Reads.{received_bytes_bounded, hint_received, hint_received_bounded};
+ghost use Rattle.p3_driver_core.specs.Verifying.{RefusesToRead, FailsWork};
+ghost use Rattle.p3_step_laws.specs.OneReason.{TellOneReason, RefusesCarriedOrStep, RefusesRecordedOrStep};
+ghost use Rattle.p3_step_laws.specs.Mirrored.{EachWork};
 
 use p3_challenger_core::{CanObserve, Sponge};
 use p3_codecs::{AlphabetOf, Codec, Unit};
@@ -22,26 +21,22 @@ use p3_grinding::GrindingChallenger;
 ///
 /// A law: the body is empty, and a caller cites the clauses.
 pub fn values_are_unread_for_one_reason<A, U: Unit, C: CanObserve<U::Item>, Cdc: Codec<C, A>>()
-    ensures value { (step : Step) → TellOneReason
-        (RefusesToRead (reads.received step Cdc.observation Cdc.encoding)) }
+    ensures value { (step : Step) →
+        TellOneReason (RefusesToRead (received step Cdc.observation Cdc.encoding)) }
     ensures list { (step : Step) (n : ℕ) →
-        TellOneReason (RefusesToRead (reads.received_list step Cdc.observation Cdc.encoding n)) }
-    ensures counted { let alphabet = ⟦<U as AlphabetOf<C>>⟧.alphabet in
-        (step : Step) (max : ℕ) →
-        TellOneReason (RefusesToRead
-        (reads.received_bounded step alphabet max Cdc.observation Cdc.encoding)) }
+        TellOneReason (RefusesToRead (received_list step Cdc.observation Cdc.encoding n)) }
+    ensures counted { (step : Step) (max : ℕ) → TellOneReason (RefusesToRead
+        (received_bounded step ⟦<U as AlphabetOf<C>>⟧.alphabet max Cdc.observation Cdc.encoding)) }
 {}
 
 /// The same of a step that reads so many bytes, or bytes after their count.
 ///
 /// A law: the body is empty, and a caller cites the clauses.
 pub fn bytes_are_unread_for_one_reason<U: Unit, C: CanObserve<U::Item>>()
-    ensures fixed { let alphabet = ⟦<U as AlphabetOf<C>>⟧.alphabet in
-        (kind : Kind) (label : List ℕ) (n : ℕ) →
-        TellOneReason (RefusesToRead (reads.received_bytes kind label alphabet n)) }
-    ensures counted { let alphabet = ⟦<U as AlphabetOf<C>>⟧.alphabet in
-        (label : List ℕ) (max : ℕ) → TellOneReason
-        (RefusesToRead (reads.received_bytes_bounded label alphabet max)) }
+    ensures fixed { (kind : Kind) (label : List ℕ) (n : ℕ) → TellOneReason
+        (RefusesToRead (received_bytes kind label ⟦<U as AlphabetOf<C>>⟧.alphabet n)) }
+    ensures counted { (label : List ℕ) (max : ℕ) → TellOneReason
+        (RefusesToRead (received_bytes_bounded label ⟦<U as AlphabetOf<C>>⟧.alphabet max)) }
 {}
 
 /// The same of a step that reads a hint.
@@ -49,11 +44,9 @@ pub fn bytes_are_unread_for_one_reason<U: Unit, C: CanObserve<U::Item>>()
 /// A law: the body is empty, and a caller cites the clauses.
 pub fn hints_are_unread_for_one_reason<C: Sponge>()
     ensures fixed { (label : List ℕ) (n : ℕ) →
-        TellOneReason (RefusesToRead {S = C.State} {Symbol = C.Symbol}
-        (reads.hint_received label n)) }
-    ensures counted { (label : List ℕ) (max : ℕ) →
-        TellOneReason (RefusesToRead {S = C.State} {Symbol = C.Symbol}
-        (reads.hint_received_bounded label max)) }
+        TellOneReason (RefusesToRead {S = C.State} {Symbol = C.Symbol} (hint_received label n)) }
+    ensures counted { (label : List ℕ) (max : ℕ) → TellOneReason
+        (RefusesToRead {S = C.State} {Symbol = C.Symbol} (hint_received_bounded label max)) }
 {}
 
 /// A step that observes a list which the caller carries is refused for one reason, also where it may be refused for the
@@ -67,19 +60,11 @@ pub fn carried_lists_are_refused_for_one_reason<
     C: CanObserve<U::Item>,
     Cdc: Codec<C, A>,
 >()
-    ensures within { let alphabet = ⟦<U as AlphabetOf<C>>⟧.alphabet in
-        (step : Step) (max : ℕ) (xs : List A) → TellOneReason (λ before e after.
-        RefusesCarriedList (max < length xs) longer_list before e after
-        ⊎ (length xs ≤ max
-        × RefusesStep (meaning.observed_bounded step alphabet max Cdc.observation xs)
-        before.transcript e
-        after.transcript)) }
-    ensures recorded { (step : Step) (xs : List A) → TellOneReason (λ before e after.
-        RefusesCarriedList (IsOtherLength (length xs)
-        (next_step before.transcript.playing)) another_length before e after
-        ⊎ ((IsOtherLength (length xs) (next_step before.transcript.playing) → ⊥)
-        × RefusesStep (meaning.observed_list step Cdc.observation xs) before.transcript e
-        after.transcript)) }
+    ensures within { (step : Step) (max : ℕ) (xs : List A) →
+        TellOneReason (RefusesCarriedOrStep (length xs) max
+        (observed_bounded step ⟦<U as AlphabetOf<C>>⟧.alphabet max Cdc.observation xs)) }
+    ensures recorded { (step : Step) (xs : List A) → TellOneReason
+        (RefusesRecordedOrStep (length xs) (observed_list step Cdc.observation xs)) }
 {}
 
 /// Proof of work is refused for one reason: to a prover that searches for a witness, to a verifier that reads one, and
@@ -90,13 +75,9 @@ pub fn work_is_refused_for_one_reason<C: GrindingChallenger>()
     ensures ground { (step : Step) (bits : ℕ) → TellOneReason (RefusesToGrind
         (work_of step C.Witness.residues C.before_witness C.observation C.bits_sampling bits)
         C.may_run_out) }
-    ensures read { (step : Step) (bits : ℕ) →
-        let work = work_of step C.Witness.residues C.before_witness C.observation C.bits_sampling
-        bits in
-        let wire = encoding C.Witness.residues C.Witness.bit_length in
-        TellOneReason (λ before e after.
-        RefusesToRead (reads.received_work work wire) before e after ⊎ FailsWork work wire
-        before e after) }
+    ensures read { EachWork (λ work wire. TellOneReason (λ start e end.
+        RefusesToRead (received_work work wire) start e end ⊎ FailsWork work wire start e end))
+        C.Witness.residues C.Witness.bit_length C.before_witness C.observation C.bits_sampling }
     ensures carried { (step : Step) (bits : ℕ) (x : C.Witness) → TellOneReason (RefusesToCheck
         (work_of step C.Witness.residues C.before_witness C.observation C.bits_sampling bits) x) }
 {}

@@ -1,14 +1,11 @@
 //! The steps that draw challenges. They leave the proof as it is.
 ghost use Rattle.std.specs.Prelude.{◌≡◌, ◌≤◌, ℕ, true, IfErr, IfOk, vec_len};
 ghost use Rattle.p3_driver_core.specs.Bound.{bound_value, bound_values};
-ghost use Rattle.p3_driver_core.specs.Driving.{KeepsOrRefuses};
 ghost use Rattle.p3_driver_core.specs.Meanings as meaning;
 ghost use Rattle.p3_driver_core.specs.Rejecting.{Rule, Computes, ComputesOfValues, drawn_rejecting};
-ghost use Rattle.p3_driver_core.specs.Transcripts.{PlaysOrRefuses, KeepsOrder, bits_step};
-ghost use Rattle.p3_driver_core.specs.Transcripts.{uniform_bits_step};
-ghost use Rattle.p3_drivers.specs.Drivers.{driving_of};
-ghost use Rattle.p3_fs_core.specs.declared.step.Kind.TheVariants.{Challenge};
-ghost use Rattle.p3_fs_core.specs.declared.step.Length.TheVariants.{Fixed, Scalar};
+ghost use Rattle.p3_driver_core.specs.Transcripts.{PlaysOrRefuses, KeepsOrder, bits_step, uniform_bits_step};
+ghost use Rattle.p3_drivers.specs.Drivers.{driving_of, played_by, Keeps};
+ghost use Rattle.p3_fs_core.specs.declared.step.{Kind.TheVariants.Challenge, Length.TheVariants.{Fixed, Scalar}};
 
 use crate::DriverState;
 use crate::tape::Tape;
@@ -35,10 +32,9 @@ impl<C: Sponge, U, D: DigestHasher, P: Tape> DriverState<C, U, D, P> {
         label: Label,
     ) -> Result<TranscriptBound<F>, TranscriptError>
         requires { 128 ≤ Cdc.SECURITY_BITS }
-        ensures { let step = ⟦<F as Declared<F, D>>⟧.step Challenge label.now Scalar in
-            KeepsOrRefuses (meaning.drawn {Symbol = C.Symbol} step Cdc.sampling)
-            (driving_of C.state P.bytes self.old) bound_value result
-            (driving_of C.state P.bytes self.new) }
+        ensures { Keeps C.state P.bytes (meaning.drawn {Symbol = C.Symbol}
+            (⟦<F as Declared<F, D>>⟧.step Challenge label.now Scalar) Cdc.sampling)
+            self.old bound_value result self.new }
     {
         self.draw::<F, F, Cdc>(label)
     }
@@ -53,10 +49,9 @@ impl<C: Sponge, U, D: DigestHasher, P: Tape> DriverState<C, U, D, P> {
         n: usize,
     ) -> Result<Vec<TranscriptBound<F>>, TranscriptError>
         requires { 128 ≤ Cdc.SECURITY_BITS }
-        ensures exact { let step = ⟦<F as Declared<F, D>>⟧.step Challenge label.now (Fixed n) in
-            KeepsOrRefuses (meaning.drawn_list {Symbol = C.Symbol} step Cdc.sampling n)
-            (driving_of C.state P.bytes self.old) bound_values result
-            (driving_of C.state P.bytes self.new) }
+        ensures exact { Keeps C.state P.bytes (meaning.drawn_list
+            {Symbol = C.Symbol} (⟦<F as Declared<F, D>>⟧.step Challenge label.now (Fixed n))
+            Cdc.sampling n) self.old bound_values result self.new }
         ensures count { IfOk result (λ bounds. vec_len bounds ≡ n) }
     {
         self.draw_list::<F, F, Cdc>(label, n)
@@ -72,11 +67,10 @@ impl<C: Sponge, U, D: DigestHasher, P: Tape> DriverState<C, U, D, P> {
         Cdc: ScalarCodec<C, F>,
     >(&mut self, label: Label) -> Result<TranscriptBound<EF>, TranscriptError>
         requires { 128 ≤ Cdc.SECURITY_BITS }
-        ensures { let step = ⟦<EF as Declared<F, D>>⟧.step Challenge label.now Scalar in
-            let codec = ⟦<ExtensionFieldCodec<F, EF, Cdc> as Codec<C, EF>>⟧ in
-            KeepsOrRefuses (meaning.drawn {Symbol = C.Symbol} step codec.sampling)
-            (driving_of C.state P.bytes self.old) bound_value result
-            (driving_of C.state P.bytes self.new) }
+        ensures { Keeps C.state P.bytes (meaning.drawn
+            {Symbol = C.Symbol} (⟦<EF as Declared<F, D>>⟧.step Challenge label.now Scalar)
+            ⟦<ExtensionFieldCodec<F, EF, Cdc> as Codec<C, EF>>⟧.sampling)
+            self.old bound_value result self.new }
     {
         self.draw::<F, EF, ExtensionFieldCodec<F, EF, Cdc>>(label)
     }
@@ -91,11 +85,10 @@ impl<C: Sponge, U, D: DigestHasher, P: Tape> DriverState<C, U, D, P> {
         Cdc: ScalarCodec<C, F>,
     >(&mut self, label: Label, n: usize) -> Result<Vec<TranscriptBound<EF>>, TranscriptError>
         requires { 128 ≤ Cdc.SECURITY_BITS }
-        ensures exact { let step = ⟦<EF as Declared<F, D>>⟧.step Challenge label.now (Fixed n) in
-            let codec = ⟦<ExtensionFieldCodec<F, EF, Cdc> as Codec<C, EF>>⟧ in
-            KeepsOrRefuses (meaning.drawn_list {Symbol = C.Symbol} step codec.sampling n)
-            (driving_of C.state P.bytes self.old) bound_values result
-            (driving_of C.state P.bytes self.new) }
+        ensures exact { Keeps C.state P.bytes (meaning.drawn_list
+            {Symbol = C.Symbol} (⟦<EF as Declared<F, D>>⟧.step Challenge label.now (Fixed n))
+            ⟦<ExtensionFieldCodec<F, EF, Cdc> as Codec<C, EF>>⟧.sampling n)
+            self.old bound_values result self.new }
         ensures count { IfOk result (λ bounds. vec_len bounds ≡ n) }
     {
         self.draw_list::<F, EF, ExtensionFieldCodec<F, EF, Cdc>>(label, n)
@@ -130,19 +123,15 @@ impl<C: Sponge, U, D: DigestHasher, P: Tape> DriverState<C, U, D, P> {
     ) -> Result<Vec<TranscriptBound<EF>>, TranscriptError>
         requires secure { 128 ≤ Cdc.SECURITY_BITS }
         requires callable { R.IsAlwaysCallable accept.now }
-        ensures played { (rule : Rule EF) → Computes R.Fn accept.now rule →
-            let step = ⟦<EF as Declared<F, D>>⟧.step Challenge label.now (Fixed n) in
-            let codec = ⟦<ExtensionFieldCodec<F, EF, Cdc> as Codec<C, EF>>⟧ in
-            PlaysOrRefuses (drawn_rejecting {Symbol = C.Symbol} step codec.sampling rule limit n)
-            (driving_of C.state P.bytes self.old).transcript bound_values result
-            (driving_of C.state P.bytes self.new).transcript }
+        ensures played { (rule : Rule EF) → Computes R.Fn accept.now rule → PlaysOrRefuses
+            (drawn_rejecting {Symbol = C.Symbol} (⟦<EF as Declared<F, D>>⟧.step Challenge label.now
+            (Fixed n)) ⟦<ExtensionFieldCodec<F, EF, Cdc> as Codec<C, EF>>⟧.sampling rule limit n)
+            (played_by C.state self.old) bound_values result (played_by C.state self.new) }
         ensures bytes { (driving_of C.state P.bytes self.new).bytes
             ≡ (driving_of C.state P.bytes self.old).bytes }
-        ensures order { let step = ⟦<EF as Declared<F, D>>⟧.step Challenge label.now (Fixed n) in
-            KeepsOrder step (driving_of C.state P.bytes self.old).transcript result
-            (driving_of C.state P.bytes self.new).transcript }
-        ensures spent { IfErr result (λ _.
-            (driving_of C.state P.bytes self.new).transcript.playing.finished ≡ true) }
+        ensures order { KeepsOrder (⟦<EF as Declared<F, D>>⟧.step Challenge label.now (Fixed n))
+            (played_by C.state self.old) result (played_by C.state self.new) }
+        ensures spent { IfErr result (λ _. (played_by C.state self.new).playing.finished ≡ true) }
         ensures count { IfOk result (λ bounds. vec_len bounds ≡ n) }
     {
         self.draw_rejecting::<F, EF, ExtensionFieldCodec<F, EF, Cdc>, R>(label, n, accept, limit)
@@ -160,10 +149,9 @@ impl<C: Sponge, U, D: DigestHasher, P: Tape> DriverState<C, U, D, P> {
     where
         C: CanSampleBits<usize>,
         requires { width ≤ C.most_bits }
-        ensures exact { KeepsOrRefuses (meaning.drawn_list {Symbol = C.Symbol}
-            (bits_step label.now width (Fixed n)) (C.bits_sampling width) n)
-            (driving_of C.state P.bytes self.old) bound_values result
-            (driving_of C.state P.bytes self.new) }
+        ensures exact { Keeps C.state P.bytes (meaning.drawn_list
+            {Symbol = C.Symbol} (bits_step label.now width (Fixed n)) (C.bits_sampling width) n)
+            self.old bound_values result self.new }
         ensures count { IfOk result (λ bounds. vec_len bounds ≡ n) }
     {
         self.steps.take(Interaction::bits(
@@ -190,10 +178,9 @@ impl<C: Sponge, U, D: DigestHasher, P: Tape> DriverState<C, U, D, P> {
     where
         C: CanSampleUniformBits<F>,
         requires { width ≤ C.most_bits }
-        ensures exact { KeepsOrRefuses (meaning.drawn_list {Symbol = C.Symbol}
-            (uniform_bits_step label.now width (Fixed n)) (C.uniform true width).draw n)
-            (driving_of C.state P.bytes self.old) bound_values result
-            (driving_of C.state P.bytes self.new) }
+        ensures exact { Keeps C.state P.bytes (meaning.drawn_list
+            {Symbol = C.Symbol} (uniform_bits_step label.now width (Fixed n))
+            (C.uniform true width).draw n) self.old bound_values result self.new }
         ensures count { IfOk result (λ bounds. vec_len bounds ≡ n) }
     {
         self.steps
@@ -232,18 +219,14 @@ impl<C: Sponge, U, D: DigestHasher, P: Tape> DriverState<C, U, D, P> {
         requires within { width ≤ C.most_bits }
         requires callable { R.IsAlwaysCallable accept.now }
         ensures played { (rule : Rule ℕ) → ComputesOfValues R.Fn accept.now rule →
-            let step = uniform_bits_step label.now width (Fixed n) in
-            PlaysOrRefuses
-            (drawn_rejecting {Symbol = C.Symbol} step (C.uniform true width).draw rule limit n)
-            (driving_of C.state P.bytes self.old).transcript bound_values result
-            (driving_of C.state P.bytes self.new).transcript }
+            PlaysOrRefuses (drawn_rejecting {Symbol = C.Symbol} (uniform_bits_step
+            label.now width (Fixed n)) (C.uniform true width).draw rule limit n)
+            (played_by C.state self.old) bound_values result (played_by C.state self.new) }
         ensures bytes { (driving_of C.state P.bytes self.new).bytes
             ≡ (driving_of C.state P.bytes self.old).bytes }
         ensures order { KeepsOrder (uniform_bits_step label.now width (Fixed n))
-            (driving_of C.state P.bytes self.old).transcript result
-            (driving_of C.state P.bytes self.new).transcript }
-        ensures spent { IfErr result (λ _.
-            (driving_of C.state P.bytes self.new).transcript.playing.finished ≡ true) }
+            (played_by C.state self.old) result (played_by C.state self.new) }
+        ensures spent { IfErr result (λ _. (played_by C.state self.new).playing.finished ≡ true) }
         ensures count { IfOk result (λ bounds. vec_len bounds ≡ n) }
     {
         self.steps
@@ -269,10 +252,9 @@ impl<C: Sponge, U, D: DigestHasher, P: Tape> DriverState<C, U, D, P> {
         label: Label,
     ) -> Result<TranscriptBound<A>, TranscriptError>
         requires { 128 ≤ Cdc.SECURITY_BITS }
-        ensures { let step = ⟦<A as Declared<F, D>>⟧.step Challenge label.now Scalar in
-            KeepsOrRefuses (meaning.drawn {Symbol = C.Symbol} step Cdc.sampling)
-            (driving_of C.state P.bytes self.old) bound_value result
-            (driving_of C.state P.bytes self.new) }
+        ensures { Keeps C.state P.bytes (meaning.drawn {Symbol = C.Symbol}
+            (⟦<A as Declared<F, D>>⟧.step Challenge label.now Scalar) Cdc.sampling)
+            self.old bound_value result self.new }
     {
         self.steps
             .take_algebra::<F, A>(Kind::Challenge, label, Length::Scalar)?;
@@ -290,10 +272,9 @@ impl<C: Sponge, U, D: DigestHasher, P: Tape> DriverState<C, U, D, P> {
         n: usize,
     ) -> Result<Vec<TranscriptBound<A>>, TranscriptError>
         requires { 128 ≤ Cdc.SECURITY_BITS }
-        ensures exact { let step = ⟦<A as Declared<F, D>>⟧.step Challenge label.now (Fixed n) in
-            KeepsOrRefuses (meaning.drawn_list {Symbol = C.Symbol} step Cdc.sampling n)
-            (driving_of C.state P.bytes self.old) bound_values result
-            (driving_of C.state P.bytes self.new) }
+        ensures exact { Keeps C.state P.bytes (meaning.drawn_list
+            {Symbol = C.Symbol} (⟦<A as Declared<F, D>>⟧.step Challenge label.now (Fixed n))
+            Cdc.sampling n) self.old bound_values result self.new }
         ensures count { IfOk result (λ bounds. vec_len bounds ≡ n) }
     {
         self.steps
@@ -319,17 +300,14 @@ impl<C: Sponge, U, D: DigestHasher, P: Tape> DriverState<C, U, D, P> {
         requires secure { 128 ≤ Cdc.SECURITY_BITS }
         requires callable { R.IsAlwaysCallable accept.now }
         ensures played { (rule : Rule A) → Computes R.Fn accept.now rule →
-            let step = ⟦<A as Declared<F, D>>⟧.step Challenge label.now (Fixed n) in
-            PlaysOrRefuses (drawn_rejecting {Symbol = C.Symbol} step Cdc.sampling rule limit n)
-            (driving_of C.state P.bytes self.old).transcript bound_values result
-            (driving_of C.state P.bytes self.new).transcript }
+            PlaysOrRefuses (drawn_rejecting {Symbol = C.Symbol} (⟦<A as Declared<F, D>>⟧.step
+            Challenge label.now (Fixed n)) Cdc.sampling rule limit n)
+            (played_by C.state self.old) bound_values result (played_by C.state self.new) }
         ensures bytes { (driving_of C.state P.bytes self.new).bytes
             ≡ (driving_of C.state P.bytes self.old).bytes }
-        ensures order { let step = ⟦<A as Declared<F, D>>⟧.step Challenge label.now (Fixed n) in
-            KeepsOrder step (driving_of C.state P.bytes self.old).transcript result
-            (driving_of C.state P.bytes self.new).transcript }
-        ensures spent { IfErr result (λ _.
-            (driving_of C.state P.bytes self.new).transcript.playing.finished ≡ true) }
+        ensures order { KeepsOrder (⟦<A as Declared<F, D>>⟧.step Challenge label.now (Fixed n))
+            (played_by C.state self.old) result (played_by C.state self.new) }
+        ensures spent { IfErr result (λ _. (played_by C.state self.new).playing.finished ≡ true) }
         ensures count { IfOk result (λ bounds. vec_len bounds ≡ n) }
     {
         self.steps

@@ -1,10 +1,9 @@
 //! The steps that open and close containers. They take no part in the challenger and in the proof.
-ghost use Rattle.std.specs.Prelude.{◌≡◌, IsOk};
+ghost use Rattle.std.specs.Prelude.{IsOk};
 ghost use Rattle.p3_fs_core.specs.Steps.{marker_of};
-ghost use Rattle.p3_driver_core.specs.Driving.{KeepsOrRefuses};
 ghost use Rattle.p3_driver_core.specs.Meanings as meaning;
 ghost use Rattle.p3_driver_core.specs.Transcripts.{IsNext};
-ghost use Rattle.p3_drivers.specs.Drivers.{driving_of};
+ghost use Rattle.p3_drivers.specs.Drivers.{played_by, Keeps};
 ghost use Rattle.p3_fs_core.specs.declared.step.Kind.TheVariants.{Protocol};
 
 use crate::DriverState;
@@ -17,11 +16,9 @@ use p3_symmetric::DigestHasher;
 impl<C: Sponge, U, D: DigestHasher, P: Tape> DriverState<C, U, D, P> {
     /// Opens a container of the kind. `T` names the container for those who read its steps. It takes no memory.
     pub fn begin<T: Named>(&mut self, label: Label, kind: Kind) -> Result<(), TranscriptError>
-        ensures exact { KeepsOrRefuses (meaning.marked {Symbol = C.Symbol}
-            (marker_of Hierarchy.Begin kind label.now T.name_bytes))
-            (driving_of C.state P.bytes self.old) (λ _. tt {0}) result
-            (driving_of C.state P.bytes self.new) }
-        ensures only { IsNext (driving_of C.state P.bytes self.old).transcript.playing
+        ensures exact { Keeps C.state P.bytes (meaning.marked {Symbol = C.Symbol} (marker_of
+            Hierarchy.Begin kind label.now T.name_bytes)) self.old (λ _. tt {0}) result self.new }
+        ensures only { IsNext (played_by C.state self.old).playing
             (marker_of Hierarchy.Begin kind label.now T.name_bytes) → IsOk result }
     {
         self.mark::<T>(Hierarchy::Begin, kind, label)
@@ -29,11 +26,9 @@ impl<C: Sponge, U, D: DigestHasher, P: Tape> DriverState<C, U, D, P> {
 
     /// Closes a container of the kind, with the label and the `T` of its opener. It takes no memory.
     pub fn end<T: Named>(&mut self, label: Label, kind: Kind) -> Result<(), TranscriptError>
-        ensures exact { KeepsOrRefuses (meaning.marked {Symbol = C.Symbol}
-            (marker_of Hierarchy.End kind label.now T.name_bytes))
-            (driving_of C.state P.bytes self.old) (λ _. tt {0}) result
-            (driving_of C.state P.bytes self.new) }
-        ensures only { IsNext (driving_of C.state P.bytes self.old).transcript.playing
+        ensures exact { Keeps C.state P.bytes (meaning.marked {Symbol = C.Symbol} (marker_of
+            Hierarchy.End kind label.now T.name_bytes)) self.old (λ _. tt {0}) result self.new }
+        ensures only { IsNext (played_by C.state self.old).playing
             (marker_of Hierarchy.End kind label.now T.name_bytes) → IsOk result }
     {
         self.mark::<T>(Hierarchy::End, kind, label)
@@ -41,11 +36,10 @@ impl<C: Sponge, U, D: DigestHasher, P: Tape> DriverState<C, U, D, P> {
 
     /// Opens a container that may hold steps of any kind. It takes no memory.
     pub fn begin_protocol<T: Named>(&mut self, label: Label) -> Result<(), TranscriptError>
-        ensures exact { KeepsOrRefuses (meaning.marked {Symbol = C.Symbol}
-            (marker_of Hierarchy.Begin Protocol label.now T.name_bytes))
-            (driving_of C.state P.bytes self.old) (λ _. tt {0}) result
-            (driving_of C.state P.bytes self.new) }
-        ensures only { IsNext (driving_of C.state P.bytes self.old).transcript.playing
+        ensures exact { Keeps C.state P.bytes (meaning.marked
+            {Symbol = C.Symbol} (marker_of Hierarchy.Begin Protocol label.now T.name_bytes))
+            self.old (λ _. tt {0}) result self.new }
+        ensures only { IsNext (played_by C.state self.old).playing
             (marker_of Hierarchy.Begin Protocol label.now T.name_bytes) → IsOk result }
     {
         self.mark::<T>(Hierarchy::Begin, Kind::Protocol, label)
@@ -53,11 +47,9 @@ impl<C: Sponge, U, D: DigestHasher, P: Tape> DriverState<C, U, D, P> {
 
     /// Closes a container that may hold steps of any kind. It takes no memory.
     pub fn end_protocol<T: Named>(&mut self, label: Label) -> Result<(), TranscriptError>
-        ensures exact { KeepsOrRefuses (meaning.marked {Symbol = C.Symbol}
-            (marker_of Hierarchy.End Protocol label.now T.name_bytes))
-            (driving_of C.state P.bytes self.old) (λ _. tt {0}) result
-            (driving_of C.state P.bytes self.new) }
-        ensures only { IsNext (driving_of C.state P.bytes self.old).transcript.playing
+        ensures exact { Keeps C.state P.bytes (meaning.marked {Symbol = C.Symbol} (marker_of
+            Hierarchy.End Protocol label.now T.name_bytes)) self.old (λ _. tt {0}) result self.new }
+        ensures only { IsNext (played_by C.state self.old).playing
             (marker_of Hierarchy.End Protocol label.now T.name_bytes) → IsOk result }
     {
         self.mark::<T>(Hierarchy::End, Kind::Protocol, label)
@@ -70,11 +62,9 @@ impl<C: Sponge, U, D: DigestHasher, P: Tape> DriverState<C, U, D, P> {
         kind: Kind,
         label: Label,
     ) -> Result<(), TranscriptError>
-        ensures exact { KeepsOrRefuses (meaning.marked {Symbol = C.Symbol}
-            (marker_of hierarchy kind label.now T.name_bytes))
-            (driving_of C.state P.bytes self.old) (λ _. tt {0}) result
-            (driving_of C.state P.bytes self.new) }
-        ensures only { IsNext (driving_of C.state P.bytes self.old).transcript.playing
+        ensures exact { Keeps C.state P.bytes (meaning.marked {Symbol = C.Symbol} (marker_of
+            hierarchy kind label.now T.name_bytes)) self.old (λ _. tt {0}) result self.new }
+        ensures only { IsNext (played_by C.state self.old).playing
             (marker_of hierarchy kind label.now T.name_bytes) → IsOk result }
     {
         self.steps

@@ -1,12 +1,10 @@
 //! The steps that observe values which the proof does not carry, as both sides play them.
 ghost use Rattle.std.specs.Prelude.{◌≡◌, ◌≤◌, length, IfOk, vec_len};
 ghost use Rattle.p3_driver_core.specs.Bound.{bound_value, bound_values};
-ghost use Rattle.p3_driver_core.specs.Driving.{KeepsOrRefuses};
 ghost use Rattle.p3_driver_core.specs.Meanings as meaning;
 ghost use Rattle.p3_driver_core.specs.Transcripts.{opaque_step};
-ghost use Rattle.p3_drivers.specs.Drivers.{driving_of};
-ghost use Rattle.p3_fs_core.specs.declared.step.Kind.TheVariants.{Message};
-ghost use Rattle.p3_fs_core.specs.declared.step.Length.TheVariants.{Bounded, Fixed, Scalar};
+ghost use Rattle.p3_drivers.specs.Drivers.{Keeps};
+ghost use Rattle.p3_fs_core.specs.declared.step.{Kind.TheVariants.Message, Length.TheVariants.{Bounded, Fixed, Scalar}};
 
 use crate::DriverState;
 use crate::tape::Tape;
@@ -26,11 +24,9 @@ impl<C: Sponge, U, D: DigestHasher, P: Tape> DriverState<C, U, D, P> {
         EF: AlgebraIdentity<F> + Named,
         Cdc: ScalarCodec<C, F>,
     >(&mut self, label: Label, value: &EF) -> Result<TranscriptBound<EF>, TranscriptError>
-        ensures { let step = ⟦<EF as Declared<F, D>>⟧.step Message label.now Scalar in
-            let codec = ⟦<ExtensionFieldCodec<F, EF, Cdc> as Codec<C, EF>>⟧ in
-            KeepsOrRefuses (meaning.observed step codec.observation value.now)
-            (driving_of C.state P.bytes self.old) bound_value result
-            (driving_of C.state P.bytes self.new) }
+        ensures { Keeps C.state P.bytes (meaning.observed (⟦<EF as Declared<F, D>>⟧.step Message
+            label.now Scalar) ⟦<ExtensionFieldCodec<F, EF, Cdc> as Codec<C, EF>>⟧.observation
+            value.now) self.old bound_value result self.new }
     {
         self.observe_element::<F, EF, ExtensionFieldCodec<F, EF, Cdc>>(Kind::Message, label, value)
     }
@@ -46,10 +42,8 @@ impl<C: Sponge, U, D: DigestHasher, P: Tape> DriverState<C, U, D, P> {
     where
         C: CanObserve<T>,
         requires { (copy : T) → T.is_clone value copy → copy ≡ value }
-        ensures { KeepsOrRefuses
-            (meaning.observed (opaque_step Message label.now Scalar) C.observation value)
-            (driving_of C.state P.bytes self.old) bound_value result
-            (driving_of C.state P.bytes self.new) }
+        ensures { Keeps C.state P.bytes (meaning.observed (opaque_step Message label.now Scalar)
+            C.observation value) self.old bound_value result self.new }
     {
         self.steps.take(Interaction::opaque(
             Hierarchy::Atomic,
@@ -68,10 +62,8 @@ impl<C: Sponge, U, D: DigestHasher, P: Tape> DriverState<C, U, D, P> {
         A: AlgebraIdentity<F> + Named,
         Cdc: Codec<C, A>,
     >(&mut self, kind: Kind, label: Label, value: &A) -> Result<TranscriptBound<A>, TranscriptError>
-        ensures { let step = ⟦<A as Declared<F, D>>⟧.step kind label.now Scalar in
-            KeepsOrRefuses (meaning.observed step Cdc.observation value.now)
-            (driving_of C.state P.bytes self.old) bound_value result
-            (driving_of C.state P.bytes self.new) }
+        ensures { Keeps C.state P.bytes (meaning.observed (⟦<A as Declared<F, D>>⟧.step
+            kind label.now Scalar) Cdc.observation value.now) self.old bound_value result self.new }
     {
         self.steps
             .take_algebra::<F, A>(kind, label, Length::Scalar)?;
@@ -86,11 +78,9 @@ impl<C: Sponge, U, D: DigestHasher, P: Tape> DriverState<C, U, D, P> {
         label: Label,
         values: &[A],
     ) -> Result<Vec<TranscriptBound<A>>, TranscriptError>
-        ensures exact { let step = ⟦<A as Declared<F, D>>⟧.step kind label.now
-            (Fixed (length values.now)) in
-            KeepsOrRefuses (meaning.observed_list step Cdc.observation values.now)
-            (driving_of C.state P.bytes self.old) bound_values result
-            (driving_of C.state P.bytes self.new) }
+        ensures exact { Keeps C.state P.bytes (meaning.observed_list
+            (⟦<A as Declared<F, D>>⟧.step kind label.now (Fixed (length values.now)))
+            Cdc.observation values.now) self.old bound_values result self.new }
         ensures count { IfOk result (λ bounds. vec_len bounds ≡ length values.now) }
     {
         self.steps
@@ -119,11 +109,10 @@ impl<U: Unit, C: CanObserve<U::Item>, D: DigestHasher, P: Tape> DriverState<C, U
     ) -> Result<Vec<TranscriptBound<A>>, TranscriptError>
         requires alphabet { U.is_alphabet }
         requires within { length values.now ≤ max }
-        ensures exact { let step = ⟦<A as Declared<F, D>>⟧.step kind label.now (Bounded max) in
-            let alphabet = ⟦<U as AlphabetOf<C>>⟧.alphabet in
-            KeepsOrRefuses (meaning.observed_bounded step alphabet max Cdc.observation values.now)
-            (driving_of C.state P.bytes self.old) bound_values result
-            (driving_of C.state P.bytes self.new) }
+        ensures exact { Keeps C.state P.bytes (meaning.observed_bounded
+            (⟦<A as Declared<F, D>>⟧.step kind label.now (Bounded max))
+            ⟦<U as AlphabetOf<C>>⟧.alphabet max Cdc.observation values.now)
+            self.old bound_values result self.new }
         ensures count { IfOk result (λ bounds. vec_len bounds ≡ length values.now) }
     {
         self.steps

@@ -3,8 +3,7 @@ ghost use Rattle.std.specs.Prelude.{◌≡◌, ◌≤◌, ◌↔◌, ◌*◌, Is
 ghost use Rattle.p3_challenger_core.specs.Observation.{observed_all};
 ghost use Rattle.p3_driver_core.specs.Bound.{bound_value, bound_values};
 ghost use Rattle.p3_driver_core.specs.Reads as reads;
-ghost use Rattle.p3_driver_core.specs.Reads.{AnswersRead, AnswersList};
-ghost use Rattle.p3_driver_core.specs.Driving.{KeepsOrRefuses};
+ghost use Rattle.p3_driver_core.specs.{Reads.{AnswersRead, AnswersList}, Driving.KeepsOrRefuses};
 ghost use Rattle.p3_driver_core.specs.Meanings as meaning;
 ghost use Rattle.p3_driver_core.specs.Verifying.{CarriesAsRecorded, CarriesWithin, ReceivesOrRefuses};
 ghost use Rattle.p3_drivers.specs.Drivers.{verifying_of};
@@ -39,11 +38,10 @@ impl<'a, U: Unit, C: CanObserve<U::Item>, D: DigestHasher> VerifierState<'a, C, 
         max: usize,
     ) -> Result<Vec<TranscriptBound<EF>>, TranscriptError>
         requires { U.is_alphabet }
-        ensures exact { let step = ⟦<EF as Declared<F, D>>⟧.step Message label.now (Bounded max) in
-            let codec = ⟦<ExtensionFieldCodec<F, EF, Cdc> as Codec<C, EF>>⟧ in
-            let alphabet = ⟦<U as AlphabetOf<C>>⟧.alphabet in
-            CarriesWithin (length values.now) max
-            (meaning.observed_bounded step alphabet max codec.observation values.now)
+        ensures exact { CarriesWithin (length values.now) max
+            (meaning.observed_bounded (⟦<EF as Declared<F, D>>⟧.step
+            Message label.now (Bounded max)) ⟦<U as AlphabetOf<C>>⟧.alphabet
+            max ⟦<ExtensionFieldCodec<F, EF, Cdc> as Codec<C, EF>>⟧.observation values.now)
             (verifying_of C.state self.old) bound_values result (verifying_of C.state self.new) }
         ensures count { IfOk result (λ bounds. vec_len bounds ≡ length values.now) }
     {
@@ -68,10 +66,9 @@ impl<'a, U: Unit, C: CanObserve<U::Item>, D: DigestHasher> VerifierState<'a, C, 
         max: usize,
     ) -> Result<Vec<TranscriptBound<F>>, TranscriptError>
         requires { U.is_alphabet }
-        ensures exact { let step = ⟦<F as Declared<F, D>>⟧.step Public label.now (Bounded max) in
-            let alphabet = ⟦<U as AlphabetOf<C>>⟧.alphabet in
-            CarriesWithin (length values.now) max
-            (meaning.observed_bounded step alphabet max Cdc.observation values.now)
+        ensures exact { CarriesWithin (length values.now) max
+            (meaning.observed_bounded (⟦<F as Declared<F, D>>⟧.step Public label.now (Bounded max))
+            ⟦<U as AlphabetOf<C>>⟧.alphabet max Cdc.observation values.now)
             (verifying_of C.state self.old) bound_values result (verifying_of C.state self.new) }
         ensures count { IfOk result (λ bounds. vec_len bounds ≡ length values.now) }
     {
@@ -148,10 +145,9 @@ impl<'a, U: Unit, C: CanObserve<U::Item>, D: DigestHasher> VerifierState<'a, C, 
         max: usize,
     ) -> Result<Vec<TranscriptBound<F>>, TranscriptError>
         requires { U.is_alphabet }
-        ensures exact { let step = ⟦<F as Declared<F, D>>⟧.step Message label.now (Bounded max) in
-            let alphabet = ⟦<U as AlphabetOf<C>>⟧.alphabet in
-            ReceivesOrRefuses
-            (reads.received_bounded step alphabet max Cdc.observation Cdc.encoding)
+        ensures exact { ReceivesOrRefuses (reads.received_bounded
+            (⟦<F as Declared<F, D>>⟧.step Message label.now (Bounded max))
+            ⟦<U as AlphabetOf<C>>⟧.alphabet max Cdc.observation Cdc.encoding)
             (verifying_of C.state self.old) bound_values result (verifying_of C.state self.new) }
         ensures count { IfOk result (λ bounds. vec_len bounds ≤ max) }
     {
@@ -192,8 +188,8 @@ impl<'a, C: Sponge, U, D: DigestHasher> VerifierState<'a, C, U, D> {
         label: Label,
         value: &F,
     ) -> Result<TranscriptBound<F>, TranscriptError>
-        ensures { let step = ⟦<F as Declared<F, D>>⟧.step Public label.now Scalar in
-            KeepsOrRefuses (meaning.observed step Cdc.observation value.now)
+        ensures { KeepsOrRefuses (meaning.observed
+            (⟦<F as Declared<F, D>>⟧.step Public label.now Scalar) Cdc.observation value.now)
             (verifying_of C.state self.old) bound_value result (verifying_of C.state self.new) }
     {
         self.observe_element::<F, F, Cdc>(Kind::Public, label, value)
@@ -205,9 +201,8 @@ impl<'a, C: Sponge, U, D: DigestHasher> VerifierState<'a, C, U, D> {
         label: Label,
         values: &[F],
     ) -> Result<Vec<TranscriptBound<F>>, TranscriptError>
-        ensures exact { let step = ⟦<F as Declared<F, D>>⟧.step Public label.now
-            (Fixed (length values.now)) in
-            KeepsOrRefuses (meaning.observed_list step Cdc.observation values.now)
+        ensures exact { KeepsOrRefuses (meaning.observed_list (⟦<F as Declared<F, D>>⟧.step
+            Public label.now (Fixed (length values.now))) Cdc.observation values.now)
             (verifying_of C.state self.old) bound_values result (verifying_of C.state self.new) }
         ensures count { IfOk result (λ bounds. vec_len bounds ≡ length values.now) }
     {
@@ -224,11 +219,9 @@ impl<'a, C: Sponge, U, D: DigestHasher> VerifierState<'a, C, U, D> {
         EF: AlgebraIdentity<F> + Named,
         Cdc: ScalarCodec<C, F>,
     >(&mut self, label: Label, values: &[EF]) -> Result<Vec<TranscriptBound<EF>>, TranscriptError>
-        ensures exact { let step = ⟦<EF as Declared<F, D>>⟧.step Message label.now
-            (Fixed (length values.now)) in
-            let codec = ⟦<ExtensionFieldCodec<F, EF, Cdc> as Codec<C, EF>>⟧ in
-            CarriesAsRecorded (length values.now)
-            (meaning.observed_list step codec.observation values.now)
+        ensures exact { CarriesAsRecorded (length values.now) (meaning.observed_list
+            (⟦<EF as Declared<F, D>>⟧.step Message label.now (Fixed (length values.now)))
+            ⟦<ExtensionFieldCodec<F, EF, Cdc> as Codec<C, EF>>⟧.observation values.now)
             (verifying_of C.state self.old) bound_values result (verifying_of C.state self.new) }
         ensures count { IfOk result (λ bounds. vec_len bounds ≡ length values.now) }
     {
@@ -241,8 +234,8 @@ impl<'a, C: Sponge, U, D: DigestHasher> VerifierState<'a, C, U, D> {
         &mut self,
         label: Label,
     ) -> Result<TranscriptBound<F>, TranscriptError>
-        ensures { let step = ⟦<F as Declared<F, D>>⟧.step Message label.now Scalar in
-            ReceivesOrRefuses (reads.received step Cdc.observation Cdc.encoding)
+        ensures { ReceivesOrRefuses (reads.received
+            (⟦<F as Declared<F, D>>⟧.step Message label.now Scalar) Cdc.observation Cdc.encoding)
             (verifying_of C.state self.old) bound_value result (verifying_of C.state self.new) }
     {
         self.receive::<F, F, Cdc>(label)
@@ -257,9 +250,9 @@ impl<'a, C: Sponge, U, D: DigestHasher> VerifierState<'a, C, U, D> {
         label: Label,
         n: usize,
     ) -> Result<Vec<TranscriptBound<F>>, TranscriptError>
-        ensures exact { let step = ⟦<F as Declared<F, D>>⟧.step Message label.now (Fixed n) in
-            ReceivesOrRefuses (reads.received_list step Cdc.observation Cdc.encoding n)
-            (verifying_of C.state self.old) bound_values result (verifying_of C.state self.new) }
+        ensures exact { ReceivesOrRefuses (reads.received_list
+            (⟦<F as Declared<F, D>>⟧.step Message label.now (Fixed n)) Cdc.observation Cdc.encoding
+            n) (verifying_of C.state self.old) bound_values result (verifying_of C.state self.new) }
         ensures count { IfOk result (λ bounds. vec_len bounds ≡ n) }
     {
         self.steps
@@ -275,9 +268,9 @@ impl<'a, C: Sponge, U, D: DigestHasher> VerifierState<'a, C, U, D> {
         EF: AlgebraIdentity<F> + Named,
         Cdc: ScalarCodec<C, F>,
     >(&mut self, label: Label) -> Result<TranscriptBound<EF>, TranscriptError>
-        ensures { let step = ⟦<EF as Declared<F, D>>⟧.step Message label.now Scalar in
-            let codec = ⟦<ExtensionFieldCodec<F, EF, Cdc> as Codec<C, EF>>⟧ in
-            ReceivesOrRefuses (reads.received step codec.observation codec.encoding)
+        ensures { let codec = ⟦<ExtensionFieldCodec<F, EF, Cdc> as Codec<C, EF>>⟧ in
+            ReceivesOrRefuses (reads.received (⟦<EF as Declared<F, D>>⟧.step
+            Message label.now Scalar) codec.observation codec.encoding)
             (verifying_of C.state self.old) bound_value result (verifying_of C.state self.new) }
     {
         self.receive::<F, EF, ExtensionFieldCodec<F, EF, Cdc>>(label)
@@ -324,8 +317,8 @@ impl<'a, C: Sponge, U, D: DigestHasher> VerifierState<'a, C, U, D> {
         &mut self,
         label: Label,
     ) -> Result<TranscriptBound<A>, TranscriptError>
-        ensures { let step = ⟦<A as Declared<F, D>>⟧.step Message label.now Scalar in
-            ReceivesOrRefuses (reads.received step Cdc.observation Cdc.encoding)
+        ensures { ReceivesOrRefuses (reads.received
+            (⟦<A as Declared<F, D>>⟧.step Message label.now Scalar) Cdc.observation Cdc.encoding)
             (verifying_of C.state self.old) bound_value result (verifying_of C.state self.new) }
     {
         self.steps
@@ -341,11 +334,10 @@ impl<'a, C: Sponge, U, D: DigestHasher> VerifierState<'a, C, U, D> {
         &mut self,
         n: usize,
     ) -> Result<Vec<TranscriptBound<A>>, TranscriptError>
-        ensures read { AnswersList (reads.read_values Cdc.encoding Cdc.observation.observed n
-            self.old.tape.bytes.now) (observed_all Cdc.observation.observed)
-            (reads.LeavesValues Cdc.encoding Cdc.observation n self.old.tape.bytes.now) bound_values
-            (C.state self.old.challenger) result self.new.tape.bytes.now
-            (C.state self.new.challenger) }
+        ensures read { AnswersList (reads.read_values Cdc.encoding Cdc.observation.observed
+            n self.old.tape.bytes.now) (observed_all Cdc.observation.observed) (reads.LeavesValues
+            Cdc.encoding Cdc.observation n self.old.tape.bytes.now) bound_values (C.state
+            self.old.challenger) result self.new.tape.bytes.now (C.state self.new.challenger) }
         ensures steps { self.new.steps ≡ self.old.steps }
         ensures count { IfOk result (λ bounds. vec_len bounds ≡ n) }
     {
@@ -366,8 +358,7 @@ impl<'a, C: Sponge, U, D: DigestHasher> VerifierState<'a, C, U, D> {
     // Reads so many bytes. Where there are fewer, none is passed.
     pub(super) fn read_bytes(&mut self, len: usize) -> Result<&'a [u8], TranscriptError>
         ensures read { AnswersRead (reads.read_bytes {S = C.State} len self.old.tape.bytes.now)
-            (λ bytes. bytes.now) result
-            self.new.tape.bytes.now }
+            (λ bytes. bytes.now) result self.new.tape.bytes.now }
         ensures steps { self.new.steps ≡ self.old.steps }
         ensures challenger { self.new.challenger ≡ self.old.challenger }
         ensures count { IfOk result (λ bytes. length bytes.now ≡ len) }

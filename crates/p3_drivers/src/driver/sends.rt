@@ -2,8 +2,7 @@
 ghost use Rattle.std.specs.Prelude.{◌≡◌, ◌≤◌, length, IfOk, vec_len};
 ghost use Rattle.p3_driver_core.specs.Bound.{bound_value, bound_values};
 ghost use Rattle.p3_driver_core.specs.Meanings as meaning;
-ghost use Rattle.p3_driver_core.specs.Driving.{KeepsOrRefuses};
-ghost use Rattle.p3_driver_core.specs.Proving.{WritesOrRefuses, WritesWithin, KeepsWithin};
+ghost use Rattle.p3_driver_core.specs.{Driving.KeepsOrRefuses, Proving.{WritesOrRefuses, WritesWithin, KeepsWithin}};
 ghost use Rattle.p3_drivers.specs.Drivers.{proving_of};
 ghost use Rattle.p3_fs_core.specs.declared.step.Kind.TheVariants.{Message, Public, Salt};
 ghost use Rattle.p3_fs_core.specs.declared.step.Length.TheVariants.{Bounded, Fixed, Scalar};
@@ -33,11 +32,10 @@ impl<U: Unit, C: CanObserve<U::Item>, D: DigestHasher> ProverState<C, U, D> {
         max: usize,
     ) -> Result<Vec<TranscriptBound<EF>>, TranscriptError>
         requires { U.is_alphabet }
-        ensures exact { let step = ⟦<EF as Declared<F, D>>⟧.step Message label.now (Bounded max) in
-            let codec = ⟦<ExtensionFieldCodec<F, EF, Cdc> as Codec<C, EF>>⟧ in
-            let alphabet = ⟦<U as AlphabetOf<C>>⟧.alphabet in
-            KeepsWithin (length values.now) max
-            (meaning.observed_bounded step alphabet max codec.observation values.now)
+        ensures exact { KeepsWithin (length values.now) max
+            (meaning.observed_bounded (⟦<EF as Declared<F, D>>⟧.step
+            Message label.now (Bounded max)) ⟦<U as AlphabetOf<C>>⟧.alphabet
+            max ⟦<ExtensionFieldCodec<F, EF, Cdc> as Codec<C, EF>>⟧.observation values.now)
             (proving_of C.state self.old) bound_values result (proving_of C.state self.new) }
         ensures count { IfOk result (λ bounds. vec_len bounds ≡ length values.now) }
     {
@@ -61,10 +59,9 @@ impl<U: Unit, C: CanObserve<U::Item>, D: DigestHasher> ProverState<C, U, D> {
         max: usize,
     ) -> Result<Vec<TranscriptBound<F>>, TranscriptError>
         requires { U.is_alphabet }
-        ensures exact { let step = ⟦<F as Declared<F, D>>⟧.step Public label.now (Bounded max) in
-            let alphabet = ⟦<U as AlphabetOf<C>>⟧.alphabet in
-            KeepsWithin (length values.now) max
-            (meaning.observed_bounded step alphabet max Cdc.observation values.now)
+        ensures exact { KeepsWithin (length values.now) max
+            (meaning.observed_bounded (⟦<F as Declared<F, D>>⟧.step Public label.now (Bounded max))
+            ⟦<U as AlphabetOf<C>>⟧.alphabet max Cdc.observation values.now)
             (proving_of C.state self.old) bound_values result (proving_of C.state self.new) }
         ensures count { IfOk result (λ bounds. vec_len bounds ≡ length values.now) }
     {
@@ -111,9 +108,8 @@ impl<U: Unit, C: CanObserve<U::Item>, D: DigestHasher> ProverState<C, U, D> {
         max: usize,
     ) -> Result<(), TranscriptError>
         requires { U.is_alphabet }
-        ensures { let alphabet = ⟦<U as AlphabetOf<C>>⟧.alphabet in
-            WritesWithin (length bytes.now) max
-            (meaning.sent_bytes_bounded Message label.now alphabet max bytes.now)
+        ensures { WritesWithin (length bytes.now) max (meaning.sent_bytes_bounded
+            Message label.now ⟦<U as AlphabetOf<C>>⟧.alphabet max bytes.now)
             (proving_of C.state self.old) (λ _. bytes.now) result (proving_of C.state self.new) }
     {
         self.steps.within(bytes.len(), max)?;
@@ -131,10 +127,9 @@ impl<U: Unit, C: CanObserve<U::Item>, D: DigestHasher> ProverState<C, U, D> {
         max: usize,
     ) -> Result<Vec<TranscriptBound<F>>, TranscriptError>
         requires { U.is_alphabet }
-        ensures exact { let step = ⟦<F as Declared<F, D>>⟧.step Message label.now (Bounded max) in
-            let alphabet = ⟦<U as AlphabetOf<C>>⟧.alphabet in
-            WritesWithin (length values.now) max
-            (meaning.sent_bounded step alphabet max Cdc.observation Cdc.encoding values.now)
+        ensures exact { WritesWithin (length values.now) max
+            (meaning.sent_bounded (⟦<F as Declared<F, D>>⟧.step Message label.now (Bounded max))
+            ⟦<U as AlphabetOf<C>>⟧.alphabet max Cdc.observation Cdc.encoding values.now)
             (proving_of C.state self.old) bound_values result (proving_of C.state self.new) }
         ensures count { IfOk result (λ bounds. vec_len bounds ≡ length values.now) }
     {
@@ -168,8 +163,8 @@ impl<U: Unit, C: CanObserve<U::Item>, D: DigestHasher> ProverState<C, U, D> {
     ) -> Result<(), TranscriptError>
         requires alphabet { U.is_alphabet }
         requires within { length bytes.now ≤ max }
-        ensures { let alphabet = ⟦<U as AlphabetOf<C>>⟧.alphabet in
-            WritesOrRefuses (meaning.sent_bytes_bounded Message label.now alphabet max bytes.now)
+        ensures { WritesOrRefuses (meaning.sent_bytes_bounded
+            Message label.now ⟦<U as AlphabetOf<C>>⟧.alphabet max bytes.now)
             (proving_of C.state self.old) (λ _. bytes.now) result (proving_of C.state self.new) }
     {
         self.steps
@@ -192,10 +187,9 @@ impl<U: Unit, C: CanObserve<U::Item>, D: DigestHasher> ProverState<C, U, D> {
     ) -> Result<Vec<TranscriptBound<F>>, TranscriptError>
         requires alphabet { U.is_alphabet }
         requires within { length values.now ≤ max }
-        ensures exact { let step = ⟦<F as Declared<F, D>>⟧.step Message label.now (Bounded max) in
-            let alphabet = ⟦<U as AlphabetOf<C>>⟧.alphabet in
-            WritesOrRefuses
-            (meaning.sent_bounded step alphabet max Cdc.observation Cdc.encoding values.now)
+        ensures exact { WritesOrRefuses (meaning.sent_bounded
+            (⟦<F as Declared<F, D>>⟧.step Message label.now (Bounded max))
+            ⟦<U as AlphabetOf<C>>⟧.alphabet max Cdc.observation Cdc.encoding values.now)
             (proving_of C.state self.old) bound_values result (proving_of C.state self.new) }
         ensures count { IfOk result (λ bounds. vec_len bounds ≡ length values.now) }
     {
@@ -218,8 +212,8 @@ impl<C: Sponge, U, D: DigestHasher> ProverState<C, U, D> {
         label: Label,
         value: &F,
     ) -> Result<TranscriptBound<F>, TranscriptError>
-        ensures { let step = ⟦<F as Declared<F, D>>⟧.step Public label.now Scalar in
-            KeepsOrRefuses (meaning.observed step Cdc.observation value.now)
+        ensures { KeepsOrRefuses (meaning.observed
+            (⟦<F as Declared<F, D>>⟧.step Public label.now Scalar) Cdc.observation value.now)
             (proving_of C.state self.old) bound_value result (proving_of C.state self.new) }
     {
         self.observe_element::<F, F, Cdc>(Kind::Public, label, value)
@@ -231,9 +225,8 @@ impl<C: Sponge, U, D: DigestHasher> ProverState<C, U, D> {
         label: Label,
         values: &[F],
     ) -> Result<Vec<TranscriptBound<F>>, TranscriptError>
-        ensures exact { let step = ⟦<F as Declared<F, D>>⟧.step Public label.now
-            (Fixed (length values.now)) in
-            KeepsOrRefuses (meaning.observed_list step Cdc.observation values.now)
+        ensures exact { KeepsOrRefuses (meaning.observed_list (⟦<F as Declared<F, D>>⟧.step
+            Public label.now (Fixed (length values.now))) Cdc.observation values.now)
             (proving_of C.state self.old) bound_values result (proving_of C.state self.new) }
         ensures count { IfOk result (λ bounds. vec_len bounds ≡ length values.now) }
     {
@@ -246,10 +239,9 @@ impl<C: Sponge, U, D: DigestHasher> ProverState<C, U, D> {
         EF: AlgebraIdentity<F> + Named,
         Cdc: ScalarCodec<C, F>,
     >(&mut self, label: Label, values: &[EF]) -> Result<Vec<TranscriptBound<EF>>, TranscriptError>
-        ensures exact { let step = ⟦<EF as Declared<F, D>>⟧.step Message label.now
-            (Fixed (length values.now)) in
-            let codec = ⟦<ExtensionFieldCodec<F, EF, Cdc> as Codec<C, EF>>⟧ in
-            KeepsOrRefuses (meaning.observed_list step codec.observation values.now)
+        ensures exact { KeepsOrRefuses (meaning.observed_list
+            (⟦<EF as Declared<F, D>>⟧.step Message label.now (Fixed (length values.now)))
+            ⟦<ExtensionFieldCodec<F, EF, Cdc> as Codec<C, EF>>⟧.observation values.now)
             (proving_of C.state self.old) bound_values result (proving_of C.state self.new) }
         ensures count { IfOk result (λ bounds. vec_len bounds ≡ length values.now) }
     {
@@ -262,8 +254,8 @@ impl<C: Sponge, U, D: DigestHasher> ProverState<C, U, D> {
         label: Label,
         value: &F,
     ) -> Result<TranscriptBound<F>, TranscriptError>
-        ensures { let step = ⟦<F as Declared<F, D>>⟧.step Message label.now Scalar in
-            WritesOrRefuses (meaning.sent step Cdc.observation Cdc.encoding value.now)
+        ensures { WritesOrRefuses (meaning.sent (⟦<F as Declared<F, D>>⟧.step
+            Message label.now Scalar) Cdc.observation Cdc.encoding value.now)
             (proving_of C.state self.old) bound_value result (proving_of C.state self.new) }
     {
         self.send::<F, F, Cdc>(label, value)
@@ -276,9 +268,8 @@ impl<C: Sponge, U, D: DigestHasher> ProverState<C, U, D> {
         label: Label,
         values: &[F],
     ) -> Result<Vec<TranscriptBound<F>>, TranscriptError>
-        ensures exact { let step = ⟦<F as Declared<F, D>>⟧.step Message label.now
-            (Fixed (length values.now)) in
-            WritesOrRefuses (meaning.sent_list step Cdc.observation Cdc.encoding values.now)
+        ensures exact { WritesOrRefuses (meaning.sent_list (⟦<F as Declared<F, D>>⟧.step
+            Message label.now (Fixed (length values.now))) Cdc.observation Cdc.encoding values.now)
             (proving_of C.state self.old) bound_values result (proving_of C.state self.new) }
         ensures count { IfOk result (λ bounds. vec_len bounds ≡ length values.now) }
     {
@@ -297,9 +288,9 @@ impl<C: Sponge, U, D: DigestHasher> ProverState<C, U, D> {
         EF: AlgebraIdentity<F> + Named,
         Cdc: ScalarCodec<C, F>,
     >(&mut self, label: Label, value: &EF) -> Result<TranscriptBound<EF>, TranscriptError>
-        ensures { let step = ⟦<EF as Declared<F, D>>⟧.step Message label.now Scalar in
-            let codec = ⟦<ExtensionFieldCodec<F, EF, Cdc> as Codec<C, EF>>⟧ in
-            WritesOrRefuses (meaning.sent step codec.observation codec.encoding value.now)
+        ensures { let codec = ⟦<ExtensionFieldCodec<F, EF, Cdc> as Codec<C, EF>>⟧ in
+            WritesOrRefuses (meaning.sent (⟦<EF as Declared<F, D>>⟧.step Message label.now Scalar)
+            codec.observation codec.encoding value.now)
             (proving_of C.state self.old) bound_value result (proving_of C.state self.new) }
     {
         self.send::<F, EF, ExtensionFieldCodec<F, EF, Cdc>>(label, value)
@@ -346,8 +337,8 @@ impl<C: Sponge, U, D: DigestHasher> ProverState<C, U, D> {
         label: Label,
         value: &A,
     ) -> Result<TranscriptBound<A>, TranscriptError>
-        ensures { let step = ⟦<A as Declared<F, D>>⟧.step Message label.now Scalar in
-            WritesOrRefuses (meaning.sent step Cdc.observation Cdc.encoding value.now)
+        ensures { WritesOrRefuses (meaning.sent (⟦<A as Declared<F, D>>⟧.step
+            Message label.now Scalar) Cdc.observation Cdc.encoding value.now)
             (proving_of C.state self.old) bound_value result (proving_of C.state self.new) }
     {
         self.steps

@@ -2,13 +2,10 @@
 ghost use Rattle.std.specs.Prelude.{◌≡◌, ◌≤◌};
 ghost use Rattle.p3_driver_core.specs.Proving.{GrindsAndWrites, GrindsAndKeeps};
 ghost use Rattle.p3_driver_core.specs.Reads as reads;
-ghost use Rattle.p3_driver_core.specs.Reads.{AnswersRead};
-ghost use Rattle.p3_driver_core.specs.Verifying.{ReceivesWork, ChecksAndKeeps};
-ghost use Rattle.p3_driver_core.specs.Working.{work_of};
-ghost use Rattle.p3_fs_core.specs.Scalar.{encoding};
-ghost use Rattle.p3_drivers.specs.Drivers.{proving_of, verifying_of};
-ghost use Rattle.p3_fs_core.specs.declared.step.Kind.TheVariants.{Pow};
+ghost use Rattle.p3_driver_core.specs.{Reads.AnswersRead, Verifying.{ReceivesWork, ChecksAndKeeps}, Working.work_of};
+ghost use Rattle.p3_fs_core.specs.{Scalar.encoding, declared.step.Kind.TheVariants.Pow};
 ghost use Rattle.p3_fs_core.specs.declared.step.Length.TheVariants.{Fixed};
+ghost use Rattle.p3_drivers.specs.Drivers.{proving_of, verifying_of};
 
 use crate::{ProverState, VerifierState};
 use p3_driver_core::check_work;
@@ -56,8 +53,7 @@ impl<C: GrindingChallenger, U, D: DigestHasher> ProverState<C, U, D> {
         requires { bits ≤ C.most_bits }
         ensures { GrindsAndKeeps (work_of
             (⟦<C::Witness as Declared<C::Witness, D>>⟧.step Pow label.now (Fixed bits))
-            C.Witness.residues C.before_witness C.observation C.bits_sampling bits)
-            C.may_run_out
+            C.Witness.residues C.before_witness C.observation C.bits_sampling bits) C.may_run_out
             (proving_of C.state self.old) (λ x. x) result (proving_of C.state self.new) }
     {
         self.steps

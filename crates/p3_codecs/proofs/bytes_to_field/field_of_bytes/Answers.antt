@@ -1,6 +1,5 @@
 use Rattle.std.proofs.Common.{get_or}
-use Rattle.p3_codecs.specs.BytesToField.{challenge_of}
-use Rattle.p3_codecs.proofs.Following.{following-step}
+use Rattle.p3_codecs.{specs.BytesToField.challenge_of, proofs.Following.following-step}
 use Rattle.p3_codecs.proofs.bytes_to_field.field_of_bytes.Goals as goal
 
 pub loop-byte-preserved : goal.loop-byte-preserved

@@ -1,10 +1,8 @@
 use Rattle.std.proofs.Common.{◌+◌, ◌*◌, ◌<◌, ◌≤◌, length, take, drop, Ok, Err, sym, ap, ◌∙◌, subst, arith}
-use Rattle.std.proofs.lemmas.List.{take_more_set}
-use Rattle.std.proofs.lemmas.Result.{err_from_is_err_and}
-use Rattle.p3_codecs.specs.ExtensionLaws.{after_coefficient}
-use Rattle.p3_fs_core.specs.BigEndianLaws.{AreBytes-drop}
+use Rattle.std.proofs.lemmas.{List.take_more_set, Result.err_from_is_err_and}
+use Rattle.p3_codecs.{specs.ExtensionLaws.after_coefficient, proofs.Coefficients.decoded-here}
 use Rattle.p3_codecs.proofs.Coefficients.{HasRead, has_read-next, has_read-stops, has_read-all, whole-element}
-use Rattle.p3_codecs.proofs.Coefficients.{decoded-here}
+use Rattle.p3_fs_core.specs.BigEndianLaws.{AreBytes-drop}
 use Rattle.p3_codecs.proofs.extension.decode_coefficients.Goals as goal
 
 -- a coefficient is none

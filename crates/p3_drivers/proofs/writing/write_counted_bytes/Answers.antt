@@ -9,7 +9,6 @@ returns-in_err-write_bytes-clause-left c =
     c.args.prefix.now c.args.bytes.now c.in_err-write_bytes.ensures.left)
 
 pub returns-clause-left : goal.returns-clause-left
-returns-clause-left c =
-    on_err_weaker c.write_bytes-2.result (second-left c.args.narg.now.items c.write_bytes.new.narg.items
-    c.write_bytes-2.new.narg.items c.args.prefix.now c.args.bytes.now
-    c.in_ok-write_bytes.ensures.ok) c.write_bytes-2.ensures.left
+returns-clause-left c = on_err_weaker c.write_bytes-2.result
+    (second-left c.args.narg.now.items c.write_bytes.new.narg.items c.write_bytes-2.new.narg.items
+    c.args.prefix.now c.args.bytes.now c.in_ok-write_bytes.ensures.ok) c.write_bytes-2.ensures.left

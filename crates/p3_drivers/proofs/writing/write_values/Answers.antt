@@ -1,5 +1,4 @@
-use Rattle.std.proofs.Common.{◌∷◌, ◌+◌, drop, sym, subst, ◌∙◌, add-one}
-use Rattle.std.proofs.Math.Seq.{drop-cons}
+use Rattle.std.proofs.{Common.{◌∷◌, ◌+◌, drop, sym, subst, ◌∙◌, add-one}, Math.Seq.drop-cons}
 use Rattle.std.proofs.lemmas.Result.{err_from_is_err_and}
 use Rattle.p3_drivers.proofs.Pieces.{Encoded, encoded-stops}
 use Rattle.p3_drivers.proofs.writing.write_values.Goals as goal
@@ -13,8 +12,7 @@ returns-in_err-encode-clause-left g c =
     let i = c.loop-value.value-index in
     let x = c.value-item.result in
     let rest = drop (i + 1) xs in
-    rw p.1 (encoded-stops wire c.args.narg.now.items xs c.loop-value.narg.items c.encode.new.out.items x rest
-    c.in_err-encode.ensures.left
-    (subst (λ ys. Encoded wire c.args.narg.now.items xs c.loop-value.narg.items ys)
+    rw p.1 (encoded-stops wire c.args.narg.now.items xs c.loop-value.narg.items c.encode.new.out.items
+    x rest c.in_err-encode.ensures.left (subst (λ ys. Encoded wire c.args.narg.now.items xs c.loop-value.narg.items ys)
     (drop-cons xs i x c.loop-value-test.true ∙ (λ j. sym c.value-item.is j ∷ drop (sym (add-one i) j) xs))
     c.loop-value.invariant))

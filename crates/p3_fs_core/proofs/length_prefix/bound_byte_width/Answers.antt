@@ -1,5 +1,4 @@
-use Rattle.p3_fs_core.proofs.Counting.{width-enough, width-least}
-use Rattle.p3_fs_core.proofs.Widths.{count_width-is}
+use Rattle.p3_fs_core.proofs.{Counting.{width-enough, width-least}, Widths.count_width-is}
 use Rattle.p3_fs_core.proofs.length_prefix.bound_byte_width.Goals as goal
 
 pub returns-clause-width : goal.returns-clause-width

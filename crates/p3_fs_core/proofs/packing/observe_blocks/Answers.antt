@@ -1,8 +1,7 @@
 use Rattle.std.proofs.Common.{◌≡◌, ◌++◌, ◌*◌, ℕ, List, take, drop, sym, ap, ◌∙◌, subst}
 use Rattle.std.proofs.lemmas.Result.{err_from_is_err_and}
 use Rattle.p3_challenger_core.specs.CallLaws.{GoesOn}
-use Rattle.p3_fs_core.specs.Packing.{packed_chunks, chunk_bytes}
-use Rattle.p3_fs_core.proofs.SliceCalls.{slice-made, slice-refused}
+use Rattle.p3_fs_core.{specs.Packing.{packed_chunks, chunk_bytes}, proofs.SliceCalls.{slice-made, slice-refused}}
 use Rattle.p3_fs_core.proofs.packing.observe_blocks.Goals as goal
 
 -- a block more is observed

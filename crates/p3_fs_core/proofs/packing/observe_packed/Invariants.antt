@@ -1,5 +1,4 @@
-use Rattle.std.proofs.Common.{◌≡◌, map}
-use Rattle.std.specs.Slice.Iter.{chunks_rest, chunks_size}
+use Rattle.std.{proofs.Common.{◌≡◌, map}, specs.Slice.Iter.{chunks_rest, chunks_size}}
 use Rattle.p3_challenger_core.specs.CallLaws.{GoesOn}
 use Rattle.p3_fs_core.specs.Packing.{packed, chunks, chunk_bytes, little_endian}
 use Rattle.p3_fs_core.proofs.packing.observe_packed.Given as goal

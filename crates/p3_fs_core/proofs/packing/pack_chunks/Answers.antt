@@ -1,7 +1,6 @@
 use Rattle.std.proofs.Common.{◌≡◌, ◌≤◌, ◌<◌, ◌+◌, ◌-◌, ◌*◌, ◌/◌, ℕ, List, length, map, take, drop, arith, ap, ◌∙◌}
 use Rattle.std.proofs.Math.Nat.{mul-le-mul_left}
-use Rattle.p3_fs_core.specs.Packing.{chunks, little_endian}
-use Rattle.p3_fs_core.proofs.Packed.{packed-next}
+use Rattle.p3_fs_core.{specs.Packing.{chunks, little_endian}, proofs.Packed.packed-next}
 use Rattle.p3_fs_core.proofs.packing.pack_chunks.Goals as goal
 
 -- a chunk more is packed

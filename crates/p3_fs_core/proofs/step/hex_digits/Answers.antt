@@ -1,5 +1,4 @@
-use Rattle.std.proofs.Common.{rules, ◌≡◌, sym, subst, ◌∙◌}
-use Rattle.std.specs.Str.{IsAscii}
+use Rattle.std.{proofs.Common.{rules, ◌≡◌, sym, subst, ◌∙◌}, specs.Str.IsAscii}
 use Rattle.hex.specs.Hex.{encode_lower}
 use Rattle.p3_challenger_core.specs.Reading.{AreBytes}
 use Rattle.p3_fs_core.proofs.HexDigits.{hex_text-of_table, hex_text-ascii}

@@ -1,5 +1,4 @@
-use Rattle.std.proofs.Common.{◌≡◌, ◌+◌, ◌≤◌, length}
-use Rattle.std.specs.Fmt.{decimal}
+use Rattle.std.{proofs.Common.{◌≡◌, ◌+◌, ◌≤◌, length}, specs.Fmt.decimal}
 use Rattle.p3_patterns.proofs.rendering.decimal_digits.Given as goal
 
 abbrev pub invariant-loop-rest : goal.invariant-loop-rest

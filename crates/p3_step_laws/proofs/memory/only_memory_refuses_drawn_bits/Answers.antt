@@ -1,5 +1,4 @@
-use Rattle.p3_step_laws.proofs.LimitLaws.{drawing_list-tells}
-use Rattle.p3_step_laws.proofs.OnlyMemory.{only_memory}
+use Rattle.p3_step_laws.proofs.{LimitLaws.drawing_list-tells, OnlyMemory.only_memory}
 use Rattle.p3_step_laws.proofs.memory.only_memory_refuses_drawn_bits.Goals as goal
 
 pub returns : goal.returns

@@ -1,6 +1,5 @@
 use Rattle.std.specs.Prelude.{true}
-use Rattle.p3_step_laws.proofs.LimitLaws.{drawing_list-tells, rejecting-tells}
-use Rattle.p3_step_laws.proofs.OnlyMemory.{only_memory}
+use Rattle.p3_step_laws.proofs.{LimitLaws.{drawing_list-tells, rejecting-tells}, OnlyMemory.only_memory}
 use Rattle.p3_step_laws.proofs.memory.only_memory_refuses_drawn_uniform_bits.Goals as goal
 
 pub returns-clause-list : goal.returns-clause-list

@@ -1,6 +1,5 @@
 use Rattle.std.proofs.Common.{rules}
-use Rattle.p3_step_laws.proofs.ReadBack.{counted_bytes-back}
-use Rattle.p3_step_laws.specs.CompletenessLaws.{read_back-completes}
+use Rattle.p3_step_laws.{proofs.ReadBack.counted_bytes-back, specs.CompletenessLaws.read_back-completes}
 use Rattle.p3_step_laws.proofs.mirrors.sent_counted_bytes_are_received.Goals as goal
 
 pub returns : goal.returns

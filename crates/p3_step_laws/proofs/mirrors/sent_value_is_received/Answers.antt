@@ -1,6 +1,5 @@
 use Rattle.std.proofs.Common.{rules}
-use Rattle.p3_step_laws.proofs.ReadBack.{value-back}
-use Rattle.p3_step_laws.specs.CompletenessLaws.{read_back-completes}
+use Rattle.p3_step_laws.{proofs.ReadBack.value-back, specs.CompletenessLaws.read_back-completes}
 use Rattle.p3_step_laws.proofs.mirrors.sent_value_is_received.Goals as goal
 
 pub returns : goal.returns

@@ -1,7 +1,6 @@
 use Rattle.std.proofs.Common.{rules}
 use Rattle.p3_fs_core.specs.ScalarLaws.{is_encoding}
-use Rattle.p3_step_laws.proofs.ReadBack.{value-back}
-use Rattle.p3_step_laws.proofs.WorkMirrors.{work-followed}
+use Rattle.p3_step_laws.proofs.{ReadBack.value-back, WorkMirrors.work-followed}
 use Rattle.p3_step_laws.proofs.mirrors.sent_work_is_received.Goals as goal
 
 pub returns : goal.returns

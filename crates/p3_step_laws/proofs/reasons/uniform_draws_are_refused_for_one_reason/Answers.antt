@@ -1,6 +1,5 @@
 use Rattle.std.specs.Prelude.{true}
-use Rattle.p3_step_laws.proofs.LimitLaws.{drawing_list-tells, rejecting-tells}
-use Rattle.p3_step_laws.proofs.OneReason.{short-one_reason}
+use Rattle.p3_step_laws.proofs.{LimitLaws.{drawing_list-tells, rejecting-tells}, OneReason.short-one_reason}
 use Rattle.p3_step_laws.proofs.reasons.uniform_draws_are_refused_for_one_reason.Goals as goal
 
 pub returns-clause-list : goal.returns-clause-list

@@ -1,5 +1,4 @@
-use Rattle.std.specs.Prelude.{ℕ}
-use Rattle.std.proofs.Common.{rules}
+use Rattle.std.{specs.Prelude.ℕ, proofs.Common.rules}
 use Rattle.p3_fs_core.specs.Steps.{Step}
 use Rattle.p3_driver_core.specs.Working.{work_of}
 use Rattle.p3_step_laws.proofs.WorkReasons.{ground-one_reason, carried-one_reason, work-one_reason}

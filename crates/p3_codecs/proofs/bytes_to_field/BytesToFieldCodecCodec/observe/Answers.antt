@@ -1,8 +1,6 @@
-use Rattle.std.proofs.Common.{◌≡◌, ℕ, List, subst}
-use Rattle.std.specs.Result.{OnOk, IfErr}
+use Rattle.std.{proofs.Common.{◌≡◌, ℕ, List, subst}, specs.Result.{OnOk, IfErr}}
 use Rattle.p3_challenger_core.specs.Observation.{observed_all, RefusesObserve}
-use Rattle.p3_fs_core.specs.BigEndian.{bytes_for}
-use Rattle.p3_fs_core.specs.BigEndianLaws.{word_end}
+use Rattle.p3_fs_core.specs.{BigEndian.bytes_for, BigEndianLaws.word_end}
 use Rattle.p3_codecs.proofs.bytes_to_field.BytesToFieldCodecCodec.observe.Goals as goal
 
 pub returns-clause-ok : goal.returns-clause-ok

@@ -1,9 +1,7 @@
-use Rattle.std.proofs.Common.{◌≡◌, ℕ, ◌+◌, List, length, take, replicate, subst, arith}
-use Rattle.std.proofs.lemmas.List.{length-take-le}
+use Rattle.std.proofs.{Common.{◌≡◌, ℕ, ◌+◌, List, length, take, replicate, subst, arith}, lemmas.List.length-take-le}
 use Rattle.std.proofs.lemmas.Result.{err_from_is_err_and}
-use Rattle.p3_challenger_core.specs.Sampling.{RefusesDraws}
+use Rattle.p3_challenger_core.specs.{Sampling.RefusesDraws, SamplingLaws.refused-in_row}
 use Rattle.p3_fs_core.specs.BigEndian.{bytes_for}
-use Rattle.p3_challenger_core.specs.SamplingLaws.{refused-in_row}
 use Rattle.p3_codecs.proofs.bytes_to_field.BytesToFieldCodecCodec.sample.Goals as goal
 
 -- one of the bytes is refused

@@ -1,8 +1,7 @@
 use Rattle.std.proofs.Common.{◌*◌, flat_map, arith}
-use Rattle.p3_codecs.specs.Extension as extension
 use Rattle.p3_codecs.specs.ExtensionLaws.{length-wire, read-wire, read-only}
-use Rattle.p3_fs_core.specs.BigEndianLaws.{drop-front}
-use Rattle.p3_fs_core.specs.DecodingLaws.{decoded-found, decoded-only}
+use Rattle.p3_fs_core.specs.{BigEndianLaws.drop-front, DecodingLaws.{decoded-found, decoded-only}}
+use Rattle.p3_codecs.specs.Extension as extension
 use Rattle.p3_codecs.proofs.extension.ExtensionFieldCodecCodec.decode.Goals as goal
 
 pub returns-clause-found : goal.returns-clause-found

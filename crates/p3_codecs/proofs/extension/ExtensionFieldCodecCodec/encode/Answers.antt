@@ -1,5 +1,4 @@
-use Rattle.std.proofs.Common.{◌≡◌, ◌<◌, ◌++◌, length, take, get_or, ap, ◌∙◌, subst}
-use Rattle.std.specs.List.{flat_map}
+use Rattle.std.{proofs.Common.{◌≡◌, ◌<◌, ◌++◌, length, take, get_or, ap, ◌∙◌, subst}, specs.List.flat_map}
 use Rattle.std.proofs.lemmas.Result.{err_from_is_err_and}
 use Rattle.p3_codecs.proofs.Coefficients.{encoded-beginning}
 use Rattle.p3_codecs.proofs.extension.ExtensionFieldCodecCodec.encode.Goals as goal

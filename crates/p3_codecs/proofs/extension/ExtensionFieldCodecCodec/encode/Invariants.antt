@@ -1,5 +1,4 @@
-use Rattle.std.proofs.Common.{◌≡◌, ◌++◌, take}
-use Rattle.std.specs.List.{flat_map}
+use Rattle.std.{proofs.Common.{◌≡◌, ◌++◌, take}, specs.List.flat_map}
 use Rattle.p3_codecs.proofs.extension.ExtensionFieldCodecCodec.encode.Given as goal
 
 -- the coefficients so far are encoded

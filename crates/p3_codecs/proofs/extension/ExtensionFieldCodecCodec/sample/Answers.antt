@@ -1,7 +1,5 @@
 use Rattle.std.proofs.Common.{◌+◌, ◌-◌, ◌<◌, ◌≤◌, Some, [], ◌∷◌, ◌++◌, length, take, ap, ◌∙◌, arith}
-use Rattle.std.specs.Option.{option_map}
-use Rattle.std.proofs.lemmas.List.{take_more_set}
-use Rattle.std.proofs.lemmas.Result.{err_from_is_err_and}
+use Rattle.std.{specs.Option.option_map, proofs.lemmas.List.take_more_set, proofs.lemmas.Result.err_from_is_err_and}
 use Rattle.p3_challenger_core.specs.DrawLaws.{drew-as, drew-one_more, drew-values, drew-state, drew-stops}
 use Rattle.p3_challenger_core.specs.SamplingLaws.{refused-in_row}
 use Rattle.p3_codecs.proofs.Coefficients.{whole-element}

@@ -1,9 +1,5 @@
-use Rattle.std.proofs.Common.{◌≡◌, arith, sym, subst}
-use Rattle.std.specs.List.{flat_map}
-use Rattle.std.specs.Result.{OnOk}
-use Rattle.p3_challenger_core.specs.Reading.{AreBytes}
-use Rattle.p3_challenger_core.specs.Sponge.{IsFed}
-use Rattle.p3_challenger_core.specs.ObservationLaws.{all-fed, all-fed_exactly, on_ok}
+use Rattle.std.{proofs.Common.{◌≡◌, arith, sym, subst}, specs.List.flat_map, specs.Result.OnOk}
+use Rattle.p3_challenger_core.specs.{Reading.AreBytes, Sponge.IsFed, ObservationLaws.{all-fed, all-fed_exactly, on_ok}}
 use Rattle.p3_challenger_core.specs.SymbolLaws.{byte-feeds, bytes-feed}
 use Rattle.p3_codecs.proofs.unit.U8Unit.observe_bytes.Goals as goal
 

@@ -1,5 +1,4 @@
-use Rattle.std.proofs.Common.{rules}
-use Rattle.std.specs.List.{each_same}
+use Rattle.std.{proofs.Common.rules, specs.List.each_same}
 use Rattle.p3_domain_separator.proofs.SeparatorContents.{same_contents}
 use Rattle.p3_domain_separator.proofs.domain_separator.DomainSeparator.clone.Goals as goal
 

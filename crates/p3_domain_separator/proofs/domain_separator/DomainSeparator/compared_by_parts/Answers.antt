@@ -1,5 +1,4 @@
-use Rattle.std.proofs.Common.{◌≡◌, ◌↔◌, true, refl, ap}
-use Rattle.std.proofs.lemmas.Bool.Decides.{Decides-and, Decides-like}
+use Rattle.std.proofs.{Common.{◌≡◌, ◌↔◌, true, refl, ap}, lemmas.Bool.Decides.{Decides-and, Decides-like}}
 use Rattle.std.specs.Cmp.Lexicographic.{bytes_decides}
 use Rattle.p3_patterns.specs.PatternStepLaws.{PatternSteps-same}
 use Rattle.p3_domain_separator.proofs.SeparatorContents.{same_contents, same_bytes}

@@ -1,10 +1,7 @@
-use Rattle.std.proofs.Common.{◌≡◌, ◌+◌, ◌≤◌, ◌<◌, ◌^◌, [], ◌∷◌, ◌++◌, length, Result, Ok, Err, OnErr, sym, ap, ◌∙◌}
-use Rattle.std.proofs.Common.{rules}
-use Rattle.std.specs.List.{All}
-use Rattle.std.proofs.lemmas.List.Elements.{All-push}
+use Rattle.std.proofs.{Common.{◌≡◌, ◌+◌, ◌≤◌, ◌<◌, ◌^◌, [], ◌∷◌, ◌++◌, length, Result, Ok, Err, OnErr}, Common.rules}
+use Rattle.std.{specs.List.All, proofs.lemmas.List.Elements.All-push}
 use Rattle.p3_challenger_core.specs.Reading.{AreBytes}
-use Rattle.p3_domain_separator.specs.Seed.{identifier, counted, label_of, FitsCount}
-use Rattle.p3_domain_separator.specs.SeedLaws.{label_more}
+use Rattle.p3_domain_separator.specs.{Seed.{identifier, counted, label_of, FitsCount}, SeedLaws.chunk_added}
 use Rattle.p3_domain_separator.proofs.Labels.{pushed-is_label, pushed-fits}
 use Rattle.p3_domain_separator.proofs.SeparatorContents.{made_of, same_contents}
 use Rattle.p3_domain_separator.proofs.domain_separator.DomainSeparator.instance.Goals as goal
@@ -44,6 +41,5 @@ returns-clause-chunks g c =
     let counts : FitsCount chunk = search rules in
     let fit : All FitsCount (is.chunks ++ (chunk ∷ [])) = All-push FitsCount is.chunks chunk is.counted counts in
     let label : c.push_counted.new.bytes.items ≡ label_of (is.chunks ++ (chunk ∷ [])) =
-    c.in_ok-push_counted.ensures.ok ∙ ap (λ front. front ++ counted chunk) is.encoded
-    ∙ sym (label_more is.chunks chunk) in
+    chunk_added chunk _ _ c.in_ok-push_counted.ensures.ok is.chunks is.encoded in
     search made_of

@@ -1,7 +1,5 @@
-use Rattle.std.proofs.Common.{◌≡◌, ◌≤◌, length, [], arith}
-use Rattle.std.specs.List.{All}
-use Rattle.p3_domain_separator.specs.Seed.{identifier, label_of, FitsCount}
-use Rattle.p3_domain_separator.proofs.SeparatorContents.{made_of}
+use Rattle.std.{proofs.Common.{◌≡◌, ◌≤◌, length, [], arith}, specs.List.All}
+use Rattle.p3_domain_separator.{specs.Seed.{identifier, label_of, FitsCount}, proofs.SeparatorContents.made_of}
 use Rattle.p3_domain_separator.proofs.domain_separator.DomainSeparator.new.Goals as goal
 
 pub returns : goal.returns

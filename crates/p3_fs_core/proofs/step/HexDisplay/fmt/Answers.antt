@@ -1,6 +1,4 @@
-use Rattle.std.proofs.Common.{rules}
-use Rattle.std.specs.Str.{IsUtf8}
-use Rattle.std.proofs.lemmas.Str.{IsUtf8-from_ascii}
+use Rattle.std.{proofs.Common.rules, specs.Str.IsUtf8, proofs.lemmas.Str.IsUtf8-from_ascii}
 use Rattle.p3_fs_core.proofs.step.HexDisplay.fmt.Goals as goal
 
 pub unwrap-requires : goal.unwrap-requires

@@ -1,7 +1,6 @@
 use Rattle.std.proofs.Common.{◌≡◌, ◌+◌, ◌*◌, ◌/◌, ◌%◌, ◌^◌, ◌++◌, sym, ap, ◌∙◌, rules, arith}
 use Rattle.std.proofs.Output.{has_written_of_eq}
-use Rattle.p3_fs_core.specs.StepTexts.{hex_number}
-use Rattle.p3_fs_core.proofs.HexDigits.{hex_number-parts, sixteen_wide}
+use Rattle.p3_fs_core.{specs.StepTexts.hex_number, proofs.HexDigits.{hex_number-parts, sixteen_wide}}
 use Rattle.p3_fs_core.proofs.step.HexNumberDisplay.fmt.Goals as goal
 
 pub returns-else-high-eq0-clause-writes : goal.returns-else-high-eq0-clause-writes

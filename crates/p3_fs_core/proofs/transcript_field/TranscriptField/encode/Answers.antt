@@ -1,6 +1,5 @@
 use Rattle.std.proofs.Common.{◌++◌, ap, ◌∙◌}
-use Rattle.p3_fs_core.specs.BigEndian.{bytes_for}
-use Rattle.p3_fs_core.specs.BigEndianLaws.{word_end}
+use Rattle.p3_fs_core.specs.{BigEndian.bytes_for, BigEndianLaws.word_end}
 use Rattle.p3_fs_core.proofs.transcript_field.TranscriptField.encode.Goals as goal
 
 pub returns-clause-ok : goal.returns-clause-ok

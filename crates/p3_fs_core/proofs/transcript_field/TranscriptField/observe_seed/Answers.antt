@@ -1,8 +1,5 @@
-use Rattle.std.proofs.Common.{◌≡◌, sym, subst}
-use Rattle.std.specs.List.{flat_map}
-use Rattle.std.specs.Result.{OnOk}
-use Rattle.p3_challenger_core.specs.Sponge.{IsFed}
-use Rattle.p3_challenger_core.specs.ObservationLaws.{all-fed, all-fed_exactly, on_ok}
+use Rattle.std.{proofs.Common.{◌≡◌, sym, subst}, specs.List.flat_map, specs.Result.OnOk}
+use Rattle.p3_challenger_core.specs.{Sponge.IsFed, ObservationLaws.{all-fed, all-fed_exactly, on_ok}}
 use Rattle.p3_challenger_core.specs.SymbolLaws.{element-feeds, row-feeds}
 use Rattle.p3_fs_core.specs.Packing.{packed, chunk_bytes}
 use Rattle.p3_fs_core.proofs.transcript_field.TranscriptField.observe_seed.Goals as goal

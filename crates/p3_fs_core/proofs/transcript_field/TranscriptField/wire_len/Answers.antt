@@ -1,5 +1,4 @@
-use Rattle.std.proofs.Common.{◌∙◌, ap}
-use Rattle.std.specs.Int.{div_ceil}
+use Rattle.std.{proofs.Common.{◌∙◌, ap}, specs.Int.div_ceil}
 use Rattle.p3_fs_core.proofs.Widths.{counted-width-most}
 use Rattle.p3_fs_core.proofs.transcript_field.TranscriptField.wire_len.Goals as goal
 

@@ -1,5 +1,4 @@
-use Rattle.std.proofs.Common.{map, ap, ◌∙◌}
-use Rattle.std.specs.List.{each_same}
+use Rattle.std.{proofs.Common.{map, ap, ◌∙◌}, specs.List.each_same}
 use Rattle.p3_fs_core.specs.Interactions.{step_of}
 use Rattle.p3_patterns.specs.PatternStepLaws.{PatternSteps-same}
 use Rattle.p3_patterns.proofs.sequence.InteractionPattern.clone.Goals as goal

@@ -1,16 +1,10 @@
-use Rattle.std.proofs.Common.{refl, subst, ap, ◌∙◌, ◌||◌}
-use Rattle.std.proofs.lemmas.Result.{err_from_is_err_and}
-use Rattle.p3_fs_core.specs.declared.step.Kind.TheVariants.{Message}
-use Rattle.p3_fs_core.specs.declared.step.Length.TheVariants.{Bounded}
-use Rattle.p3_driver_core.specs.Bound.{bound_values}
-use Rattle.p3_driver_core.specs.Opened.{playing_of}
-use Rattle.p3_fs_core.specs.Counts.{count_bytes}
-use Rattle.p3_fs_core.specs.Alphabet.{alphabet_of}
-use Rattle.p3_driver_core.specs.Effects.{observing_bytes}
-use Rattle.p3_fs_core.specs.Algebras.{algebra_of, algebra_step}
+use Rattle.std.proofs.{Common.{refl, subst, ap, ◌∙◌, ◌||◌}, lemmas.Result.err_from_is_err_and}
+use Rattle.p3_fs_core.specs.declared.step.{Kind.TheVariants.Message, Length.TheVariants.Bounded}
+use Rattle.p3_fs_core.specs.{Counts.count_bytes, Alphabet.alphabet_of, Algebras.{algebra_of, algebra_step}}
+use Rattle.p3_driver_core.specs.{Bound.bound_values, Opened.playing_of, Effects.observing_bytes}
 use Rattle.p3_drivers.proofs.Refusals.{not-read, count-fails, count-refused, values-refused, values-received}
-use Rattle.p3_driver_core.specs.Reads as reads
 use Rattle.p3_drivers.specs.Drivers.{verifying_of}
+use Rattle.p3_driver_core.specs.Reads as reads
 use Rattle.p3_drivers.proofs.driver.receives.VerifierState+C+U+D.next_scalars_bounded.Goals as goal
 
 pub returns-in_err-count-clause-exact : goal.returns-in_err-count-clause-exact
@@ -32,10 +26,9 @@ returns-in_err-count-clause-exact g c =
     let kept = c.in_err-count.ensures.challenger in
     let finished = ap (λ t. t.closed || t.player.finished) same ∙ closed in
     let e = c.in_err-count.field-0.0 in
-    rw (p.1, p.2) (not-read (reads.received_bounded step alphabet c.args.max o enc) before after e opened.is_next
-    (count-fails step o enc before after opened.is_next finished alphabet c.args.max
-    after.bytes e
-    c.in_err-count.ensures.read) (ap state kept) finished)
+    rw (p.1, p.2) (not-read (reads.received_bounded step alphabet c.args.max o enc)
+    before after e opened.is_next (count-fails step o enc before after
+    opened.is_next finished alphabet c.args.max after.bytes e c.in_err-count.ensures.read) (ap state kept) finished)
 
 pub returns-in_err-observe_count-clause-exact : goal.returns-in_err-observe_count-clause-exact
 returns-in_err-observe_count-clause-exact g c =
@@ -83,12 +76,10 @@ returns-in_err-bounds-clause-exact g c =
     let finished = ap (λ t. t.closed || t.player.finished) c.in_err-bounds.ensures.steps
     ∙ ap (λ t. t.closed || t.player.finished) same ∙ closed in
     let n = c.in_ok-count.count in
-    rw (p.1, p.2) (values-refused step o enc before after opened.is_next finished alphabet c.args.max n
-    c.read_count.new.self.tape.bytes.now c.in_ok-count.ensures.read (state c.observe_count.new.challenger)
-    c.in_err-bounds.field-0.0
-    (c.in_ok-observe_count.ensures.does.1
-    ∙ ap (λ d. (observing_bytes alphabet (count_bytes c.args.max n)).after (state d)) kept)
-    c.in_err-bounds.ensures.read)
+    rw (p.1, p.2) (values-refused step o enc before
+    after opened.is_next finished alphabet c.args.max n c.read_count.new.self.tape.bytes.now c.in_ok-count.ensures.read
+    (state c.observe_count.new.challenger) c.in_err-bounds.field-0.0 (c.in_ok-observe_count.ensures.does.1 ∙ ap
+    (λ d. (observing_bytes alphabet (count_bytes c.args.max n)).after (state d)) kept) c.in_err-bounds.ensures.read)
 
 pub returns-clause-exact : goal.returns-clause-exact
 returns-clause-exact g c =
@@ -105,12 +96,9 @@ returns-clause-exact g c =
     let same = c.in_ok-count.ensures.steps in
     let kept = c.in_ok-count.ensures.challenger in
     let n = c.in_ok-count.count in
-    values-received step o enc alphabet c.args.max before _ n c.read_count.new.self.tape.bytes.now
-    (bound_values c.in_ok-bounds.bounds) (state c.observe_count.new.challenger) opened.is_next
-    c.in_ok-count.ensures.read
-    c.in_ok-observe_count.ensures.does.0
-    (c.in_ok-observe_count.ensures.does.1
+    values-received step o enc alphabet c.args.max before
+    _ n c.read_count.new.self.tape.bytes.now (bound_values c.in_ok-bounds.bounds) (state c.observe_count.new.challenger)
+    opened.is_next c.in_ok-count.ensures.read c.in_ok-observe_count.ensures.does.0 (c.in_ok-observe_count.ensures.does.1
     ∙ ap (λ d. (observing_bytes alphabet (count_bytes c.args.max n)).after (state d)) kept)
     c.in_ok-bounds.ensures.read.0 c.in_ok-bounds.ensures.read.1
-    (ap playing_of c.done.ensures
-    ∙ ap (λ t. t.player) (c.in_ok-bounds.ensures.steps ∙ same) ∙ opened.player)
+    (ap playing_of c.done.ensures ∙ ap (λ t. t.player) (c.in_ok-bounds.ensures.steps ∙ same) ∙ opened.player)

@@ -1,13 +1,9 @@
-use Rattle.std.proofs.Common.{ap, subst, refl, inl, ◌||◌}
-use Rattle.std.proofs.lemmas.Result.{err_from_is_err_and}
-use Rattle.p3_fs_core.specs.Algebras.{algebra_of, algebra_step}
-use Rattle.p3_fs_core.specs.Alphabet.{alphabet_of}
-use Rattle.p3_fs_core.specs.declared.step.Kind.TheVariants.{Message}
-use Rattle.p3_fs_core.specs.declared.step.Length.TheVariants.{Bounded}
+use Rattle.std.proofs.{Common.{ap, subst, refl, inl, ◌||◌}, lemmas.Result.err_from_is_err_and}
+use Rattle.p3_fs_core.specs.{Algebras.{algebra_of, algebra_step}, Alphabet.alphabet_of}
+use Rattle.p3_fs_core.specs.declared.step.{Kind.TheVariants.Message, Length.TheVariants.Bounded}
 use Rattle.p3_driver_core.specs.Effects.{observing_bytes}
+use Rattle.p3_drivers.{specs.Drivers.proving_of, proofs.Pieces.challenger-refused}
 use Rattle.p3_driver_core.specs.Meanings as meaning
-use Rattle.p3_drivers.specs.Drivers.{proving_of}
-use Rattle.p3_drivers.proofs.Pieces.{challenger-refused}
 use Rattle.p3_drivers.proofs.driver.sends.ProverState+C+U+D.send_counted.Goals as goal
 
 -- the count is refused
@@ -25,9 +21,8 @@ returns-in_err-observe_bytes-clause-exact g c =
     let start = state c.args.self.now.challenger in
     let end = state c.observe_bytes.new.challenger in
     let e = c.in_err-observe_bytes.field-0.0 in
-    rw (p.1, p.2) (challenger-refused (meaning.sent_bounded step alphabet c.args.max g.Cdc.Codec.observation
-    g.Cdc.Codec.encoding c.args.values.now)
-    (proving_of state c.args.self.now) _ e opened.is_next
-    (ap (λ b. b || c.take_algebra.new.self.player.finished) opened.closed) refl
-    (inl (subst (λ count. (observing_bytes alphabet count).refuses e start end) c.counted-width.ensures.bytes
-    c.in_err-observe_bytes.ensures.err)))
+    rw (p.1, p.2) (challenger-refused
+    (meaning.sent_bounded step alphabet c.args.max g.Cdc.Codec.observation g.Cdc.Codec.encoding c.args.values.now)
+    (proving_of state c.args.self.now) _ e opened.is_next (ap (λ b. b || c.take_algebra.new.self.player.finished)
+    opened.closed) refl (inl (subst (λ count. (observing_bytes alphabet count).refuses e start end)
+    c.counted-width.ensures.bytes c.in_err-observe_bytes.ensures.err)))

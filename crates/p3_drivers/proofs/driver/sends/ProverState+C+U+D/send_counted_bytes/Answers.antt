@@ -1,12 +1,9 @@
-use Rattle.std.proofs.Common.{ap, subst, refl, inr, ◌∙◌, ◌||◌}
-use Rattle.std.proofs.lemmas.Result.{err_from_is_err_and}
+use Rattle.std.proofs.{Common.{ap, subst, refl, inr, ◌∙◌, ◌||◌}, lemmas.Result.err_from_is_err_and}
 use Rattle.p3_challenger_core.specs.Observation.{observed_all}
-use Rattle.p3_fs_core.specs.Alphabet.{alphabet_of}
-use Rattle.p3_fs_core.specs.declared.step.Kind.TheVariants.{Message}
+use Rattle.p3_fs_core.specs.{Alphabet.alphabet_of, declared.step.Kind.TheVariants.Message}
 use Rattle.p3_driver_core.specs.Effects.{observing_bytes}
+use Rattle.p3_drivers.{specs.Drivers.proving_of, proofs.Pieces.challenger-refused}
 use Rattle.p3_driver_core.specs.Meanings as meaning
-use Rattle.p3_drivers.specs.Drivers.{proving_of}
-use Rattle.p3_drivers.proofs.Pieces.{challenger-refused}
 use Rattle.p3_drivers.proofs.driver.sends.ProverState+C+U+D.send_counted_bytes.Goals as goal
 
 -- the bytes are refused of a challenger that observed their count

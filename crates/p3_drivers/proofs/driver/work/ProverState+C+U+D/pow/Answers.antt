@@ -1,10 +1,7 @@
-use Rattle.std.proofs.Common.{inl, refl, ap, ◌||◌}
-use Rattle.std.proofs.lemmas.Result.{err_from_is_err_and}
-use Rattle.p3_fs_core.specs.declared.step.Kind.TheVariants.{Pow}
-use Rattle.p3_fs_core.specs.declared.step.Length.TheVariants.{Fixed}
-use Rattle.p3_driver_core.specs.Opened.{transcript_of}
+use Rattle.std.proofs.{Common.{inl, refl, ap, ◌||◌}, lemmas.Result.err_from_is_err_and}
+use Rattle.p3_fs_core.specs.declared.step.{Kind.TheVariants.Pow, Length.TheVariants.Fixed}
 use Rattle.p3_fs_core.specs.Algebras.{algebra_of, algebra_step}
-use Rattle.p3_driver_core.specs.Working.{work_of}
+use Rattle.p3_driver_core.specs.{Opened.transcript_of, Working.work_of}
 use Rattle.p3_drivers.proofs.Pieces.{search-refused}
 use Rattle.p3_drivers.proofs.driver.work.ProverState+C+U+D.pow.Goals as goal
 
@@ -17,12 +14,10 @@ returns-in_err-sent g c =
     g.C.Witness.BasedVectorSpace.DIMENSION (g.D.DigestHasher.digest_of g.C.Witness.AlgebraIdentity.identity)
     g.C.Witness.Named.name_bytes) (Fixed c.args.bits) in
     rw (p.1, p.2) (inl (
-      search-refused
-          (work_of step g.C.Witness.PrimeCharacteristicRing.residues g.C.BeforeWitness.before_witness
-          g.C.CanObserve.observation g.C.CanSampleBits.bits_sampling c.args.bits)
+      search-refused (work_of step g.C.Witness.PrimeCharacteristicRing.residues
+          g.C.BeforeWitness.before_witness g.C.CanObserve.observation g.C.CanSampleBits.bits_sampling c.args.bits)
           g.C.GrindingChallenger.may_run_out (transcript_of (state c.args.self.now.challenger) c.args.self.now.steps)
-          (transcript_of (state c.grind.new.self) c.take_algebra.new.self)
-          c.in_err-sent.field-0.0 opened.is_next
+          (transcript_of (state c.grind.new.self) c.take_algebra.new.self) c.in_err-sent.field-0.0 opened.is_next
           (ap (λ b. b || c.take_algebra.new.self.player.finished) opened.closed) c.in_err-sent.ensures.err,
       refl,
     ))

@@ -1,13 +1,9 @@
-use Rattle.std.proofs.Common.{ap, ◌∙◌, ◌||◌, inl}
-use Rattle.std.proofs.lemmas.Result.{err_from_is_err_and}
-use Rattle.p3_fs_core.specs.Scalar.{encoding}
-use Rattle.p3_fs_core.specs.declared.step.Kind.TheVariants.{Pow}
+use Rattle.std.proofs.{Common.{ap, ◌∙◌, ◌||◌, inl}, lemmas.Result.err_from_is_err_and}
+use Rattle.p3_fs_core.specs.{Scalar.encoding, declared.step.Kind.TheVariants.Pow, Algebras.{algebra_of, algebra_step}}
 use Rattle.p3_fs_core.specs.declared.step.Length.TheVariants.{Fixed}
-use Rattle.p3_fs_core.specs.Algebras.{algebra_of, algebra_step}
 use Rattle.p3_driver_core.specs.Working.{work_of}
-use Rattle.p3_drivers.proofs.Refusals.{not-read}
+use Rattle.p3_drivers.{proofs.Refusals.not-read, specs.Drivers.verifying_of}
 use Rattle.p3_driver_core.specs.Reads as reads
-use Rattle.p3_drivers.specs.Drivers.{verifying_of}
 use Rattle.p3_drivers.proofs.driver.work.VerifierState+C+U+D.check_pow.Goals as goal
 
 pub returns-in_err-sent : goal.returns-in_err-sent
@@ -25,6 +21,5 @@ returns-in_err-sent g c =
     g.C.CanSampleBits.bits_sampling c.args.bits in
     rw (p.1, p.2) (inl (not-read (reads.received_work work (encoding residues g.C.Witness.Field.bit_length))
     (verifying_of state c.args.self.now) (verifying_of state c.read_witness.new.self) c.in_err-sent.field-0.0
-    opened.is_next c.in_err-sent.ensures.read (ap state kept)
-    (ap (λ t. t.closed || t.player.finished) same ∙ ap (λ b. b || c.take_algebra.new.self.player.finished)
-    opened.closed)))
+    opened.is_next c.in_err-sent.ensures.read (ap state kept) (ap (λ t. t.closed || t.player.finished) same
+    ∙ ap (λ b. b || c.take_algebra.new.self.player.finished) opened.closed)))
