@@ -1,21 +1,14 @@
 -- From equal symbols to equal runs.
 use Rattle.std.proofs.Common.{◌≡◌, ℕ, ◌≤◌, ◌⊎◌, inl, inr, List, length, Bool, true, false, refl, sym, ap, ◌∙◌}
-use Rattle.std.specs.List.{All}
-use Rattle.std.specs.Prelude.{Decides}
-use Rattle.std.proofs.lemmas.Bool.Decides.{not_from_Decides}
+use Rattle.std.{specs.List.All, specs.Prelude.Decides, proofs.lemmas.Bool.Decides.not_from_Decides}
 use Rattle.std.proofs.lemmas.Slice.Eq.{bytes_eq-Decides}
 use Rattle.p3_challenger_core.specs.Reading.{AreBytes, IsPrefixCodeOn}
 use Rattle.p3_domain_separator.specs.Seed.{identifier, label_of, FitsCount, SeedParts, AreSeedParts, parts_of}
-use Rattle.p3_domain_separator.specs.Seed.{seed_of_parts}
-use Rattle.p3_domain_separator.specs.SeparatorSeed.{seed_of_separator}
+use Rattle.p3_domain_separator.specs.{Seed.seed_of_parts, SeparatorSeed.seed_of_separator}
 use Rattle.p3_domain_separator.specs.declared.domain_separator.DomainSeparator.{DomainSeparator}
-use Rattle.p3_binding.specs.Binding.{Collide, RenderingsTellPatterns, SymbolsBind, SameProtocol}
-use Rattle.p3_runs.specs.Fronts.{Run}
-use Rattle.p3_runs.specs.Plays.{Play}
-use Rattle.p3_runs.specs.Rules.{Rules}
-use Rattle.p3_binding.proofs.Lawful.{Lawful}
-use Rattle.p3_binding.proofs.Runs.{EachTold, absorbed-bound}
-use Rattle.p3_binding.proofs.Told.{begins-equal}
+use Rattle.p3_binding.{specs.Binding.{Collide, RenderingsTellPatterns, SymbolsBind, SameProtocol}, proofs.Lawful.Lawful}
+use Rattle.p3_binding.proofs.{Runs.{EachTold, absorbed-bound}, Told.begins-equal}
+use Rattle.p3_runs.specs.{Fronts.Run, Plays.Play, Rules.Rules}
 
 -- ---- separators
 

@@ -1,17 +1,11 @@
 -- Runs of equal patterns that feed the same symbols absorbed the same.
-use Rattle.std.proofs.Common.{◌≡◌, ◌⊎◌, inl, inr, List, [], ◌∷◌, length, refl, ap}
-use Rattle.std.proofs.lemmas.List.{take-map}
+use Rattle.std.proofs.{Common.{◌≡◌, ◌⊎◌, inl, inr, List, [], ◌∷◌, length, refl, ap}, lemmas.List.take-map}
 use Rattle.p3_fs_core.specs.StepFits.{FitsLength, AreProgramSteps}
 use Rattle.p3_patterns.specs.Rendering.{SameButTypeNames, without_type_name}
-use Rattle.p3_binding.specs.Binding.{IsHeld, AreHeld, FeedTheSame}
-use Rattle.p3_runs.specs.FrontLaws.{front-fits}
-use Rattle.p3_runs.specs.Fronts.{Run, pattern, IsFinished, IsWhole}
-use Rattle.p3_runs.specs.Plays.{Play}
-use Rattle.p3_runs.specs.Rules.{Rules}
-use Rattle.p3_runs.specs.Runs.{interactions, Finishes, symbols, absorbed}
-use Rattle.p3_runs.specs.Values.{Value}
-use Rattle.p3_binding.proofs.Lawful.{Lawful}
+use Rattle.p3_binding.{specs.Binding.{IsHeld, AreHeld, FeedTheSame}, proofs.Lawful.Lawful}
 use Rattle.p3_binding.proofs.Told.{Told, shape_of, told-reads}
+use Rattle.p3_runs.specs.{FrontLaws.front-fits, Fronts.{Run, pattern, IsFinished, IsWhole}, Plays.Play, Rules.Rules}
+use Rattle.p3_runs.specs.{Runs.{interactions, Finishes, symbols, absorbed}, Values.Value}
 
 module _ {X S Symbol I F EF O Ac : Type 0} (rules : Rules S Symbol I F EF O Ac) (play : X → Play S Symbol F EF O) where
   -- each step absorbs as its step of the pattern says

@@ -1,15 +1,12 @@
 -- Each step of a script absorbs as its step of the pattern says, and feeds as what it absorbs says.
 use Rattle.std.proofs.Common.{refl, []}
-use Rattle.p3_runs.specs.Absorbed.{Nothing}
-use Rattle.p3_runs.specs.Rules.{Rules}
-use Rattle.p3_runs.specs.Values.{Value}
-use Rattle.p3_runs.specs.Values as value
+use Rattle.p3_runs.specs.{Absorbed.Nothing, Rules.Rules}
 use Rattle.p3_script.specs.Scripts.{play_of}
+use Rattle.p3_binding.proofs.{Lawful.Lawful, Runs.EachTold}
+use Rattle.p3_binding.proofs.Told.{Told, Silent, silent, bytes, own, witness, many-told, one-told}
+use Rattle.p3_runs.specs.Values as value
 use Rattle.p3_script.specs.declared.steps.Step as script
 use Rattle.p3_script.specs.declared.steps.Step.TheVariants as step
-use Rattle.p3_binding.proofs.Lawful.{Lawful}
-use Rattle.p3_binding.proofs.Runs.{EachTold}
-use Rattle.p3_binding.proofs.Told.{Told, Silent, silent, bytes, own, witness, many-told, one-told}
 
 module _ {S Symbol I F EF O Ac : Type 0} (r : Rules S Symbol I F EF O Ac) (laws : Lawful r)
     {Su U C K D G It St Sy : Type 0} where

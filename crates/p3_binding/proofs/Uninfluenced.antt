@@ -3,10 +3,7 @@ use Rattle.std.proofs.Common.{◌≡◌, zero, List, [], ◌∷◌, Option, Some
 use Rattle.p3_driver_core.specs.Effects.{Effect, untouched}
 use Rattle.p3_binding.specs.Hints.{SameButHint, SameButHints, HintsDoNotInfluence}
 use Rattle.p3_binding.specs.ScriptBinding.{ScriptHintsDoNotInfluence}
-use Rattle.p3_runs.specs.Fronts.{seeded}
-use Rattle.p3_runs.specs.Plays.{Play, effect_some}
-use Rattle.p3_runs.specs.Rules.{Rules}
-use Rattle.p3_runs.specs.Runs.{challenges, after}
+use Rattle.p3_runs.specs.{Fronts.seeded, Plays.{Play, effect_some}, Rules.Rules, Runs.{challenges, after}}
 use Rattle.p3_runs.specs.Values.{Value, bytes_in, witness_in}
 use Rattle.p3_script.specs.Scripts.{play_of}
 use Rattle.p3_script.specs.declared.steps.Step as script

@@ -1,10 +1,8 @@
 -- Worked rows: what is no prefix code, what collides, and what may be any value.
 use Rattle.std.proofs.Common.{◌≡◌, ℕ, List, [], ◌∷◌, flat_map, refl}
 use Rattle.p3_challenger_core.specs.Reading.{IsPrefixCode, IsPrefixFree}
-use Rattle.p3_fs_core.specs.declared.step.Kind.TheVariants.{Hint, Message, Pow}
-use Rattle.p3_fs_core.specs.declared.step.Length.TheVariants.{Fixed}
-use Rattle.p3_binding.specs.Binding.{Collide}
-use Rattle.p3_binding.specs.Hints.{SameOfKind}
+use Rattle.p3_fs_core.specs.declared.step.{Kind.TheVariants.{Hint, Message, Pow}, Length.TheVariants.Fixed}
+use Rattle.p3_binding.specs.{Binding.Collide, Hints.SameOfKind}
 
 -- ---- lists of lists run together
 

@@ -2,13 +2,10 @@
 use Rattle.std.specs.Prelude.{◌≡◌, ◌↔◌, ℕ, ◌⊎◌, List, [], ◌∷◌, length}
 use Rattle.p3_challenger_core.specs.Reading.{AreBytes}
 use Rattle.p3_fs_core.specs.Steps.{Step, alternate_text}
-use Rattle.p3_patterns.specs.PatternSteps.{PatternSteps, steps_of}
-use Rattle.p3_patterns.specs.Rendering.{rendering, SameButTypeNames}
+use Rattle.p3_patterns.specs.{PatternSteps.{PatternSteps, steps_of}, Rendering.{rendering, SameButTypeNames}}
 use Rattle.p3_domain_separator.specs.SeparatorParts.{separator_of}
-use Rattle.p3_runs.specs.Absorbed.{Absorbed, Bytes, Own}
+use Rattle.p3_runs.specs.{Absorbed.{Absorbed, Bytes, Own}, Plays.Play, Rules.Rules}
 use Rattle.p3_runs.specs.Fronts.{Run, pattern, IsFinished, IsWhole, symbols, absorbed}
-use Rattle.p3_runs.specs.Plays.{Play}
-use Rattle.p3_runs.specs.Rules.{Rules}
 
 -- ---- patterns
 

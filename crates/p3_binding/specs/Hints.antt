@@ -1,29 +1,16 @@
 -- What the challenger takes no part in.
-use Rattle.std.specs.Prelude.{◌≡◌, ℕ, zero, suc, List, [], ◌∷◌}
-use Rattle.p3_fs_core.specs.Steps.{Step}
-use Rattle.p3_fs_core.specs.declared.step.Kind.{Kind}
-use Rattle.p3_fs_core.specs.declared.step.Kind.TheVariants.{Hint, Pow}
-use Rattle.p3_fs_core.specs.declared.step.Length.{Length}
-use Rattle.p3_fs_core.specs.declared.step.Length.TheVariants.{Fixed}
-use Rattle.p3_runs.specs.Fronts.{Run, IsFinished, challenges, last}
+use Rattle.std.specs.Prelude.{◌≡◌, zero, List, [], ◌∷◌}
+use Rattle.p3_fs_core.specs.{Steps.Step, declared.step.Kind.Kind, declared.step.Kind.TheVariants.{Hint, Pow}}
+use Rattle.p3_fs_core.specs.declared.step.{Length.Length, Length.TheVariants.Fixed}
+use Rattle.p3_runs.specs.{Fronts.{Run, IsFinished, challenges, last}, Rules.Rules, Values.Value}
 use Rattle.p3_runs.specs.Plays.{Play, Place, Nowhere, Sent, Found, Carried}
-use Rattle.p3_runs.specs.Rules.{Rules}
-use Rattle.p3_runs.specs.Values.{Value}
 
 -- ---- values of one step
 
--- witnesses of so many bits are the same; those of 0 bits may be any
-abbrev pub SameWitness : {V : Type 0} → ℕ → V → V → Type 0
-SameWitness zero v w = Unit {0}
-SameWitness (suc more) v w = v ≡ w
-
-abbrev pub SameOfLength : {V : Type 0} → Length → V → V → Type 0
-SameOfLength (Fixed bits) v w = SameWitness bits v w
-SameOfLength _ v w = v ≡ w
-
+-- witnesses of 0 bits may be any, and hints; else the values are the same
 abbrev pub SameOfKind : {V : Type 0} → Kind → Length → V → V → Type 0
 SameOfKind Hint length v w = Unit {0}
-SameOfKind Pow length v w = SameOfLength length v w
+SameOfKind Pow (Fixed zero) v w = Unit {0}
 SameOfKind _ length v w = v ≡ w
 
 -- the values of a step are the same; those of a hint, and witnesses of 0 bits, may be any

@@ -1,6 +1,5 @@
 -- What the symbols of runs of scripts bind, and what they do not.
-use Rattle.p3_binding.specs.Binding.{SymbolsBind}
-use Rattle.p3_binding.specs.Hints.{HintsDoNotInfluence}
+use Rattle.p3_binding.specs.{Binding.SymbolsBind, Hints.HintsDoNotInfluence}
 use Rattle.p3_runs.specs.Rules.{Rules}
 use Rattle.p3_script.specs.Scripts.{play_of}
 use Rattle.p3_script.specs.declared.steps.Step as script

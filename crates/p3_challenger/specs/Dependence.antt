@@ -1,7 +1,6 @@
 -- What a drawn value depends on.
 use Rattle.std.specs.Prelude.{◌≡◌, List, Some}
-use Rattle.p3_challenger_core.specs.Sponge.{IsFed}
-use Rattle.p3_challenger_core.specs.Sampling.{Sampling}
+use Rattle.p3_challenger_core.specs.{Sponge.IsFed, Sampling.Sampling}
 
 -- From the first state on just these symbols are fed. Then the value is drawn, and the draw leaves the last state.
 abbrev pub DrawsAfter : {S Symbol X : Type 0} →

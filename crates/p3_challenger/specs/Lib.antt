@@ -21,6 +21,7 @@ pub use Rattle.p3_read_back.specs.CallRowLaws
 pub use Rattle.p3_read_back.specs.Queries
 pub use Rattle.p3_read_back.specs.QueriesLaws
 pub use Rattle.p3_read_back.specs.SumLaws
+pub use Rattle.p3_sponge.specs.CallPromises
 pub use Rattle.p3_sponge.specs.Cells
 pub use Rattle.p3_sponge.specs.CellsLaws
 pub use Rattle.p3_sponge.specs.Drawing
@@ -138,6 +139,7 @@ pub use Rattle.p3_step_laws.specs.OneReason
 pub use Rattle.p3_step_laws.specs.RoundLaws
 pub use Rattle.p3_step_laws.specs.Rounds
 pub use Rattle.p3_step_laws.specs.Encoded
+pub use Rattle.p3_step_laws.specs.Mirrored
 pub use Rattle.p3_field.specs.Residues
 pub use Rattle.p3_field.specs.ResidueLaws
 pub use Rattle.p3_field.specs.Rings

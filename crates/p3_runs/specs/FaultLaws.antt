@@ -1,39 +1,22 @@
 -- Where a script is refused for anything but being out of memory, that is one fault: at one position, for one reason.
 use Rattle.std.proofs.Common.{◌≡◌, ℕ, List, [], ◌∷◌, ◌++◌, ◌⊎◌, Option, Some, None, inl, inr, refl, sym, ap, ◌∙◌, subst}
 use Rattle.std.proofs.Common.{length, false, true, slice_get}
-use Rattle.p3_challenger_core.specs.declared.error.ChallengerError.TheVariants.{TooLong, DrawLimit, NoWitness}
-use Rattle.p3_challenger_core.specs.declared.error.ChallengerError.TheVariants as challenger
+use Rattle.p3_challenger_core.specs.declared.error.ChallengerError.TheVariants.{TooLong}
 use Rattle.p3_fs_core.specs.Errors.{Refusal, refusal_of, challenger_refused, pattern_error, bad_proof_shape, pattern_error_of}
-use Rattle.p3_fs_core.specs.Steps.{Step}
-use Rattle.p3_fs_core.specs.declared.error.PatternError.TheVariants.{Finished, NoMoreSteps, WrongStep, Unplayed, OverCap}
+use Rattle.p3_fs_core.specs.{Steps.Step, declared.error.PatternError.TheVariants.{Finished, Unplayed}}
 use Rattle.p3_fs_core.specs.declared.error.TranscriptError.{TranscriptError}
 use Rattle.p3_fs_core.specs.declared.error.TranscriptError.TheVariants.{Pattern, BadProofShape, Challenger, OutOfMemory}
-use Rattle.p3_fs_core.specs.declared.error.TranscriptError.TheVariants.{MissingBegin, InvalidKind, MismatchedBeginEnd}
-use Rattle.p3_fs_core.specs.declared.error.TranscriptError.TheVariants.{MissingEnd, LabelTooLong}
 use Rattle.p3_patterns.specs.Playing.{FaultOfPlayEnd, IsPatternError, next_step}
-use Rattle.p3_driver_core.specs.Driving.{Driving, RefusesStart}
-use Rattle.p3_driver_core.specs.Reads.{trailing_bytes}
-use Rattle.p3_driver_core.specs.Verifying.{RefusesEnd}
-use Rattle.p3_runs.specs.Faults.{TellOneFault}
-use Rattle.p3_runs.specs.FrontLaws.{get-past}
-use Rattle.p3_runs.specs.RefusalLaws.{start-never}
+use Rattle.p3_driver_core.specs.{Driving.{Driving, RefusesStart}, Reads.trailing_bytes, Verifying.RefusesEnd}
+use Rattle.p3_runs.specs.{Faults.TellOneFault, FrontLaws.get-past, RefusalLaws.start-never}
 
 -- ---- the seed and the end
 
 start-refusal : (IsTooLong : Type 0) (e : TranscriptError) → RefusesStart IsTooLong e → (e ≡ OutOfMemory → ⊥) →
     refusal_of e ≡ challenger_refused TooLong
 start-refusal L (Challenger TooLong) h other = refl
-start-refusal L (Challenger DrawLimit) h other = absurd h
-start-refusal L (Challenger NoWitness) h other = absurd h
-start-refusal L (Challenger challenger.OutOfMemory) h other = absurd h
 start-refusal L OutOfMemory h other = absurd (other refl)
-start-refusal L (Pattern e) h other = absurd h
-start-refusal L (BadProofShape e) h other = absurd h
-start-refusal L (MissingBegin x) h other = absurd h
-start-refusal L (InvalidKind x) h other = absurd h
-start-refusal L (MismatchedBeginEnd x) h other = absurd h
-start-refusal L (MissingEnd x) h other = absurd h
-start-refusal L LabelTooLong h other = absurd h
+start-refusal L _ h other = absurd h
 
 -- why the end is refused: the step that is left, or that bytes are
 abbrev refusal_at_end : Option Step → Refusal
@@ -44,33 +27,17 @@ pub end-refusal : {S : Type 0} (v : Driving S) (e : TranscriptError) → v.trans
     RefusesEnd v e → refusal_of e ≡ refusal_at_end (next_step v.transcript.playing)
 end-refusal v (Pattern Finished) going h = let both : false ≡ true = sym going ∙ h in absurd (cc)
 end-refusal v (Pattern (Unplayed expected)) going h = sym (ap refusal_at_end h.1)
-end-refusal v (Pattern (NoMoreSteps received)) going h = absurd h
-end-refusal v (Pattern (WrongStep received expected)) going h = absurd h
-end-refusal v (Pattern (OverCap len max)) going h = absurd h
 end-refusal v (BadProofShape reason) going h =
     let past : next_step v.transcript.playing ≡ None
     = ap (slice_get v.transcript.playing.pattern.steps) h.0.end ∙ get-past v.transcript.playing.pattern.steps in
-    ap bad_proof_shape h.2 ∙ sym (ap refusal_at_end past)
-end-refusal v (Challenger e) going h = absurd h
-end-refusal v OutOfMemory going h = absurd h
-end-refusal v (MissingBegin x) going h = absurd h
-end-refusal v (InvalidKind x) going h = absurd h
-end-refusal v (MismatchedBeginEnd x) going h = absurd h
-end-refusal v (MissingEnd x) going h = absurd h
-end-refusal v LabelTooLong going h = absurd h
+    rw past (ap bad_proof_shape h.2)
+end-refusal v _ going h = absurd h
 
 -- what refuses a prover the end would refuse it a verifier
 pub end-read : {S : Type 0} (v : Driving S) (e : TranscriptError) →
     IsPatternError (λ m. FaultOfPlayEnd v.transcript.playing (pattern_error_of m)) e → RefusesEnd v e
 end-read v (Pattern e) h = h
-end-read v (BadProofShape reason) h = absurd h
-end-read v (Challenger e) h = absurd h
-end-read v OutOfMemory h = absurd h
-end-read v (MissingBegin x) h = absurd h
-end-read v (InvalidKind x) h = absurd h
-end-read v (MismatchedBeginEnd x) h = absurd h
-end-read v (MissingEnd x) h = absurd h
-end-read v LabelTooLong h = absurd h
+end-read v _ h = absurd h
 
 -- ---- two places in a list
 
@@ -96,16 +63,10 @@ module _ {A : Type 0} (x y : A) (ls ms : List A) where
       let rest : xs ++ (x ∷ ls) ≡ ys ++ (y ∷ ms) = cc in
       elim (places xs ys rest) [
         | inl one ↦
-            inl (record { before = ap (λ l. w ∷ l) one.before ∙ ap (λ u. u ∷ xs) same; here = one.here })
+            inl (record { before = cc (one.before, same); here = one.here })
         | inr other ↦ elim other [
-          | inl past ↦ inr (inl (record {
-            between = past.between;
-            split = ap (λ l. w ∷ l) past.split ∙ ap (λ u. u ∷ (xs ++ (x ∷ past.between))) same;
-          }))
-          | inr past ↦ inr (inr (record {
-            between = past.between;
-            split = ap (λ l. z ∷ l) past.split ∙ ap (λ u. u ∷ (ys ++ (y ∷ past.between))) (sym same);
-          }))
+          | inl past ↦ inr (inl (record { between = past.between; split = cc (past.split, same) }))
+          | inr past ↦ inr (inr (record { between = past.between; split = cc (past.split, same) }))
         ]
       ]
 

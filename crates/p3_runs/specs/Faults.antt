@@ -1,14 +1,8 @@
 -- What the faults of one script say.
 use Rattle.std.specs.Prelude.{◌≡◌, ℕ, List}
-use Rattle.p3_fs_core.specs.Errors.{refusal_of}
-use Rattle.p3_fs_core.specs.declared.error.TranscriptError.{TranscriptError}
+use Rattle.p3_fs_core.specs.{Errors.refusal_of, declared.error.TranscriptError.TranscriptError}
 use Rattle.p3_fs_core.specs.declared.error.TranscriptError.TheVariants.{OutOfMemory}
-use Rattle.p3_runs.specs.Fronts.{Run}
-use Rattle.p3_runs.specs.Plays.{Play}
-use Rattle.p3_runs.specs.Provings.{RefusesToProve}
-use Rattle.p3_runs.specs.Rules.{Rules}
-use Rattle.p3_runs.specs.Runs.{AreAdmitted}
-use Rattle.p3_runs.specs.Values.{Value}
+use Rattle.p3_runs.specs.{Fronts.Run, Plays.Play, Provings.RefusesToProve, Rules.Rules, Runs.AreAdmitted, Values.Value}
 use Rattle.p3_runs.specs.Verdicts.{RefusesProof}
 
 -- Of what a position and an error have to be where a script is refused: any two errors, neither of them out of

@@ -1,23 +1,17 @@
 -- A verifier that follows a script step by step.
-use Rattle.std.proofs.Common.{◌≡◌, ◌≤◌, ◌+◌, ℕ, suc, zero, List, [], ◌∷◌, ◌++◌, Option, Some, None, IsSome, refl}
-use Rattle.std.proofs.Common.{sym, ap, ◌∙◌, subst, append_assoc, append-nil, length, drop, take, add-one, arith}
-use Rattle.std.proofs.Common.{false, slice_get, map, ◌⊎◌}
-use Rattle.std.proofs.lemmas.List.{drop_all, length-append}
+use Rattle.std.proofs.Common.{◌≡◌, ◌≤◌, ◌+◌, ℕ, suc, zero, List, [], ◌∷◌, ◌++◌, Option, Some, None, is_some, refl}
+use Rattle.std.proofs.Common.{sym, ap, ◌∙◌, append_assoc, append-nil, length, drop, take, add-one, arith}
+use Rattle.std.proofs.{Common.{slice_get, map, ◌⊎◌}, lemmas.List.{drop_all, length-append}}
 use Rattle.p3_fs_core.specs.declared.error.TranscriptError.{TranscriptError}
-use Rattle.p3_domain_separator.specs.SeparatorSeed.{pattern_of}
-use Rattle.p3_patterns.specs.Playing.{Playing, next_step}
-use Rattle.p3_driver_core.specs.Driving.{Driving}
-use Rattle.p3_driver_core.specs.Transcripts.{step_on}
-use Rattle.p3_driver_core.specs.Verifying.{EndsReading, RefusesEnd}
-use Rattle.p3_runs.specs.Fronts.{Run, IsFinished, pattern, seed, seeded}
-use Rattle.p3_runs.specs.Plays.{Play, Place, Nowhere, Sent, Found, Carried}
-use Rattle.p3_runs.specs.Rules.{Rules}
-use Rattle.p3_runs.specs.Runs as runs
-use Rattle.p3_runs.specs.Runs.{interactions, if_in_proof, if_carried, if_drawn}
-use Rattle.p3_runs.specs.RunLaws.{finished-matched, finishes-more, wires-more, picked-more, after-more, challenges-more}
+use Rattle.p3_patterns.specs.Playing.{Playing}
+use Rattle.p3_driver_core.specs.{Driving.Driving, Transcripts.PlaysStep, Verifying.{EndsReading, RefusesEnd}}
+use Rattle.p3_runs.specs.{Fronts.{Run, IsFinished, pattern, seed, seeded}, Plays.{Play, Place, Carried, meaning}}
+use Rattle.p3_runs.specs.{Rules.Rules, Runs.{interactions, if_in_proof, if_carried, if_drawn}}
+use Rattle.p3_runs.specs.RunLaws.{AreMatched, finished-matched, finishes-more, wires-more, picked-more, after-more, challenges-more}
 use Rattle.p3_runs.specs.Stepping.{TakesStep, Halts, IsCarriedTo, one_of, one_witness, all_witnesses}
 use Rattle.p3_runs.specs.Values.{Value, Challenge}
 use Rattle.p3_runs.specs.Verdicts.{with_steps, driving_after, IsProof, IsOutcome, RefusesAtStep, RefusesAtEnd}
+use Rattle.p3_runs.specs.Runs as runs
 
 -- ---- lists
 
@@ -42,11 +36,9 @@ witnesses-split (Some x) xs ys h = ap all_witnesses h
 -- a caller carries as many witnesses to a step as it has
 as_many : {F : Type 0} (place : Place) (w : Option F) → IsCarriedTo place w →
     length (if_carried place (tt {0})) ≡ length (one_of w)
-as_many Nowhere w h = ap (λ o. length (one_of o)) (sym h)
-as_many Sent w h = ap (λ o. length (one_of o)) (sym h)
-as_many Found w h = ap (λ o. length (one_of o)) (sym h)
 as_many Carried None h = absurd (cc)
 as_many Carried (Some x) h = refl
+as_many _ w h = ap (λ o. length (one_of o)) (sym h)
 
 length-nil : {A : Type 0} (xs : List A) → length xs ≡ 0 → xs ≡ []
 length-nil [] h = refl
@@ -57,10 +49,11 @@ take_all [] = refl
 take_all (x ∷ xs) = ap (λ l. x ∷ l) (take_all xs)
 
 -- a driver by its parts
-pub parts : {S : Type 0} (d : Driving S) (s : S) (p : Playing) → d.transcript.challenger ≡ s → d.transcript.playing ≡ p →
-    d ≡ record { transcript = record { challenger = s; playing = p }; bytes = d.bytes }
-parts d s p challenger playing = λ i.
-    record { transcript = record { challenger = challenger i; playing = playing i }; bytes = d.bytes }
+parts : {S : Type 0} (d : Driving S) (s : S) (p : Playing) (bytes : List ℕ) → d.transcript.challenger ≡ s →
+    d.transcript.playing ≡ p → d.bytes ≡ bytes →
+    d ≡ record { transcript = record { challenger = s; playing = p }; bytes = bytes }
+parts d s p bytes challenger playing left = λ i.
+    record { transcript = record { challenger = challenger i; playing = playing i }; bytes = left i }
 
 module _ {X S Symbol I F EF O Ac U D : Type 0} (rules : Rules S Symbol I F EF O Ac) (play : X → Play S Symbol F EF O) where
   -- The first i steps were played with these values, and j of the carried witnesses were used: the bytes that were read,
@@ -100,6 +93,54 @@ module _ {X S Symbol I F EF O Ac U D : Type 0} (rules : Rules S Symbol I F EF O 
         drawn_is = refl;
       }
 
+  -- ---- a step more
+
+  -- the driver stands after a front, and the step is played with this value
+  module _ (script : Run X F EF S U D) (before : List X) (values : List (Value F EF)) (x : X) (v : Value F EF)
+      (bytes : List ℕ) (here there : Driving S) (t : Option (Challenge F EF))
+      (finished : IsFinished rules play (with_steps script before values))
+      (stands : here ≡ driving_after rules play (with_steps script before values) bytes) (fits : (play x).Fits v)
+      (plays : PlaysStep (meaning (play x) v) here.transcript t there.transcript) where
+    abbrev longer : Run X F EF S U D
+    longer = with_steps script (before ++ x ∷ []) (values ++ v ∷ [])
+
+    matched : AreMatched play before values
+    matched = finished-matched play before values (seeded rules play script) finished.finishes
+
+    pub on-finished : IsFinished rules play longer
+    on-finished =
+        let here = rw stands at plays in
+        let some = ap is_some here.gives in
+        record {
+          in_pattern = rw (
+            interactions-more (λ y. (play y).interaction) before x,
+            length-more before x,
+            take-more (pattern script) (length before) (play x).interaction here.is_next.1,
+            finished.in_pattern,
+          ) refl;
+          seed_fits = finished.seed_fits;
+          finishes = finishes-more play before values (seeded rules play script) x v finished.finishes fits here.fits some;
+        }
+
+    pub on-stands : (left : List ℕ) → there.bytes ≡ left → there ≡ driving_after rules play longer left
+    on-stands left is =
+        let here = rw stands at plays in
+        parts there _ _ left (rw (after-more play before values (seeded rules play script) x v matched) here.challenger)
+        (rw (length-more before x, ← add-one (length before)) here.playing) is
+
+    pub on-picked : (pick : Place → Value F EF → List (Value F EF)) →
+        runs.picked play pick longer.steps longer.values ≡ runs.picked play pick before values ++ pick (play x).place v
+    on-picked pick = picked-more play pick before values x v matched
+
+    pub on-wires : runs.wires play longer.steps longer.values ≡ runs.wires play before values ++ (play x).wire v
+    on-wires = wires-more play before values x v matched
+
+    pub on-drawn : runs.challenges play longer.steps longer.values (seeded rules play script)
+        ≡ runs.challenges play before values (seeded rules play script) ++ if_drawn (Some t)
+    on-drawn =
+        let here = rw stands at plays in
+        rw (challenges-more play before values (seeded rules play script) x v matched, here.gives) refl
+
   pub follows-on : (script : Run X F EF S U D) (bytes : List ℕ) (carried : List F) (i j k : ℕ) (here there : Driving S)
       (received shown : List (Value F EF)) (drawn : List (Challenge F EF)) (x : X) (w : Option F)
       (t : Option (Challenge F EF)) → drop i script.steps ≡ x ∷ drop (i + 1) script.steps →
@@ -108,65 +149,25 @@ module _ {X S Symbol I F EF O Ac U D : Type 0} (rules : Rules S Symbol I F EF O 
       Follows script bytes carried (i + 1) k there (received ++ shown) (drawn ++ if_drawn (Some t))
   follows-on script bytes carried i j k here there received shown drawn x w t at uses brought f takes =
       let v = takes.value in
-      let start = seeded rules play script in
-      let p = takes.plays in
-      let matched = finished-matched play f.before f.values start f.finished.finishes in
-      let challenger : here.transcript.challenger ≡ runs.after play f.before f.values start
-      = ap (λ (d : Driving S). d.transcript.challenger) f.stands in
-      let playing = ap (λ (d : Driving S). d.transcript.playing) f.stands in
-      let gives : ((play x).effect v).gives (runs.after play f.before f.values start) ≡ Some t
-      = ap ((play x).effect v).gives (sym challenger) ∙ p.gives in
-      let some : IsSome (((play x).effect v).gives (runs.after play f.before f.values start))
-      = subst (λ o. IsSome o) (sym gives) refl in
-      let next : slice_get (pattern script) (length f.before) ≡ Some (play x).interaction
-      = ap next_step (sym playing) ∙ p.is_next.1 in
-      let long : length (f.before ++ x ∷ []) ≡ suc (length f.before) = length-more f.before x in
-      let used : all_witnesses (drop j carried) ≡ if_carried (play x).place v ++ all_witnesses (drop k carried)
-      = witnesses-split w (drop j carried) (drop k carried) uses
-      ∙ ap (λ l. l ++ all_witnesses (drop k carried)) (sym takes.carried) in
-      let count : runs.carried_count play (drop i script.steps)
-      ≡ length (if_carried (play x).place (tt {0})) + runs.carried_count play (drop (i + 1) script.steps)
-      = ap (runs.carried_count play) at in
-      let many : length (drop j carried) ≡ length (one_of w) + length (drop k carried)
-      = ap length uses ∙ length-append (one_of w) (drop k carried) in
-      let one = as_many (play x).place w brought in
-      let fewer : runs.carried_count play (drop (i + 1) script.steps) ≡ length (drop k carried)
-      = omega (arith, count, many, one, f.left) in
-      let ends : there.transcript.challenger ≡ runs.after play (f.before ++ x ∷ []) (f.values ++ v ∷ []) start
-      = p.challenger ∙ ap ((play x).effect v).after challenger
-      ∙ sym (after-more play f.before f.values start x v matched) in
-      let position : length f.before + 1 ≡ length (f.before ++ x ∷ []) = add-one (length f.before) ∙ sym long in
-      let plays : there.transcript.playing
-      ≡ record { pattern = pattern_of script.separator; position = length (f.before ++ x ∷ []); finished = false }
-      = p.playing ∙ ap step_on playing
-      ∙ ap (λ (n : ℕ). record { pattern = pattern_of script.separator; position = n; finished = false }) position in
+      let picked = on-picked script f.before f.values x v _ here there _ f.finished f.stands takes.fits takes.plays in
+      let wires = on-wires script f.before f.values x v _ here there _ f.finished f.stands takes.fits takes.plays in
+      let used = rw (witnesses-split w (drop j carried) (drop k carried) uses, ← takes.carried) at f.carries in
+      let many = rw (at, uses, length-append) at f.left in
       record {
         before = f.before ++ x ∷ [];
         values = f.values ++ v ∷ [];
-        split = f.split ∙ ap (λ l. f.before ++ l) at ∙ sym (append_assoc f.before (x ∷ []) (drop (i + 1) script.steps));
-        place = long ∙ ap suc f.place ∙ sym (add-one i);
-        finished = record {
-          in_pattern = interactions-more (λ y. (play y).interaction) f.before x
-              ∙ ap (λ l. l ++ (play x).interaction ∷ []) f.finished.in_pattern
-              ∙ sym (take-more (pattern script) (length f.before) (play x).interaction next)
-              ∙ ap (λ n. take n (pattern script)) (sym long);
-          seed_fits = f.finished.seed_fits;
-          finishes = finishes-more play f.before f.values start x v f.finished.finishes takes.fits p.fits some;
-        };
-        stands = parts there _ _ ends plays;
-        read = f.read ∙ ap (λ l. runs.wires play f.before f.values ++ l) takes.read
-            ∙ sym (append_assoc (runs.wires play f.before f.values) ((play x).wire v) there.bytes)
-            ∙ ap (λ l. l ++ there.bytes) (sym (wires-more play f.before f.values x v matched));
-        carries = f.carries ∙ ap (λ l. runs.carried play f.before f.values ++ l) used
-            ∙ sym (append_assoc (runs.carried play f.before f.values) (if_carried (play x).place v) (all_witnesses (drop k carried)))
-            ∙ ap (λ l. l ++ all_witnesses (drop k carried)) (sym (picked-more play if_carried f.before f.values x v matched));
-        left = fewer;
-        received_is = ap (λ l. l ++ shown) f.received_is
-            ∙ ap (λ l. runs.in_proof play f.before f.values ++ l) (sym takes.shown)
-            ∙ sym (picked-more play if_in_proof f.before f.values x v matched);
-        drawn_is = ap (λ l. l ++ if_drawn (Some t)) f.drawn_is
-            ∙ ap (λ o. runs.challenges play f.before f.values start ++ if_drawn o) (sym gives)
-            ∙ sym (challenges-more play f.before f.values start x v matched);
+        split = rw (append_assoc, ← at) f.split;
+        place = rw (length-more f.before x, f.place, add-one) refl;
+        finished = on-finished script f.before f.values x v _ here there _ f.finished f.stands takes.fits takes.plays;
+        stands = on-stands script f.before f.values x v _ here there _ f.finished f.stands takes.fits takes.plays there.bytes refl;
+        read = rw (wires, append_assoc, ← takes.read) f.read;
+        carries = rw (picked if_carried, append_assoc) used;
+        left = omega (arith, many, as_many (play x).place w brought);
+        received_is = rw (picked if_in_proof, takes.shown, f.received_is) refl;
+        drawn_is = rw (
+          on-drawn script f.before f.values x v _ here there _ f.finished f.stands takes.fits takes.plays,
+          f.drawn_is,
+        ) refl;
       }
 
   -- ---- a step is refused
@@ -181,7 +182,7 @@ module _ {X S Symbol I F EF O Ac U D : Type 0} (rules : Rules S Symbol I F EF O 
         before = f.before;
         step = x;
         later = drop (i + 1) script.steps;
-        steps = f.split ∙ ap (λ l. f.before ++ l) at;
+        steps = rw at at f.split;
         place = sym f.place;
         values = f.values;
         finished = f.finished;
@@ -190,10 +191,9 @@ module _ {X S Symbol I F EF O Ac U D : Type 0} (rules : Rules S Symbol I F EF O 
         witness = w;
         unused = all_witnesses (drop k carried);
         brought = brought;
-        carries = f.carries ∙ ap (λ l. runs.carried play f.before f.values ++ l)
-            (witnesses-split w (drop j carried) (drop k carried) uses);
+        carries = rw (witnesses-split w (drop j carried) (drop k carried) uses) at f.carries;
         after = there;
-        refuses = subst (λ (d : Driving S). (play x).sides.verifier w d e there ⊎ Halts d e there) f.stands refuses;
+        refuses = rw f.stands at refuses;
       }
 
   -- ---- all steps were played
@@ -203,30 +203,22 @@ module _ {X S Symbol I F EF O Ac U D : Type 0} (rules : Rules S Symbol I F EF O 
       (received : List (Value F EF)) (drawn : List (Challenge F EF)) (past : length script.steps ≤ i)
       (f : Follows script bytes carried i j now received drawn) where
     all_played : f.before ≡ script.steps
-    all_played =
-        sym (append-nil f.before) ∙ ap (λ l. f.before ++ l) (sym (drop_all i script.steps past)) ∙ sym f.split
+    all_played = sym (rw (drop_all i script.steps past, append-nil) at f.split)
 
     none_left : drop j carried ≡ []
-    none_left =
-        let none : runs.carried_count play (drop i script.steps) ≡ 0
-        = ap (runs.carried_count play) (drop_all i script.steps past) in
-        length-nil (drop j carried) (sym f.left ∙ none)
+    none_left = length-nil (drop j carried) (sym (rw (drop_all i script.steps past) at f.left))
 
     pub all_carried : all_witnesses carried ≡ runs.carried play script.steps f.values
-    all_carried =
-        f.carries ∙ ap (λ l. runs.carried play f.before f.values ++ all_witnesses l) none_left
-        ∙ append-nil (runs.carried play f.before f.values)
-        ∙ ap (λ l. runs.carried play l f.values) all_played
+    all_carried = rw (none_left, append-nil, all_played) at f.carries
 
     whole_finished : IsFinished rules play (with_steps script script.steps f.values)
-    whole_finished = subst (λ l. IsFinished rules play (with_steps script l f.values)) all_played f.finished
+    whole_finished = rw all_played at f.finished
 
     whole_stands : now ≡ driving_after rules play (with_steps script script.steps f.values) now.bytes
-    whole_stands =
-        f.stands ∙ ap (λ l. driving_after rules play (with_steps script l f.values) now.bytes) all_played
+    whole_stands = rw all_played at f.stands
 
     whole_read : bytes ≡ runs.wires play script.steps f.values ++ now.bytes
-    whole_read = f.read ∙ ap (λ l. runs.wires play l f.values ++ now.bytes) all_played
+    whole_read = rw all_played at f.read
 
     pub follows-not_ended : (e : TranscriptError) → RefusesEnd now e →
         RefusesAtEnd rules play script bytes carried (length script.steps) e
@@ -238,22 +230,17 @@ module _ {X S Symbol I F EF O Ac U D : Type 0} (rules : Rules S Symbol I F EF O 
           left = now.bytes;
           read = whole_read;
           carries = all_carried;
-          refuses = subst (λ (d : Driving S). RefusesEnd d e) whole_stands refuses;
+          refuses = rw whole_stands at refuses;
         }
 
     pub follows-end : EndsReading now →
         IsProof rules play (with_steps script script.steps f.values) bytes carried
     follows-end ends =
-        let playing = ap (λ (d : Driving S). d.transcript.playing) whole_stands in
-        let at_end : length script.steps ≡ length (pattern script)
-        = ap (λ (p : Playing). p.position) (sym playing) ∙ ends.played.end
-        ∙ ap (λ (p : Playing). length p.pattern.steps) playing in
+        let played = rw whole_stands at ends.played in
         record {
           finished = whole_finished;
-          whole = whole_finished.in_pattern ∙ ap (λ n. take n (pattern script)) at_end
-              ∙ take_all (pattern script);
-          wire_is = whole_read ∙ ap (λ l. runs.wires play script.steps f.values ++ l) ends.whole
-              ∙ append-nil (runs.wires play script.steps f.values);
+          whole = rw (played.end, take_all (pattern script)) at whole_finished.in_pattern;
+          wire_is = rw (ends.whole, append-nil) at whole_read;
           carries = all_carried;
         }
 
@@ -261,7 +248,7 @@ module _ {X S Symbol I F EF O Ac U D : Type 0} (rules : Rules S Symbol I F EF O 
         IsOutcome rules play (with_steps script script.steps f.values) received drawn end
     follows-outcome end is =
         record {
-          received_is = f.received_is ∙ ap (λ l. runs.in_proof play l f.values) all_played;
-          drawn_is = f.drawn_is ∙ ap (λ l. runs.challenges play l f.values (seeded rules play script)) all_played;
-          end_is = is ∙ ap (λ (d : Driving S). d.transcript.challenger) whole_stands;
+          received_is = rw all_played at f.received_is;
+          drawn_is = rw all_played at f.drawn_is;
+          end_is = rw whole_stands at is;
         }

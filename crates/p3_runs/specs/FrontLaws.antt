@@ -1,15 +1,10 @@
 -- The steps of a finished front of a script are the first ones of its pattern.
-use Rattle.std.proofs.Common.{◌≡◌, ℕ, suc, zero, List, [], ◌∷◌, ◌++◌, Some, None, refl, sym, ap, ◌∙◌, subst, length}
+use Rattle.std.proofs.Common.{◌≡◌, ℕ, suc, zero, List, [], ◌∷◌, ◌++◌, Some, None, refl, length}
 use Rattle.std.proofs.Common.{take, slice_get, map}
-use Rattle.p3_fs_core.specs.StepFits.{FitsLength, AreProgramSteps}
-use Rattle.p3_fs_core.specs.Steps.{Step}
+use Rattle.p3_fs_core.specs.{StepFits.{FitsLength, AreProgramSteps}, Steps.Step}
 use Rattle.p3_domain_separator.specs.SeparatorSeed.{pattern_of}
-use Rattle.p3_runs.specs.Fronts.{Run, IsFinished, pattern}
-use Rattle.p3_runs.specs.Plays.{Play}
-use Rattle.p3_runs.specs.Rules.{Rules}
+use Rattle.p3_runs.specs.{Fronts.{Run, IsFinished, pattern}, Plays.Play, Rules.Rules, Values.Value, Verdicts.with_steps}
 use Rattle.p3_runs.specs.Runs.{AreAdmitted, Finishes, interactions}
-use Rattle.p3_runs.specs.Values.{Value}
-use Rattle.p3_runs.specs.Verdicts.{with_steps}
 
 -- ---- elements of lists
 
@@ -23,18 +18,16 @@ get-middle f [] x ys = refl
 get-middle f (y ∷ xs) x ys = get-middle f xs x ys
 
 get-of_take : {A : Type 0} (xs : List A) (n k : ℕ) (y : A) → slice_get (take n xs) k ≡ Some y → slice_get xs k ≡ Some y
-get-of_take [] zero k y h = absurd (cc)
+get-of_take xs zero k y h = absurd (cc)
 get-of_take [] (suc n) k y h = absurd (cc)
-get-of_take (x ∷ xs) zero k y h = absurd (cc)
 get-of_take (x ∷ xs) (suc n) zero y h = h
 get-of_take (x ∷ xs) (suc n) (suc k) y h = get-of_take xs n k y h
 
 -- ---- what holds of each step
 
 program-take : (xs : List Step) (n : ℕ) → AreProgramSteps xs → AreProgramSteps (take n xs)
-program-take [] zero h = tt
+program-take xs zero h = tt
 program-take [] (suc n) h = tt
-program-take (x ∷ xs) zero h = tt
 program-take (x ∷ xs) (suc n) h = (h.0, program-take xs n h.1)
 
 module _ {X S Symbol F EF O : Type 0} (play : X → Play S Symbol F EF O) where
@@ -61,8 +54,7 @@ module _ {X S Symbol I F EF O Ac U D : Type 0} (rules : Rules S Symbol I F EF O 
   pub front-fits : (front : List X) (values : List (Value F EF)) →
       IsFinished rules play (with_steps script front values) → AreProgramSteps (interactions play front)
   front-fits front values finished =
-      subst AreProgramSteps (sym finished.in_pattern)
-      (program-take (pattern script) (length front) (pattern_of script.separator).fit)
+      rw finished.in_pattern (program-take (pattern script) (length front) (pattern_of script.separator).fit)
 
   -- and each is the next one of the pattern at its place
   pub front-next : (front : List X) (x : X) (later : List X) (values : List (Value F EF)) →
@@ -70,4 +62,4 @@ module _ {X S Symbol I F EF O Ac U D : Type 0} (rules : Rules S Symbol I F EF O 
       slice_get (pattern script) (length front) ≡ Some (play x).interaction
   front-next front x later values finished =
       get-of_take (pattern script) (length (front ++ (x ∷ later))) (length front) (play x).interaction
-      (ap (λ l. slice_get l (length front)) (sym finished.in_pattern) ∙ get-middle (λ y. (play y).interaction) front x later)
+      (rw (← finished.in_pattern) (get-middle (λ y. (play y).interaction) front x later))

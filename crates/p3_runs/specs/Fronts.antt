@@ -4,11 +4,8 @@ use Rattle.p3_challenger_core.specs.Observation.{observed_all}
 use Rattle.p3_fs_core.specs.Steps.{Step}
 use Rattle.p3_domain_separator.specs.SeparatorSeed.{seed_of_separator, pattern_of}
 use Rattle.p3_domain_separator.specs.declared.domain_separator.DomainSeparator.{DomainSeparator}
-use Rattle.p3_runs.specs.Absorbed.{Absorbed}
-use Rattle.p3_runs.specs.Plays.{Play}
-use Rattle.p3_runs.specs.Rules.{Rules}
+use Rattle.p3_runs.specs.{Absorbed.Absorbed, Plays.Play, Rules.Rules, Values.{Value, Challenge}}
 use Rattle.p3_runs.specs.Runs as runs
-use Rattle.p3_runs.specs.Values.{Value, Challenge}
 
 -- the state of a challenger, a separator, and steps with their values, of which one stands at each step
 pub record Run (X F EF S U D : Type 0) : Type 0 where

@@ -1,22 +1,13 @@
 -- Bytes and carried witnesses have one run; and where a verifier refuses, for anything but being out of memory, they have none.
 use Rattle.std.proofs.Common.{◌≡◌, ℕ, List, [], refl, sym, ap, ◌∙◌, subst, append-nil, length, inl, inr}
 use Rattle.std.proofs.lemmas.List.{length-map}
-use Rattle.p3_fs_core.specs.StepFits.{FitsLength}
-use Rattle.p3_fs_core.specs.declared.error.TranscriptError.{TranscriptError}
+use Rattle.p3_fs_core.specs.{StepFits.FitsLength, declared.error.TranscriptError.TranscriptError}
 use Rattle.p3_fs_core.specs.declared.error.TranscriptError.TheVariants.{OutOfMemory}
 use Rattle.p3_step_laws.specs.CompletenessLaws.{reading-ends}
-use Rattle.p3_runs.specs.FrontLaws.{next-admitted}
-use Rattle.p3_runs.specs.Fronts.{Run, pattern}
-use Rattle.p3_runs.specs.Plays.{Play}
-use Rattle.p3_runs.specs.ReachLaws.{Reaches, one-front, passed-step}
-use Rattle.p3_runs.specs.RefusalLaws.{start-never}
-use Rattle.p3_runs.specs.Rules.{Rules}
-use Rattle.p3_runs.specs.Runs as runs
-use Rattle.p3_runs.specs.Runs.{AreAdmitted}
-use Rattle.p3_runs.specs.Stepping.{IsCanonical, IsTakenWherePossible}
-use Rattle.p3_runs.specs.Values.{Value}
+use Rattle.p3_runs.specs.{FrontLaws.next-admitted, Fronts.{Run, pattern}, Plays.Play, RefusalLaws.start-never}
+use Rattle.p3_runs.specs.{ReachLaws.{Reaches, one-front, passed-step}, Rules.Rules, Runs.AreAdmitted, Values.Value}
+use Rattle.p3_runs.specs.{Stepping.{IsCanonical, IsTakenWherePossible}, Verdicts.RefusesAtEnd}
 use Rattle.p3_runs.specs.Verdicts.{with_steps, driving_after, IsProof, HasNoProof, RefusesProof, RefusesAtStep}
-use Rattle.p3_runs.specs.Verdicts.{RefusesAtEnd}
 
 module _ {X S Symbol I F EF O Ac U D : Type 0} (rules : Rules S Symbol I F EF O Ac) (play : X → Play S Symbol F EF O)
     (canonical : (x : X) → FitsLength (play x).interaction.length → IsCanonical (play x))
@@ -28,8 +19,8 @@ module _ {X S Symbol I F EF O Ac U D : Type 0} (rules : Rules S Symbol I F EF O 
     whole others p =
         record {
           finished = p.finished;
-          read = p.wire_is ∙ sym (append-nil (runs.wires play script.steps others));
-          carries = p.carries ∙ sym (append-nil (runs.carried play script.steps others));
+          read = rw append-nil p.wire_is;
+          carries = rw append-nil p.carries;
         }
 
     -- what goes on from a front of whole steps
@@ -51,11 +42,7 @@ module _ {X S Symbol I F EF O Ac U D : Type 0} (rules : Rules S Symbol I F EF O 
     end-not_refused : (position : ℕ) (e : TranscriptError) → RefusesAtEnd rules play script bytes carried position e → ⊥
     end-not_refused position e r =
         let same = one-front rules play script bytes carried canonical script.steps r.values values r.left [] [] []
-        (record {
-          finished = r.finished;
-          read = r.read;
-          carries = r.carries ∙ sym (append-nil (runs.carried play script.steps r.values));
-        }) (whole values proof) in
+        (record { finished = r.finished; read = r.read; carries = rw append-nil r.carries }) (whole values proof) in
         let end : length script.steps ≡ length (pattern script)
         = sym (length-map script.steps (λ x. (play x).interaction)) ∙ ap length proof.whole in
         reading-ends (driving_after rules play (with_steps script script.steps r.values) r.left) e

@@ -1,16 +1,10 @@
 -- What a step of a script means, computed from the step: few shapes for all kinds of steps.
-use Rattle.std.specs.Prelude.{◌≡◌, ℕ, ◌≤◌, List, [], length, Option, Some, None}
-use Rattle.std.specs.Option.{option_map}
-use Rattle.p3_fs_core.specs.Encoding.{Encoding}
-use Rattle.p3_fs_core.specs.Steps.{Step}
-use Rattle.p3_driver_core.specs.Effects.{Effect, untouched}
-use Rattle.p3_driver_core.specs.Reads.{Reading}
-use Rattle.p3_driver_core.specs.Transcripts.{Meaning, without_wire}
-use Rattle.p3_driver_core.specs.Verifying.{RefusesToRead}
-use Rattle.p3_driver_core.specs.Working.{Work, checking}
-use Rattle.p3_runs.specs.Absorbed.{Absorbed, Nothing}
+use Rattle.std.specs.{Prelude.{◌≡◌, ℕ, ◌≤◌, List, [], length, Option, Some, None}, Option.option_map}
+use Rattle.p3_fs_core.specs.{Encoding.Encoding, Steps.Step}
+use Rattle.p3_driver_core.specs.{Effects.{Effect, untouched}, Reads.Reading, Transcripts.{Meaning, without_wire}}
+use Rattle.p3_driver_core.specs.{Verifying.RefusesToRead, Working.{Work, checking}}
+use Rattle.p3_runs.specs.{Absorbed.{Absorbed, Nothing}, Sides.RefusesKept}
 use Rattle.p3_runs.specs.Sides.{Sides, Refusing, holds_some, sides_known, sides_sent, sides_ground, sides_carried}
-use Rattle.p3_runs.specs.Sides.{RefusesKept}
 use Rattle.p3_runs.specs.Values.{Value, Challenge, IsNothing, witness_in}
 
 -- where the value of a step stands: it has none; the prover is handed it and the proof carries it; it is a witness,

@@ -1,33 +1,23 @@
 -- A verifier refuses a script for one fault.
 use Rattle.std.proofs.Common.{◌≡◌, ℕ, List, [], ◌++◌, Option, Some, None, refl, sym, ap, ◌∙◌, subst}
 use Rattle.std.proofs.Common.{append-nil, length}
-use Rattle.p3_fs_core.specs.Errors.{refusal_of}
-use Rattle.p3_fs_core.specs.StepFits.{FitsLength}
-use Rattle.p3_fs_core.specs.declared.error.TranscriptError.{TranscriptError}
+use Rattle.p3_fs_core.specs.{Errors.refusal_of, StepFits.FitsLength, declared.error.TranscriptError.TranscriptError}
 use Rattle.p3_fs_core.specs.declared.error.TranscriptError.TheVariants.{OutOfMemory}
 use Rattle.p3_driver_core.specs.Driving.{Driving}
-use Rattle.p3_runs.specs.FaultLaws.{Stops, GoesPast, one-step, one-fault, end-refusal}
-use Rattle.p3_runs.specs.Faults.{TellOneFault, ProofsTellOneFault}
-use Rattle.p3_runs.specs.FrontLaws.{next-admitted}
-use Rattle.p3_runs.specs.Fronts.{Run, seed}
-use Rattle.p3_runs.specs.Plays.{Play, Place, Nowhere, Sent, Found, Carried}
-use Rattle.p3_runs.specs.ReachLaws.{Reaches, one-front, passed-step}
-use Rattle.p3_runs.specs.Rules.{Rules}
-use Rattle.p3_runs.specs.Runs as runs
-use Rattle.p3_runs.specs.Runs.{AreAdmitted}
+use Rattle.p3_runs.specs.{FaultLaws.{Stops, GoesPast, one-step, one-fault, end-refusal}, FrontLaws.next-admitted}
+use Rattle.p3_runs.specs.{Faults.{TellOneFault, ProofsTellOneFault}, Fronts.{Run, seed}, Plays.{Play, Place, Carried}}
+use Rattle.p3_runs.specs.{ReachLaws.{Reaches, one-front, passed-step}, Rules.Rules, Runs.AreAdmitted, Values.Value}
 use Rattle.p3_runs.specs.Stepping.{IsCarriedTo, OrHalts, one_witness, IsCanonical, IsTakenWherePossible, RefuseForOneReason}
-use Rattle.p3_runs.specs.Values.{Value}
 use Rattle.p3_runs.specs.Verdicts.{with_steps, driving_after, RefusesAtStep, RefusesAtEnd}
+use Rattle.p3_runs.specs.Runs as runs
 
 -- the witness that a caller carries to a step
 one-brought : {F : Type 0} (EF : Type 0) (place : Place) (w u : Option F) (a b : List (Value F EF)) →
     IsCarriedTo place w → IsCarriedTo place u → one_witness w ++ a ≡ one_witness u ++ b → w ≡ u
-one-brought EF Nowhere w u a b first second e = first ∙ sym second
-one-brought EF Sent w u a b first second e = first ∙ sym second
-one-brought EF Found w u a b first second e = first ∙ sym second
 one-brought EF Carried None u a b first second e = absurd (cc)
 one-brought EF Carried (Some x) None a b first second e = absurd (cc)
 one-brought EF Carried (Some x) (Some y) a b first second e = let same : x ≡ y = cc in ap Some same
+one-brought EF _ w u a b first second e = first ∙ sym second
 
 module _ {X S Symbol I F EF O Ac U D : Type 0} (rules : Rules S Symbol I F EF O Ac) (play : X → Play S Symbol F EF O)
     (canonical : (x : X) → FitsLength (play x).interaction.length → IsCanonical (play x))
@@ -91,15 +81,7 @@ module _ {X S Symbol I F EF O Ac U D : Type 0} (rules : Rules S Symbol I F EF O 
         (one_witness one.witness ++ one.unused) (one_witness two.witness ++ two.unused) one.reaches two.reaches in
         let witness = one-brought EF (play x).place one.witness two.witness one.unused two.unused one.brought two.brought
         same.2 in
-        let here : driving_after rules play (with_steps script front two.values) two.left
-        ≡ driving_after rules play (with_steps script front one.values) one.left
-        = ap (λ l. driving_after rules play (with_steps script front l) two.left) same.0
-        ∙ ap (driving_after rules play (with_steps script front one.values)) (sym same.1) in
-        let again : OrHalts ((play x).sides.verifier one.witness)
-        (driving_after rules play (with_steps script front one.values) one.left) f two.after
-        = subst (λ w. OrHalts ((play x).sides.verifier w)
-        (driving_after rules play (with_steps script front one.values) one.left) f two.after) (sym witness)
-        (subst (λ (d : Driving S). OrHalts ((play x).sides.verifier two.witness) d f two.after) here two.refuses) in
+        let again = rw (same.0, ← same.1, ← witness) at two.refuses in
         (reasons x one.allowed).verifier one.witness
         (driving_after rules play (with_steps script front one.values) one.left)
         one.after two.after e f one.refuses again p q

@@ -1,20 +1,14 @@
 -- What a prover answers for a whole script.
 use Rattle.std.specs.Prelude.{◌≡◌, ℕ, List, []}
-use Rattle.p3_runs.specs.Fronts.{Run, wire, challenges, last}
-use Rattle.p3_runs.specs.Plays.{Play, Place, Nowhere, Sent, Found, Carried}
-use Rattle.p3_runs.specs.Provings.{IsProverRun, FirstIs}
-use Rattle.p3_runs.specs.Rules.{Rules}
-use Rattle.p3_runs.specs.Runs as runs
-use Rattle.p3_runs.specs.Stepping.{all_witnesses}
-use Rattle.p3_runs.specs.Values.{Value, Challenge}
+use Rattle.p3_runs.specs.{Fronts.{Run, wire, challenges, last}, Plays.{Play, Place, Carried}, Rules.Rules}
+use Rattle.p3_runs.specs.{Provings.{IsProverRun, FirstIs}, Stepping.all_witnesses, Values.{Value, Challenge}}
 use Rattle.p3_runs.specs.Verdicts.{with_steps}
+use Rattle.p3_runs.specs.Runs as runs
 
 -- a witness, where the caller carries it
 abbrev pub where_carried : {A : Type 0} → Place → List A → List A
-where_carried Nowhere xs = []
-where_carried Sent xs = []
-where_carried Found xs = []
 where_carried Carried xs = xs
+where_carried _ xs = []
 
 -- The first value is one of these, where the prover is handed a value for a step.
 abbrev pub StartsHanded : {V : Type 0} → Place → (V → Type 0) → List V → Type 0

@@ -1,23 +1,15 @@
 -- A prover refuses a script for one fault.
 use Rattle.std.proofs.Common.{◌≡◌, ℕ, List, [], ◌++◌, refl, sym, ◌∙◌, subst, append-nil, length}
-use Rattle.p3_fs_core.specs.Errors.{refusal_of}
-use Rattle.p3_fs_core.specs.StepFits.{FitsLength}
-use Rattle.p3_fs_core.specs.declared.error.TranscriptError.{TranscriptError}
+use Rattle.p3_fs_core.specs.{Errors.refusal_of, StepFits.FitsLength, declared.error.TranscriptError.TranscriptError}
 use Rattle.p3_fs_core.specs.declared.error.TranscriptError.TheVariants.{OutOfMemory}
 use Rattle.p3_driver_core.specs.Driving.{Driving}
-use Rattle.p3_runs.specs.FaultLaws.{Stops, GoesPast, one-step, one-fault, end-refusal, end-read}
-use Rattle.p3_runs.specs.Faults.{TellOneFault, ProvingsTellOneFault}
-use Rattle.p3_runs.specs.FrontLaws.{next-admitted}
-use Rattle.p3_runs.specs.Fronts.{Run, seed}
-use Rattle.p3_runs.specs.Plays.{Play}
-use Rattle.p3_runs.specs.Provings.{RefusesToProveStep, RefusesToProveEnd}
+use Rattle.p3_runs.specs.{FaultLaws.{Stops, GoesPast, one-step, one-fault, end-refusal, end-read}, Fronts.{Run, seed}}
+use Rattle.p3_runs.specs.{Faults.{TellOneFault, ProvingsTellOneFault}, FrontLaws.next-admitted, Plays.Play, Rules.Rules}
+use Rattle.p3_runs.specs.{Provings.{RefusesToProveStep, RefusesToProveEnd}, Runs.{AreAdmitted, if_sent}, Values.Value}
 use Rattle.p3_runs.specs.RefusalLaws.{ReachesSent, one-sent, passed-sent, sent-split}
-use Rattle.p3_runs.specs.Rules.{Rules}
-use Rattle.p3_runs.specs.Runs as runs
-use Rattle.p3_runs.specs.Runs.{AreAdmitted, if_sent}
 use Rattle.p3_runs.specs.Stepping.{OrHalts, IsDetermined, IsSentWherePossible, RefuseForOneReason}
-use Rattle.p3_runs.specs.Values.{Value}
 use Rattle.p3_runs.specs.Verdicts.{with_steps, driving_after}
+use Rattle.p3_runs.specs.Runs as runs
 
 module _ {X S Symbol I F EF O Ac U D : Type 0} (rules : Rules S Symbol I F EF O Ac) (play : X → Play S Symbol F EF O)
     (told : (x : X) → IsDetermined (play x))
@@ -83,9 +75,7 @@ module _ {X S Symbol I F EF O Ac U D : Type 0} (rules : Rules S Symbol I F EF O 
         one.reaches two.reaches in
         let alike = sent-split (play x).place one.given two.given one.unused two.unused same.1 in
         let given = (told x).one_handed one.given two.given one.is_handed two.is_handed alike.0 in
-        let again : OrHalts ((play x).sides.prover one.given) (stands front one.values) f two.after
-        = subst (λ v. OrHalts ((play x).sides.prover v) (stands front one.values) f two.after) (sym given)
-        (subst (λ l. OrHalts ((play x).sides.prover two.given) (stands front l) f two.after) same.0 two.refuses) in
+        let again = rw (same.0, ← given) at two.refuses in
         (reasons x one.allowed).prover one.given (stands front one.values) one.after two.after e f one.refuses again p q
 
     steps-one : TellOneFault (RefusesToProveStep rules play script sent)

@@ -1,27 +1,17 @@
 -- A prover that follows a script step by step.
-use Rattle.std.proofs.Common.{◌≡◌, ◌≤◌, ◌+◌, ℕ, suc, List, [], ◌∷◌, ◌++◌, Option, Some, None, IsSome, refl}
-use Rattle.std.proofs.Common.{sym, ap, ◌∙◌, subst, append_assoc, append-nil, length, drop, take, add-one}
-use Rattle.std.proofs.Common.{false, slice_get, ◌⊎◌}
-use Rattle.std.proofs.lemmas.List.{drop_all}
-use Rattle.p3_fs_core.specs.Errors.{pattern_error_of}
-use Rattle.p3_fs_core.specs.declared.error.TranscriptError.{TranscriptError}
-use Rattle.p3_domain_separator.specs.SeparatorSeed.{pattern_of}
-use Rattle.p3_patterns.specs.Playing.{Playing, next_step, FaultOfPlayEnd, IsPatternError, IsPlayed}
+use Rattle.std.proofs.{Common.{◌≡◌, ◌≤◌, ◌+◌, ℕ, List, [], ◌∷◌, ◌++◌, Option, Some, None, refl}, Common.◌⊎◌}
+use Rattle.std.proofs.{Common.{sym, ap, ◌∙◌, append_assoc, append-nil, length, drop, add-one}, lemmas.List.drop_all}
+use Rattle.p3_fs_core.specs.{Errors.pattern_error_of, declared.error.TranscriptError.TranscriptError}
+use Rattle.p3_patterns.specs.Playing.{FaultOfPlayEnd, IsPatternError, IsPlayed}
 use Rattle.p3_driver_core.specs.Driving.{Driving}
-use Rattle.p3_driver_core.specs.Transcripts.{step_on}
-use Rattle.p3_runs.specs.FollowingLaws.{interactions-more, take-more, length-more, take_all, parts}
-use Rattle.p3_runs.specs.Fronts.{Run, IsFinished, AreLeast, pattern, seed, seeded}
-use Rattle.p3_runs.specs.Plays.{Play, Place, Nowhere, Sent, Found, Carried}
-use Rattle.p3_runs.specs.ProverOutcomes.{IsProverOutcome, where_carried, StartsHanded}
+use Rattle.p3_runs.specs.FollowingLaws.{length-more, take_all, on-finished, on-stands, on-picked, on-wires, on-drawn}
+use Rattle.p3_runs.specs.{Fronts.{Run, IsFinished, AreLeast, pattern, seed, seeded}, Plays.{Play, Place, Sent, Carried}}
+use Rattle.p3_runs.specs.{ProverOutcomes.{IsProverOutcome, where_carried, StartsHanded}, Rules.Rules}
 use Rattle.p3_runs.specs.Provings.{FirstIs, AreHanded, RefusesToProveStep, RefusesToProveEnd}
-use Rattle.p3_runs.specs.Rules.{Rules}
-use Rattle.p3_runs.specs.Runs as runs
-use Rattle.p3_runs.specs.Runs.{if_sent, if_carried, if_witness, if_drawn}
-use Rattle.p3_runs.specs.RunLaws.{finished-matched, finishes-more, wires-more, picked-more, after-more, challenges-more}
-use Rattle.p3_runs.specs.RunLaws.{chosen-more}
-use Rattle.p3_runs.specs.Stepping.{SendsStep, Halts, one_of, one_witness, all_witnesses}
-use Rattle.p3_runs.specs.Values.{Value, Challenge}
+use Rattle.p3_runs.specs.{Runs.{if_sent, if_carried, if_witness, if_drawn}, RunLaws.{finished-matched, chosen-more}}
+use Rattle.p3_runs.specs.{Stepping.{SendsStep, Halts, one_of, one_witness, all_witnesses}, Values.{Value, Challenge}}
 use Rattle.p3_runs.specs.Verdicts.{with_steps, driving_after}
+use Rattle.p3_runs.specs.Runs as runs
 
 -- ---- lists
 
@@ -37,27 +27,21 @@ witnesses-one (Some x) = refl
 -- the caller carries the witness of a step whose witness it carries
 one-carried : {F EF : Type 0} (place : Place) (v : Value F EF) (w : Option F) → if_witness place v ≡ one_witness w →
     all_witnesses (where_carried place (one_of w)) ≡ if_carried place v
-one-carried Nowhere v w h = refl
-one-carried Sent v w h = refl
-one-carried Found v w h = refl
 one-carried Carried v w h = witnesses-one w ∙ sym h
+one-carried _ v w h = refl
 
 -- what is left of the values once a step has taken its own
 rest-handed : {V : Type 0} (place : Place) (Is : V → Type 0) (Rest : List V → Type 0) (given : V) (rest : List V) →
     FirstIs place Is Rest (if_sent place given ++ rest) → Rest rest
-rest-handed Nowhere Is Rest given rest h = h
 rest-handed Sent Is Rest given rest h = h.1
-rest-handed Found Is Rest given rest h = h
-rest-handed Carried Is Rest given rest h = h
+rest-handed _ Is Rest given rest h = h
 
 -- of values of which the first is one where a step has one, the first is one
 pub first-handed : {V : Type 0} (place : Place) (Is : V → Type 0) (Rest : List V → Type 0) (values : List V) →
     FirstIs place Is Rest values → StartsHanded place Is values
-first-handed Nowhere Is Rest values h = tt
 first-handed Sent Is Rest [] h = absurd h
 first-handed Sent Is Rest (v ∷ values) h = (h.0, tt)
-first-handed Found Is Rest values h = tt
-first-handed Carried Is Rest values h = tt
+first-handed _ Is Rest values h = tt
 
 module _ {X S Symbol I F EF O Ac U D : Type 0} (rules : Rules S Symbol I F EF O Ac) (play : X → Play S Symbol F EF O) where
   -- The first i steps were played, and j of the values that the prover is handed were used: the bytes that were written,
@@ -107,68 +91,27 @@ module _ {X S Symbol I F EF O Ac U D : Type 0} (rules : Rules S Symbol I F EF O 
       (drawn ++ if_drawn (Some t))
   proves-on script sent i j k here there witnesses carried drawn x given w t at uses f sends =
       let v = sends.value in
-      let start = seeded rules play script in
-      let p = sends.plays in
-      let matched = finished-matched play f.before f.values start f.finished.finishes in
-      let challenger : here.transcript.challenger ≡ runs.after play f.before f.values start
-      = ap (λ (d : Driving S). d.transcript.challenger) f.stands in
-      let playing = ap (λ (d : Driving S). d.transcript.playing) f.stands in
-      let written = ap (λ (d : Driving S). d.bytes) f.stands in
-      let gives : ((play x).effect v).gives (runs.after play f.before f.values start) ≡ Some t
-      = ap ((play x).effect v).gives (sym challenger) ∙ p.gives in
-      let some : IsSome (((play x).effect v).gives (runs.after play f.before f.values start))
-      = subst (λ o. IsSome o) (sym gives) refl in
-      let next : slice_get (pattern script) (length f.before) ≡ Some (play x).interaction
-      = ap next_step (sym playing) ∙ p.is_next.1 in
-      let long : length (f.before ++ x ∷ []) ≡ suc (length f.before) = length-more f.before x in
-      let position : length f.before + 1 ≡ length (f.before ++ x ∷ []) = add-one (length f.before) ∙ sym long in
-      let ends : there.transcript.challenger ≡ runs.after play (f.before ++ x ∷ []) (f.values ++ v ∷ []) start
-      = p.challenger ∙ ap ((play x).effect v).after challenger
-      ∙ sym (after-more play f.before f.values start x v matched) in
-      let plays : there.transcript.playing
-      ≡ record { pattern = pattern_of script.separator; position = length (f.before ++ x ∷ []); finished = false }
-      = p.playing ∙ ap step_on playing
-      ∙ ap (λ (n : ℕ). record { pattern = pattern_of script.separator; position = n; finished = false }) position in
-      let bytes : there.bytes ≡ runs.wires play (f.before ++ x ∷ []) (f.values ++ v ∷ [])
-      = sends.written ∙ ap (λ l. l ++ (play x).wire v) written
-      ∙ sym (wires-more play f.before f.values x v matched) in
-      let stands : there ≡ driving_after rules play (with_steps script (f.before ++ x ∷ []) (f.values ++ v ∷ [])) there.bytes
-      = parts there _ _ ends plays in
+      let picked = on-picked rules play script f.before f.values x v _ here there _ f.finished f.stands sends.fits sends.plays in
+      let wires = on-wires rules play script f.before f.values x v _ here there _ f.finished f.stands sends.fits sends.plays in
+      let written = rw (f.stands, ← wires) at sends.written in
+      let stands = on-stands rules play script f.before f.values x v _ here there _ f.finished f.stands sends.fits sends.plays in
+      let drawn_more = on-drawn rules play script f.before f.values x v _ here there _ f.finished f.stands sends.fits sends.plays in
       record {
         before = f.before ++ x ∷ [];
         values = f.values ++ v ∷ [];
-        split = f.split ∙ ap (λ l. f.before ++ l) at ∙ sym (append_assoc f.before (x ∷ []) (drop (i + 1) script.steps));
-        place = long ∙ ap suc f.place ∙ sym (add-one i);
-        finished = record {
-          in_pattern = interactions-more (λ y. (play y).interaction) f.before x
-              ∙ ap (λ l. l ++ (play x).interaction ∷ []) f.finished.in_pattern
-              ∙ sym (take-more (pattern script) (length f.before) (play x).interaction next)
-              ∙ ap (λ n. take n (pattern script)) (sym long);
-          seed_fits = f.finished.seed_fits;
-          finishes = finishes-more play f.before f.values start x v f.finished.finishes sends.fits p.fits some;
-        };
-        least = chosen-more play f.before f.values start x v matched f.least
-            (subst (λ (s : S). (play x).sides.IsChosen s v) challenger sends.chosen);
-        stands = stands
-            ∙ ap (driving_after rules play (with_steps script (f.before ++ x ∷ []) (f.values ++ v ∷ []))) bytes;
-        hands = f.hands ∙ ap (λ l. runs.handed play f.before f.values ++ l) uses
-            ∙ ap (λ l. runs.handed play f.before f.values ++ (l ++ drop k sent)) (sym sends.sent)
-            ∙ sym (append_assoc (runs.handed play f.before f.values) (if_sent (play x).place v) (drop k sent))
-            ∙ ap (λ l. l ++ drop k sent) (sym (picked-more play if_sent f.before f.values x v matched));
+        split = rw (append_assoc, ← at) f.split;
+        place = rw (length-more f.before x, f.place, add-one) refl;
+        finished = on-finished rules play script f.before f.values x v _ here there _ f.finished f.stands sends.fits sends.plays;
+        least = chosen-more play f.before f.values (seeded rules play script) x v
+            (finished-matched play f.before f.values (seeded rules play script) f.finished.finishes) f.least
+            (rw f.stands at sends.chosen);
+        stands = stands _ written;
+        hands = rw (picked if_sent, append_assoc, sends.sent, ← uses) f.hands;
         left = rest-handed (play x).place (play x).sides.IsHanded (AreHanded play (drop (i + 1) script.steps)) given
-            (drop k sent) (subst (λ l. AreHanded play (x ∷ drop (i + 1) script.steps) l) uses
-            (subst (λ l. AreHanded play l (drop j sent)) at f.left));
-        witnesses_is = witnesses-append witnesses (one_of w)
-            ∙ ap (λ l. l ++ all_witnesses (one_of w)) f.witnesses_is
-            ∙ ap (λ l. runs.witnesses play f.before f.values ++ l) (witnesses-one w ∙ sym sends.found)
-            ∙ sym (picked-more play if_witness f.before f.values x v matched);
-        carried_is = witnesses-append carried (where_carried (play x).place (one_of w))
-            ∙ ap (λ l. l ++ all_witnesses (where_carried (play x).place (one_of w))) f.carried_is
-            ∙ ap (λ l. runs.carried play f.before f.values ++ l) (one-carried (play x).place v w sends.found)
-            ∙ sym (picked-more play if_carried f.before f.values x v matched);
-        drawn_is = ap (λ l. l ++ if_drawn (Some t)) f.drawn_is
-            ∙ ap (λ o. runs.challenges play f.before f.values start ++ if_drawn o) (sym gives)
-            ∙ sym (challenges-more play f.before f.values start x v matched);
+            (drop k sent) (rw (at, uses) at f.left);
+        witnesses_is = rw (picked if_witness, witnesses-append, witnesses-one, sends.found, f.witnesses_is) refl;
+        carried_is = rw (picked if_carried, witnesses-append, one-carried (play x).place v w sends.found, f.carried_is) refl;
+        drawn_is = rw (drawn_more, f.drawn_is) refl;
       }
 
   -- the next step is handed what it takes
@@ -178,7 +121,7 @@ module _ {X S Symbol I F EF O Ac U D : Type 0} (rules : Rules S Symbol I F EF O 
       StartsHanded (play x).place (play x).sides.IsHanded (drop j sent)
   proves-next script sent i j now witnesses carried drawn x at f =
       first-handed (play x).place (play x).sides.IsHanded (AreHanded play (drop (i + 1) script.steps)) (drop j sent)
-      (subst (λ l. AreHanded play l (drop j sent)) at f.left)
+      (rw at at f.left)
 
   -- ---- a step is refused
 
@@ -193,7 +136,7 @@ module _ {X S Symbol I F EF O Ac U D : Type 0} (rules : Rules S Symbol I F EF O 
         before = f.before;
         step = x;
         later = drop (i + 1) script.steps;
-        steps = f.split ∙ ap (λ l. f.before ++ l) at;
+        steps = rw at at f.split;
         place = sym f.place;
         values = f.values;
         finished = f.finished;
@@ -201,9 +144,9 @@ module _ {X S Symbol I F EF O Ac U D : Type 0} (rules : Rules S Symbol I F EF O 
         given = given;
         unused = unused;
         is_handed = handed;
-        handed = f.hands ∙ ap (λ l. runs.handed play f.before f.values ++ l) uses;
+        handed = rw uses at f.hands;
         after = there;
-        refuses = subst (λ (d : Driving S). (play x).sides.prover given d e there ⊎ Halts d e there) f.stands refuses;
+        refuses = rw f.stands at refuses;
       }
 
   -- ---- all steps were played
@@ -212,26 +155,22 @@ module _ {X S Symbol I F EF O Ac U D : Type 0} (rules : Rules S Symbol I F EF O 
       (drawn : List (Challenge F EF)) (past : length script.steps ≤ i)
       (f : Proves script sent i j now witnesses carried drawn) where
     all_played : f.before ≡ script.steps
-    all_played =
-        sym (append-nil f.before) ∙ ap (λ l. f.before ++ l) (sym (drop_all i script.steps past)) ∙ sym f.split
+    all_played = sym (rw (drop_all i script.steps past, append-nil) at f.split)
 
     whole_finished : IsFinished rules play (with_steps script script.steps f.values)
-    whole_finished = subst (λ l. IsFinished rules play (with_steps script l f.values)) all_played f.finished
+    whole_finished = rw all_played at f.finished
 
     whole_least : AreLeast rules play (with_steps script script.steps f.values)
-    whole_least = subst (λ l. AreLeast rules play (with_steps script l f.values)) all_played f.least
+    whole_least = rw all_played at f.least
 
     whole_stands : now ≡ driving_after rules play (with_steps script script.steps f.values)
         (runs.wires play script.steps f.values)
-    whole_stands =
-        f.stands ∙ ap (λ l. driving_after rules play (with_steps script l f.values) (runs.wires play l f.values)) all_played
+    whole_stands = rw all_played at f.stands
 
     whole_handed : sent ≡ runs.handed play script.steps f.values
     whole_handed =
-        let none : drop j sent ≡ []
-        = subst (λ l. AreHanded play l (drop j sent)) (drop_all i script.steps past) f.left in
-        f.hands ∙ ap (λ l. runs.handed play f.before f.values ++ l) none
-        ∙ append-nil (runs.handed play f.before f.values) ∙ ap (λ l. runs.handed play l f.values) all_played
+        let none : drop j sent ≡ [] = rw (drop_all i script.steps past) at f.left in
+        rw (none, append-nil, all_played) at f.hands
 
     pub proves-not_ended : (e : TranscriptError) →
         IsPatternError (λ m. FaultOfPlayEnd now.transcript.playing (pattern_error_of m)) e →
@@ -243,29 +182,24 @@ module _ {X S Symbol I F EF O Ac U D : Type 0} (rules : Rules S Symbol I F EF O 
           finished = whole_finished;
           least = whole_least;
           handed = whole_handed;
-          refuses = subst (λ (d : Driving S). IsPatternError (λ m. FaultOfPlayEnd d.transcript.playing
-              (pattern_error_of m)) e) whole_stands refuses;
+          refuses = rw whole_stands at refuses;
         }
 
     pub proves-end : (narg : List ℕ) (end : S) → IsPlayed now.transcript.playing → narg ≡ now.bytes →
         end ≡ now.transcript.challenger →
         IsProverOutcome rules play (with_steps script script.steps f.values) sent narg witnesses carried drawn end
     proves-end narg end ends narg_is end_is =
-        let playing = ap (λ (d : Driving S). d.transcript.playing) whole_stands in
-        let at_end : length script.steps ≡ length (pattern script)
-        = ap (λ (p : Playing). p.position) (sym playing) ∙ ends.end
-        ∙ ap (λ (p : Playing). length p.pattern.steps) playing in
+        let played = rw whole_stands at ends in
         record {
           is_run = record {
             finished = whole_finished;
-            whole = whole_finished.in_pattern ∙ ap (λ n. take n (pattern script)) at_end
-                ∙ take_all (pattern script);
+            whole = rw (played.end, take_all (pattern script)) at whole_finished.in_pattern;
             handed = whole_handed;
             least = whole_least;
           };
-          narg_is = narg_is ∙ ap (λ (d : Driving S). d.bytes) whole_stands;
-          witnesses_is = f.witnesses_is ∙ ap (λ l. runs.witnesses play l f.values) all_played;
-          carried_is = f.carried_is ∙ ap (λ l. runs.carried play l f.values) all_played;
-          drawn_is = f.drawn_is ∙ ap (λ l. runs.challenges play l f.values (seeded rules play script)) all_played;
-          end_is = end_is ∙ ap (λ (d : Driving S). d.transcript.challenger) whole_stands;
+          narg_is = rw whole_stands at narg_is;
+          witnesses_is = rw all_played at f.witnesses_is;
+          carried_is = rw all_played at f.carried_is;
+          drawn_is = rw all_played at f.drawn_is;
+          end_is = rw whole_stands at end_is;
         }

@@ -1,17 +1,12 @@
 -- What a whole script comes to on the prover's side.
 use Rattle.std.specs.Prelude.{◌≡◌, ℕ, List, [], ◌∷◌, ◌++◌, ◌⊎◌, length}
-use Rattle.p3_fs_core.specs.Errors.{pattern_error_of}
-use Rattle.p3_fs_core.specs.declared.error.TranscriptError.{TranscriptError}
+use Rattle.p3_fs_core.specs.{Errors.pattern_error_of, declared.error.TranscriptError.TranscriptError}
 use Rattle.p3_patterns.specs.Playing.{FaultOfPlayEnd, IsPatternError}
 use Rattle.p3_driver_core.specs.Driving.{Driving, RefusesStart}
-use Rattle.p3_runs.specs.Fronts.{Run, IsFinished, IsWhole, AreLeast, seed}
-use Rattle.p3_runs.specs.Plays.{Play, Place, Sent}
-use Rattle.p3_runs.specs.Rules.{Rules}
+use Rattle.p3_runs.specs.{Fronts.{Run, IsFinished, IsWhole, AreLeast, seed}, Plays.{Play, Place, Sent}, Rules.Rules}
+use Rattle.p3_runs.specs.{Runs.if_sent, Stepping.OrHalts, Values.Value}
+use Rattle.p3_runs.specs.Verdicts.{with_steps, driving_after, playing_after}
 use Rattle.p3_runs.specs.Runs as runs
-use Rattle.p3_runs.specs.Runs.{if_sent}
-use Rattle.p3_runs.specs.Stepping.{Halts}
-use Rattle.p3_runs.specs.Values.{Value}
-use Rattle.p3_runs.specs.Verdicts.{with_steps, driving_after}
 
 -- the first value is one, and of the others this holds, where the prover is handed a value for a step
 abbrev pub FirstIs : {V : Type 0} → Place → (V → Type 0) → (List V → Type 0) → List V → Type 0
@@ -57,9 +52,8 @@ module _ {X S Symbol I F EF O Ac U D : Type 0} (rules : Rules S Symbol I F EF O 
     pub is_handed : (play step).sides.IsHanded given
     pub handed : sent ≡ runs.handed play before values ++ (if_sent (play step).place given ++ unused)
     pub after : Driving S
-    pub refuses : (play step).sides.prover given
+    pub refuses : OrHalts ((play step).sides.prover given)
         (driving_after rules play (with_steps script before values) (runs.wires play before values)) e after
-        ⊎ Halts (driving_after rules play (with_steps script before values) (runs.wires play before values)) e after
 
   -- The end is refused: all steps were played, and steps of the pattern are left.
   pub record RefusesToProveEnd (script : Run X F EF S U D) (sent : List (Value F EF)) (position : ℕ)
@@ -69,8 +63,7 @@ module _ {X S Symbol I F EF O Ac U D : Type 0} (rules : Rules S Symbol I F EF O 
     pub finished : IsFinished rules play (with_steps script script.steps values)
     pub least : AreLeast rules play (with_steps script script.steps values)
     pub handed : sent ≡ runs.handed play script.steps values
-    pub refuses : IsPatternError (λ m. FaultOfPlayEnd (driving_after rules play
-        (with_steps script script.steps values) (runs.wires play script.steps values)).transcript.playing
+    pub refuses : IsPatternError (λ m. FaultOfPlayEnd (playing_after (with_steps script script.steps values))
         (pattern_error_of m)) e
 
   -- the seed is refused; or the first step that is; or the end

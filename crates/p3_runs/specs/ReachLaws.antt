@@ -1,30 +1,22 @@
 -- Fronts of one script over the same bytes and carried witnesses: each goes on from those that are shorter.
-use Rattle.std.proofs.Common.{◌≡◌, ℕ, List, [], ◌∷◌, ◌++◌, Option, Some, None, refl, sym, ap, ◌∙◌, subst}
+use Rattle.std.proofs.Common.{◌≡◌, ℕ, List, [], ◌∷◌, ◌++◌, Option, Some, None, refl, sym, ap}
 use Rattle.std.proofs.Common.{append_assoc, append-nil, inl, inr}
-use Rattle.p3_fs_core.specs.StepFits.{FitsLength, AreProgramSteps}
-use Rattle.p3_fs_core.specs.declared.error.TranscriptError.{TranscriptError}
+use Rattle.p3_fs_core.specs.{StepFits.{FitsLength, AreProgramSteps}, declared.error.TranscriptError.TranscriptError}
 use Rattle.p3_fs_core.specs.declared.error.TranscriptError.TheVariants.{OutOfMemory}
-use Rattle.p3_driver_core.specs.Driving.{Driving}
-use Rattle.p3_driver_core.specs.Transcripts.{IsNext}
-use Rattle.p3_runs.specs.FrontLaws.{next-fits, no_values-left, front-fits, front-next}
-use Rattle.p3_runs.specs.Fronts.{Run, IsFinished, seeded}
-use Rattle.p3_runs.specs.Plays.{Play, Place, Nowhere, Sent, Found, Carried}
-use Rattle.p3_runs.specs.Rules.{Rules}
-use Rattle.p3_runs.specs.Runs as runs
-use Rattle.p3_runs.specs.Runs.{if_carried, Finishes, interactions}
-use Rattle.p3_runs.specs.RunLaws.{AreCanonical, GoesOn, front-of_run}
+use Rattle.p3_driver_core.specs.{Driving.Driving, Transcripts.IsNext}
+use Rattle.p3_runs.specs.{FrontLaws.{next-fits, no_values-left, front-fits, front-next}, Plays.{Play, Place, Carried}}
+use Rattle.p3_runs.specs.{Fronts.{Run, IsFinished, seeded}, Rules.Rules, Runs.{if_carried, Finishes, interactions}}
+use Rattle.p3_runs.specs.{RunLaws.{AreCanonical, GoesOn, front-of_run}, Values.{Value, Witness}}
 use Rattle.p3_runs.specs.Stepping.{IsCarriedTo, OrHalts, one_witness, all_witnesses, IsCanonical, IsTakenWherePossible}
-use Rattle.p3_runs.specs.Values.{Value, Witness}
 use Rattle.p3_runs.specs.Verdicts.{with_steps, driving_after}
+use Rattle.p3_runs.specs.Runs as runs
 
 -- the witness that a caller carries is the value where it carries one
 carried-first : {F EF : Type 0} (place : Place) (w : Option F) (v : Value F EF) (a b : List (Value F EF)) →
     IsCarriedTo place w → one_witness w ++ a ≡ if_carried place v ++ b → if_carried place v ≡ one_witness w
-carried-first Nowhere w v a b h e = ap one_witness (sym h)
-carried-first Sent w v a b h e = ap one_witness (sym h)
-carried-first Found w v a b h e = ap one_witness (sym h)
 carried-first Carried None v a b h e = absurd (cc)
 carried-first Carried (Some x) v a b h e = let same : v ≡ Witness x = cc in ap (λ u. u ∷ []) same
+carried-first _ w v a b h e = ap one_witness (sym h)
 
 module _ {X S Symbol F EF O : Type 0} (play : X → Play S Symbol F EF O) where
   -- the steps of a pattern fit their types
@@ -51,7 +43,7 @@ module _ {X S Symbol I F EF O Ac U D : Type 0} (rules : Rules S Symbol I F EF O 
     goes-on front later done values left after unused unspent short long =
         front-of_run play front later done values (seeded rules play script) left after unused unspent
         (all-canonical play canonical front later (front-fits rules play script (front ++ later) values long.finished))
-        short.finished.finishes long.finished.finishes (sym short.read ∙ long.read) (sym short.carries ∙ long.carries)
+        short.finished.finishes long.finished.finishes (cc (short.read, long.read)) (cc (short.carries, long.carries))
 
     -- the values of a front are the only ones, and so is what is left
     pub one-front : (front : List X) (values others : List (Value F EF)) (left after : List ℕ)
@@ -59,11 +51,11 @@ module _ {X S Symbol I F EF O Ac U D : Type 0} (rules : Rules S Symbol I F EF O 
         (others ≡ values) × (left ≡ after) × (unused ≡ unspent)
     one-front front values others left after unused unspent first second =
         let on = goes-on front [] values others left after unused unspent first
-        (subst (λ l. Reaches l others after unspent) (sym (append-nil front)) second) in
+        (rw append-nil second) in
         let none = no_values-left play on.more _ on.finishes in (
-          on.split ∙ ap (λ l. values ++ l) none ∙ append-nil values,
-          on.rest ∙ ap (λ l. runs.wires play [] l ++ after) none,
-          on.carries ∙ ap (λ l. runs.carried play [] l ++ unspent) none,
+          rw (none, append-nil) at on.split,
+          on.rest,
+          on.carries,
         )
 
     module _ (taken : (x : X) → FitsLength (play x).interaction.length → (play x).admitted → IsTakenWherePossible (play x))
@@ -76,11 +68,9 @@ module _ {X S Symbol I F EF O Ac U D : Type 0} (rules : Rules S Symbol I F EF O 
             Finishes play (x ∷ later) more here.transcript.challenger →
             here.bytes ≡ runs.wires play (x ∷ later) more ++ after →
             one_witness witness ++ unused ≡ runs.carried play (x ∷ later) more ++ unspent → e ≡ OutOfMemory
-        first-taken x later [] witness unused unspent here there after e next fits may brought refuses h left carries =
-            absurd h
         first-taken x later (v ∷ more) witness unused unspent here there after e next fits may brought refuses h left carries =
             let same = carried-first (play x).place witness v unused (runs.carried play later more ++ unspent) brought
-            (carries ∙ append_assoc (if_carried (play x).place v) (runs.carried play later more) unspent) in
+            (rw append_assoc at carries) in
             elim refuses [
               | inl refused ↦ (taken x fits may).only_memory witness here there e v refused same (record {
                 is_next = next;
@@ -88,10 +78,12 @@ module _ {X S Symbol I F EF O Ac U D : Type 0} (rules : Rules S Symbol I F EF O 
                 short = h.1;
                 gives = h.2;
                 left = runs.wires play later more ++ after;
-                next = left ∙ append_assoc ((play x).wire v) (runs.wires play later more) after;
+                next = rw append_assoc at left;
               })
               | inr halts ↦ halts.0
             ]
+        first-taken x later _ witness unused unspent here there after e next fits may brought refuses h left carries =
+            absurd h
 
         -- a step that a longer front has passed is refused only when out of memory
         pub passed-step : (front : List X) (x : X) (later : List X) (done values : List (Value F EF)) (left after : List ℕ)

@@ -1,80 +1,44 @@
 -- Where a prover refuses a script for another reason than being out of memory, there is no run of it.
-use Rattle.std.proofs.Common.{◌≡◌, ℕ, suc, List, [], ◌∷◌, ◌++◌, inl, inr, refl}
-use Rattle.std.proofs.Common.{sym, ap, ◌∙◌, subst, append_assoc, append-nil, length, map, slice_get, true, false}
-use Rattle.p3_challenger_core.specs.declared.error.ChallengerError.TheVariants.{TooLong, DrawLimit, NoWitness}
-use Rattle.p3_challenger_core.specs.declared.error.ChallengerError.TheVariants as challenger
-use Rattle.p3_fs_core.specs.Errors.{pattern_error_of}
-use Rattle.p3_fs_core.specs.StepFits.{FitsLength}
-use Rattle.p3_fs_core.specs.declared.error.PatternError.TheVariants.{Finished, NoMoreSteps, WrongStep, Unplayed, OverCap}
+use Rattle.std.proofs.{Common.{◌≡◌, ℕ, List, [], ◌∷◌, ◌++◌, inl, inr, refl}, lemmas.List.length-map}
+use Rattle.std.proofs.Common.{sym, ap, ◌∙◌, subst, append_assoc, append-nil, length, true, false}
+use Rattle.p3_challenger_core.specs.declared.error.ChallengerError.TheVariants.{TooLong}
+use Rattle.p3_fs_core.specs.{Errors.pattern_error_of, StepFits.FitsLength}
+use Rattle.p3_fs_core.specs.declared.error.PatternError.TheVariants.{Finished, Unplayed}
 use Rattle.p3_fs_core.specs.declared.error.TranscriptError.{TranscriptError}
-use Rattle.p3_fs_core.specs.declared.error.TranscriptError.TheVariants.{Pattern, BadProofShape, Challenger, OutOfMemory}
-use Rattle.p3_fs_core.specs.declared.error.TranscriptError.TheVariants.{MissingBegin, InvalidKind, MismatchedBeginEnd}
-use Rattle.p3_fs_core.specs.declared.error.TranscriptError.TheVariants.{MissingEnd, LabelTooLong}
-use Rattle.p3_domain_separator.specs.SeparatorSeed.{pattern_of}
+use Rattle.p3_fs_core.specs.declared.error.TranscriptError.TheVariants.{Pattern, Challenger, OutOfMemory}
 use Rattle.p3_patterns.specs.Playing.{Playing, FaultOfPlayEnd, IsPatternError}
-use Rattle.p3_driver_core.specs.Driving.{Driving, RefusesStart}
-use Rattle.p3_driver_core.specs.Transcripts.{IsNext}
+use Rattle.p3_driver_core.specs.{Driving.{Driving, RefusesStart}, Transcripts.IsNext}
 use Rattle.p3_runs.specs.FrontLaws.{get-past, next-fits, next-admitted, no_values-left, front-fits, front-next}
-use Rattle.p3_runs.specs.Fronts.{Run, IsFinished, AreLeast, seeded}
-use Rattle.p3_runs.specs.Plays.{Play, Place, Nowhere, Sent, Found, Carried}
-use Rattle.p3_runs.specs.Provings.{IsProverRun, RefusesToProve, RefusesToProveStep}
-use Rattle.p3_runs.specs.Rules.{Rules}
+use Rattle.p3_runs.specs.{Fronts.{Run, IsFinished, AreLeast, seeded}, Plays.{Play, Place, Sent}, Rules.Rules}
+use Rattle.p3_runs.specs.{Provings.{IsProverRun, RefusesToProve, RefusesToProveStep}, Values.Value}
+use Rattle.p3_runs.specs.{Runs.{Finishes, AreChosen, if_sent}, Stepping.{OrHalts, IsDetermined, IsSentWherePossible}}
+use Rattle.p3_runs.specs.Verdicts.{with_steps, driving_after, playing_after}
 use Rattle.p3_runs.specs.Runs as runs
-use Rattle.p3_runs.specs.Runs.{Finishes, AreChosen, if_sent}
-use Rattle.p3_runs.specs.Stepping.{OrHalts, IsDetermined, IsSentWherePossible}
-use Rattle.p3_runs.specs.Values.{Value}
-use Rattle.p3_runs.specs.Verdicts.{with_steps, driving_after}
 
 -- ---- the seed and the end
 
 pub start-never : (IsTooLong : Type 0) (e : TranscriptError) → RefusesStart IsTooLong e → (e ≡ OutOfMemory → ⊥) →
     (IsTooLong → ⊥) → ⊥
 start-never L (Challenger TooLong) h other short = short h
-start-never L (Challenger DrawLimit) h other short = h
-start-never L (Challenger NoWitness) h other short = h
-start-never L (Challenger challenger.OutOfMemory) h other short = h
 start-never L OutOfMemory h other short = other refl
-start-never L (Pattern e) h other short = h
-start-never L (BadProofShape e) h other short = h
-start-never L (MissingBegin x) h other short = h
-start-never L (InvalidKind x) h other short = h
-start-never L (MismatchedBeginEnd x) h other short = h
-start-never L (MissingEnd x) h other short = h
-start-never L LabelTooLong h other short = h
-
-length-map_steps : {A B : Type 0} (f : A → B) (xs : List A) → length (map f xs) ≡ length xs
-length-map_steps f [] = refl
-length-map_steps f (x ∷ xs) = ap suc (length-map_steps f xs)
+start-never L _ h other short = h
 
 end-never : (p : Playing) (e : TranscriptError) → p.finished ≡ false → p.position ≡ length p.pattern.steps →
     IsPatternError (λ m. FaultOfPlayEnd p (pattern_error_of m)) e → ⊥
 end-never p (Pattern Finished) going end h = let both : false ≡ true = sym going ∙ h in absurd (cc)
 end-never p (Pattern (Unplayed expected)) going end h =
-    let both = sym (get-past p.pattern.steps) ∙ ap (slice_get p.pattern.steps) (sym end) ∙ h.1 in
-    absurd (cc)
-end-never p (Pattern (NoMoreSteps received)) going end h = h
-end-never p (Pattern (WrongStep received expected)) going end h = h
-end-never p (Pattern (OverCap len max)) going end h = h
-end-never p (Challenger e) going end h = h
-end-never p OutOfMemory going end h = h
-end-never p (BadProofShape e) going end h = h
-end-never p (MissingBegin x) going end h = h
-end-never p (InvalidKind x) going end h = h
-end-never p (MismatchedBeginEnd x) going end h = h
-end-never p (MissingEnd x) going end h = h
-end-never p LabelTooLong going end h = h
+    let both = rw (end, get-past) at h.1 in absurd (cc)
+end-never p _ going end h = h
 
 -- ---- a step
 
 pub sent-split : {V : Type 0} (place : Place) (v w : V) (a b : List V) → if_sent place v ++ a ≡ if_sent place w ++ b →
     (if_sent place v ≡ if_sent place w) × (a ≡ b)
-sent-split Nowhere v w a b h = (refl, h)
 sent-split Sent v w a b h =
     let same : v ≡ w = cc in
     let rest : a ≡ b = cc in
     (ap (λ u. u ∷ []) same, rest)
-sent-split Found v w a b h = (refl, h)
-sent-split Carried v w a b h = (refl, h)
+sent-split _ v w a b h = (refl, h)
 
 module _ {X S Symbol F EF O : Type 0} (play : X → Play S Symbol F EF O) where
   -- the values of each step are told so; of the steps of a list only the type is read
@@ -105,28 +69,21 @@ module _ {X S Symbol F EF O : Type 0} (play : X → Play S Symbol F EF O) where
       GoesOnSent front later done values s unused unspent
   front-of_sent [] later [] values s unused unspent told h c run chosen hands =
       record { more = values; split = refl; finishes = run; chosen = chosen; rest = hands }
-  front-of_sent [] later (w ∷ done) values s unused unspent told h c run chosen hands = absurd h
-  front-of_sent (x ∷ front) later [] values s unused unspent told h c run chosen hands = absurd h
   front-of_sent (x ∷ front) later (w ∷ done) [] s unused unspent told h c run chosen hands = absurd run
   front-of_sent (x ∷ front) later (w ∷ done) (v ∷ values) s unused unspent told h c run chosen hands =
-      let alike : if_sent (play x).place w ++ (runs.handed play front done ++ unused)
-      ≡ if_sent (play x).place v ++ (runs.handed play (front ++ later) values ++ unspent)
-      = sym (append_assoc (if_sent (play x).place w) (runs.handed play front done) unused) ∙ hands
-      ∙ append_assoc (if_sent (play x).place v) (runs.handed play (front ++ later) values) unspent in
       let both = sent-split (play x).place w v (runs.handed play front done ++ unused)
-      (runs.handed play (front ++ later) values ++ unspent) alike in
+      (runs.handed play (front ++ later) values ++ unspent) (simp append_assoc at hands) in
       let same = (told x).one_way w v s h.0 run.0 both.0 c.0 chosen.0 in
       let rest = front-of_sent front later done values _ unused unspent told h.3 c.1
-      (subst (λ (u : Value F EF). Finishes play (front ++ later) values (((play x).effect u).after s)) (sym same) run.3)
-      (subst (λ (u : Value F EF). AreChosen play (front ++ later) values (((play x).effect u).after s)) (sym same) chosen.1)
-      both.1 in
+      (rw (← same) at run.3) (rw (← same) at chosen.1) both.1 in
       record {
         more = rest.more;
-        split = ap (λ l. v ∷ l) rest.split ∙ ap (λ u. u ∷ (done ++ rest.more)) (sym same);
+        split = cc (rest.split, same);
         finishes = rest.finishes;
         chosen = rest.chosen;
         rest = rest.rest;
       }
+  front-of_sent _ later _ values s unused unspent told h c run chosen hands = absurd h
 
   -- a step that a run goes on with is refused only when out of memory
   step-memory : (x : X) (later : List X) (more : List (Value F EF)) (here there : Driving S) (given : Value F EF)
@@ -139,7 +96,7 @@ module _ {X S Symbol F EF O : Type 0} (play : X → Play S Symbol F EF O) where
   step-memory x later [] here there given unused unspent e law handed refuses next run chosen hands = absurd run
   step-memory x later (v ∷ more) here there given unused unspent e law handed (inl refuses) next run chosen hands =
       let both = sent-split (play x).place given v unused (runs.handed play later more ++ unspent)
-      (hands ∙ append_assoc (if_sent (play x).place v) (runs.handed play later more) unspent) in
+      (rw append_assoc at hands) in
       law.only_memory given v here there e handed refuses (sym both.0)
       (record { is_next = next; fits = run.0; short = run.1; gives = run.2; chosen = chosen.0 })
   step-memory x later (v ∷ more) here there given unused unspent e law handed (inr halts) next run chosen hands = halts.0
@@ -158,7 +115,7 @@ module _ {X S Symbol I F EF O Ac U D : Type 0} (rules : Rules S Symbol I F EF O 
       GoesOnSent play front later done values (seeded rules play script) unused unspent
   goes-on_sent script sent front later done values unused unspent told short long =
       front-of_sent play front later done values (seeded rules play script) unused unspent told short.finished.finishes
-      short.least long.finished.finishes long.least (sym short.handed ∙ long.handed)
+      short.least long.finished.finishes long.least (cc (short.handed, long.handed))
 
   -- the values of a front are the only ones, and so are those that are left
   pub one-sent : (script : Run X F EF S U D) (sent : List (Value F EF)) (front : List X)
@@ -167,11 +124,8 @@ module _ {X S Symbol I F EF O Ac U D : Type 0} (rules : Rules S Symbol I F EF O 
       (others ≡ values) × (unused ≡ unspent)
   one-sent script sent front values others unused unspent told first second =
       let on = goes-on_sent script sent front [] values others unused unspent told first
-      (subst (λ l. ReachesSent script sent l others unspent) (sym (append-nil front)) second) in
-      let none = no_values-left play on.more _ on.finishes in (
-        on.split ∙ ap (λ l. values ++ l) none ∙ append-nil values,
-        on.rest ∙ ap (λ l. runs.handed play [] l ++ unspent) none,
-      )
+      (rw append-nil second) in
+      let none = no_values-left play on.more _ on.finishes in (rw (none, append-nil) at on.split, on.rest)
 
   -- a step that a longer front has passed is refused only when out of memory
   pub passed-sent : (script : Run X F EF S U D) (sent : List (Value F EF)) (front : List X) (x : X) (later : List X)
@@ -216,7 +170,5 @@ module _ {X S Symbol I F EF O Ac U D : Type 0} (rules : Rules S Symbol I F EF O 
   refused-never script sent position e told law may (inr (inl r)) other values run =
       other (step-never script sent position e told law may r values run)
   refused-never script sent position e told law may (inr (inr r)) other values run =
-      let long = sym (length-map_steps (λ y. (play y).interaction) script.steps) ∙ ap length run.whole in
-      let playing : Playing
-      = record { pattern = pattern_of script.separator; position = length script.steps; finished = false } in
-      end-never playing e refl long r.refuses
+      let long = sym (length-map script.steps (λ y. (play y).interaction)) ∙ ap length run.whole in
+      end-never (playing_after script) e refl long r.refuses

@@ -1,11 +1,8 @@
 -- What the definitions of a script read of its suite.
 use Rattle.std.specs.Prelude.{ℕ, List}
 use Rattle.p3_field_core.specs.Residues.{Residues}
-use Rattle.p3_challenger_core.specs.Observation.{Observation}
-use Rattle.p3_challenger_core.specs.Sampling.{Sampling}
-use Rattle.p3_fs_core.specs.Encoding.{Encoding}
-use Rattle.p3_fs_core.specs.Algebras.{NamedAlgebra}
-use Rattle.p3_fs_core.specs.Alphabet.{Alphabet}
+use Rattle.p3_challenger_core.specs.{Observation.Observation, Sampling.Sampling}
+use Rattle.p3_fs_core.specs.{Encoding.Encoding, Algebras.NamedAlgebra, Alphabet.Alphabet}
 use Rattle.p3_driver_core.specs.Rejecting.{Rule}
 
 -- how the values of a type are named in steps, encoded, observed and drawn, and the coefficients of each

@@ -1,10 +1,7 @@
 -- Lemmas on runs: a step more at the end, and that bytes and carried witnesses tell a run.
-use Rattle.std.proofs.Common.{◌≡◌, ℕ, List, [], ◌∷◌, ◌++◌, IsSome, refl, sym, ap, ◌∙◌, subst}
-use Rattle.std.proofs.Common.{append_assoc, append-nil}
-use Rattle.p3_runs.specs.Plays.{Play, Place}
-use Rattle.p3_runs.specs.Runs.{wires, picked, carried, after, challenges, Finishes, AreChosen, if_carried, if_drawn}
-use Rattle.p3_runs.specs.Stepping.{IsCanonical}
-use Rattle.p3_runs.specs.Values.{Value}
+use Rattle.std.proofs.{Common.{◌≡◌, ℕ, List, [], ◌∷◌, ◌++◌, IsSome, refl}, Common.{append_assoc, append-nil}}
+use Rattle.p3_runs.specs.{Plays.{Play, Place}, Stepping.IsCanonical, Values.Value}
+use Rattle.p3_runs.specs.Runs.{wires, picked, carried, after, challenges, Finishes, AreChosen, if_drawn}
 
 module _ {X S Symbol F EF O : Type 0} (play : X → Play S Symbol F EF O) where
   -- as many values as steps
@@ -16,9 +13,8 @@ module _ {X S Symbol F EF O : Type 0} (play : X → Play S Symbol F EF O) where
   pub finished-matched : (steps : List X) (values : List (Value F EF)) (s : S) → Finishes play steps values s →
       AreMatched steps values
   finished-matched [] [] s h = tt
-  finished-matched [] (v ∷ values) s h = absurd h
-  finished-matched (x ∷ steps) [] s h = absurd h
   finished-matched (x ∷ steps) (v ∷ values) s h = finished-matched steps values _ h.3
+  finished-matched _ _ s h = absurd h
 
   -- ---- a step more
 
@@ -27,59 +23,50 @@ module _ {X S Symbol F EF O : Type 0} (play : X → Play S Symbol F EF O) where
       IsSome (((play x).effect v).gives (after play steps values s)) →
       Finishes play (steps ++ x ∷ []) (values ++ v ∷ []) s
   finishes-more [] [] s x v h fits short gives = (fits, short, gives, tt)
-  finishes-more [] (w ∷ values) s x v h fits short gives = absurd h
-  finishes-more (y ∷ steps) [] s x v h fits short gives = absurd h
   finishes-more (y ∷ steps) (w ∷ values) s x v h fits short gives =
       (h.0, h.1, h.2, finishes-more steps values _ x v h.3 fits short gives)
+  finishes-more _ _ s x v h fits short gives = absurd h
 
   pub wires-more : (steps : List X) (values : List (Value F EF)) (x : X) (v : Value F EF) → AreMatched steps values →
       wires play (steps ++ x ∷ []) (values ++ v ∷ []) ≡ wires play steps values ++ (play x).wire v
   wires-more [] [] x v h = append-nil ((play x).wire v)
-  wires-more [] (w ∷ values) x v h = absurd h
-  wires-more (y ∷ steps) [] x v h = absurd h
   wires-more (y ∷ steps) (w ∷ values) x v h =
-      ap (λ l. (play y).wire w ++ l) (wires-more steps values x v h)
-      ∙ sym (append_assoc ((play y).wire w) (wires play steps values) ((play x).wire v))
+      rw (wires-more steps values x v h, append_assoc)
+  wires-more _ _ x v h = absurd h
 
   pub picked-more : (pick : Place → Value F EF → List (Value F EF)) (steps : List X) (values : List (Value F EF)) (x : X)
       (v : Value F EF) → AreMatched steps values →
       picked play pick (steps ++ x ∷ []) (values ++ v ∷ [])
       ≡ picked play pick steps values ++ pick (play x).place v
   picked-more pick [] [] x v h = append-nil (pick (play x).place v)
-  picked-more pick [] (w ∷ values) x v h = absurd h
-  picked-more pick (y ∷ steps) [] x v h = absurd h
   picked-more pick (y ∷ steps) (w ∷ values) x v h =
-      ap (λ l. pick (play y).place w ++ l) (picked-more pick steps values x v h)
-      ∙ sym (append_assoc (pick (play y).place w) (picked play pick steps values) (pick (play x).place v))
+      rw (picked-more pick steps values x v h, append_assoc)
+  picked-more pick _ _ x v h = absurd h
 
   pub after-more : (steps : List X) (values : List (Value F EF)) (s : S) (x : X) (v : Value F EF) →
       AreMatched steps values →
       after play (steps ++ x ∷ []) (values ++ v ∷ []) s ≡ ((play x).effect v).after (after play steps values s)
   after-more [] [] s x v h = refl
-  after-more [] (w ∷ values) s x v h = absurd h
-  after-more (y ∷ steps) [] s x v h = absurd h
   after-more (y ∷ steps) (w ∷ values) s x v h = after-more steps values _ x v h
+  after-more _ _ s x v h = absurd h
 
   pub challenges-more : (steps : List X) (values : List (Value F EF)) (s : S) (x : X) (v : Value F EF) →
       AreMatched steps values →
       challenges play (steps ++ x ∷ []) (values ++ v ∷ []) s
       ≡ challenges play steps values s ++ if_drawn (((play x).effect v).gives (after play steps values s))
   challenges-more [] [] s x v h = append-nil (if_drawn (((play x).effect v).gives s))
-  challenges-more [] (w ∷ values) s x v h = absurd h
-  challenges-more (y ∷ steps) [] s x v h = absurd h
   challenges-more (y ∷ steps) (w ∷ values) s x v h =
-      ap (λ l. if_drawn (((play y).effect w).gives s) ++ l) (challenges-more steps values _ x v h)
-      ∙ sym (append_assoc (if_drawn (((play y).effect w).gives s)) _ _)
+      rw (challenges-more steps values _ x v h, append_assoc)
+  challenges-more _ _ s x v h = absurd h
 
   pub chosen-more : (steps : List X) (values : List (Value F EF)) (s : S) (x : X) (v : Value F EF) →
       AreMatched steps values → AreChosen play steps values s →
       (play x).sides.IsChosen (after play steps values s) v →
       AreChosen play (steps ++ x ∷ []) (values ++ v ∷ []) s
   chosen-more [] [] s x v h chosen last = (last, tt)
-  chosen-more [] (w ∷ values) s x v h chosen last = absurd h
-  chosen-more (y ∷ steps) [] s x v h chosen last = absurd h
   chosen-more (y ∷ steps) (w ∷ values) s x v h chosen last =
       (chosen.0, chosen-more steps values _ x v h chosen.1 last)
+  chosen-more _ _ s x v h chosen last = absurd h
 
   -- ---- a run is told by its bytes and its carried witnesses
 
@@ -106,23 +93,18 @@ module _ {X S Symbol F EF O : Type 0} (play : X → Play S Symbol F EF O) where
       GoesOn front later done values s bytes left unused unspent
   front-of_run [] later [] values s bytes left unused unspent canonical h run wire carries =
       record { more = values; split = refl; finishes = run; rest = wire; carries = carries }
-  front-of_run [] later (w ∷ done) values s bytes left unused unspent canonical h run wire carries = absurd h
-  front-of_run (x ∷ front) later [] values s bytes left unused unspent canonical h run wire carries = absurd h
   front-of_run (x ∷ front) later (w ∷ done) [] s bytes left unused unspent canonical h run wire carries = absurd run
   front-of_run (x ∷ front) later (w ∷ done) (v ∷ values) s bytes left unused unspent canonical h run wire carries =
       let one = canonical.0.one_way w v (wires play front done ++ bytes) (wires play (front ++ later) values ++ left)
       (carried play front done ++ unused) (carried play (front ++ later) values ++ unspent) h.0 run.0
-      (sym (append_assoc ((play x).wire w) (wires play front done) bytes) ∙ wire
-      ∙ append_assoc ((play x).wire v) (wires play (front ++ later) values) left)
-      (sym (append_assoc (if_carried (play x).place w) (carried play front done) unused) ∙ carries
-      ∙ append_assoc (if_carried (play x).place v) (carried play (front ++ later) values) unspent) in
+      (simp append_assoc at wire) (simp append_assoc at carries) in
       let rest = front-of_run front later done values _ bytes left unused unspent canonical.1 h.3
-      (subst (λ (u : Value F EF). Finishes play (front ++ later) values (((play x).effect u).after s)) (sym one.0) run.3)
-      one.1 one.2 in
+      (rw (← one.0) at run.3) one.1 one.2 in
       record {
         more = rest.more;
-        split = ap (λ l. v ∷ l) rest.split ∙ ap (λ u. u ∷ (done ++ rest.more)) (sym one.0);
+        split = cc (rest.split, one.0);
         finishes = rest.finishes;
         rest = rest.rest;
         carries = rest.carries;
       }
+  front-of_run _ later _ values s bytes left unused unspent canonical h run wire carries = absurd h

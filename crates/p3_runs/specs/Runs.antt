@@ -1,42 +1,32 @@
 -- Runs of scripts: steps, each with its value.
-use Rattle.std.specs.Prelude.{ℕ, ◌+◌, List, [], ◌∷◌, ◌++◌, length, map, Option, Some, None, IsSome}
-use Rattle.std.specs.List.{AllByRecursion}
+use Rattle.std.specs.{Prelude.{ℕ, ◌+◌, List, [], ◌∷◌, ◌++◌, length, map, Option, Some, IsSome}, List.AllByRecursion}
 use Rattle.p3_fs_core.specs.Steps.{Step}
-use Rattle.p3_runs.specs.Absorbed.{Absorbed}
-use Rattle.p3_runs.specs.Plays.{Play, Place, Nowhere, Sent, Found, Carried}
-use Rattle.p3_runs.specs.Values.{Value, Challenge}
+use Rattle.p3_runs.specs.{Absorbed.Absorbed, Plays.{Play, Place, Sent, Found, Carried}, Values.{Value, Challenge}}
 
 -- a value where the proof carries it; where the prover is handed it; where the caller carries it; and where it is a
 -- witness that the prover finds
 abbrev pub if_in_proof : {V : Type 0} → Place → V → List V
-if_in_proof Nowhere v = []
 if_in_proof Sent v = v ∷ []
 if_in_proof Found v = v ∷ []
-if_in_proof Carried v = []
+if_in_proof _ v = []
 
 abbrev pub if_sent : {V : Type 0} → Place → V → List V
-if_sent Nowhere v = []
 if_sent Sent v = v ∷ []
-if_sent Found v = []
-if_sent Carried v = []
+if_sent _ v = []
 
 abbrev pub if_carried : {V : Type 0} → Place → V → List V
-if_carried Nowhere v = []
-if_carried Sent v = []
-if_carried Found v = []
 if_carried Carried v = v ∷ []
+if_carried _ v = []
 
 abbrev pub if_witness : {V : Type 0} → Place → V → List V
-if_witness Nowhere v = []
-if_witness Sent v = []
 if_witness Found v = v ∷ []
 if_witness Carried v = v ∷ []
+if_witness _ v = []
 
 -- the challenge that a step gave, if it gave one
 abbrev pub if_drawn : {A : Type 0} → Option (Option A) → List A
-if_drawn None = []
-if_drawn (Some None) = []
 if_drawn (Some (Some x)) = x ∷ []
+if_drawn _ = []
 
 -- how many values are carried, where they stand so
 abbrev pub carried_among : {X : Type 0} → (X → Place) → List X → ℕ

@@ -1,15 +1,11 @@
 -- How the two sides of a transcript refuse a step of a script.
-use Rattle.std.specs.Prelude.{◌≡◌, ℕ, ◌<◌, ◌≤◌, ◌⊎◌, Option, Some, None}
-use Rattle.p3_fs_core.specs.Encoding.{Encoding}
-use Rattle.p3_fs_core.specs.declared.error.TranscriptError.{TranscriptError}
+use Rattle.std.specs.Prelude.{◌≡◌, ℕ, ◌≤◌, ◌⊎◌, Option, Some, None}
+use Rattle.p3_fs_core.specs.{Encoding.Encoding, declared.error.TranscriptError.TranscriptError}
 use Rattle.p3_grinding.specs.Checks.{IsLeast}
-use Rattle.p3_patterns.specs.Playing.{next_step}
-use Rattle.p3_driver_core.specs.Driving.{Driving}
-use Rattle.p3_driver_core.specs.Proving.{RefusesToWrite, RefusesLongList, Unwritten}
-use Rattle.p3_driver_core.specs.Reads.{received_work}
-use Rattle.p3_driver_core.specs.Transcripts.{Meaning, RefusesStep, IsOtherLength, longer_list, another_length}
-use Rattle.p3_driver_core.specs.Verifying.{RefusesToRead, RefusesCarriedList, FailsWork}
-use Rattle.p3_driver_core.specs.Working.{Work, RefusesToGrind, RefusesToCheck}
+use Rattle.p3_driver_core.specs.{Driving.Driving, Proving.{RefusesToWrite, RefusesLongList, Unwritten}}
+use Rattle.p3_driver_core.specs.{Reads.received_work, Transcripts.{Meaning, RefusesStep}}
+use Rattle.p3_driver_core.specs.{Verifying.{RefusesToRead, FailsWork}, Working.{Work, RefusesToGrind, RefusesToCheck}}
+use Rattle.p3_step_laws.specs.OneReason.{RefusesCarriedOrStep, RefusesRecordedOrStep}
 use Rattle.p3_runs.specs.Values.{Value, IsNothing, witness_in}
 
 -- of a side at a step: its state before, the error, and its state after
@@ -50,32 +46,27 @@ RefusesWithin len max m before e after =
 -- and on the verifier's
 abbrev pub RefusesCarriedWithin : {S Symbol A : Type 0} → ℕ → ℕ → Meaning S Symbol A → Refusing S
 RefusesCarriedWithin len max m before e after =
-    (RefusesCarriedList (max < len) longer_list before e after
-    ⊎ ((len ≤ max) × RefusesStep m before.transcript e after.transcript))
-    × (after.bytes ≡ before.bytes)
+    RefusesCarriedOrStep len max m before e after × (after.bytes ≡ before.bytes)
 
 -- the same of a list that has as many elements as the next step says
 abbrev pub RefusesAsRecorded : {S Symbol A : Type 0} → ℕ → Meaning S Symbol A → Refusing S
 RefusesAsRecorded len m before e after =
-    (RefusesCarriedList (IsOtherLength len (next_step before.transcript.playing)) another_length before e after
-    ⊎ ((IsOtherLength len (next_step before.transcript.playing) → ⊥)
-    × RefusesStep m before.transcript e after.transcript))
-    × (after.bytes ≡ before.bytes)
+    RefusesRecordedOrStep len m before e after × (after.bytes ≡ before.bytes)
 
 -- a prover does not write what is sent, where it may be so long
 abbrev pub RefusesToWriteWithin : {S Symbol A : Type 0} → ℕ → ℕ → Meaning S Symbol A → Refusing S
 RefusesToWriteWithin len max m before e after =
     RefusesLongList len max before e after ⊎ ((len ≤ max) × RefusesToWrite m before e after)
 
--- a prover finds no witness, or does not write it
-abbrev pub RefusesToGrindAndWrite : {S Symbol W : Type 0} → Work S Symbol W → Encoding W → (S → Type 0) → Refusing S
-RefusesToGrindAndWrite work enc may_run_out before e after =
-    (RefusesToGrind work may_run_out before.transcript e after.transcript × (after.bytes ≡ before.bytes))
-    ⊎ Unwritten work enc before e after
-
+-- a prover finds no witness
 abbrev pub RefusesToGrindAndKeep : {S Symbol W : Type 0} → Work S Symbol W → (S → Type 0) → Refusing S
 RefusesToGrindAndKeep work may_run_out before e after =
     RefusesToGrind work may_run_out before.transcript e after.transcript × (after.bytes ≡ before.bytes)
+
+-- a prover finds no witness, or does not write it
+abbrev pub RefusesToGrindAndWrite : {S Symbol W : Type 0} → Work S Symbol W → Encoding W → (S → Type 0) → Refusing S
+RefusesToGrindAndWrite work enc may_run_out before e after =
+    RefusesToGrindAndKeep work may_run_out before e after ⊎ Unwritten work enc before e after
 
 -- a verifier reads no witness, or it does not pass
 abbrev pub RefusesToReadWork : {S Symbol W : Type 0} → Work S Symbol W → Encoding W → Refusing S
@@ -113,22 +104,17 @@ sides_sent found IsHanded proving verifying =
 abbrev pub IsLeastWitness : {S Symbol F EF : Type 0} → Work S Symbol F → S → Value F EF → Type 0
 IsLeastWitness work s v = holds_some (IsLeast work.residues work.check s) (witness_in v)
 
--- a witness that the prover finds, and the verifier reads
+-- a witness that the prover finds
+abbrev pub sides_found : {S Symbol F EF : Type 0} → Work S Symbol F → Refusing S → (Option F → Refusing S) → Sides S F EF
+sides_found work proving verifying =
+    record { IsHanded = IsNothing; IsChosen = IsLeastWitness work; prover = λ _. proving; verifier = verifying }
+
+-- and the verifier reads
 abbrev pub sides_ground : {S Symbol F EF : Type 0} → Work S Symbol F → Encoding F → (S → Type 0) → Sides S F EF
 sides_ground work enc may_run_out =
-    record {
-      IsHanded = IsNothing;
-      IsChosen = IsLeastWitness work;
-      prover = λ _. RefusesToGrindAndWrite work enc may_run_out;
-      verifier = λ _. RefusesToReadWork work enc;
-    }
+    sides_found work (RefusesToGrindAndWrite work enc may_run_out) (λ _. RefusesToReadWork work enc)
 
--- a witness that the prover finds, and the verifier's caller carries
+-- and the verifier's caller carries
 abbrev pub sides_carried : {S Symbol F EF : Type 0} → Work S Symbol F → (S → Type 0) → Sides S F EF
 sides_carried work may_run_out =
-    record {
-      IsHanded = IsNothing;
-      IsChosen = IsLeastWitness work;
-      prover = λ _. RefusesToGrindAndKeep work may_run_out;
-      verifier = λ carried. refuses_some (RefusesCarriedWork work) carried;
-    }
+    sides_found work (RefusesToGrindAndKeep work may_run_out) (refuses_some (RefusesCarriedWork work))

@@ -1,14 +1,10 @@
 -- One step of a script, as either driver plays it.
 use Rattle.std.specs.Prelude.{◌≡◌, ◌⊎◌, ℕ, List, [], ◌∷◌, ◌++◌, Option, Some, None, IsSome, true}
-use Rattle.p3_fs_core.specs.declared.error.TranscriptError.{TranscriptError}
-use Rattle.p3_fs_core.specs.declared.error.TranscriptError.TheVariants.{OutOfMemory}
-use Rattle.p3_driver_core.specs.Driving.{Driving}
-use Rattle.p3_driver_core.specs.Transcripts.{PlaysStep, IsNext}
+use Rattle.p3_fs_core.specs.declared.error.{TranscriptError.TranscriptError, TranscriptError.TheVariants.OutOfMemory}
+use Rattle.p3_driver_core.specs.{Driving.Driving, Transcripts.{PlaysStep, IsNext}}
 use Rattle.p3_step_laws.specs.OneReason.{TellOneReason}
-use Rattle.p3_runs.specs.Plays.{Play, Place, Carried, meaning}
-use Rattle.p3_runs.specs.Runs.{if_in_proof, if_sent, if_carried, if_witness}
-use Rattle.p3_runs.specs.Sides.{Refusing, Sides}
-use Rattle.p3_runs.specs.Values.{Value, Challenge}
+use Rattle.p3_runs.specs.{Plays.{Play, Place, Carried, meaning}, Runs.{if_in_proof, if_sent, if_carried, if_witness}}
+use Rattle.p3_runs.specs.{Sides.{Refusing, Sides}, Values.{Value, Challenge}}
 use Rattle.p3_runs.specs.Values as value
 
 -- a caller carries a witness exactly to a step whose witness it carries

@@ -42,8 +42,3 @@ witness_in _ = None
 abbrev pub IsNothing : {F EF : Type 0} → Value F EF → Type 0
 IsNothing Nothing = Unit {0}
 IsNothing _ = ⊥
-
--- a witness, where there is one
-abbrev pub as_witness : {F EF : Type 0} → Option F → Value F EF
-as_witness None = Nothing
-as_witness (Some x) = Witness x

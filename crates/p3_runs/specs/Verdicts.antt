@@ -3,14 +3,11 @@ use Rattle.std.specs.Prelude.{◌≡◌, ℕ, List, [], ◌∷◌, ◌++◌, ◌
 use Rattle.p3_fs_core.specs.declared.error.TranscriptError.{TranscriptError}
 use Rattle.p3_domain_separator.specs.SeparatorSeed.{pattern_of}
 use Rattle.p3_domain_separator.specs.declared.domain_separator.DomainSeparator.{DomainSeparator}
-use Rattle.p3_driver_core.specs.Driving.{Driving, RefusesStart}
-use Rattle.p3_driver_core.specs.Verifying.{RefusesEnd}
-use Rattle.p3_runs.specs.Fronts.{Run, IsFinished, IsWhole, seed, wire, challenges, last}
-use Rattle.p3_runs.specs.Plays.{Play}
-use Rattle.p3_runs.specs.Rules.{Rules}
+use Rattle.p3_patterns.specs.Playing.{Playing}
+use Rattle.p3_driver_core.specs.{Driving.{Driving, RefusesStart}, Verifying.RefusesEnd}
+use Rattle.p3_runs.specs.{Fronts.{Run, IsFinished, IsWhole, seed, wire, challenges, last}, Plays.Play, Rules.Rules}
+use Rattle.p3_runs.specs.{Stepping.{OrHalts, one_witness, all_witnesses, IsCarriedTo}, Values.{Value, Challenge}}
 use Rattle.p3_runs.specs.Runs as runs
-use Rattle.p3_runs.specs.Stepping.{Halts, one_witness, all_witnesses, IsCarriedTo}
-use Rattle.p3_runs.specs.Values.{Value, Challenge}
 
 -- these values at these steps, under the same separator and from the same challenger
 abbrev pub with_steps : {X F EF S U D : Type 0} → Run X F EF S U D → List X → List (Value F EF) → Run X F EF S U D
@@ -20,6 +17,10 @@ with_steps run steps values = record run { steps = steps; values = values }
 abbrev pub script_of : {X F EF S U D : Type 0} → S → DomainSeparator U D → List X → Run X F EF S U D
 script_of challenger separator steps =
     record { challenger = challenger; separator = separator; steps = steps; values = [] }
+
+-- what is played of the pattern after a front of the script
+abbrev pub playing_after : {X F EF S U D : Type 0} → Run X F EF S U D → Playing
+playing_after front = record { pattern = pattern_of front.separator; position = length front.steps; finished = false }
 
 module _ {X S Symbol I F EF O Ac U D : Type 0} (rules : Rules S Symbol I F EF O Ac) (play : X → Play S Symbol F EF O) where
   -- A proof of the run: it is finished and plays the whole pattern, these bytes are its wire with nothing after it, and
@@ -54,17 +55,7 @@ module _ {X S Symbol I F EF O Ac U D : Type 0} (rules : Rules S Symbol I F EF O 
   -- a driver after a front of the script, with these bytes
   abbrev pub driving_after : Run X F EF S U D → List ℕ → Driving S
   driving_after front bytes =
-      record {
-        transcript = record {
-          challenger = last rules play front;
-          playing = record {
-            pattern = pattern_of front.separator;
-            position = length front.steps;
-            finished = false;
-          };
-        };
-        bytes = bytes;
-      }
+      record { transcript = record { challenger = last rules play front; playing = playing_after front }; bytes = bytes }
 
   -- ---- where and why a verifier refuses a proof
 
@@ -86,8 +77,8 @@ module _ {X S Symbol I F EF O Ac U D : Type 0} (rules : Rules S Symbol I F EF O 
     pub brought : IsCarriedTo (play step).place witness
     pub carries : all_witnesses carried ≡ runs.carried play before values ++ (one_witness witness ++ unused)
     pub after : Driving S
-    pub refuses : (play step).sides.verifier witness (driving_after (with_steps script before values) left) e after
-        ⊎ Halts (driving_after (with_steps script before values) left) e after
+    pub refuses : OrHalts ((play step).sides.verifier witness)
+        (driving_after (with_steps script before values) left) e after
 
   -- The end is refused: all steps were played, and steps of the pattern are left, or bytes.
   pub record RefusesAtEnd (script : Run X F EF S U D) (bytes : List ℕ) (carried : List F) (position : ℕ)

@@ -3,16 +3,11 @@ use Rattle.std.proofs.Common.{◌≡◌, [], ◌∷◌, ap, Bool, arith, rules}
 use Rattle.p3_challenger_core.specs.Sampling.{Sampling}
 use Rattle.p3_field_core.specs.Residues.{Residues, IsResidues}
 use Rattle.p3_grinding.specs.Checks.{IsLeast}
-use Rattle.p3_runs.specs.Plays.{Play}
-use Rattle.p3_runs.specs.Rules.{Rules}
-use Rattle.p3_runs.specs.Runs.{if_sent}
-use Rattle.p3_runs.specs.Sides.{holds_some}
-use Rattle.p3_runs.specs.Stepping.{IsDetermined}
+use Rattle.p3_runs.specs.{Plays.Play, Rules.Rules, Runs.if_sent, Sides.holds_some, Stepping.IsDetermined}
 use Rattle.p3_runs.specs.Values.{Value, IsNothing, Witness, witness_in}
-use Rattle.p3_script.specs.Scripts.{play_of}
+use Rattle.p3_script.{specs.Scripts.play_of, proofs.Canonical.nothing-one}
 use Rattle.p3_script.specs.declared.steps.Step as script
 use Rattle.p3_script.specs.declared.steps.Step.TheVariants as step
-use Rattle.p3_script.proofs.Canonical.{nothing-one}
 
 -- there is one least witness
 least-one : {S W : Type 0} (r : Residues W) → IsResidues r → (check : W → Sampling S Bool) (s : S) (x y : W) →

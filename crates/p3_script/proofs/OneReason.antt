@@ -1,16 +1,13 @@
 -- Each side refuses a step of a script for one reason, by its shape.
 use Rattle.std.proofs.Common.{◌⊎◌, ◌≤◌, ℕ, Option, inl, inr, arith}
-use Rattle.p3_fs_core.specs.Encoding.{Encoding}
-use Rattle.p3_fs_core.specs.declared.error.TranscriptError.{TranscriptError}
-use Rattle.p3_driver_core.specs.Driving.{Driving}
-use Rattle.p3_driver_core.specs.Proving.{RefusesToWrite, RefusesLongList}
+use Rattle.p3_fs_core.specs.{Encoding.Encoding, declared.error.TranscriptError.TranscriptError}
+use Rattle.p3_driver_core.specs.{Driving.Driving, Proving.{RefusesToWrite, RefusesLongList}}
 use Rattle.p3_driver_core.specs.Transcripts.{Meaning, Transcript, RefusesStep, RefusesLength}
 use Rattle.p3_driver_core.specs.Working.{Work, RefusesToGrind}
 use Rattle.p3_step_laws.specs.OneReason.{TellOneReason}
-use Rattle.p3_runs.specs.Sides.{Refusing, RefusesToWriteWithin, Sides, refuses_some}
+use Rattle.p3_runs.specs.{Sides.{Refusing, RefusesToWriteWithin, Sides, refuses_some}, Values.Value}
 use Rattle.p3_runs.specs.Sides.{RefusesToReadWork, sides_known, sides_sent, sides_ground}
 use Rattle.p3_runs.specs.Stepping.{OrHalts, RefuseForOneReason}
-use Rattle.p3_runs.specs.Values.{Value}
 
 -- being out of memory is no such error
 halts-one_reason : {S : Type 0} (R : Refusing S) → TellOneReason R → TellOneReason (OrHalts R)

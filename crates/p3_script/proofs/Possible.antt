@@ -1,33 +1,21 @@
 -- Where a step of a script may be played, each side refuses it only when out of memory.
 use Rattle.std.proofs.Common.{◌≡◌, ℕ, ◌≤◌, List, [], ◌∷◌, Option, Some, None, false, inl, inr, refl, ap, IsSome}
-use Rattle.std.proofs.Common.{is_some, arith}
-use Rattle.std.specs.Option.{option_map}
+use Rattle.std.{proofs.Common.{is_some, arith}, specs.Option.option_map}
 use Rattle.p3_field_core.specs.Residues.{IsResidues}
 use Rattle.p3_grinding.specs.Checks.{IsLeast}
-use Rattle.p3_fs_core.specs.Encoding.{Encoding}
-use Rattle.p3_fs_core.specs.Steps.{Step}
-use Rattle.p3_fs_core.specs.declared.error.TranscriptError.{TranscriptError}
+use Rattle.p3_fs_core.specs.{Encoding.Encoding, Steps.Step, declared.error.TranscriptError.TranscriptError}
 use Rattle.p3_fs_core.specs.declared.error.TranscriptError.TheVariants.{OutOfMemory}
-use Rattle.p3_driver_core.specs.Driving.{Driving}
-use Rattle.p3_driver_core.specs.Effects.{Effect, untouched}
-use Rattle.p3_driver_core.specs.Proving.{RefusesToWrite}
-use Rattle.p3_driver_core.specs.Reads.{Reading}
-use Rattle.p3_driver_core.specs.TranscriptLaws.{next-not_refused}
+use Rattle.p3_driver_core.specs.{Driving.Driving, Effects.{Effect, untouched}, Proving.RefusesToWrite, Reads.Reading}
+use Rattle.p3_driver_core.specs.{TranscriptLaws.next-not_refused, Transcripts.{without_wire, step_on}}
 use Rattle.p3_driver_core.specs.Transcripts.{Meaning, Transcript, PlaysStep, RefusesStep, IsNext}
-use Rattle.p3_driver_core.specs.Transcripts.{without_wire, step_on}
 use Rattle.p3_driver_core.specs.Working.{Work, RefusesToGrind, checking, where_passed}
-use Rattle.p3_step_laws.specs.Completeness.{CompletesWork, CompletesCarriedWork}
-use Rattle.p3_step_laws.specs.Limits.{TellsLimits}
-use Rattle.p3_step_laws.specs.Memory.{OnlyMemoryRefusesToRead}
-use Rattle.p3_step_laws.specs.MemoryLaws.{next-only_memory}
-use Rattle.p3_runs.specs.Absorbed.{Absorbed}
+use Rattle.p3_step_laws.specs.{Completeness.{CompletesWork, CompletesCarriedWork}, Limits.TellsLimits}
+use Rattle.p3_step_laws.specs.{Memory.OnlyMemoryRefusesToRead, MemoryLaws.next-only_memory}
+use Rattle.p3_runs.specs.{Absorbed.Absorbed, Plays.no_challenge, Values.{Value, Challenge, Witness, IsNothing}}
 use Rattle.p3_runs.specs.Plays.{Play, only_if, known, known_with, known_within, sends, sends_witness, carries_witness}
-use Rattle.p3_runs.specs.Plays.{no_challenge}
-use Rattle.p3_runs.specs.Sides.{Refusing, refuses_some, sides_known, RefusesToWriteWithin}
+use Rattle.p3_runs.specs.{Sides.{Refusing, refuses_some, sides_known, RefusesToWriteWithin}, Values.witness_in}
 use Rattle.p3_runs.specs.Sides.{RefusesWithin, RefusesCarriedWithin, RefusesCarriedWork, RefusesToReadWork}
 use Rattle.p3_runs.specs.Stepping.{IsTakenWherePossible, IsSentWherePossible, CanTake, one_witness}
-use Rattle.p3_runs.specs.Values.{Value, Challenge, Witness, IsNothing}
-use Rattle.p3_runs.specs.Values.{witness_in}
 use Rattle.p3_script.proofs.Canonical.{fitting}
 
 -- what is made of something is of something

@@ -1,12 +1,8 @@
 -- Steps that draw, on either side.
-use Rattle.std.specs.Prelude.{◌≡◌, ◌⊎◌, Option, Some, Result, MatchResult}
+use Rattle.std.specs.Prelude.{◌≡◌, ◌⊎◌, Some, Result, MatchResult}
 use Rattle.p3_fs_core.specs.declared.error.TranscriptError.{TranscriptError}
-use Rattle.p3_driver_core.specs.Driving.{Driving}
-use Rattle.p3_driver_core.specs.Transcripts.{PlaysStep}
-use Rattle.p3_runs.specs.Plays.{Play, meaning}
-use Rattle.p3_runs.specs.Sides.{RefusesKept}
-use Rattle.p3_runs.specs.Stepping.{Halts}
-use Rattle.p3_runs.specs.Values.{Challenge, Nothing}
+use Rattle.p3_driver_core.specs.{Driving.Driving, Transcripts.PlaysStep}
+use Rattle.p3_runs.specs.{Plays.{Play, meaning}, Sides.RefusesKept, Stepping.Halts, Values.{Challenge, Nothing}}
 
 -- The step, which has no value, is played, and this is drawn; or it is refused. The bytes of the proof stay as they are.
 pub record DrawsOrRefuses {S Symbol F EF O R : Type 0} (play : Play S Symbol F EF O) (before : Driving S)

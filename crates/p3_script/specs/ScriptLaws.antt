@@ -1,7 +1,6 @@
 -- What holds of every step of every script of a suite.
 use Rattle.p3_fs_core.specs.StepFits.{FitsLength}
-use Rattle.p3_runs.specs.Rules.{Rules}
-use Rattle.p3_runs.specs.Faults.{ProofsTellOneFault, ProvingsTellOneFault}
+use Rattle.p3_runs.specs.{Rules.Rules, Faults.{ProofsTellOneFault, ProvingsTellOneFault}}
 use Rattle.p3_runs.specs.Stepping.{IsCanonical, IsDetermined, IsTakenWherePossible, IsSentWherePossible, RefuseForOneReason}
 use Rattle.p3_script.specs.Scripts.{play_of}
 use Rattle.p3_script.specs.declared.steps.Step as script

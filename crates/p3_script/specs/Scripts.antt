@@ -1,34 +1,26 @@
 -- What the steps of a script mean, and what is sent, received and drawn at them, without the suite's types.
-use Rattle.std.specs.Prelude.{◌≡◌, ℕ, ◌<◌, ◌≤◌, List, [], ◌∷◌, map, Option, Some, None, true}
-use Rattle.std.specs.Prelude as list
+use Rattle.std.specs.Prelude.{ℕ, ◌≤◌, List, [], ◌∷◌, map, Option, Some, None}
 use Rattle.p3_challenger_core.specs.Sampling.{Sampling}
-use Rattle.p3_fs_core.specs.Algebras.{algebra_step}
-use Rattle.p3_fs_core.specs.Steps.{Step, marker_of}
-use Rattle.p3_fs_core.specs.declared.step.Hierarchy.{Hierarchy}
-use Rattle.p3_fs_core.specs.declared.step.Hierarchy.TheVariants.{Begin, End}
-use Rattle.p3_fs_core.specs.declared.step.Kind.{Kind}
-use Rattle.p3_fs_core.specs.declared.step.Kind.TheVariants as kind
-use Rattle.p3_fs_core.specs.declared.step.Length.TheVariants as lengths
-use Rattle.p3_driver_core.specs.Effects.{untouched, observing, drawing, drawing_list}
-use Rattle.p3_driver_core.specs.Meanings as meaning
-use Rattle.p3_driver_core.specs.Proving.{RefusesToWrite}
-use Rattle.p3_driver_core.specs.Reads as reads
-use Rattle.p3_driver_core.specs.Rejecting.{drawing_rejecting}
+use Rattle.p3_fs_core.specs.{Algebras.algebra_step, Steps.{Step, marker_of}, declared.step.Hierarchy.Hierarchy}
+use Rattle.p3_fs_core.specs.declared.step.{Hierarchy.TheVariants.{Begin, End}, Kind.Kind}
+use Rattle.p3_driver_core.specs.{Effects.{untouched, observing, drawing, drawing_list}, Proving.RefusesToWrite}
+use Rattle.p3_driver_core.specs.{Rejecting.drawing_rejecting, Working.{Work, work_of}}
 use Rattle.p3_driver_core.specs.Transcripts.{Meaning, bytes_step, opaque_step, bits_step, uniform_bits_step}
-use Rattle.p3_driver_core.specs.Working.{Work, work_of}
-use Rattle.p3_runs.specs.Absorbed.{Absorbed, Nothing, Bytes, Elements, Own, witness_of}
+use Rattle.p3_runs.specs.{Absorbed.{Absorbed, Nothing, Bytes, Elements, Own, witness_of}, Rules.{Rules, Coding}}
 use Rattle.p3_runs.specs.Plays.{Play, known, known_with, known_within, sends, sends_witness, carries_witness}
 use Rattle.p3_runs.specs.Plays.{only_if, no_challenge, Any, HasLength, HasAtMost}
-use Rattle.p3_runs.specs.Rules.{Rules, Coding}
 use Rattle.p3_runs.specs.Sides.{RefusesKept, RefusesWithin, RefusesCarriedWithin, RefusesAsRecorded}
 use Rattle.p3_runs.specs.Sides.{RefusesToWriteWithin, sides_known}
 use Rattle.p3_runs.specs.Values.{Value, Challenge, IsNothing, bytes_in, scalar_in, scalars_in, extension_in}
+use Rattle.p3_script.specs.declared.steps.{Drawn.Drawn, Received.Received, Sent.Sent}
+use Rattle.std.specs.Prelude as list
+use Rattle.p3_fs_core.specs.declared.step.Kind.TheVariants as kind
+use Rattle.p3_fs_core.specs.declared.step.Length.TheVariants as lengths
+use Rattle.p3_driver_core.specs.Meanings as meaning
+use Rattle.p3_driver_core.specs.Reads as reads
 use Rattle.p3_runs.specs.Values as value
-use Rattle.p3_script.specs.declared.steps.Drawn.{Drawn}
 use Rattle.p3_script.specs.declared.steps.Drawn.TheVariants as drawn
-use Rattle.p3_script.specs.declared.steps.Received.{Received}
 use Rattle.p3_script.specs.declared.steps.Received.TheVariants as received
-use Rattle.p3_script.specs.declared.steps.Sent.{Sent}
 use Rattle.p3_script.specs.declared.steps.Sent.TheVariants as sent
 use Rattle.p3_script.specs.declared.steps.Step as script
 use Rattle.p3_script.specs.declared.steps.Step.TheVariants as step

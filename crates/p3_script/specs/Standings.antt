@@ -1,9 +1,8 @@
 -- Where the value of a step stands, as a program says it.
 use Rattle.std.specs.Prelude.{◌≡◌}
-use Rattle.p3_runs.specs.Plays.{Play}
-use Rattle.p3_runs.specs.Plays as place
-use Rattle.p3_runs.specs.Values.{Nothing}
+use Rattle.p3_runs.specs.{Plays.Play, Values.Nothing}
 use Rattle.p3_script.specs.declared.standing.Standing.{Standing}
+use Rattle.p3_runs.specs.Plays as place
 use Rattle.p3_script.specs.declared.standing.Standing.TheVariants as standing
 
 -- where the value of a step stands, and that nothing is handed for it, if it is not sent

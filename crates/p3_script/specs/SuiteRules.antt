@@ -1,5 +1,7 @@
 -- What the definitions of a script read of its suite, from the members of the suite's types.
 use Rattle.std.specs.Prelude.{ℕ, ◌≤◌, IsTrue, codes}
+use Rattle.p3_fs_core.specs.{Algebras.algebra_of, Alphabet.alphabet_of}
+use Rattle.p3_runs.specs.{Absorbed.alone, Rules.{BitDraws, Grinding, Rules}}
 use Rattle.p3_challenger_core.specs.declared.challenger.CanObserve as observers
 use Rattle.p3_codecs.specs.Extension as extension
 use Rattle.p3_codecs.specs.declared.codec.Codec as codecs
@@ -9,11 +11,7 @@ use Rattle.p3_field_core.specs.declared.algebra.BasedVectorSpace as spaces
 use Rattle.p3_field_core.specs.declared.field.Field as fields
 use Rattle.p3_field_core.specs.declared.named.Named as names
 use Rattle.p3_field_core.specs.declared.ring.PrimeCharacteristicRing as rings
-use Rattle.p3_fs_core.specs.Algebras.{algebra_of}
-use Rattle.p3_fs_core.specs.Alphabet.{alphabet_of}
 use Rattle.p3_fs_core.specs.Scalar as scalar
-use Rattle.p3_runs.specs.Absorbed.{alone}
-use Rattle.p3_runs.specs.Rules.{BitDraws, Grinding, Rules}
 use Rattle.p3_script.specs.declared.accept.AcceptRule as accepting
 use Rattle.p3_script.specs.declared.groups.StepGroup as groups
 use Rattle.p3_symmetric.specs.declared.digest_hasher.DigestHasher as hashers
@@ -37,8 +35,8 @@ module _ {G C F S Symbol : Type 0} (group : groups.Ghosts G C F S Symbol) where
     may_run_out = group.may_run_out;
   }
 
--- of the codec; of the scalars, with how many coefficients each has; of the extension; of the alphabet; of what the
--- challenger observes, with which opaque values are ones; of the rules of draws; of the group and of the hash function
+-- the rules by which the steps of a suite's scripts mean something: how its scalars and its extension are coded, its
+-- alphabet, how opaque values are observed, what its rejecting draws take, its bits, its proofs of work, its hash function
 abbrev pub rules_of : {Cdc C S Symbol F EF U I O Ac G D : Type 0} → codecs.Ghosts Cdc C F S Symbol →
     rings.Ghosts F → fields.Ghosts F → ℕ → identities.Ghosts F F → names.Ghosts F →
     spaces.Ghosts EF F → identities.Ghosts EF F → names.Ghosts EF →

@@ -1,17 +1,12 @@
 //! The steps that draw, as either side plays them.
-ghost use Rattle.std.specs.Prelude.{◌≡◌, ◌≤◌, ℕ, [], ◌∷◌, IsTrue, IfErr, IfOk, OnOk};
-ghost use Rattle.p3_driver_core.specs.Bound.{bound_value, bound_values};
-ghost use Rattle.p3_driver_core.specs.Driving.{KeepsOrRefuses};
-ghost use Rattle.p3_driver_core.specs.Rejecting.{drawn_rejecting};
-ghost use Rattle.p3_fs_core.specs.declared.step.Kind.TheVariants.{Challenge};
+ghost use Rattle.std.specs.Prelude.{◌≡◌, ◌≤◌, [], ◌∷◌, IsTrue, IfErr, IfOk, OnOk};
+ghost use Rattle.p3_driver_core.specs.{Bound.{bound_value, bound_values}, Driving.KeepsOrRefuses};
+ghost use Rattle.p3_driver_core.specs.{Rejecting.drawn_rejecting, Transcripts.{bits_step, uniform_bits_step}};
+ghost use Rattle.p3_fs_core.specs.declared.step.{Kind.TheVariants.Challenge, Length.TheVariants.Fixed};
 ghost use Rattle.p3_drivers.specs.Drivers.{driving_of};
-ghost use Rattle.p3_fs_core.specs.declared.step.Length.TheVariants.{Fixed};
-ghost use Rattle.p3_driver_core.specs.Transcripts.{bits_step, uniform_bits_step};
-ghost use Rattle.p3_runs.specs.Stepping.{Halts};
-ghost use Rattle.p3_runs.specs.Values.{OfScalars, OfExtensions};
-ghost use Rattle.p3_script.specs.Draws.{DrawsOrRefuses};
-ghost use Rattle.p3_script.specs.Scripts.{challenge_of, draws_one, draws_list, draws_extensions_rejecting};
-ghost use Rattle.p3_script.specs.Scripts.{draws_bits, draws_bits_rejecting};
+ghost use Rattle.p3_runs.specs.{Stepping.Halts, Values.{OfScalars, OfExtensions}};
+ghost use Rattle.p3_script.specs.{Draws.DrawsOrRefuses, Scripts.draws_bits_rejecting};
+ghost use Rattle.p3_script.specs.Scripts.{challenge_of, draws_one, draws_list, draws_extensions_rejecting, draws_bits};
 
 use crate::accept::AcceptRule;
 use crate::groups::StepGroup;

@@ -1,26 +1,18 @@
 //! The groups of steps that a challenger may have beside the plain ones: bits and proofs of work, and uniform bits.
-ghost use Rattle.std.specs.Prelude.{◌≡◌, ◌≤◌, ℕ, Bool, IsTrue, IsErr, IfOk, IfErr};
-ghost use Rattle.p3_challenger_core.specs.Observation.{Observation};
-ghost use Rattle.p3_challenger_core.specs.Reading.{IsPrefixFree};
-ghost use Rattle.p3_challenger_core.specs.Sampling.{Sampling};
-ghost use Rattle.p3_driver_core.specs.Bound.{bound_values};
-ghost use Rattle.p3_driver_core.specs.Driving.{KeepsOrRefuses};
-ghost use Rattle.p3_driver_core.specs.Effects.{drawing_list};
+ghost use Rattle.std.specs.Prelude.{◌≡◌, ◌≤◌, ℕ, Bool, IsTrue, IsErr};
+ghost use Rattle.p3_challenger_core.specs.{Observation.Observation, Reading.IsPrefixFree, Sampling.Sampling};
+ghost use Rattle.p3_driver_core.specs.{Bound.bound_values, Driving.KeepsOrRefuses, Effects.drawing_list};
 ghost use Rattle.p3_driver_core.specs.Meanings as meaning;
-ghost use Rattle.p3_driver_core.specs.Proving.{GrindsAndWrites, GrindsAndKeeps};
+ghost use Rattle.p3_driver_core.specs.{Proving.{GrindsAndWrites, GrindsAndKeeps}, Reads.received_work};
 ghost use Rattle.p3_driver_core.specs.Rejecting.{Rule, ComputesOfValues, drawn_rejecting, drawing_rejecting};
 ghost use Rattle.p3_driver_core.specs.Transcripts.{PlaysOrRefuses, RefusesStep, bits_step, uniform_bits_step};
 ghost use Rattle.p3_driver_core.specs.Verifying.{ReceivesWork, ChecksAndKeeps};
-ghost use Rattle.p3_driver_core.specs.Reads.{received_work};
 ghost use Rattle.p3_driver_core.specs.Working.{work_of, sent_work, RefusesToCheck, RefusesToGrind};
 ghost use Rattle.p3_drivers.specs.Drivers.{driving_of, proving_of, verifying_of};
-ghost use Rattle.p3_fs_core.specs.Scalar.{encoding};
-ghost use Rattle.p3_fs_core.specs.Steps.{Step};
-ghost use Rattle.p3_step_laws.specs.Completeness.{CompletesWork, CompletesCarriedWork};
+ghost use Rattle.p3_fs_core.specs.{Scalar.encoding, Steps.Step};
+ghost use Rattle.p3_step_laws.specs.{Completeness.{CompletesWork, CompletesCarriedWork}, Limits.TellsLimits};
+ghost use Rattle.p3_step_laws.specs.{OneReason.TellOneReason, Encoded.{OnlyReads, AnyValue}};
 ghost use Rattle.p3_runs.specs.Sides.{RefusesToReadWork};
-ghost use Rattle.p3_step_laws.specs.Limits.{TellsLimits};
-ghost use Rattle.p3_step_laws.specs.OneReason.{TellOneReason};
-ghost use Rattle.p3_step_laws.specs.Encoded.{OnlyReads, AnyValue};
 
 mod all_steps;
 mod bits_and_work;

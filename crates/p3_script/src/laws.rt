@@ -1,7 +1,7 @@
 //! The laws of the steps of scripts.
 ghost use Rattle.p3_challenger_core.specs.Reading.{IsPrefixCode};
-ghost use Rattle.p3_script.specs.ScriptLaws.{AreAllCanonical, AreAllDetermined};
-ghost use Rattle.p3_script.specs.ScriptLaws.{AreTakenWherePossible, AreSentWherePossible};
+ghost use Rattle.p3_script.specs.ScriptLaws.{AreAllCanonical, AreAllDetermined, AreTakenWherePossible};
+ghost use Rattle.p3_script.specs.ScriptLaws.{AreSentWherePossible};
 
 use crate::groups::StepGroup;
 use crate::suite::{Meaning, Suite};

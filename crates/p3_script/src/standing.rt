@@ -1,6 +1,5 @@
 //! Where the value of a step stands.
-ghost use Rattle.p3_script.specs.Scripts.{play_of};
-ghost use Rattle.p3_script.specs.Standings.{StandsSo};
+ghost use Rattle.p3_script.specs.{Scripts.play_of, Standings.StandsSo};
 
 use crate::steps::Step;
 use crate::suite::{Meaning, Suite};

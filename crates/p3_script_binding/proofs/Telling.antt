@@ -1,18 +1,14 @@
 -- What a step absorbed tells its value, but for hints and witnesses of 0 bits.
 use Rattle.std.proofs.Common.{◌≡◌, ℕ, zero, suc, List, [], ◌∷◌, ◌++◌, map, refl, ap}
-use Rattle.p3_fs_core.specs.declared.step.Kind.{Kind}
-use Rattle.p3_fs_core.specs.declared.step.Kind.TheVariants as kind
-use Rattle.p3_fs_core.specs.declared.step.Length.{Length}
-use Rattle.p3_fs_core.specs.declared.step.Length.TheVariants.{None, Scalar, Fixed, Bounded}
+use Rattle.p3_fs_core.specs.declared.step.{Kind.Kind, Length.Length, Length.TheVariants.{None, Scalar, Fixed, Bounded}}
 use Rattle.p3_binding.specs.Hints.{SameButHint, SameOfKind, SameButHints, ReceivedButHints, FirstAre}
-use Rattle.p3_runs.specs.Absorbed.{Absorbed, Nothing, Bytes, Elements, witness_of}
+use Rattle.p3_runs.specs.{Absorbed.{Absorbed, Nothing, Bytes, Elements, witness_of}, Rules.Rules, Sides.holds_some}
 use Rattle.p3_runs.specs.Plays.{Play, Place, Nowhere, Sent, Found, Carried, when_some}
-use Rattle.p3_runs.specs.Rules.{Rules}
 use Rattle.p3_runs.specs.Runs.{Finishes, absorbed, in_proof, if_in_proof}
-use Rattle.p3_runs.specs.Sides.{holds_some}
 use Rattle.p3_runs.specs.Values.{Value, IsNothing, bytes_in, scalar_in, scalars_in, extension_in, witness_in}
-use Rattle.p3_runs.specs.Values as value
 use Rattle.p3_script.specs.Scripts.{play_of}
+use Rattle.p3_fs_core.specs.declared.step.Kind.TheVariants as kind
+use Rattle.p3_runs.specs.Values as value
 use Rattle.p3_script.specs.declared.steps.Step as script
 use Rattle.p3_script.specs.declared.steps.Step.TheVariants as step
 

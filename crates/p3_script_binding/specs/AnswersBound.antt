@@ -1,18 +1,12 @@
 -- What the symbols of two runs say of what a verifier, or a prover, answered for them.
 use Rattle.std.specs.Prelude.{◌≡◌, ℕ, List}
-use Rattle.p3_binding.specs.Binding.{AreBound}
-use Rattle.p3_binding.specs.Hints.{ReceivedButHints}
-use Rattle.p3_runs.specs.Fronts.{Run, symbols}
-use Rattle.p3_runs.specs.Rules.{Rules}
-use Rattle.p3_runs.specs.Values.{Value}
-use Rattle.p3_runs.specs.Verdicts.{with_steps}
+use Rattle.p3_binding.specs.{Binding.AreBound, Hints.ReceivedButHints}
+use Rattle.p3_runs.specs.{Fronts.{Run, symbols}, Rules.Rules, Values.Value, Verdicts.with_steps}
 use Rattle.p3_script.specs.Scripts.{play_of, values_received, challenges_of}
-use Rattle.p3_script.specs.declared.steps.Step as script
 use Rattle.p3_script_binding.specs.RunsBound.{HoldsProof, FeedTheSameUpTo, front_of}
-use Rattle.p3_script_prover.specs.ProverAnswers.{IsProvedScript}
-use Rattle.p3_script_prover.specs.declared.proving.Proved.{Proved}
-use Rattle.p3_script_verifier.specs.VerifierAnswers.{IsVerifiedScript}
-use Rattle.p3_script_verifier.specs.declared.verifying.Verified.{Verified}
+use Rattle.p3_script_prover.specs.{ProverAnswers.IsProvedScript, declared.proving.Proved.Proved}
+use Rattle.p3_script_verifier.specs.{VerifierAnswers.IsVerifiedScript, declared.verifying.Verified.Verified}
+use Rattle.p3_script.specs.declared.steps.Step as script
 
 module _ {F EF O Ac : Type 0} (Su U C K D G It S Symbol : Type 0) (rules : Rules S Symbol It F EF O Ac) (state : C → S) where
   -- a script under a separator from a state, what a verifier answers for it, and what a prover does

@@ -1,12 +1,8 @@
 -- Runs that go as far as one another, and what a program holds of them.
-use Rattle.std.specs.Prelude.{◌≡◌, ℕ, ◌≤◌, List, length, take}
-use Rattle.std.specs.List.{AllByRecursion}
+use Rattle.std.specs.{Prelude.{◌≡◌, ℕ, ◌≤◌, List, length, take}, List.AllByRecursion}
 use Rattle.p3_challenger_core.specs.Reading.{AreBytes}
 use Rattle.p3_binding.specs.Binding.{IsHeld}
-use Rattle.p3_runs.specs.Fronts.{Run, symbols}
-use Rattle.p3_runs.specs.Plays.{Play}
-use Rattle.p3_runs.specs.Rules.{Rules}
-use Rattle.p3_runs.specs.Values.{Nothing}
+use Rattle.p3_runs.specs.{Fronts.{Run, symbols}, Plays.Play, Rules.Rules, Values.Nothing}
 
 -- the front of the first n steps
 abbrev pub front_of : {X F EF S U D : Type 0} → ℕ → Run X F EF S U D → Run X F EF S U D

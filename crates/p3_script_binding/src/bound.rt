@@ -1,6 +1,7 @@
 //! Answers whose runs fed the same symbols.
 ghost use Rattle.p3_challenger_core.specs.Reading.{IsPrefixCodeOn};
-ghost use Rattle.p3_script_binding.specs.AnswersBound.{EqualSymbolsHaveEqualValues, VerifiedFrontsBind, ProvedFrontsBind};
+ghost use Rattle.p3_script_binding.specs.AnswersBound.{EqualSymbolsHaveEqualValues, VerifiedFrontsBind};
+ghost use Rattle.p3_script_binding.specs.AnswersBound.{ProvedFrontsBind};
 
 use p3_binding::binding;
 use p3_script::{Meaning, Suite};

@@ -1,10 +1,7 @@
 -- Steps of a script from some place on, and what is so of all of them.
 use Rattle.std.proofs.Common.{◌≡◌, ◌<◌, ◌≤◌, ◌+◌, ℕ, suc, zero, Bool, true, false, IsTrue, List, [], ◌∷◌, length, map, drop, get_or, drop-cons, add-one, cond, refl, sym, ap, ◌∙◌, subst, arith}
-use Rattle.std.proofs.lemmas.List.{drop_all}
-use Rattle.std.specs.List.{AllByRecursion}
-use Rattle.p3_runs.specs.Plays.{Place, Nowhere, Sent, Found, Carried}
-use Rattle.p3_runs.specs.Provings.{AreAmong, FirstIs}
-use Rattle.p3_runs.specs.Runs.{carried_among, if_carried}
+use Rattle.std.{proofs.lemmas.List.drop_all, specs.List.AllByRecursion}
+use Rattle.p3_runs.specs.{Plays.{Place, Sent, Carried}, Provings.{AreAmong, FirstIs}, Runs.{carried_among, if_carried}}
 use Rattle.p3_script_checks.specs.Places.{is_handed_at, is_carried_at}
 
 pub not_true : {A : Type 0} → IsTrue false → A
@@ -52,10 +49,8 @@ same-past f k xs ys i h m = ap (map f) (drop_all i xs h) ∙ sym (ap (map k) (dr
 -- ---- carried
 
 one-carried : (place : Place) → length (if_carried place (tt {0})) ≡ cond (is_carried_at place) 1 0
-one-carried Nowhere = refl
-one-carried Sent = refl
-one-carried Found = refl
 one-carried Carried = refl
+one-carried _ = refl
 
 pub carried-on : {X : Type 0} (place : X → Place) (xs : List X) (i : ℕ) (x : X) (b : Bool) → i < length xs →
     x ≡ get_or xs i x → b ≡ is_carried_at (place x) →
@@ -64,39 +59,27 @@ carried-on place xs i x b h e is =
     ap (carried_among place) (part-on xs i x h e)
     ∙ ap (λ n. n + carried_among place (drop (i + 1) xs)) (one-carried (place x) ∙ ap (λ c. cond c 1 0) (sym is))
 
-pub carried-past : {X : Type 0} (place : X → Place) (xs : List X) (i : ℕ) → length xs ≤ i →
-    carried_among place (drop i xs) ≡ 0
-carried-past place xs i h = ap (carried_among place) (drop_all i xs h)
-
 -- ---- handed
 
 first-handed : {V : Type 0} (here : Place) (Is : V → Type 0) (Rest : List V → Type 0) (v : V) (vs : List V) →
     true ≡ is_handed_at here → FirstIs here Is Rest (v ∷ vs) → Is v × Rest vs
-first-handed Nowhere Is Rest v vs is h = absurd (cc)
 first-handed Sent Is Rest v vs is h = h
-first-handed Found Is Rest v vs is h = absurd (cc)
-first-handed Carried Is Rest v vs is h = absurd (cc)
+first-handed _ Is Rest v vs is h = absurd (cc)
 
 handed-first : {V : Type 0} (here : Place) (Is : V → Type 0) (Rest : List V → Type 0) (v : V) (vs : List V) →
     true ≡ is_handed_at here → Is v → Rest vs → FirstIs here Is Rest (v ∷ vs)
-handed-first Nowhere Is Rest v vs is a b = absurd (cc)
 handed-first Sent Is Rest v vs is a b = (a, b)
-handed-first Found Is Rest v vs is a b = absurd (cc)
-handed-first Carried Is Rest v vs is a b = absurd (cc)
+handed-first _ Is Rest v vs is a b = absurd (cc)
 
 none-handed : {V : Type 0} (here : Place) (Is : V → Type 0) (Rest : List V → Type 0) → true ≡ is_handed_at here →
     FirstIs here Is Rest [] → ⊥
-none-handed Nowhere Is Rest is h = absurd (cc)
 none-handed Sent Is Rest is h = h
-none-handed Found Is Rest is h = absurd (cc)
-none-handed Carried Is Rest is h = absurd (cc)
+none-handed _ Is Rest is h = absurd (cc)
 
 not-handed : {V : Type 0} (here : Place) (Is : V → Type 0) (Rest : List V → Type 0) (vs : List V) →
     false ≡ is_handed_at here → FirstIs here Is Rest vs ≡ Rest vs
-not-handed Nowhere Is Rest vs is = refl
 not-handed Sent Is Rest vs is = absurd (cc)
-not-handed Found Is Rest vs is = refl
-not-handed Carried Is Rest vs is = refl
+not-handed _ Is Rest vs is = refl
 
 module _ {X V T : Type 0} (place : X → Place) (Is : X → V → Type 0) (value : T → V) (xs : List X) (ys : List T) (i j : ℕ)
     (x : X) (h : i < length xs) (e : x ≡ get_or xs i x) where
@@ -158,4 +141,6 @@ counted-on place xs i x b n m total h e is more so_far =
 
 pub counted-past : {X : Type 0} (place : X → Place) (xs : List X) (i n total : ℕ) → length xs ≤ i →
     n + carried_among place (drop i xs) ≡ total → n ≡ total
-counted-past place xs i n total past so_far = let none = carried-past place xs i past in omega (arith, none, so_far)
+counted-past place xs i n total past so_far =
+    let none : carried_among place (drop i xs) ≡ 0 = ap (carried_among place) (drop_all i xs past) in
+    omega (arith, none, so_far)

@@ -1,7 +1,6 @@
 -- Steps of patterns that carry elements of a suite's algebras.
 use Rattle.std.specs.Prelude.{◌≡◌}
-use Rattle.p3_fs_core.specs.Algebras.{NamedAlgebra, tag_of}
-use Rattle.p3_fs_core.specs.Interactions.{step_of}
+use Rattle.p3_fs_core.specs.{Algebras.{NamedAlgebra, tag_of}, Interactions.step_of}
 use Rattle.p3_fs_core.specs.declared.interaction.Interaction.{Interaction}
 use Rattle.p3_runs.specs.Rules.{Rules}
 

@@ -1,7 +1,6 @@
 //! Whether values are right to send at the steps of a script, and how many witnesses its caller carries.
 ghost use Rattle.std.specs.Prelude.{◌≡◌, ◌↔◌, IsTrue};
-ghost use Rattle.p3_runs.specs.Provings.{AreHanded};
-ghost use Rattle.p3_runs.specs.Runs.{carried_count};
+ghost use Rattle.p3_runs.specs.{Provings.AreHanded, Runs.carried_count};
 ghost use Rattle.p3_script.specs.Scripts.{play_of, value_sent, values_sent};
 ghost use Rattle.p3_script_checks.specs.Places.{is_handed_at, is_carried_at};
 

@@ -1,23 +1,16 @@
 -- What a prover is handed for the next step.
-use Rattle.std.specs.Borrow.{Bor}
+use Rattle.std.{specs.Borrow.Bor, proofs.Common.{drop, slice_get, add-one, ◌⊎◌}}
 use Rattle.std.proofs.Common.{◌≡◌, ◌+◌, ℕ, suc, zero, List, [], ◌∷◌, ◌++◌, Option, Some, None, refl, sym, ap, ◌∙◌, subst}
-use Rattle.std.proofs.Common.{drop, slice_get, add-one, ◌⊎◌}
 use Rattle.p3_driver_core.specs.Driving.{Driving}
-use Rattle.p3_runs.specs.Plays.{Play}
-use Rattle.p3_runs.specs.Plays as place
-use Rattle.p3_runs.specs.ProverOutcomes.{StartsHanded, where_carried}
-use Rattle.p3_runs.specs.Runs.{if_sent, if_drawn}
-use Rattle.p3_runs.specs.Stepping.{SendsStep, one_of}
-use Rattle.p3_runs.specs.Values.{Value, Challenge, Nothing}
+use Rattle.p3_runs.specs.{Plays.Play, ProverOutcomes.{StartsHanded, where_carried}, Runs.{if_sent, if_drawn}}
+use Rattle.p3_runs.specs.{Stepping.{SendsStep, one_of}, Values.{Value, Challenge, Nothing}, Stepping.Halts}
 use Rattle.p3_script.specs.Scripts.{value_sent, values_sent, challenge_of, challenges_of, drawn_of}
-use Rattle.p3_script.specs.declared.steps.Drawn.{Drawn}
-use Rattle.p3_script.specs.declared.steps.Sent.{Sent}
+use Rattle.p3_script.specs.{declared.steps.Drawn.Drawn, declared.steps.Sent.Sent, Standings.StandsSo}
+use Rattle.p3_script.specs.declared.standing.Standing.{Standing}
 use Rattle.p3_fs_core.specs.declared.error.TranscriptError.{TranscriptError}
-use Rattle.p3_runs.specs.Stepping.{Halts}
 use Rattle.p3_script_prover.specs.Nexts.{IsGivenAt, lent, next_place, carried_at, PlaysNext, RefusesNext}
 use Rattle.p3_script_prover.specs.Sending.{value_given, value_played, SendsValue}
-use Rattle.p3_script.specs.Standings.{StandsSo}
-use Rattle.p3_script.specs.declared.standing.Standing.{Standing}
+use Rattle.p3_runs.specs.Plays as place
 use Rattle.p3_script.specs.declared.standing.Standing.TheVariants as standing
 
 -- what was played with a value is sent
@@ -38,10 +31,8 @@ sends-played play before after given witness drawn s =
 -- a witness is carried where the code says so
 pub carried-same : {S Symbol F EF O : Type 0} (play : Play S Symbol F EF O) (standing : Standing) (xs : List F) →
     StandsSo play standing → carried_at standing xs ≡ where_carried play.place xs
-carried-same play standing.Nowhere xs h = ap (λ p. where_carried p xs) (sym h.so.0)
 carried-same play standing.Sent xs h = ap (λ p. where_carried p xs) (sym h.so)
-carried-same play standing.Found xs h = ap (λ p. where_carried p xs) (sym h.so.0)
-carried-same play standing.Carried xs h = ap (λ p. where_carried p xs) (sym h.so.0)
+carried-same play _ xs h = ap (λ p. where_carried p xs) (sym h.so.0)
 
 -- what was drawn besides
 pub drawn-more : {Su F EF U O C K Ac D G It St Sy : Type 0} (xs : List (Drawn Su F EF U O C K Ac D G It St Sy))
@@ -113,14 +104,10 @@ module _ {Su F EF U O C K Ac D G It St Sy S Symbol : Type 0} (play : Play S Symb
       IsGivenAt standing sent at given →
       StartsHanded play.place play.sides.IsHanded (drop at (values_sent sent)) →
       IsHandedNext play (values_sent sent) at (next_place at given) (value_given given)
-  handed-next standing.Nowhere sent at given h is starts =
-      not_sent sent at given is (λ v. ap (λ p. if_sent p v) h.so.0) h.so.1
   handed-next standing.Sent sent at given h is starts =
       first_sent sent at given is
       (subst (λ p. StartsHanded p play.sides.IsHanded (drop at (values_sent sent))) h.so starts) h.so
-  handed-next standing.Found sent at given h is starts =
-      not_sent sent at given is (λ v. ap (λ p. if_sent p v) h.so.0) h.so.1
-  handed-next standing.Carried sent at given h is starts =
+  handed-next _ sent at given h is starts =
       not_sent sent at given is (λ v. ap (λ p. if_sent p v) h.so.0) h.so.1
 
   -- it is played, and what comes of it is kept

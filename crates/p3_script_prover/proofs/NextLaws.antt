@@ -1,20 +1,13 @@
 -- A prover that plays a script step by step.
 use Rattle.std.proofs.Common.{◌≡◌, ◌<◌, ◌≤◌, ◌+◌, ℕ, suc, zero, List, [], ◌∷◌, refl, subst, drop, length, get_or}
 use Rattle.std.proofs.Common.{add-one, drop-cons, inl, inr}
-use Rattle.p3_fs_core.specs.Errors.{pattern_error_of}
-use Rattle.p3_fs_core.specs.declared.error.TranscriptError.{TranscriptError}
+use Rattle.p3_fs_core.specs.{Errors.pattern_error_of, declared.error.TranscriptError.TranscriptError}
 use Rattle.p3_fs_core.specs.declared.error.TranscriptError.TheVariants.{OutOfMemory}
 use Rattle.p3_patterns.specs.Playing.{FaultOfPlayEnd, IsPatternError}
 use Rattle.p3_driver_core.specs.Driving.{Driving}
-use Rattle.p3_runs.specs.Fronts.{Run}
-use Rattle.p3_runs.specs.Plays.{Play}
-use Rattle.p3_runs.specs.Provings.{IsProverRun, RefusesToProve}
-use Rattle.p3_runs.specs.ProvingLaws.{Proves, proves-on, proves-refused, proves-not_ended}
-use Rattle.p3_runs.specs.RefusalLaws.{AreDetermined, AreRefusedForMemory, refused-never}
-use Rattle.p3_runs.specs.Rules.{Rules}
-use Rattle.p3_runs.specs.Runs.{AreAdmitted}
-use Rattle.p3_runs.specs.Values.{Value, Challenge}
-use Rattle.p3_runs.specs.Verdicts.{with_steps}
+use Rattle.p3_runs.specs.{Fronts.Run, Plays.Play, Provings.{IsProverRun, RefusesToProve}, Rules.Rules, Runs.AreAdmitted}
+use Rattle.p3_runs.specs.{ProvingLaws.{Proves, proves-on, proves-refused, proves-not_ended}, Values.{Value, Challenge}}
+use Rattle.p3_runs.specs.{RefusalLaws.{AreDetermined, AreRefusedForMemory, refused-never}, Verdicts.with_steps}
 use Rattle.p3_script_prover.specs.Nexts.{PlaysNext, RefusesNext}
 
 -- the part from i on begins with the element there

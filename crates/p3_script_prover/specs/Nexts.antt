@@ -2,26 +2,16 @@
 use Rattle.std.specs.Borrow.{Bor}
 use Rattle.std.specs.Prelude.{◌≡◌, ℕ, ◌+◌, List, [], ◌++◌, ◌⊎◌, drop, slice_get, Option, Some, None, Result, MatchResult}
 use Rattle.p3_fs_core.specs.declared.error.TranscriptError.{TranscriptError}
-use Rattle.p3_domain_separator.specs.declared.domain_separator.DomainSeparator.{DomainSeparator}
 use Rattle.p3_driver_core.specs.Driving.{Driving}
-use Rattle.p3_runs.specs.Fronts.{Run}
-use Rattle.p3_runs.specs.Plays.{Play}
-use Rattle.p3_runs.specs.Plays as place
-use Rattle.p3_runs.specs.ProverOutcomes.{IsProverOutcome, where_carried}
-use Rattle.p3_runs.specs.Rules.{Rules}
-use Rattle.p3_runs.specs.Runs.{if_sent, if_drawn}
+use Rattle.p3_runs.specs.{Plays.Play, ProverOutcomes.where_carried, Runs.{if_sent, if_drawn}, Values.{Value, Challenge}}
 use Rattle.p3_runs.specs.Stepping.{SendsStep, Halts, one_of}
-use Rattle.p3_runs.specs.Values.{Value, Challenge, Nothing}
-use Rattle.p3_runs.specs.Verdicts.{with_steps}
 use Rattle.p3_script.specs.declared.standing.Standing.{Standing}
 use Rattle.p3_script.specs.declared.standing.Standing.TheVariants as standing
 
 -- a witness, where the caller carries it
 abbrev pub carried_at : {A : Type 0} → Standing → List A → List A
-carried_at standing.Nowhere xs = []
-carried_at standing.Sent xs = []
-carried_at standing.Found xs = []
 carried_at standing.Carried xs = xs
+carried_at _ xs = []
 
 -- what is lent, if anything is
 abbrev pub lent : {A : Type 0} → Option (Bor A) → Option A
@@ -30,10 +20,8 @@ lent (Some x) = Some x.now
 
 -- for a step whose value stands so this is handed: the value at the place, or nothing
 abbrev pub IsGivenAt : {A : Type 0} → Standing → List A → ℕ → Option (Bor A) → Type 0
-IsGivenAt standing.Nowhere sent at given = given ≡ None
 IsGivenAt standing.Sent sent at given = lent given ≡ slice_get sent at
-IsGivenAt standing.Found sent at given = given ≡ None
-IsGivenAt standing.Carried sent at given = given ≡ None
+IsGivenAt _ sent at given = given ≡ None
 
 -- the place of the next value, once this was handed
 abbrev pub next_place : {A : Type 0} → ℕ → Option (Bor A) → ℕ

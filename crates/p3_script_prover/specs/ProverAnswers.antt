@@ -1,17 +1,11 @@
 -- What a prover answers for a whole script.
 use Rattle.std.specs.Prelude.{◌≡◌, List, length}
 use Rattle.p3_fs_core.specs.declared.error.TranscriptError.TheVariants.{OutOfMemory}
-use Rattle.p3_runs.specs.Fronts.{Run}
-use Rattle.p3_runs.specs.ProverOutcomes.{IsProved}
-use Rattle.p3_runs.specs.Provings.{IsProverRun, RefusesToProve}
-use Rattle.p3_runs.specs.Rules.{Rules}
-use Rattle.p3_runs.specs.Runs.{carried_count}
-use Rattle.p3_runs.specs.Values.{Value}
-use Rattle.p3_runs.specs.Verdicts.{with_steps}
-use Rattle.p3_script.specs.Scripts.{play_of, challenges_of}
-use Rattle.p3_script.specs.declared.fault.Fault.{Fault}
-use Rattle.p3_script.specs.declared.steps.Step as script
+use Rattle.p3_runs.specs.{Fronts.Run, ProverOutcomes.IsProved, Provings.{IsProverRun, RefusesToProve}, Rules.Rules}
+use Rattle.p3_runs.specs.{Runs.carried_count, Values.Value, Verdicts.with_steps}
+use Rattle.p3_script.specs.{Scripts.{play_of, challenges_of}, declared.fault.Fault.Fault}
 use Rattle.p3_script_prover.specs.declared.proving.Proved.{Proved}
+use Rattle.p3_script.specs.declared.steps.Step as script
 
 module _ {Su F EF U O C K Ac D G It St Sy S Symbol : Type 0} (rules : Rules S Symbol It F EF O Ac)
     (script : Run (script.Step Su F EF U O C K Ac D G It St Sy) F EF S U D) (sent : List (Value F EF)) where

@@ -1,12 +1,7 @@
 //! The steps that draw, as a prover plays them.
-ghost use Rattle.std.specs.Prelude.{◌≡◌, ◌≤◌, IsTrue};
-ghost use Rattle.p3_driver_core.specs.Transcripts.{bits_step, uniform_bits_step};
-ghost use Rattle.p3_drivers.specs.Drivers.{proving_of};
-ghost use Rattle.p3_fs_core.specs.declared.step.Length.TheVariants.{Fixed};
-ghost use Rattle.p3_runs.specs.Values.{OfScalars, OfExtensions};
-ghost use Rattle.p3_script.specs.Scripts.{draws_one, draws_list, draws_extensions_rejecting};
-ghost use Rattle.p3_script.specs.Scripts.{draws_bits, draws_bits_rejecting};
-ghost use Rattle.p3_script_prover.specs.Sending.{KnowsOrRefuses, played_witness, played_draw};
+ghost use Rattle.std.specs.Prelude.{◌≤◌, IsTrue};
+ghost use Rattle.p3_script.specs.declared.steps.Step.TheVariants as step;
+ghost use Rattle.p3_script_prover.specs.Sending.{PlaysUnhanded};
 
 use crate::stepping::Played;
 use p3_challenger_core::Sponge;
@@ -23,10 +18,8 @@ pub(crate) fn scalar<S: Suite>(
     label: Label,
 ) -> Result<Played<S>, TranscriptError>
     requires { 128 ≤ S.Codec.SECURITY_BITS }
-    ensures { let rules = ⟦<S as Meaning>⟧.rules S.Field.DIMENSION in
-        KnowsOrRefuses (draws_one rules rules.scalar OfScalars label.now)
-        (proving_of S.Challenger.state prover.old) played_witness played_draw result
-        (proving_of S.Challenger.state prover.new) }
+    ensures { PlaysUnhanded (⟦<S as Meaning>⟧.rules S.Field.DIMENSION) S.Challenger.state
+        (step.ChallengeScalar label.entry) prover.old result prover.new }
 {
     let drawn = draws::draw_scalar(alloc, prover, label)?;
     Ok((None, Some(drawn)))
@@ -40,10 +33,8 @@ pub(crate) fn scalars<S: Suite>(
     n: usize,
 ) -> Result<Played<S>, TranscriptError>
     requires { 128 ≤ S.Codec.SECURITY_BITS }
-    ensures { let rules = ⟦<S as Meaning>⟧.rules S.Field.DIMENSION in
-        KnowsOrRefuses (draws_list rules rules.scalar OfScalars label.now n)
-        (proving_of S.Challenger.state prover.old) played_witness played_draw result
-        (proving_of S.Challenger.state prover.new) }
+    ensures { PlaysUnhanded (⟦<S as Meaning>⟧.rules S.Field.DIMENSION) S.Challenger.state
+        (step.ChallengeScalars label.entry n) prover.old result prover.new }
 {
     let drawn = draws::draw_scalars(alloc, prover, label, n)?;
     Ok((None, Some(drawn)))
@@ -56,10 +47,8 @@ pub(crate) fn extension<S: Suite>(
     label: Label,
 ) -> Result<Played<S>, TranscriptError>
     requires { 128 ≤ S.Codec.SECURITY_BITS }
-    ensures { let rules = ⟦<S as Meaning>⟧.rules S.Field.DIMENSION in
-        KnowsOrRefuses (draws_one rules rules.extension OfExtensions label.now)
-        (proving_of S.Challenger.state prover.old) played_witness played_draw result
-        (proving_of S.Challenger.state prover.new) }
+    ensures { PlaysUnhanded (⟦<S as Meaning>⟧.rules S.Field.DIMENSION) S.Challenger.state
+        (step.ChallengeExtension label.entry) prover.old result prover.new }
 {
     let drawn = draws::draw_extension(alloc, prover, label)?;
     Ok((None, Some(drawn)))
@@ -73,10 +62,8 @@ pub(crate) fn extensions<S: Suite>(
     n: usize,
 ) -> Result<Played<S>, TranscriptError>
     requires { 128 ≤ S.Codec.SECURITY_BITS }
-    ensures { let rules = ⟦<S as Meaning>⟧.rules S.Field.DIMENSION in
-        KnowsOrRefuses (draws_list rules rules.extension OfExtensions label.now n)
-        (proving_of S.Challenger.state prover.old) played_witness played_draw result
-        (proving_of S.Challenger.state prover.new) }
+    ensures { PlaysUnhanded (⟦<S as Meaning>⟧.rules S.Field.DIMENSION) S.Challenger.state
+        (step.ChallengeExtensions label.entry n) prover.old result prover.new }
 {
     let drawn = draws::draw_extensions(alloc, prover, label, n)?;
     Ok((None, Some(drawn)))
@@ -92,10 +79,9 @@ pub(crate) fn extensions_rejecting<S: Suite>(
     limit: u64,
 ) -> Result<Played<S>, TranscriptError>
     requires { 128 ≤ S.Codec.SECURITY_BITS }
-    ensures { let rules = ⟦<S as Meaning>⟧.rules S.Field.DIMENSION in
-        KnowsOrRefuses (draws_extensions_rejecting rules label.now n accept.now limit)
-        (proving_of S.Challenger.state prover.old) played_witness played_draw result
-        (proving_of S.Challenger.state prover.new) }
+    ensures { PlaysUnhanded (⟦<S as Meaning>⟧.rules S.Field.DIMENSION) S.Challenger.state
+        (step.ChallengeExtensionsRejecting label.entry n accept.now limit) prover.old result
+        prover.new }
 {
     let drawn = draws::draw_extensions_rejecting(alloc, prover, label, n, accept, limit)?;
     Ok((None, Some(drawn)))
@@ -111,11 +97,8 @@ pub(crate) fn bits<S: Suite>(
 ) -> Result<Played<S>, TranscriptError>
     requires has { IsTrue S.Group.HAS_POW }
     requires within { width ≤ S.Group.most_bits }
-    ensures { let rules = ⟦<S as Meaning>⟧.rules S.Field.DIMENSION in
-        KnowsOrRefuses (draws_bits rules (bits_step label.now width (Fixed n)) rules.bits.are_there
-        rules.bits.plain width n)
-        (proving_of S.Challenger.state prover.old) played_witness played_draw result
-        (proving_of S.Challenger.state prover.new) }
+    ensures { PlaysUnhanded (⟦<S as Meaning>⟧.rules S.Field.DIMENSION) S.Challenger.state
+        (step.ChallengeBits label.entry width n) prover.old result prover.new }
 {
     let drawn = draws::draw_bits(alloc, prover, label, width, n)?;
     Ok((None, Some(drawn)))
@@ -131,11 +114,8 @@ pub(crate) fn uniform_bits<S: Suite>(
 ) -> Result<Played<S>, TranscriptError>
     requires has { IsTrue S.Group.HAS_UNIFORM }
     requires within { width ≤ S.Group.most_bits }
-    ensures { let rules = ⟦<S as Meaning>⟧.rules S.Field.DIMENSION in
-        KnowsOrRefuses (draws_bits rules (uniform_bits_step label.now width (Fixed n))
-        rules.bits.are_uniform rules.bits.uniform width n)
-        (proving_of S.Challenger.state prover.old) played_witness played_draw result
-        (proving_of S.Challenger.state prover.new) }
+    ensures { PlaysUnhanded (⟦<S as Meaning>⟧.rules S.Field.DIMENSION) S.Challenger.state
+        (step.ChallengeUniformBits label.entry width n) prover.old result prover.new }
 {
     let drawn = draws::draw_uniform_bits(alloc, prover, label, width, n)?;
     Ok((None, Some(drawn)))
@@ -153,10 +133,9 @@ pub(crate) fn uniform_bits_rejecting<S: Suite>(
 ) -> Result<Played<S>, TranscriptError>
     requires has { IsTrue S.Group.HAS_UNIFORM }
     requires within { width ≤ S.Group.most_bits }
-    ensures { let rules = ⟦<S as Meaning>⟧.rules S.Field.DIMENSION in
-        KnowsOrRefuses (draws_bits_rejecting rules label.now width n accept.now limit)
-        (proving_of S.Challenger.state prover.old) played_witness played_draw result
-        (proving_of S.Challenger.state prover.new) }
+    ensures { PlaysUnhanded (⟦<S as Meaning>⟧.rules S.Field.DIMENSION) S.Challenger.state
+        (step.ChallengeUniformBitsRejecting label.entry width n accept.now limit) prover.old result
+        prover.new }
 {
     let drawn = draws::draw_uniform_bits_rejecting(alloc, prover, label, width, n, accept, limit)?;
     Ok((None, Some(drawn)))

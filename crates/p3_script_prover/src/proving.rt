@@ -1,11 +1,7 @@
 //! Whole scripts, as a prover plays them.
-ghost use Rattle.std.specs.Option.{OnSome};
-ghost use Rattle.std.specs.Prelude.{◌≡◌, List, ◌<◌, ◌++◌, drop, length, IfOk, IfErr, OnOk};
+ghost use Rattle.std.specs.{Option.OnSome, Prelude.{◌≡◌, ◌<◌, ◌++◌, drop, length, IfOk, IfErr, OnOk}};
 ghost use Rattle.p3_drivers.specs.Drivers.{proving_of};
-ghost use Rattle.p3_runs.specs.ProverOutcomes.{StartsHanded};
-ghost use Rattle.p3_runs.specs.Provings.{AreHanded};
-ghost use Rattle.p3_runs.specs.Runs.{AreAdmitted};
-ghost use Rattle.p3_runs.specs.Stepping.{one_of};
+ghost use Rattle.p3_runs.specs.{ProverOutcomes.StartsHanded, Provings.AreHanded, Runs.AreAdmitted, Stepping.one_of};
 ghost use Rattle.p3_runs.specs.Verdicts.{script_of};
 ghost use Rattle.p3_script.specs.Scripts.{play_of, values_sent, challenges_of};
 ghost use Rattle.p3_script_prover.specs.ProverAnswers.{IsProvedScript, IsRefusedScript};
@@ -127,15 +123,13 @@ fn play_next<S: Suite>(
     made: &mut Made<S>,
 ) -> Result<(), TranscriptError>
     requires admitted { (play_of (⟦<S as Meaning>⟧.rules S.Field.DIMENSION) step.now).admitted }
-    requires handed { let rules = ⟦<S as Meaning>⟧.rules S.Field.DIMENSION in
-        StartsHanded (play_of rules step.now).place (play_of rules step.now).sides.IsHanded
-        (drop next.old (values_sent sent.now)) }
-    ensures { let rules = ⟦<S as Meaning>⟧.rules S.Field.DIMENSION in
-        NextOrRefuses (play_of rules step.now) (values_sent sent.now) next.old
-        (proving_of S.Challenger.state prover.old) made.old.witnesses.items made.old.carried.items
-        (challenges_of made.old.challenges.items) result next.new
-        (proving_of S.Challenger.state prover.new) made.new.witnesses.items made.new.carried.items
-        (challenges_of made.new.challenges.items) }
+    requires handed { let play = play_of (⟦<S as Meaning>⟧.rules S.Field.DIMENSION) step.now in
+        StartsHanded play.place play.sides.IsHanded (drop next.old (values_sent sent.now)) }
+    ensures { NextOrRefuses (play_of (⟦<S as Meaning>⟧.rules S.Field.DIMENSION) step.now)
+        (values_sent sent.now) next.old (proving_of S.Challenger.state prover.old)
+        made.old.witnesses.items made.old.carried.items (challenges_of made.old.challenges.items)
+        result next.new (proving_of S.Challenger.state prover.new) made.new.witnesses.items
+        made.new.carried.items (challenges_of made.new.challenges.items) }
 {
     let standing = standing_of(step);
     let given = given_at(standing, sent, *next);

@@ -1,22 +1,10 @@
 //! Each kind of step but those that draw, as a prover plays it.
 ghost use Rattle.std.specs.Prelude.{◌≡◌, ◌≤◌, ◌++◌, List, ℕ, IsTrue};
-ghost use Rattle.p3_driver_core.specs.Effects.{untouched, observing};
-ghost use Rattle.p3_driver_core.specs.Transcripts.{opaque_step};
-ghost use Rattle.p3_drivers.specs.Drivers.{proving_of};
 ghost use Rattle.p3_fs_core.specs.Scalar.{encoding};
-ghost use Rattle.p3_fs_core.specs.Steps.{marker_of};
-ghost use Rattle.p3_fs_core.specs.declared.step.Hierarchy.TheVariants.{Begin, End};
-ghost use Rattle.p3_fs_core.specs.declared.step.Kind.TheVariants.{Message, Public, Salt};
-ghost use Rattle.p3_fs_core.specs.declared.step.Length.TheVariants.{Scalar};
-ghost use Rattle.p3_runs.specs.Absorbed.{Nothing, Own, witness_of};
-ghost use Rattle.p3_runs.specs.Plays.{Any, HasLength, known, no_challenge, only_if, sends_witness, carries_witness};
-ghost use Rattle.p3_runs.specs.Sides.{holds_some};
+ghost use Rattle.p3_runs.specs.{Plays.{Any, HasLength}, Sides.holds_some};
 ghost use Rattle.p3_runs.specs.Values.{bytes_in, scalar_in, scalars_in, extension_in};
-ghost use Rattle.p3_script.specs.Scripts.{hints, hints_counted, sends_bytes, sends_counted_bytes};
-ghost use Rattle.p3_script.specs.Scripts.{knows_one, knows_list, knows_as_recorded, knows_counted};
-ghost use Rattle.p3_script.specs.Scripts.{sends_one, sends_list, sends_counted, work_in};
-ghost use Rattle.p3_script_prover.specs.Sending.{KnowsOrRefuses, SendsOrRefuses, value_given};
-ghost use Rattle.p3_script_prover.specs.Sending.{played_witness, played_draw};
+ghost use Rattle.p3_script.specs.declared.steps.Step.TheVariants as step;
+ghost use Rattle.p3_script_prover.specs.Sending.{PlaysHanded, PlaysUnhanded, value_given};
 
 use crate::stepping::Played;
 use p3_challenger_core::Sponge;
@@ -31,12 +19,8 @@ pub(crate) fn begin<S: Suite>(
     label: Label,
     kind: Kind,
 ) -> Result<Played<S>, TranscriptError>
-    ensures { let rules = ⟦<S as Meaning>⟧.rules S.Field.DIMENSION in
-        KnowsOrRefuses (known {O = S.Opaque} (marker_of Begin kind label.now rules.marker_name)
-        (no_challenge {F = S.Field} {EF = S.Extension})
-        (untouched {Symbol = S.Challenger.Symbol} (tt {0})) Nothing)
-        (proving_of S.Challenger.state prover.old) played_witness played_draw result
-        (proving_of S.Challenger.state prover.new) }
+    ensures { PlaysUnhanded (⟦<S as Meaning>⟧.rules S.Field.DIMENSION) S.Challenger.state
+        (step.Begin label.entry kind) prover.old result prover.new }
 {
     prover.begin::<()>(label, kind)?;
     Ok((None, None))
@@ -48,12 +32,8 @@ pub(crate) fn end<S: Suite>(
     label: Label,
     kind: Kind,
 ) -> Result<Played<S>, TranscriptError>
-    ensures { let rules = ⟦<S as Meaning>⟧.rules S.Field.DIMENSION in
-        KnowsOrRefuses (known {O = S.Opaque} (marker_of End kind label.now rules.marker_name)
-        (no_challenge {F = S.Field} {EF = S.Extension})
-        (untouched {Symbol = S.Challenger.Symbol} (tt {0})) Nothing)
-        (proving_of S.Challenger.state prover.old) played_witness played_draw result
-        (proving_of S.Challenger.state prover.new) }
+    ensures { PlaysUnhanded (⟦<S as Meaning>⟧.rules S.Field.DIMENSION) S.Challenger.state
+        (step.End label.entry kind) prover.old result prover.new }
 {
     prover.end::<()>(label, kind)?;
     Ok((None, None))
@@ -65,10 +45,8 @@ pub(crate) fn add_public_scalar<S: Suite>(
     label: Label,
     scalar: &S::Field,
 ) -> Result<Played<S>, TranscriptError>
-    ensures { let rules = ⟦<S as Meaning>⟧.rules S.Field.DIMENSION in
-        KnowsOrRefuses (knows_one rules rules.scalar Public label.now scalar.now)
-        (proving_of S.Challenger.state prover.old) played_witness played_draw result
-        (proving_of S.Challenger.state prover.new) }
+    ensures { PlaysUnhanded (⟦<S as Meaning>⟧.rules S.Field.DIMENSION) S.Challenger.state
+        (step.PublicScalar label.entry scalar.now) prover.old result prover.new }
 {
     let _bound = prover.add_public_scalar::<S::Field, S::Codec>(label, scalar)?;
     Ok((None, None))
@@ -78,12 +56,10 @@ pub(crate) fn add_public_scalar<S: Suite>(
 pub(crate) fn add_public_scalars<S: Suite>(
     prover: &mut ProverState<S::Challenger, S::Unit, S::Digest>,
     label: Label,
-    scalars: &[S::Field],
+    scalars: &Vec<S::Field>,
 ) -> Result<Played<S>, TranscriptError>
-    ensures { let rules = ⟦<S as Meaning>⟧.rules S.Field.DIMENSION in
-        KnowsOrRefuses (knows_list rules rules.scalar Public label.now scalars.now)
-        (proving_of S.Challenger.state prover.old) played_witness played_draw result
-        (proving_of S.Challenger.state prover.new) }
+    ensures { PlaysUnhanded (⟦<S as Meaning>⟧.rules S.Field.DIMENSION) S.Challenger.state
+        (step.PublicScalars label.entry scalars.now) prover.old result prover.new }
 {
     let _bounds = prover.add_public_scalars::<S::Field, S::Codec>(label, scalars)?;
     Ok((None, None))
@@ -96,10 +72,8 @@ pub(crate) fn add_public_scalars_bounded<S: Suite>(
     scalars: &Vec<S::Field>,
     max: usize,
 ) -> Result<Played<S>, TranscriptError>
-    ensures { let rules = ⟦<S as Meaning>⟧.rules S.Field.DIMENSION in
-        KnowsOrRefuses (knows_counted rules rules.scalar Public label.now scalars.now.items max)
-        (proving_of S.Challenger.state prover.old) played_witness played_draw result
-        (proving_of S.Challenger.state prover.new) }
+    ensures { PlaysUnhanded (⟦<S as Meaning>⟧.rules S.Field.DIMENSION) S.Challenger.state
+        (step.PublicScalarsBounded label.entry scalars.now max) prover.old result prover.new }
 {
     let _bounds = prover.add_public_scalars_bounded::<S::Field, S::Codec>(label, scalars, max)?;
     Ok((None, None))
@@ -111,10 +85,8 @@ pub(crate) fn observe_extension<S: Suite>(
     label: Label,
     element: &S::Extension,
 ) -> Result<Played<S>, TranscriptError>
-    ensures { let rules = ⟦<S as Meaning>⟧.rules S.Field.DIMENSION in
-        KnowsOrRefuses (knows_one rules rules.extension Message label.now element.now)
-        (proving_of S.Challenger.state prover.old) played_witness played_draw result
-        (proving_of S.Challenger.state prover.new) }
+    ensures { PlaysUnhanded (⟦<S as Meaning>⟧.rules S.Field.DIMENSION) S.Challenger.state
+        (step.ObserveExtension label.entry element.now) prover.old result prover.new }
 {
     let _bound = prover.observe_extension::<S::Field, S::Extension, S::Codec>(label, element)?;
     Ok((None, None))
@@ -124,12 +96,10 @@ pub(crate) fn observe_extension<S: Suite>(
 pub(crate) fn observe_extensions<S: Suite>(
     prover: &mut ProverState<S::Challenger, S::Unit, S::Digest>,
     label: Label,
-    elements: &[S::Extension],
+    elements: &Vec<S::Extension>,
 ) -> Result<Played<S>, TranscriptError>
-    ensures { let rules = ⟦<S as Meaning>⟧.rules S.Field.DIMENSION in
-        KnowsOrRefuses (knows_as_recorded rules rules.extension Message label.now elements.now)
-        (proving_of S.Challenger.state prover.old) played_witness played_draw result
-        (proving_of S.Challenger.state prover.new) }
+    ensures { PlaysUnhanded (⟦<S as Meaning>⟧.rules S.Field.DIMENSION) S.Challenger.state
+        (step.ObserveExtensions label.entry elements.now) prover.old result prover.new }
 {
     let _bounds = prover.observe_extensions::<S::Field, S::Extension, S::Codec>(label, elements)?;
     Ok((None, None))
@@ -142,11 +112,8 @@ pub(crate) fn observe_extensions_bounded<S: Suite>(
     elements: &Vec<S::Extension>,
     max: usize,
 ) -> Result<Played<S>, TranscriptError>
-    ensures { let rules = ⟦<S as Meaning>⟧.rules S.Field.DIMENSION in
-        KnowsOrRefuses (knows_counted rules rules.extension Message label.now elements.now.items
-        max)
-        (proving_of S.Challenger.state prover.old) played_witness played_draw result
-        (proving_of S.Challenger.state prover.new) }
+    ensures { PlaysUnhanded (⟦<S as Meaning>⟧.rules S.Field.DIMENSION) S.Challenger.state
+        (step.ObserveExtensionsBounded label.entry elements.now max) prover.old result prover.new }
 {
     let _bounds = prover.observe_extensions_bounded::<S::Field, S::Extension, S::Codec>(
         label, elements, max,
@@ -160,11 +127,8 @@ pub(crate) fn observe_opaque<S: Suite>(
     label: Label,
     value: &S::Opaque,
 ) -> Result<Played<S>, TranscriptError>
-    ensures { let rules = ⟦<S as Meaning>⟧.rules S.Field.DIMENSION in
-        KnowsOrRefuses (known (opaque_step Message label.now Scalar) (no_challenge {F = S.Field}
-        {EF = S.Extension}) (observing rules.opaque value.now) (Own value.now))
-        (proving_of S.Challenger.state prover.old) played_witness played_draw result
-        (proving_of S.Challenger.state prover.new) }
+    ensures { PlaysUnhanded (⟦<S as Meaning>⟧.rules S.Field.DIMENSION) S.Challenger.state
+        (step.Opaque label.entry value.now) prover.old result prover.new }
 {
     let copy = match value.clone() {
         Ok(copy) => copy,
@@ -185,11 +149,8 @@ pub(crate) fn add_salt<S: Suite>(
     len: usize,
 ) -> Result<Played<S>, TranscriptError>
     requires { holds_some (HasLength len) (bytes_in (value_given sent)) }
-    ensures { let rules = ⟦<S as Meaning>⟧.rules S.Field.DIMENSION in
-        SendsOrRefuses (sends_bytes rules Salt label.now len)
-        (proving_of S.Challenger.state prover.old) (value_given sent.entry) played_witness
-        played_draw result
-        (proving_of S.Challenger.state prover.new) }
+    ensures { PlaysHanded (⟦<S as Meaning>⟧.rules S.Field.DIMENSION) S.Challenger.state
+        (step.Salt label.entry len) sent.entry prover.old result prover.new }
 {
     let Some(Sent::Bytes(bytes)) = sent else {
         unreachable!();
@@ -206,11 +167,8 @@ pub(crate) fn add_bytes<S: Suite>(
     len: usize,
 ) -> Result<Played<S>, TranscriptError>
     requires { holds_some (HasLength len) (bytes_in (value_given sent)) }
-    ensures { let rules = ⟦<S as Meaning>⟧.rules S.Field.DIMENSION in
-        SendsOrRefuses (sends_bytes rules Message label.now len)
-        (proving_of S.Challenger.state prover.old) (value_given sent.entry) played_witness
-        played_draw result
-        (proving_of S.Challenger.state prover.new) }
+    ensures { PlaysHanded (⟦<S as Meaning>⟧.rules S.Field.DIMENSION) S.Challenger.state
+        (step.Bytes label.entry len) sent.entry prover.old result prover.new }
 {
     let Some(Sent::Bytes(bytes)) = sent else {
         unreachable!();
@@ -227,11 +185,8 @@ pub(crate) fn add_hint<S: Suite>(
     len: usize,
 ) -> Result<Played<S>, TranscriptError>
     requires { holds_some (HasLength len) (bytes_in (value_given sent)) }
-    ensures { let rules = ⟦<S as Meaning>⟧.rules S.Field.DIMENSION in
-        SendsOrRefuses (hints rules label.now len)
-        (proving_of S.Challenger.state prover.old) (value_given sent.entry) played_witness
-        played_draw result
-        (proving_of S.Challenger.state prover.new) }
+    ensures { PlaysHanded (⟦<S as Meaning>⟧.rules S.Field.DIMENSION) S.Challenger.state
+        (step.Hint label.entry len) sent.entry prover.old result prover.new }
 {
     let Some(Sent::Bytes(bytes)) = sent else {
         unreachable!();
@@ -248,11 +203,8 @@ pub(crate) fn add_bytes_bounded<S: Suite>(
     max: usize,
 ) -> Result<Played<S>, TranscriptError>
     requires { holds_some Any (bytes_in (value_given sent)) }
-    ensures { let rules = ⟦<S as Meaning>⟧.rules S.Field.DIMENSION in
-        SendsOrRefuses (sends_counted_bytes rules label.now max)
-        (proving_of S.Challenger.state prover.old) (value_given sent.entry) played_witness
-        played_draw result
-        (proving_of S.Challenger.state prover.new) }
+    ensures { PlaysHanded (⟦<S as Meaning>⟧.rules S.Field.DIMENSION) S.Challenger.state
+        (step.BytesBounded label.entry max) sent.entry prover.old result prover.new }
 {
     let Some(Sent::Bytes(bytes)) = sent else {
         unreachable!();
@@ -269,11 +221,8 @@ pub(crate) fn add_hint_bounded<S: Suite>(
     max: usize,
 ) -> Result<Played<S>, TranscriptError>
     requires { holds_some Any (bytes_in (value_given sent)) }
-    ensures { let rules = ⟦<S as Meaning>⟧.rules S.Field.DIMENSION in
-        SendsOrRefuses (hints_counted rules label.now max)
-        (proving_of S.Challenger.state prover.old) (value_given sent.entry) played_witness
-        played_draw result
-        (proving_of S.Challenger.state prover.new) }
+    ensures { PlaysHanded (⟦<S as Meaning>⟧.rules S.Field.DIMENSION) S.Challenger.state
+        (step.HintBounded label.entry max) sent.entry prover.old result prover.new }
 {
     let Some(Sent::Bytes(bytes)) = sent else {
         unreachable!();
@@ -289,11 +238,8 @@ pub(crate) fn add_scalar<S: Suite>(
     sent: Option<&Sent<S>>,
 ) -> Result<Played<S>, TranscriptError>
     requires { holds_some Any (scalar_in (value_given sent)) }
-    ensures { let rules = ⟦<S as Meaning>⟧.rules S.Field.DIMENSION in
-        SendsOrRefuses (sends_one rules rules.scalar scalar_in label.now)
-        (proving_of S.Challenger.state prover.old) (value_given sent.entry) played_witness
-        played_draw result
-        (proving_of S.Challenger.state prover.new) }
+    ensures { PlaysHanded (⟦<S as Meaning>⟧.rules S.Field.DIMENSION) S.Challenger.state
+        (step.Scalar label.entry) sent.entry prover.old result prover.new }
 {
     let Some(Sent::Scalar(scalar)) = sent else {
         unreachable!();
@@ -310,11 +256,8 @@ pub(crate) fn add_scalars<S: Suite>(
     n: usize,
 ) -> Result<Played<S>, TranscriptError>
     requires { holds_some (HasLength n) (scalars_in (value_given sent)) }
-    ensures { let rules = ⟦<S as Meaning>⟧.rules S.Field.DIMENSION in
-        SendsOrRefuses (sends_list rules rules.scalar scalars_in label.now n)
-        (proving_of S.Challenger.state prover.old) (value_given sent.entry) played_witness
-        played_draw result
-        (proving_of S.Challenger.state prover.new) }
+    ensures { PlaysHanded (⟦<S as Meaning>⟧.rules S.Field.DIMENSION) S.Challenger.state
+        (step.Scalars label.entry n) sent.entry prover.old result prover.new }
 {
     let Some(Sent::Scalars(scalars)) = sent else {
         unreachable!();
@@ -331,11 +274,8 @@ pub(crate) fn add_scalars_bounded<S: Suite>(
     max: usize,
 ) -> Result<Played<S>, TranscriptError>
     requires { holds_some Any (scalars_in (value_given sent)) }
-    ensures { let rules = ⟦<S as Meaning>⟧.rules S.Field.DIMENSION in
-        SendsOrRefuses (sends_counted rules rules.scalar scalars_in label.now max)
-        (proving_of S.Challenger.state prover.old) (value_given sent.entry) played_witness
-        played_draw result
-        (proving_of S.Challenger.state prover.new) }
+    ensures { PlaysHanded (⟦<S as Meaning>⟧.rules S.Field.DIMENSION) S.Challenger.state
+        (step.ScalarsBounded label.entry max) sent.entry prover.old result prover.new }
 {
     let Some(Sent::Scalars(scalars)) = sent else {
         unreachable!();
@@ -351,11 +291,8 @@ pub(crate) fn add_extension<S: Suite>(
     sent: Option<&Sent<S>>,
 ) -> Result<Played<S>, TranscriptError>
     requires { holds_some Any (extension_in (value_given sent)) }
-    ensures { let rules = ⟦<S as Meaning>⟧.rules S.Field.DIMENSION in
-        SendsOrRefuses (sends_one rules rules.extension extension_in label.now)
-        (proving_of S.Challenger.state prover.old) (value_given sent.entry) played_witness
-        played_draw result
-        (proving_of S.Challenger.state prover.new) }
+    ensures { PlaysHanded (⟦<S as Meaning>⟧.rules S.Field.DIMENSION) S.Challenger.state
+        (step.Extension label.entry) sent.entry prover.old result prover.new }
 {
     let Some(Sent::Extension(element)) = sent else {
         unreachable!();
@@ -372,13 +309,8 @@ pub(crate) fn pow<S: Suite>(
 ) -> Result<Played<S>, TranscriptError>
     requires has { IsTrue S.Group.HAS_POW }
     requires within { bits ≤ S.Group.most_bits }
-    ensures { let rules = ⟦<S as Meaning>⟧.rules S.Field.DIMENSION in
-        KnowsOrRefuses (only_if (rules.grinding.is_there × (bits ≤ rules.bits.most))
-        (sends_witness {EF = S.Extension} {O = S.Opaque} (work_in rules label.now bits)
-        rules.grinding.is_there
-        rules.witness_encoding rules.grinding.may_run_out (witness_of bits)))
-        (proving_of S.Challenger.state prover.old) played_witness played_draw result
-        (proving_of S.Challenger.state prover.new) }
+    ensures { PlaysUnhanded (⟦<S as Meaning>⟧.rules S.Field.DIMENSION) S.Challenger.state
+        (step.Pow label.entry bits) prover.old result prover.new }
 {
     S::Group::pow(prover, label, bits)?;
     match element_at_end::<S::Field>(prover.narg()) {
@@ -395,13 +327,8 @@ pub(crate) fn observe_pow<S: Suite>(
 ) -> Result<Played<S>, TranscriptError>
     requires has { IsTrue S.Group.HAS_POW }
     requires within { bits ≤ S.Group.most_bits }
-    ensures { let rules = ⟦<S as Meaning>⟧.rules S.Field.DIMENSION in
-        KnowsOrRefuses (only_if (rules.grinding.is_there × (bits ≤ rules.bits.most))
-        (carries_witness {EF = S.Extension} {O = S.Opaque} (work_in rules label.now bits)
-        rules.grinding.is_there
-        rules.grinding.may_run_out (witness_of bits)))
-        (proving_of S.Challenger.state prover.old) played_witness played_draw result
-        (proving_of S.Challenger.state prover.new) }
+    ensures { PlaysUnhanded (⟦<S as Meaning>⟧.rules S.Field.DIMENSION) S.Challenger.state
+        (step.ObservePow label.entry bits) prover.old result prover.new }
 {
     let witness = S::Group::observe_pow(prover, label, bits)?;
     Ok((Some(witness), None))
@@ -409,9 +336,8 @@ pub(crate) fn observe_pow<S: Suite>(
 
 // The element that the bytes end with.
 fn element_at_end<F: TranscriptField>(bytes: &[u8]) -> Result<F, TranscriptError>
-    ensures { (before : List ℕ) (x : F) → bytes.now ≡ before ++ (encoding F.residues
-        F.bit_length).wire x →
-        result ≡ Ok x }
+    ensures { (before : List ℕ) (x : F) →
+        bytes.now ≡ before ++ (encoding F.residues F.bit_length).wire x → result ≡ Ok x }
 {
     let width = F::wire_len();
     if bytes.len() < width {

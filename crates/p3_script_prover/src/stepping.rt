@@ -1,10 +1,6 @@
 //! One step of a script, as a prover plays it.
-ghost use Rattle.std.specs.Prelude.{◌≡◌};
-ghost use Rattle.p3_drivers.specs.Drivers.{proving_of};
-ghost use Rattle.p3_script.specs.Scripts.{play_of};
-ghost use Rattle.p3_script.specs.StepFamilies.{SendsNothing, Draws};
-ghost use Rattle.p3_script_prover.specs.Sending.{KnowsOrRefuses, SendsOrRefuses, value_given};
-ghost use Rattle.p3_script_prover.specs.Sending.{played_witness, played_draw};
+ghost use Rattle.p3_script.specs.{Scripts.play_of, StepFamilies.{SendsNothing, Draws}};
+ghost use Rattle.p3_script_prover.specs.Sending.{PlaysHanded, PlaysUnhanded, value_given};
 
 use crate::{drawing, sending};
 use p3_challenger_core::Sponge;
@@ -38,10 +34,8 @@ pub fn prover_step<S: Suite>(
     requires admitted { (play_of (⟦<S as Meaning>⟧.rules S.Field.DIMENSION) step.now).admitted }
     requires handed { let rules = ⟦<S as Meaning>⟧.rules S.Field.DIMENSION in
         (play_of rules step.now).sides.IsHanded (value_given sent) }
-    ensures { let rules = ⟦<S as Meaning>⟧.rules S.Field.DIMENSION in
-        SendsOrRefuses (play_of rules step.now) (proving_of S.Challenger.state prover.old)
-        (value_given sent.entry)
-        played_witness played_draw result (proving_of S.Challenger.state prover.new) }
+    ensures { PlaysHanded (⟦<S as Meaning>⟧.rules S.Field.DIMENSION) S.Challenger.state
+        step.now sent.entry prover.old result prover.new }
 {
     match step {
         Step::Salt { label, len } => sending::add_salt(prover, *label, sent, *len),
@@ -69,9 +63,8 @@ fn unsent_step<S: Suite>(
 ) -> Result<Played<S>, TranscriptError>
     requires family { SendsNothing step.now }
     requires admitted { (play_of (⟦<S as Meaning>⟧.rules S.Field.DIMENSION) step.now).admitted }
-    ensures { let rules = ⟦<S as Meaning>⟧.rules S.Field.DIMENSION in
-        KnowsOrRefuses (play_of rules step.now) (proving_of S.Challenger.state prover.old)
-        played_witness played_draw result (proving_of S.Challenger.state prover.new) }
+    ensures { PlaysUnhanded (⟦<S as Meaning>⟧.rules S.Field.DIMENSION) S.Challenger.state
+        step.now prover.old result prover.new }
 {
     match step {
         Step::Begin { label, kind } => sending::begin(prover, *label, *kind),
@@ -105,9 +98,8 @@ fn draw_step<S: Suite>(
 ) -> Result<Played<S>, TranscriptError>
     requires family { Draws step.now }
     requires admitted { (play_of (⟦<S as Meaning>⟧.rules S.Field.DIMENSION) step.now).admitted }
-    ensures { let rules = ⟦<S as Meaning>⟧.rules S.Field.DIMENSION in
-        KnowsOrRefuses (play_of rules step.now) (proving_of S.Challenger.state prover.old)
-        played_witness played_draw result (proving_of S.Challenger.state prover.new) }
+    ensures { PlaysUnhanded (⟦<S as Meaning>⟧.rules S.Field.DIMENSION) S.Challenger.state
+        step.now prover.old result prover.new }
 {
     match step {
         Step::ChallengeScalar { label } => drawing::scalar(alloc, prover, *label),

@@ -1,15 +1,11 @@
 -- A verifier that plays the run of a prover.
 use Rattle.std.specs.Prelude.{ℕ, List}
-use Rattle.p3_runs.specs.Fronts.{Run}
-use Rattle.p3_runs.specs.Plays.{Play}
-use Rattle.p3_runs.specs.ProverOutcomes.{IsProverOutcome}
-use Rattle.p3_runs.specs.Rules.{Rules}
-use Rattle.p3_runs.specs.Values.{Value, Challenge}
-use Rattle.p3_runs.specs.Verdicts.{with_steps, IsOutcome}
+use Rattle.p3_runs.specs.{Fronts.Run, Plays.Play, ProverOutcomes.IsProverOutcome, Rules.Rules}
+use Rattle.p3_runs.specs.{Values.{Value, Challenge}, Verdicts.{with_steps, IsOutcome}}
 use Rattle.p3_script.specs.Scripts.{play_of, values_received, challenges_of}
-use Rattle.p3_script.specs.declared.steps.Step as script
 use Rattle.p3_script_prover.specs.declared.proving.Proved.{Proved}
 use Rattle.p3_script_verifier.specs.declared.verifying.Verified.{Verified}
+use Rattle.p3_script.specs.declared.steps.Step as script
 
 -- One run is both: the prover's, with these bytes, witnesses, challenges and challenger; and the verifier's, of which these
 -- are what was received, the challenges and the challenger. So the challenges are the same, and the challengers.

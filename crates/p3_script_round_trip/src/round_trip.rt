@@ -1,9 +1,7 @@
 //! A script is proved, and the proof verified.
 ghost use Rattle.std.specs.Prelude.{◌≡◌, ◌⊎◌, IfOk, IfErr};
 ghost use Rattle.p3_fs_core.specs.declared.error.TranscriptError.TheVariants.{OutOfMemory};
-ghost use Rattle.p3_runs.specs.Provings.{AreHanded};
-ghost use Rattle.p3_runs.specs.Runs.{AreAdmitted};
-ghost use Rattle.p3_runs.specs.Verdicts.{script_of};
+ghost use Rattle.p3_runs.specs.{Provings.AreHanded, Runs.AreAdmitted, Verdicts.script_of};
 ghost use Rattle.p3_script.specs.Scripts.{play_of, values_sent, challenges_of};
 ghost use Rattle.p3_script_prover.specs.ProverAnswers.{IsProvedScript, IsRefusedScript};
 ghost use Rattle.p3_script_round_trip.specs.RoundTrips.{AreOfOneRun};

@@ -1,17 +1,11 @@
 -- A verifier that follows a script: what its loop keeps, and what comes of it.
-use Rattle.std.proofs.Common.{◌≡◌, ◌<◌, ◌≤◌, ◌+◌, ℕ, suc, zero, List, [], ◌∷◌, ◌++◌, Option, Some, refl, sym, ap, ◌∙◌, subst}
+use Rattle.std.proofs.Common.{◌≡◌, ◌<◌, ◌≤◌, ◌+◌, ℕ, suc, zero, List, [], ◌∷◌, ◌++◌, Option, refl, sym, ap, subst}
 use Rattle.std.proofs.Common.{length, drop, get_or, drop-cons, add-one, arith}
 use Rattle.p3_fs_core.specs.StepFits.{FitsLength}
-use Rattle.p3_driver_core.specs.Driving.{Driving}
-use Rattle.p3_driver_core.specs.Verifying.{EndsReading}
-use Rattle.p3_runs.specs.Fronts.{Run}
-use Rattle.p3_runs.specs.FollowingLaws.{Follows, follows-on, follows-end, follows-outcome}
-use Rattle.p3_runs.specs.NoProofLaws.{one-run}
-use Rattle.p3_runs.specs.Plays.{Play}
-use Rattle.p3_runs.specs.Rules.{Rules}
-use Rattle.p3_runs.specs.Runs.{AreAdmitted, carried_count, if_carried}
-use Rattle.p3_runs.specs.Stepping.{IsCarriedTo, one_of, IsCanonical, IsTakenWherePossible}
-use Rattle.p3_runs.specs.Values.{Value, Challenge}
+use Rattle.p3_driver_core.specs.{Driving.Driving, Verifying.EndsReading}
+use Rattle.p3_runs.specs.{Fronts.Run, FollowingLaws.{Follows, follows-on, follows-end, follows-outcome}, Plays.Play}
+use Rattle.p3_runs.specs.{NoProofLaws.one-run, Rules.Rules, Runs.{AreAdmitted, carried_count, if_carried}}
+use Rattle.p3_runs.specs.{Stepping.{IsCarriedTo, one_of, IsCanonical, IsTakenWherePossible}, Values.{Value, Challenge}}
 use Rattle.p3_runs.specs.Verdicts.{Accepts}
 use Rattle.p3_script_verifier.specs.Taking.{KeepsOne}
 

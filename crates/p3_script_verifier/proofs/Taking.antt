@@ -1,22 +1,14 @@
 -- What a verifier's step comes to, by the shape of the step.
-use Rattle.std.proofs.Common.{◌≡◌, ℕ, List, [], ◌∷◌, ◌++◌, Option, Some, None, Ok, refl, sym, ap, ◌∙◌, subst, inr}
+use Rattle.std.proofs.Common.{◌≡◌, [], ◌∷◌, Option, Some, None, refl, sym, ap, ◌∙◌, subst, inr}
 use Rattle.std.specs.Option.{option_map}
 use Rattle.p3_challenger_core.specs.Reading.{AreBytes}
-use Rattle.p3_fs_core.specs.Steps.{Step}
-use Rattle.p3_driver_core.specs.Driving.{Driving}
-use Rattle.p3_driver_core.specs.Effects.{Effect}
-use Rattle.p3_driver_core.specs.Reads.{Reading}
-use Rattle.p3_driver_core.specs.Transcripts.{Meaning, PlaysStep, halted}
-use Rattle.p3_fs_core.specs.declared.error.TranscriptError.{TranscriptError}
+use Rattle.p3_fs_core.specs.{Steps.Step, declared.error.TranscriptError.TranscriptError}
 use Rattle.p3_fs_core.specs.declared.error.TranscriptError.TheVariants.{OutOfMemory}
-use Rattle.p3_script_verifier.specs.Taking.{IsRefused}
+use Rattle.p3_driver_core.specs.{Driving.Driving, Effects.Effect, Reads.Reading, Transcripts.{Meaning, halted}}
 use Rattle.p3_driver_core.specs.Verifying.{Receives}
+use Rattle.p3_script_verifier.specs.Taking.{IsRefused}
 use Rattle.p3_step_laws.specs.Encoded.{OnlyReads}
-use Rattle.p3_runs.specs.Absorbed.{Absorbed}
-use Rattle.p3_runs.specs.Plays.{Play, sends}
-use Rattle.p3_runs.specs.Sides.{Refusing}
-use Rattle.p3_runs.specs.Stepping.{TakesStep}
-use Rattle.p3_runs.specs.Values.{Value, Challenge}
+use Rattle.p3_runs.specs.{Absorbed.Absorbed, Plays.{Play, sends}, Sides.Refusing, Stepping.TakesStep, Values.Value}
 
 -- a value that the step sends is received
 pub sent-taken : {S Symbol F EF O A : Type 0} (i : Step) (found : Value F EF → Option A) (IsHanded IsFit : A → Type 0)

@@ -1,13 +1,10 @@
 -- What a verifier answers for a whole script.
 use Rattle.std.specs.Prelude.{◌≡◌, ℕ, List}
 use Rattle.p3_fs_core.specs.declared.error.TranscriptError.TheVariants.{OutOfMemory}
-use Rattle.p3_runs.specs.Fronts.{Run}
-use Rattle.p3_runs.specs.Rules.{Rules}
-use Rattle.p3_runs.specs.Verdicts.{Accepts, HasNoProof, RefusesProof}
-use Rattle.p3_script.specs.Scripts.{play_of, values_received, challenges_of}
-use Rattle.p3_script.specs.declared.fault.Fault.{Fault}
-use Rattle.p3_script.specs.declared.steps.Step as script
+use Rattle.p3_runs.specs.{Fronts.Run, Rules.Rules, Verdicts.{Accepts, HasNoProof, RefusesProof}}
+use Rattle.p3_script.specs.{Scripts.{play_of, values_received, challenges_of}, declared.fault.Fault.Fault}
 use Rattle.p3_script_verifier.specs.declared.verifying.Verified.{Verified}
+use Rattle.p3_script.specs.declared.steps.Step as script
 
 module _ {Su F EF U O C K Ac D G It St Sy S Symbol : Type 0} (rules : Rules S Symbol It F EF O Ac)
     (script : Run (script.Step Su F EF U O C K Ac D G It St Sy) F EF S U D) (bytes : List ℕ) (carried : List F) where

@@ -1,19 +1,7 @@
 //! The steps whose value both sides know, and those that draw.
-ghost use Rattle.std.specs.Prelude.{◌≡◌, ◌≤◌, [], None, IsTrue};
-ghost use Rattle.p3_drivers.specs.Drivers.{verifying_of};
-ghost use Rattle.p3_driver_core.specs.Effects.{observing, untouched};
-ghost use Rattle.p3_driver_core.specs.Transcripts.{opaque_step, bits_step, uniform_bits_step};
-ghost use Rattle.p3_fs_core.specs.Steps.{marker_of};
-ghost use Rattle.p3_fs_core.specs.declared.step.Hierarchy.TheVariants as hierarchy;
-ghost use Rattle.p3_fs_core.specs.declared.step.Kind.TheVariants as kind;
-ghost use Rattle.p3_fs_core.specs.declared.step.Length.TheVariants.{Fixed, Scalar};
-ghost use Rattle.p3_runs.specs.Absorbed.{Nothing, Own};
-ghost use Rattle.p3_runs.specs.Plays.{known, no_challenge};
-ghost use Rattle.p3_runs.specs.Values.{OfScalars, OfExtensions};
-ghost use Rattle.p3_script.specs.Scripts.{received_of, drawn_of, knows_one, knows_list, knows_as_recorded};
-ghost use Rattle.p3_script.specs.Scripts.{knows_counted, draws_one, draws_list, draws_extensions_rejecting};
-ghost use Rattle.p3_script.specs.Scripts.{draws_bits, draws_bits_rejecting, marks, knows_opaque};
-ghost use Rattle.p3_script_verifier.specs.Taking.{TakesOrRefuses};
+ghost use Rattle.std.specs.Prelude.{◌≤◌, None, IsTrue};
+ghost use Rattle.p3_script.specs.declared.steps.Step.TheVariants as step;
+ghost use Rattle.p3_script_verifier.specs.Taking.{AnswersStep};
 
 use crate::answer::Answer;
 use p3_challenger_core::Sponge;
@@ -28,11 +16,8 @@ pub(crate) fn begin<'a, S: Suite>(
     label: Label,
     kind: Kind,
 ) -> Result<Answer<'a, S>, TranscriptError>
-    ensures { let rules = ⟦<S as Meaning>⟧.rules S.Field.DIMENSION in
-        TakesOrRefuses (marks rules hierarchy.Begin label.now kind) None
-        (verifying_of S.Challenger.state verifier.old) (λ r. received_of r.0) (λ r. drawn_of r.1)
-        result
-        (verifying_of S.Challenger.state verifier.new) }
+    ensures { AnswersStep (⟦<S as Meaning>⟧.rules S.Field.DIMENSION) S.Challenger.state
+        (step.Begin label.entry kind) None verifier.old result verifier.new }
 {
     verifier.begin::<()>(label, kind)?;
     Ok((None, None))
@@ -44,11 +29,8 @@ pub(crate) fn end<'a, S: Suite>(
     label: Label,
     kind: Kind,
 ) -> Result<Answer<'a, S>, TranscriptError>
-    ensures { let rules = ⟦<S as Meaning>⟧.rules S.Field.DIMENSION in
-        TakesOrRefuses (marks rules hierarchy.End label.now kind) None
-        (verifying_of S.Challenger.state verifier.old) (λ r. received_of r.0) (λ r. drawn_of r.1)
-        result
-        (verifying_of S.Challenger.state verifier.new) }
+    ensures { AnswersStep (⟦<S as Meaning>⟧.rules S.Field.DIMENSION) S.Challenger.state
+        (step.End label.entry kind) None verifier.old result verifier.new }
 {
     verifier.end::<()>(label, kind)?;
     Ok((None, None))
@@ -60,11 +42,8 @@ pub(crate) fn public_scalar<'a, S: Suite>(
     label: Label,
     value: &S::Field,
 ) -> Result<Answer<'a, S>, TranscriptError>
-    ensures { let rules = ⟦<S as Meaning>⟧.rules S.Field.DIMENSION in
-        TakesOrRefuses (knows_one rules rules.scalar kind.Public label.now value.now) None
-        (verifying_of S.Challenger.state verifier.old) (λ r. received_of r.0) (λ r. drawn_of r.1)
-        result
-        (verifying_of S.Challenger.state verifier.new) }
+    ensures { AnswersStep (⟦<S as Meaning>⟧.rules S.Field.DIMENSION) S.Challenger.state
+        (step.PublicScalar label.entry value.now) None verifier.old result verifier.new }
 {
     verifier.observe_public_scalar::<S::Field, S::Codec>(label, value)?;
     Ok((None, None))
@@ -74,13 +53,10 @@ pub(crate) fn public_scalar<'a, S: Suite>(
 pub(crate) fn public_scalars<'a, S: Suite>(
     verifier: &mut VerifierState<'a, S::Challenger, S::Unit, S::Digest>,
     label: Label,
-    values: &[S::Field],
+    values: &Vec<S::Field>,
 ) -> Result<Answer<'a, S>, TranscriptError>
-    ensures { let rules = ⟦<S as Meaning>⟧.rules S.Field.DIMENSION in
-        TakesOrRefuses (knows_list rules rules.scalar kind.Public label.now values.now) None
-        (verifying_of S.Challenger.state verifier.old) (λ r. received_of r.0) (λ r. drawn_of r.1)
-        result
-        (verifying_of S.Challenger.state verifier.new) }
+    ensures { AnswersStep (⟦<S as Meaning>⟧.rules S.Field.DIMENSION) S.Challenger.state
+        (step.PublicScalars label.entry values.now) None verifier.old result verifier.new }
 {
     verifier.observe_public_scalars::<S::Field, S::Codec>(label, values)?;
     Ok((None, None))
@@ -90,14 +66,12 @@ pub(crate) fn public_scalars<'a, S: Suite>(
 pub(crate) fn counted_public_scalars<'a, S: Suite>(
     verifier: &mut VerifierState<'a, S::Challenger, S::Unit, S::Digest>,
     label: Label,
-    values: &[S::Field],
+    values: &Vec<S::Field>,
     max: usize,
 ) -> Result<Answer<'a, S>, TranscriptError>
-    ensures { let rules = ⟦<S as Meaning>⟧.rules S.Field.DIMENSION in
-        TakesOrRefuses (knows_counted rules rules.scalar kind.Public label.now values.now max) None
-        (verifying_of S.Challenger.state verifier.old) (λ r. received_of r.0) (λ r. drawn_of r.1)
-        result
-        (verifying_of S.Challenger.state verifier.new) }
+    ensures { AnswersStep (⟦<S as Meaning>⟧.rules S.Field.DIMENSION) S.Challenger.state
+        (step.PublicScalarsBounded label.entry values.now max) None verifier.old result
+        verifier.new }
 {
     verifier.observe_public_scalars_bounded::<S::Field, S::Codec>(label, values, max)?;
     Ok((None, None))
@@ -109,11 +83,8 @@ pub(crate) fn extension<'a, S: Suite>(
     label: Label,
     value: &S::Extension,
 ) -> Result<Answer<'a, S>, TranscriptError>
-    ensures { let rules = ⟦<S as Meaning>⟧.rules S.Field.DIMENSION in
-        TakesOrRefuses (knows_one rules rules.extension kind.Message label.now value.now) None
-        (verifying_of S.Challenger.state verifier.old) (λ r. received_of r.0) (λ r. drawn_of r.1)
-        result
-        (verifying_of S.Challenger.state verifier.new) }
+    ensures { AnswersStep (⟦<S as Meaning>⟧.rules S.Field.DIMENSION) S.Challenger.state
+        (step.ObserveExtension label.entry value.now) None verifier.old result verifier.new }
 {
     verifier.observe_extension::<S::Field, S::Extension, S::Codec>(label, value)?;
     Ok((None, None))
@@ -123,14 +94,10 @@ pub(crate) fn extension<'a, S: Suite>(
 pub(crate) fn extensions<'a, S: Suite>(
     verifier: &mut VerifierState<'a, S::Challenger, S::Unit, S::Digest>,
     label: Label,
-    values: &[S::Extension],
+    values: &Vec<S::Extension>,
 ) -> Result<Answer<'a, S>, TranscriptError>
-    ensures { let rules = ⟦<S as Meaning>⟧.rules S.Field.DIMENSION in
-        TakesOrRefuses (knows_as_recorded rules rules.extension kind.Message label.now values.now)
-        None
-        (verifying_of S.Challenger.state verifier.old) (λ r. received_of r.0) (λ r. drawn_of r.1)
-        result
-        (verifying_of S.Challenger.state verifier.new) }
+    ensures { AnswersStep (⟦<S as Meaning>⟧.rules S.Field.DIMENSION) S.Challenger.state
+        (step.ObserveExtensions label.entry values.now) None verifier.old result verifier.new }
 {
     verifier.observe_extensions::<S::Field, S::Extension, S::Codec>(label, values)?;
     Ok((None, None))
@@ -140,15 +107,12 @@ pub(crate) fn extensions<'a, S: Suite>(
 pub(crate) fn counted_extensions<'a, S: Suite>(
     verifier: &mut VerifierState<'a, S::Challenger, S::Unit, S::Digest>,
     label: Label,
-    values: &[S::Extension],
+    values: &Vec<S::Extension>,
     max: usize,
 ) -> Result<Answer<'a, S>, TranscriptError>
-    ensures { let rules = ⟦<S as Meaning>⟧.rules S.Field.DIMENSION in
-        TakesOrRefuses (knows_counted rules rules.extension kind.Message label.now values.now max)
-        None
-        (verifying_of S.Challenger.state verifier.old) (λ r. received_of r.0) (λ r. drawn_of r.1)
-        result
-        (verifying_of S.Challenger.state verifier.new) }
+    ensures { AnswersStep (⟦<S as Meaning>⟧.rules S.Field.DIMENSION) S.Challenger.state
+        (step.ObserveExtensionsBounded label.entry values.now max) None verifier.old result
+        verifier.new }
 {
     verifier.observe_extensions_bounded::<S::Field, S::Extension, S::Codec>(label, values, max)?;
     Ok((None, None))
@@ -160,11 +124,8 @@ pub(crate) fn opaque<'a, S: Suite>(
     label: Label,
     value: &S::Opaque,
 ) -> Result<Answer<'a, S>, TranscriptError>
-    ensures { let rules = ⟦<S as Meaning>⟧.rules S.Field.DIMENSION in
-        TakesOrRefuses (knows_opaque rules label.now value.now) None
-        (verifying_of S.Challenger.state verifier.old) (λ r. received_of r.0) (λ r. drawn_of r.1)
-        result
-        (verifying_of S.Challenger.state verifier.new) }
+    ensures { AnswersStep (⟦<S as Meaning>⟧.rules S.Field.DIMENSION) S.Challenger.state
+        (step.Opaque label.entry value.now) None verifier.old result verifier.new }
 {
     let copy = match value.clone() {
         Ok(copy) => copy,
@@ -184,11 +145,8 @@ pub(crate) fn draw_scalar<'a, S: Suite>(
     label: Label,
 ) -> Result<Answer<'a, S>, TranscriptError>
     requires { 128 ≤ S.Codec.SECURITY_BITS }
-    ensures { let rules = ⟦<S as Meaning>⟧.rules S.Field.DIMENSION in
-        TakesOrRefuses (draws_one rules rules.scalar OfScalars label.now) None
-        (verifying_of S.Challenger.state verifier.old) (λ r. received_of r.0) (λ r. drawn_of r.1)
-        result
-        (verifying_of S.Challenger.state verifier.new) }
+    ensures { AnswersStep (⟦<S as Meaning>⟧.rules S.Field.DIMENSION) S.Challenger.state
+        (step.ChallengeScalar label.entry) None verifier.old result verifier.new }
 {
     let drawn = draws::draw_scalar(alloc, verifier, label)?;
     Ok((None, Some(drawn)))
@@ -202,11 +160,8 @@ pub(crate) fn draw_scalars<'a, S: Suite>(
     n: usize,
 ) -> Result<Answer<'a, S>, TranscriptError>
     requires { 128 ≤ S.Codec.SECURITY_BITS }
-    ensures { let rules = ⟦<S as Meaning>⟧.rules S.Field.DIMENSION in
-        TakesOrRefuses (draws_list rules rules.scalar OfScalars label.now n) None
-        (verifying_of S.Challenger.state verifier.old) (λ r. received_of r.0) (λ r. drawn_of r.1)
-        result
-        (verifying_of S.Challenger.state verifier.new) }
+    ensures { AnswersStep (⟦<S as Meaning>⟧.rules S.Field.DIMENSION) S.Challenger.state
+        (step.ChallengeScalars label.entry n) None verifier.old result verifier.new }
 {
     let drawn = draws::draw_scalars(alloc, verifier, label, n)?;
     Ok((None, Some(drawn)))
@@ -219,11 +174,8 @@ pub(crate) fn draw_extension<'a, S: Suite>(
     label: Label,
 ) -> Result<Answer<'a, S>, TranscriptError>
     requires { 128 ≤ S.Codec.SECURITY_BITS }
-    ensures { let rules = ⟦<S as Meaning>⟧.rules S.Field.DIMENSION in
-        TakesOrRefuses (draws_one rules rules.extension OfExtensions label.now) None
-        (verifying_of S.Challenger.state verifier.old) (λ r. received_of r.0) (λ r. drawn_of r.1)
-        result
-        (verifying_of S.Challenger.state verifier.new) }
+    ensures { AnswersStep (⟦<S as Meaning>⟧.rules S.Field.DIMENSION) S.Challenger.state
+        (step.ChallengeExtension label.entry) None verifier.old result verifier.new }
 {
     let drawn = draws::draw_extension(alloc, verifier, label)?;
     Ok((None, Some(drawn)))
@@ -237,11 +189,8 @@ pub(crate) fn draw_extensions<'a, S: Suite>(
     n: usize,
 ) -> Result<Answer<'a, S>, TranscriptError>
     requires { 128 ≤ S.Codec.SECURITY_BITS }
-    ensures { let rules = ⟦<S as Meaning>⟧.rules S.Field.DIMENSION in
-        TakesOrRefuses (draws_list rules rules.extension OfExtensions label.now n) None
-        (verifying_of S.Challenger.state verifier.old) (λ r. received_of r.0) (λ r. drawn_of r.1)
-        result
-        (verifying_of S.Challenger.state verifier.new) }
+    ensures { AnswersStep (⟦<S as Meaning>⟧.rules S.Field.DIMENSION) S.Challenger.state
+        (step.ChallengeExtensions label.entry n) None verifier.old result verifier.new }
 {
     let drawn = draws::draw_extensions(alloc, verifier, label, n)?;
     Ok((None, Some(drawn)))
@@ -257,11 +206,9 @@ pub(crate) fn draw_extensions_rejecting<'a, S: Suite>(
     limit: u64,
 ) -> Result<Answer<'a, S>, TranscriptError>
     requires { 128 ≤ S.Codec.SECURITY_BITS }
-    ensures { let rules = ⟦<S as Meaning>⟧.rules S.Field.DIMENSION in
-        TakesOrRefuses (draws_extensions_rejecting rules label.now n accept.now limit) None
-        (verifying_of S.Challenger.state verifier.old) (λ r. received_of r.0) (λ r. drawn_of r.1)
-        result
-        (verifying_of S.Challenger.state verifier.new) }
+    ensures { AnswersStep (⟦<S as Meaning>⟧.rules S.Field.DIMENSION) S.Challenger.state
+        (step.ChallengeExtensionsRejecting label.entry n accept.now limit) None verifier.old result
+        verifier.new }
 {
     let drawn = draws::draw_extensions_rejecting(alloc, verifier, label, n, accept, limit)?;
     Ok((None, Some(drawn)))
@@ -277,12 +224,8 @@ pub(crate) fn draw_bits<'a, S: Suite>(
 ) -> Result<Answer<'a, S>, TranscriptError>
     requires has { IsTrue S.Group.HAS_POW }
     requires within { width ≤ S.Group.most_bits }
-    ensures { let rules = ⟦<S as Meaning>⟧.rules S.Field.DIMENSION in
-        TakesOrRefuses (draws_bits rules (bits_step label.now width (Fixed n)) rules.bits.are_there
-        rules.bits.plain width n) None
-        (verifying_of S.Challenger.state verifier.old) (λ r. received_of r.0) (λ r. drawn_of r.1)
-        result
-        (verifying_of S.Challenger.state verifier.new) }
+    ensures { AnswersStep (⟦<S as Meaning>⟧.rules S.Field.DIMENSION) S.Challenger.state
+        (step.ChallengeBits label.entry width n) None verifier.old result verifier.new }
 {
     let drawn = draws::draw_bits(alloc, verifier, label, width, n)?;
     Ok((None, Some(drawn)))
@@ -298,12 +241,8 @@ pub(crate) fn draw_uniform_bits<'a, S: Suite>(
 ) -> Result<Answer<'a, S>, TranscriptError>
     requires has { IsTrue S.Group.HAS_UNIFORM }
     requires within { width ≤ S.Group.most_bits }
-    ensures { let rules = ⟦<S as Meaning>⟧.rules S.Field.DIMENSION in
-        TakesOrRefuses (draws_bits rules (uniform_bits_step label.now width (Fixed n))
-        rules.bits.are_uniform rules.bits.uniform width n) None
-        (verifying_of S.Challenger.state verifier.old) (λ r. received_of r.0) (λ r. drawn_of r.1)
-        result
-        (verifying_of S.Challenger.state verifier.new) }
+    ensures { AnswersStep (⟦<S as Meaning>⟧.rules S.Field.DIMENSION) S.Challenger.state
+        (step.ChallengeUniformBits label.entry width n) None verifier.old result verifier.new }
 {
     let drawn = draws::draw_uniform_bits(alloc, verifier, label, width, n)?;
     Ok((None, Some(drawn)))
@@ -321,11 +260,9 @@ pub(crate) fn draw_uniform_bits_rejecting<'a, S: Suite>(
 ) -> Result<Answer<'a, S>, TranscriptError>
     requires has { IsTrue S.Group.HAS_UNIFORM }
     requires within { width ≤ S.Group.most_bits }
-    ensures { let rules = ⟦<S as Meaning>⟧.rules S.Field.DIMENSION in
-        TakesOrRefuses (draws_bits_rejecting rules label.now width n accept.now limit) None
-        (verifying_of S.Challenger.state verifier.old) (λ r. received_of r.0) (λ r. drawn_of r.1)
-        result
-        (verifying_of S.Challenger.state verifier.new) }
+    ensures { AnswersStep (⟦<S as Meaning>⟧.rules S.Field.DIMENSION) S.Challenger.state
+        (step.ChallengeUniformBitsRejecting label.entry width n accept.now limit) None verifier.old result
+        verifier.new }
 {
     let drawn = draws::draw_uniform_bits_rejecting(
         alloc, verifier, label, width, n, accept, limit,

@@ -1,11 +1,7 @@
 //! The steps that a verifier reads.
 ghost use Rattle.std.specs.Prelude.{None};
-ghost use Rattle.p3_drivers.specs.Drivers.{verifying_of};
-ghost use Rattle.p3_fs_core.specs.declared.step.Kind.TheVariants as kind;
-ghost use Rattle.p3_runs.specs.Values.{scalar_in, scalars_in, extension_in};
-ghost use Rattle.p3_script.specs.Scripts.{received_of, drawn_of, sends_bytes, sends_counted_bytes, hints, hints_counted};
-ghost use Rattle.p3_script.specs.Scripts.{sends_one, sends_list, sends_counted};
-ghost use Rattle.p3_script_verifier.specs.Taking.{TakesOrRefuses};
+ghost use Rattle.p3_script.specs.declared.steps.Step.TheVariants as step;
+ghost use Rattle.p3_script_verifier.specs.Taking.{AnswersStep};
 
 use crate::answer::Answer;
 use p3_challenger_core::{CanObserve, Sponge};
@@ -23,11 +19,8 @@ pub(crate) fn receive_salt<'a, S: Suite>(
     label: Label,
     len: usize,
 ) -> Result<Answer<'a, S>, TranscriptError>
-    ensures { let rules = ⟦<S as Meaning>⟧.rules S.Field.DIMENSION in
-        TakesOrRefuses (sends_bytes rules kind.Salt label.now len) None
-        (verifying_of S.Challenger.state verifier.old) (λ r. received_of r.0) (λ r. drawn_of r.1)
-        result
-        (verifying_of S.Challenger.state verifier.new) }
+    ensures { AnswersStep (⟦<S as Meaning>⟧.rules S.Field.DIMENSION) S.Challenger.state
+        (step.Salt label.entry len) None verifier.old result verifier.new }
 {
     read_bytes_are_encoded::<S::Unit, S::Challenger>();
     let _unread = verifier.unread();
@@ -41,11 +34,8 @@ pub(crate) fn receive_bytes<'a, S: Suite>(
     label: Label,
     len: usize,
 ) -> Result<Answer<'a, S>, TranscriptError>
-    ensures { let rules = ⟦<S as Meaning>⟧.rules S.Field.DIMENSION in
-        TakesOrRefuses (sends_bytes rules kind.Message label.now len) None
-        (verifying_of S.Challenger.state verifier.old) (λ r. received_of r.0) (λ r. drawn_of r.1)
-        result
-        (verifying_of S.Challenger.state verifier.new) }
+    ensures { AnswersStep (⟦<S as Meaning>⟧.rules S.Field.DIMENSION) S.Challenger.state
+        (step.Bytes label.entry len) None verifier.old result verifier.new }
 {
     read_bytes_are_encoded::<S::Unit, S::Challenger>();
     let _unread = verifier.unread();
@@ -59,11 +49,8 @@ pub(crate) fn receive_counted_bytes<'a, S: Suite>(
     label: Label,
     max: usize,
 ) -> Result<Answer<'a, S>, TranscriptError>
-    ensures { let rules = ⟦<S as Meaning>⟧.rules S.Field.DIMENSION in
-        TakesOrRefuses (sends_counted_bytes rules label.now max) None
-        (verifying_of S.Challenger.state verifier.old) (λ r. received_of r.0) (λ r. drawn_of r.1)
-        result
-        (verifying_of S.Challenger.state verifier.new) }
+    ensures { AnswersStep (⟦<S as Meaning>⟧.rules S.Field.DIMENSION) S.Challenger.state
+        (step.BytesBounded label.entry max) None verifier.old result verifier.new }
 {
     read_bytes_are_encoded::<S::Unit, S::Challenger>();
     let _unread = verifier.unread();
@@ -77,11 +64,8 @@ pub(crate) fn receive_hint<'a, S: Suite>(
     label: Label,
     len: usize,
 ) -> Result<Answer<'a, S>, TranscriptError>
-    ensures { let rules = ⟦<S as Meaning>⟧.rules S.Field.DIMENSION in
-        TakesOrRefuses (hints rules label.now len) None
-        (verifying_of S.Challenger.state verifier.old) (λ r. received_of r.0) (λ r. drawn_of r.1)
-        result
-        (verifying_of S.Challenger.state verifier.new) }
+    ensures { AnswersStep (⟦<S as Meaning>⟧.rules S.Field.DIMENSION) S.Challenger.state
+        (step.Hint label.entry len) None verifier.old result verifier.new }
 {
     read_hints_are_encoded::<S::Challenger>();
     let _unread = verifier.unread();
@@ -95,11 +79,8 @@ pub(crate) fn receive_counted_hint<'a, S: Suite>(
     label: Label,
     max: usize,
 ) -> Result<Answer<'a, S>, TranscriptError>
-    ensures { let rules = ⟦<S as Meaning>⟧.rules S.Field.DIMENSION in
-        TakesOrRefuses (hints_counted rules label.now max) None
-        (verifying_of S.Challenger.state verifier.old) (λ r. received_of r.0) (λ r. drawn_of r.1)
-        result
-        (verifying_of S.Challenger.state verifier.new) }
+    ensures { AnswersStep (⟦<S as Meaning>⟧.rules S.Field.DIMENSION) S.Challenger.state
+        (step.HintBounded label.entry max) None verifier.old result verifier.new }
 {
     read_hints_are_encoded::<S::Challenger>();
     let _unread = verifier.unread();
@@ -112,11 +93,8 @@ pub(crate) fn receive_scalar<'a, S: Suite>(
     verifier: &mut VerifierState<'a, S::Challenger, S::Unit, S::Digest>,
     label: Label,
 ) -> Result<Answer<'a, S>, TranscriptError>
-    ensures { let rules = ⟦<S as Meaning>⟧.rules S.Field.DIMENSION in
-        TakesOrRefuses (sends_one rules rules.scalar scalar_in label.now) None
-        (verifying_of S.Challenger.state verifier.old) (λ r. received_of r.0) (λ r. drawn_of r.1)
-        result
-        (verifying_of S.Challenger.state verifier.new) }
+    ensures { AnswersStep (⟦<S as Meaning>⟧.rules S.Field.DIMENSION) S.Challenger.state
+        (step.Scalar label.entry) None verifier.old result verifier.new }
 {
     read_values_are_encoded::<S::Field, S::Unit, S::Challenger, S::Codec>();
     let _unread = verifier.unread();
@@ -129,11 +107,8 @@ pub(crate) fn receive_extension<'a, S: Suite>(
     verifier: &mut VerifierState<'a, S::Challenger, S::Unit, S::Digest>,
     label: Label,
 ) -> Result<Answer<'a, S>, TranscriptError>
-    ensures { let rules = ⟦<S as Meaning>⟧.rules S.Field.DIMENSION in
-        TakesOrRefuses (sends_one rules rules.extension extension_in label.now) None
-        (verifying_of S.Challenger.state verifier.old) (λ r. received_of r.0) (λ r. drawn_of r.1)
-        result
-        (verifying_of S.Challenger.state verifier.new) }
+    ensures { AnswersStep (⟦<S as Meaning>⟧.rules S.Field.DIMENSION) S.Challenger.state
+        (step.Extension label.entry) None verifier.old result verifier.new }
 {
     read_values_are_encoded::<
         S::Extension,
@@ -153,11 +128,8 @@ pub(crate) fn receive_scalars<'a, S: Suite>(
     label: Label,
     n: usize,
 ) -> Result<Answer<'a, S>, TranscriptError>
-    ensures { let rules = ⟦<S as Meaning>⟧.rules S.Field.DIMENSION in
-        TakesOrRefuses (sends_list rules rules.scalar scalars_in label.now n) None
-        (verifying_of S.Challenger.state verifier.old) (λ r. received_of r.0) (λ r. drawn_of r.1)
-        result
-        (verifying_of S.Challenger.state verifier.new) }
+    ensures { AnswersStep (⟦<S as Meaning>⟧.rules S.Field.DIMENSION) S.Challenger.state
+        (step.Scalars label.entry n) None verifier.old result verifier.new }
 {
     read_values_are_encoded::<S::Field, S::Unit, S::Challenger, S::Codec>();
     let _unread = verifier.unread();
@@ -173,11 +145,8 @@ pub(crate) fn receive_counted_scalars<'a, S: Suite>(
     label: Label,
     max: usize,
 ) -> Result<Answer<'a, S>, TranscriptError>
-    ensures { let rules = ⟦<S as Meaning>⟧.rules S.Field.DIMENSION in
-        TakesOrRefuses (sends_counted rules rules.scalar scalars_in label.now max) None
-        (verifying_of S.Challenger.state verifier.old) (λ r. received_of r.0) (λ r. drawn_of r.1)
-        result
-        (verifying_of S.Challenger.state verifier.new) }
+    ensures { AnswersStep (⟦<S as Meaning>⟧.rules S.Field.DIMENSION) S.Challenger.state
+        (step.ScalarsBounded label.entry max) None verifier.old result verifier.new }
 {
     read_values_are_encoded::<S::Field, S::Unit, S::Challenger, S::Codec>();
     let _unread = verifier.unread();

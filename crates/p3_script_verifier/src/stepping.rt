@@ -1,10 +1,8 @@
 //! One step of a script.
-ghost use Rattle.std.specs.Prelude.{◌≡◌, None};
-ghost use Rattle.p3_drivers.specs.Drivers.{verifying_of};
+ghost use Rattle.std.specs.Prelude.{None};
 ghost use Rattle.p3_runs.specs.Stepping.{IsCarriedTo};
-ghost use Rattle.p3_script.specs.Scripts.{play_of, received_of, drawn_of};
-ghost use Rattle.p3_script.specs.StepFamilies.{SendsNothing, Draws};
-ghost use Rattle.p3_script_verifier.specs.Taking.{TakesOrRefuses};
+ghost use Rattle.p3_script.specs.{Scripts.play_of, StepFamilies.{SendsNothing, Draws}};
+ghost use Rattle.p3_script_verifier.specs.Taking.{AnswersStep};
 
 use crate::answer::Answer;
 use crate::{known, receives, work};
@@ -29,13 +27,10 @@ pub fn verifier_step<'a, S: Suite>(
     witness: Option<S::Field>,
 ) -> Result<Answer<'a, S>, TranscriptError>
     requires admitted { (play_of (⟦<S as Meaning>⟧.rules S.Field.DIMENSION) step.now).admitted }
-    requires carried { IsCarriedTo (play_of (⟦<S as Meaning>⟧.rules S.Field.DIMENSION)
-        step.now).place witness }
-    ensures { let rules = ⟦<S as Meaning>⟧.rules S.Field.DIMENSION in
-        TakesOrRefuses (play_of rules step.now) witness
-        (verifying_of S.Challenger.state verifier.old) (λ r. received_of r.0) (λ r. drawn_of r.1)
-        result
-        (verifying_of S.Challenger.state verifier.new) }
+    requires carried { let rules = ⟦<S as Meaning>⟧.rules S.Field.DIMENSION in
+        IsCarriedTo (play_of rules step.now).place witness }
+    ensures { AnswersStep (⟦<S as Meaning>⟧.rules S.Field.DIMENSION) S.Challenger.state
+        step.now witness verifier.old result verifier.new }
 {
     match step {
         Step::Salt { label, len } => receives::receive_salt(verifier, *label, *len),
@@ -70,11 +65,8 @@ fn unsent_step<'a, S: Suite>(
 ) -> Result<Answer<'a, S>, TranscriptError>
     requires family { SendsNothing step.now }
     requires admitted { (play_of (⟦<S as Meaning>⟧.rules S.Field.DIMENSION) step.now).admitted }
-    ensures { let rules = ⟦<S as Meaning>⟧.rules S.Field.DIMENSION in
-        TakesOrRefuses (play_of rules step.now) None
-        (verifying_of S.Challenger.state verifier.old) (λ r. received_of r.0) (λ r. drawn_of r.1)
-        result
-        (verifying_of S.Challenger.state verifier.new) }
+    ensures { AnswersStep (⟦<S as Meaning>⟧.rules S.Field.DIMENSION) S.Challenger.state
+        step.now None verifier.old result verifier.new }
 {
     match step {
         Step::Begin { label, kind } => known::begin(verifier, *label, *kind),
@@ -102,11 +94,8 @@ fn draw_step<'a, S: Suite>(
 ) -> Result<Answer<'a, S>, TranscriptError>
     requires family { Draws step.now }
     requires admitted { (play_of (⟦<S as Meaning>⟧.rules S.Field.DIMENSION) step.now).admitted }
-    ensures { let rules = ⟦<S as Meaning>⟧.rules S.Field.DIMENSION in
-        TakesOrRefuses (play_of rules step.now) None
-        (verifying_of S.Challenger.state verifier.old) (λ r. received_of r.0) (λ r. drawn_of r.1)
-        result
-        (verifying_of S.Challenger.state verifier.new) }
+    ensures { AnswersStep (⟦<S as Meaning>⟧.rules S.Field.DIMENSION) S.Challenger.state
+        step.now None verifier.old result verifier.new }
 {
     match step {
         Step::ChallengeScalar { label } => known::draw_scalar(alloc, verifier, *label),

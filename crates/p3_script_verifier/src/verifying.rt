@@ -2,9 +2,8 @@
 ghost use Rattle.std.specs.Prelude.{◌≡◌, ◌≤◌, ◌++◌, length, drop, Some, OnOk, IfOk, IfErr};
 ghost use Rattle.p3_fs_core.specs.declared.error.TranscriptError.TheVariants.{OutOfMemory};
 ghost use Rattle.p3_drivers.specs.Drivers.{verifying_of};
-ghost use Rattle.p3_runs.specs.Runs.{AreAdmitted, carried_count, if_carried, if_drawn};
+ghost use Rattle.p3_runs.specs.{Runs.{AreAdmitted, carried_count, if_carried, if_drawn}, Verdicts.script_of};
 ghost use Rattle.p3_runs.specs.Stepping.{one_of, IsCarriedTo};
-ghost use Rattle.p3_runs.specs.Verdicts.{script_of};
 ghost use Rattle.p3_script.specs.Scripts.{play_of, received_of, drawn_of, values_received, challenges_of};
 ghost use Rattle.p3_script_verifier.specs.Taking.{IsRefused, KeepsOne};
 ghost use Rattle.p3_script_verifier.specs.VerifierAnswers.{IsVerifiedScript, IsRefusedProof};
@@ -31,9 +30,8 @@ pub struct Verified<'a, S: Suite> {
 // The witness that the caller carries to a step, if it does and there is one, and that one more was used.
 fn witness_for<S: Suite>(step: &Step<S>, carried: &[S::Field], used: &mut usize) -> Option<S::Field>
     ensures carried { let rules = ⟦<S as Meaning>⟧.rules S.Field.DIMENSION in
-        length (if_carried (play_of rules step.now).place (tt {0})) ≤ length (drop used.old
-        carried.now) →
-        IsCarriedTo (play_of rules step.now).place result }
+        let place = (play_of rules step.now).place in length (if_carried place (tt {0}))
+        ≤ length (drop used.old carried.now) → IsCarriedTo place result }
     ensures uses { drop used.old carried.now ≡ one_of result ++ drop used.new carried.now }
 {
     match step {
@@ -86,17 +84,15 @@ fn take_step<'a, S: Suite>(
     challenges: &mut Vec<Drawn<S>>,
 ) -> Result<(), TranscriptError>
     requires admitted { (play_of (⟦<S as Meaning>⟧.rules S.Field.DIMENSION) step.now).admitted }
-    requires carried { IsCarriedTo (play_of (⟦<S as Meaning>⟧.rules S.Field.DIMENSION)
-        step.now).place witness }
+    requires carried { let rules = ⟦<S as Meaning>⟧.rules S.Field.DIMENSION in
+        IsCarriedTo (play_of rules step.now).place witness }
     ensures ok { let rules = ⟦<S as Meaning>⟧.rules S.Field.DIMENSION in
         OnOk result (KeepsOne (play_of rules step.now) witness
         (verifying_of S.Challenger.state verifier.old) (values_received received.old.items)
-        (challenges_of challenges.old.items)
-        (verifying_of S.Challenger.state verifier.new) (values_received received.new.items)
-        (challenges_of challenges.new.items)) }
-    ensures err { let rules = ⟦<S as Meaning>⟧.rules S.Field.DIMENSION in
-        IfErr result (IsRefused (play_of rules step.now) witness (verifying_of S.Challenger.state
-        verifier.old)) }
+        (challenges_of challenges.old.items) (verifying_of S.Challenger.state verifier.new)
+        (values_received received.new.items) (challenges_of challenges.new.items)) }
+    ensures err { IfErr result (IsRefused (play_of (⟦<S as Meaning>⟧.rules S.Field.DIMENSION)
+        step.now) witness (verifying_of S.Challenger.state verifier.old)) }
 {
     let (value, drawn) = verifier_step(alloc, verifier, step, witness)?;
     keep_received(received, value)?;

@@ -1,8 +1,7 @@
 //! Proof of work, on the verifier's side.
-ghost use Rattle.std.specs.Prelude.{◌≤◌, Some, None, IsTrue};
-ghost use Rattle.p3_drivers.specs.Drivers.{verifying_of};
-ghost use Rattle.p3_script.specs.Scripts.{received_of, drawn_of, sends_work, carries_work};
-ghost use Rattle.p3_script_verifier.specs.Taking.{TakesOrRefuses};
+ghost use Rattle.std.specs.Prelude.{◌≤◌, None, Some, IsTrue};
+ghost use Rattle.p3_script.specs.declared.steps.Step.TheVariants as step;
+ghost use Rattle.p3_script_verifier.specs.Taking.{AnswersStep};
 
 use crate::answer::Answer;
 use p3_challenger_core::Sponge;
@@ -18,11 +17,8 @@ pub(crate) fn receive_witness<'a, S: Suite>(
 ) -> Result<Answer<'a, S>, TranscriptError>
     requires has { IsTrue S.Group.HAS_POW }
     requires within { bits ≤ S.Group.most_bits }
-    ensures { let rules = ⟦<S as Meaning>⟧.rules S.Field.DIMENSION in
-        TakesOrRefuses (sends_work rules label.now bits) None
-        (verifying_of S.Challenger.state verifier.old) (λ r. received_of r.0) (λ r. drawn_of r.1)
-        result
-        (verifying_of S.Challenger.state verifier.new) }
+    ensures { AnswersStep (⟦<S as Meaning>⟧.rules S.Field.DIMENSION) S.Challenger.state
+        (step.Pow label.entry bits) None verifier.old result verifier.new }
 {
     S::Group::steps_are_lawful();
     let unread = verifier.unread();
@@ -40,11 +36,8 @@ pub(crate) fn check_carried<'a, S: Suite>(
 ) -> Result<Answer<'a, S>, TranscriptError>
     requires has { IsTrue S.Group.HAS_POW }
     requires within { bits ≤ S.Group.most_bits }
-    ensures { let rules = ⟦<S as Meaning>⟧.rules S.Field.DIMENSION in
-        TakesOrRefuses (carries_work rules label.now bits) (Some witness)
-        (verifying_of S.Challenger.state verifier.old) (λ r. received_of r.0) (λ r. drawn_of r.1)
-        result
-        (verifying_of S.Challenger.state verifier.new) }
+    ensures { AnswersStep (⟦<S as Meaning>⟧.rules S.Field.DIMENSION) S.Challenger.state
+        (step.ObservePow label.entry bits) (Some witness) verifier.old result verifier.new }
 {
     S::Group::check_carried_pow(verifier, label, bits, witness)?;
     Ok((None, None))

@@ -1,21 +1,14 @@
 -- The steps of rounds, as they are recorded and as they are played.
 use Rattle.std.proofs.Common.{◌≡◌, ℕ, suc, ◌+◌, ◌-◌, ◌<◌, false, List, [], ◌∷◌, ◌++◌, length, sym, ap, ◌∙◌, arith}
 use Rattle.std.proofs.Common.{append_assoc}
-use Rattle.p3_challenger.specs.Hierarchy.TheVariants.{Atomic}
-use Rattle.p3_challenger.specs.Kind.{Kind}
-use Rattle.p3_challenger.specs.Length.{Length}
-use Rattle.p3_challenger.specs.PatternGrammar.{IsViable}
-use Rattle.p3_challenger.specs.Recording.{Recording, Records, RefusesToRecord}
+use Rattle.p3_challenger.specs.{Hierarchy.TheVariants.Atomic, Kind.Kind, Length.Length, PatternGrammar.IsViable}
+use Rattle.p3_challenger.specs.{Recording.{Recording, Records, RefusesToRecord}, Rounds.{AreRounds, steps_of_rounds}}
 use Rattle.p3_challenger.specs.RoundLaws.{rounds-steps, steps_of_rounds-flat, steps_of_rounds-then}
-use Rattle.p3_challenger.specs.Rounds.{AreRounds, steps_of_rounds}
-use Rattle.p3_challenger.specs.Steps.{Step, carried_by, step_with}
-use Rattle.p3_challenger.specs.TranscriptError.{TranscriptError}
-use Rattle.p3_challenger.specs.TranscriptError.TheVariants.{OutOfMemory}
-use Rattle.p3_challenger.specs.TranscriptLaws.{next-then}
+use Rattle.p3_challenger.specs.{Steps.{Step, carried_by, step_with}, TranscriptError.TranscriptError}
+use Rattle.p3_challenger.specs.{TranscriptError.TheVariants.OutOfMemory, TranscriptLaws.next-then}
 use Rattle.p3_challenger.specs.Transcripts.{AreNext, Transcript, steps_on}
 use Rattle.p3_sumcheck.specs.Sumchecks.{PlaysRound, RefusesToDeclare, Sumcheck, round_steps}
-use Rattle.p3_sumcheck.specs.declared.round.Round.{Round}
-use Rattle.p3_sumcheck.specs.DeclaringLaws.{only-memory, viable-first}
+use Rattle.p3_sumcheck.specs.{declared.round.Round.Round, DeclaringLaws.{only-memory, viable-first}}
 
 -- a step of the same type as another
 abbrev pub alike : Kind → List ℕ → Length → Step → Step

@@ -1,12 +1,9 @@
 -- A table that is folded where it lies, place by place.
 use Rattle.std.proofs.Common.{◌≡◌, ℕ, zero, suc, ◌+◌, ◌/◌, ◌<◌, ◌≤◌, List, [], ◌∷◌, ◌++◌, length, take, drop, get_or, set}
-use Rattle.std.proofs.Common.{refl, sym, ap, ◌∙◌, arith, add-zero, length-take-le, length-drop}
-use Rattle.std.proofs.Math.Seq.{take-append_seam, drop-append_seam}
+use Rattle.std.{proofs.Common.{refl, sym, ap, ◌∙◌, arith, add-zero, length-take-le, length-drop}, specs.List.zip}
+use Rattle.std.proofs.{Math.Seq.{take-append_seam, drop-append_seam}, lemmas.Slice.Zip.length-zip}
 use Rattle.std.proofs.lemmas.List.{take_all, take_more_set, drop-set-lt, drop-drop, get_or-drop, length-set, length-map}
-use Rattle.std.proofs.lemmas.Slice.Zip.{length-zip}
-use Rattle.std.specs.List.{zip}
-use Rattle.p3_challenger.specs.Residues.{Residues, IsResidues, sum_of, difference_of, product_of}
-use Rattle.p3_challenger.specs.Rings.{IsRing}
+use Rattle.p3_challenger.specs.{Residues.{Residues, IsResidues, sum_of, difference_of, product_of}, Rings.IsRing}
 use Rattle.p3_challenger.specs.RingLaws.{residues-ring}
 use Rattle.p3_sumcheck.specs.Tables.{low_half, high_half, value_at, total, fold_pairs, folded}
 use Rattle.p3_sumcheck.proofs.Sums.{total-cons, total-push}

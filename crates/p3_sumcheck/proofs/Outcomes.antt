@@ -1,48 +1,33 @@
 -- What comes of a verifier, where rounds are ahead of it that it may accept.
 use Rattle.std.proofs.Common.{◌≡◌, ℕ, ◌+◌, ◌^◌, ◌<◌, ◌≤◌, ◌⊎◌, inl, inr, List, [], ◌∷◌, ◌++◌, length, refl, sym, ap, ◌∙◌}
-use Rattle.std.proofs.Common.{arith, Result, Ok, Err}
-use Rattle.std.proofs.lemmas.Bool.{cases_order}
+use Rattle.std.{proofs.Common.{arith, Result, Ok, Err}, proofs.lemmas.Bool.cases_order, specs.List.flat_map}
 use Rattle.std.proofs.lemmas.List.{append_cancel_left, length-append, map-append}
-use Rattle.std.specs.List.{flat_map}
 use Rattle.std.specs.Result.{IfErr, IfOk, MatchResult, OnOk}
-use Rattle.p3_challenger.specs.Driving.{Driving}
-use Rattle.p3_challenger.specs.Encoding.{IsEncoding}
-use Rattle.p3_challenger.specs.Memory.{OnlyMemoryRefuses, OnlyMemoryRefusesToRead}
-use Rattle.p3_challenger.specs.Residues.{IsResidues, sum_of}
-use Rattle.p3_challenger.specs.Rounds.{AreRounds}
-use Rattle.p3_challenger.specs.RoundLaws.{rounds-more, rounds-written}
-use Rattle.p3_challenger.specs.TranscriptError.{TranscriptError}
-use Rattle.p3_challenger.specs.Transcripts.{steps_on}
-use Rattle.p3_challenger.specs.Verifying.{RefusesToRead}
-use Rattle.p3_sumcheck.specs.declared.error.SumcheckError.{SumcheckError}
-use Rattle.p3_sumcheck.specs.declared.error.SumcheckError.TheVariants as fault
-use Rattle.p3_sumcheck.specs.declared.round.Round.{Round}
-use Rattle.p3_sumcheck.specs.Claims.{HasLuckyRound, Reduces, claim_after, true_rounds}
-use Rattle.p3_sumcheck.specs.Sumchecks.{Accepts, Disagrees, IsMemory, Proves, ReadsPair, ReadsRound, Refuses}
+use Rattle.p3_challenger.specs.{Driving.Driving, Encoding.IsEncoding, Residues.{IsResidues, sum_of}, Rounds.AreRounds}
+use Rattle.p3_challenger.specs.{Memory.{OnlyMemoryRefuses, OnlyMemoryRefusesToRead}, TranscriptError.TranscriptError}
+use Rattle.p3_challenger.specs.{RoundLaws.{rounds-more, rounds-written}, Transcripts.steps_on, Verifying.RefusesToRead}
+use Rattle.p3_sumcheck.specs.declared.{error.SumcheckError.SumcheckError, round.Round.Round}
+use Rattle.p3_sumcheck.specs.{Claims.{HasLuckyRound, Reduces, claim_after, true_rounds}, Tables.{folded_at, total}}
+use Rattle.p3_sumcheck.specs.Sumchecks.{Accepts, AcceptsAt, Disagrees, IsMemory, Proves, ReadsPair, ReadsRound, Refuses}
 use Rattle.p3_sumcheck.specs.Sumchecks.{RefusesRound, Sumcheck, WritesRound, challenges_of, drawn_challenge}
-use Rattle.p3_sumcheck.specs.Sumchecks.{read_pair, sent_pair}
-use Rattle.p3_sumcheck.specs.Tables.{folded_at, total}
+use Rattle.p3_sumcheck.{specs.Sumchecks.{read_pair, sent_pair}, proofs.Declaring.{rounds-pass, steps_of}}
 use Rattle.p3_sumcheck.proofs.ClaimLaws.{false-is_lucky, true-reduces, true_rounds-challenges, true_rounds-length}
-use Rattle.p3_sumcheck.proofs.Declaring.{rounds-pass, steps_of}
 use Rattle.p3_sumcheck.proofs.Sending.{one-power, writes-plays}
 use Rattle.p3_sumcheck.proofs.Reading.{at, pair-of_round, pair-same, plays-reads, reads-plays, round-same, wire}
+use Rattle.p3_sumcheck.specs.declared.error.SumcheckError.TheVariants as fault
 
 module _ {S Symbol F : Type 0} (m : Sumcheck S Symbol F) where
   -- ---- rounds that are accepted so far, and their challenges
 
-  abbrev pub Reaches : F → ℕ → Driving S → List F → F → Driving S → Type 0
-  Reaches claim n before point last after =
-      (played : List (Round F)) × (point ≡ challenges_of played) × Accepts m claim n before played last after
-
   pub reaches-none : (claim : F) (before : Driving S) (point : List F) → point ≡ [] →
-      Reaches claim 0 before point claim before
+      AcceptsAt m claim 0 before point claim before
   reaches-none claim before point none = ([], none, record { count = refl; reads = refl; reduces = refl })
 
   module _ (claim : F) (before : Driving S) where
     pub reaches-more : (i : ℕ) (here after : Driving S) (point grown : List F) (current last : F) (round : Round F) →
-        Reaches claim i before point current here → ReadsRound m here round after →
+        AcceptsAt m claim i before point current here → ReadsRound m here round after →
         sum_of m.residues round.first round.second ≡ current → last ≡ claim_after m.residues round →
-        grown ≡ point ++ (round.challenge ∷ []) → Reaches claim (i + 1) before grown last after
+        grown ≡ point ++ (round.challenge ∷ []) → AcceptsAt m claim (i + 1) before grown last after
     reaches-more i here after point grown current last round so_far reads adds is added =
         let played = so_far.0 in
         let accepts = so_far.2 in (
@@ -57,7 +42,7 @@ module _ {S Symbol F : Type 0} (m : Sumcheck S Symbol F) where
         )
 
     module _ (i n : ℕ) (here after : Driving S) (point : List F) (current : F) (e : SumcheckError)
-        (so_far : Reaches claim i before point current here) where
+        (so_far : AcceptsAt m claim i before point current here) where
       pub refuses-at : i < n → RefusesRound m current i here e after → Refuses m claim n before e after
       refuses-at few refuses =
           let count = so_far.2.count in
@@ -174,7 +159,7 @@ module _ {S Symbol F : Type 0} (m : Sumcheck S Symbol F) (encodes : IsEncoding m
     module _ {R : Type 0} (points : R → List F) (lasts : R → F) (claim : F) (n : ℕ) (before after : Driving S) where
       -- what a verifier says of its result
       abbrev Ends : Result R SumcheckError → Type 0
-      Ends result = IfOk result (λ r. Reaches m claim n before (points r) (lasts r) after)
+      Ends result = IfOk result (λ r. AcceptsAt m claim n before (points r) (lasts r) after)
 
       abbrev Gives : List F → F → Driving S → R → Type 0
       Gives point last end r = (points r ≡ point) × (lasts r ≡ last) × (after ≡ end)

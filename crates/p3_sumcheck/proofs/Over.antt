@@ -1,9 +1,6 @@
 -- What a sumcheck is played over, in proofs of generic code.
 use Rattle.std.proofs.Common.{ℕ, List}
-use Rattle.p3_challenger.specs.Algebras.{algebra_of}
-use Rattle.p3_challenger.specs.Encoding.{Encoding}
-use Rattle.p3_challenger.specs.Observation.{Observation}
-use Rattle.p3_challenger.specs.Residues.{Residues}
+use Rattle.p3_challenger.specs.{Algebras.algebra_of, Encoding.Encoding, Observation.Observation, Residues.Residues}
 use Rattle.p3_challenger.specs.Sampling.{Sampling}
 use Rattle.p3_sumcheck.specs.Sumchecks.{Sumcheck, sumcheck_of}
 

@@ -1,19 +1,12 @@
 -- Where the rounds are next, a verifier refuses none for the sake of the pattern.
-use Rattle.std.proofs.Common.{◌≡◌, ℕ, ◌+◌, ◌-◌, inl, inr, suc, length, arith, Result, Err}
-use Rattle.std.specs.Result.{IfErr}
-use Rattle.p3_challenger.specs.CompletenessLaws.{next-own_refusal}
-use Rattle.p3_challenger.specs.Driving.{Driving}
-use Rattle.p3_challenger.specs.TranscriptError.{TranscriptError}
-use Rattle.p3_challenger.specs.TranscriptLaws.{next-first}
-use Rattle.p3_challenger.specs.Transcripts.{AreNext}
-use Rattle.p3_sumcheck.specs.Faults.{IsNoPatternFault}
-use Rattle.p3_sumcheck.specs.declared.error.SumcheckError.{SumcheckError}
-use Rattle.p3_sumcheck.specs.declared.error.SumcheckError.TheVariants as fault
-use Rattle.p3_sumcheck.specs.ReadingLaws.{next-reading_fault}
-use Rattle.p3_sumcheck.specs.Sumchecks.{Refuses, RefusesRound, Sumcheck, drawn_challenge}
-use Rattle.p3_sumcheck.specs.Sumchecks.{read_pair, round_steps}
+use Rattle.std.{proofs.Common.{◌≡◌, ℕ, ◌+◌, ◌-◌, inl, inr, suc, length, arith, Result, Err}, specs.Result.IfErr}
+use Rattle.p3_challenger.specs.{CompletenessLaws.next-own_refusal, Driving.Driving, TranscriptError.TranscriptError}
+use Rattle.p3_challenger.specs.{TranscriptLaws.next-first, Transcripts.AreNext}
+use Rattle.p3_sumcheck.specs.{Faults.IsNoPatternFault, declared.error.SumcheckError.SumcheckError}
+use Rattle.p3_sumcheck.specs.{ReadingLaws.next-reading_fault, Sumchecks.{read_pair, round_steps}}
+use Rattle.p3_sumcheck.{specs.Sumchecks.{Refuses, RefusesRound, Sumcheck, drawn_challenge}, proofs.Reading.reads-plays}
 use Rattle.p3_sumcheck.proofs.Declaring.{rounds-left, steps_of}
-use Rattle.p3_sumcheck.proofs.Reading.{reads-plays}
+use Rattle.p3_sumcheck.specs.declared.error.SumcheckError.TheVariants as fault
 
 -- a step of it that was refused is refused so
 abbrev IsStepFault : SumcheckError → Type 0

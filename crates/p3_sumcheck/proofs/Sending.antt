@@ -1,26 +1,17 @@
 -- Rounds that a prover has sent so far, and the table that is left.
 use Rattle.std.proofs.Common.{◌≡◌, ℕ, zero, suc, ◌+◌, ◌-◌, ◌^◌, ◌<◌, ◌≤◌, inl, inr, List, [], ◌∷◌, ◌++◌, length, refl, sym, ap}
-use Rattle.std.proofs.Common.{◌∙◌, arith, get_or, zero-add, Option, Some}
-use Rattle.std.proofs.lemmas.List.{length-append}
+use Rattle.std.proofs.{Common.{◌∙◌, arith, get_or, zero-add, Option, Some}, lemmas.List.length-append, Math.Nat.pow-suc}
 use Rattle.std.proofs.lemmas.Nat.{pow_pos}
-use Rattle.std.proofs.Math.Nat.{pow-suc}
-use Rattle.p3_challenger.specs.Completeness.{IsOwnRefusal}
-use Rattle.p3_challenger.specs.CompletenessLaws.{next-own_refusal}
-use Rattle.p3_challenger.specs.Driving.{Driving}
-use Rattle.p3_challenger.specs.Proving.{Writes}
-use Rattle.p3_challenger.specs.Rounds.{AreRounds}
-use Rattle.p3_challenger.specs.RoundLaws.{rounds-more, rounds-seen}
-use Rattle.p3_challenger.specs.TranscriptError.{TranscriptError}
-use Rattle.p3_challenger.specs.TranscriptLaws.{next-first}
+use Rattle.p3_challenger.specs.{Completeness.IsOwnRefusal, CompletenessLaws.next-own_refusal, Driving.Driving}
+use Rattle.p3_challenger.specs.{Proving.Writes, Rounds.AreRounds, RoundLaws.{rounds-more, rounds-seen}}
+use Rattle.p3_challenger.specs.{TranscriptError.TranscriptError, TranscriptLaws.next-first}
 use Rattle.p3_challenger.specs.TranscriptError.TheVariants.{OutOfMemory}
 use Rattle.p3_challenger.specs.Transcripts.{AreNext, Meaning, PlaysStep, steps_on}
-use Rattle.p3_sumcheck.specs.declared.round.Round.{Round}
-use Rattle.p3_sumcheck.specs.Claims.{true_rounds}
+use Rattle.p3_sumcheck.{specs.declared.round.Round.Round, specs.Claims.true_rounds, proofs.Folding.folded-half}
 use Rattle.p3_sumcheck.specs.Sumchecks.{PlaysRound, Proves, RefusesToProve, RefusesToSend, Sumcheck, WritesRound}
 use Rattle.p3_sumcheck.specs.Sumchecks.{drawn_challenge, round_steps, sent_pair}
 use Rattle.p3_sumcheck.specs.Tables.{folded, folded_at, high_half, low_half, total}
 use Rattle.p3_sumcheck.proofs.ClaimLaws.{folded-length, folded_at-more, true_rounds-length, true_rounds-more}
-use Rattle.p3_sumcheck.proofs.Folding.{folded-half}
 use Rattle.p3_sumcheck.proofs.Declaring.{rounds-left, rounds-pass, steps_of}
 
 -- a list of one value

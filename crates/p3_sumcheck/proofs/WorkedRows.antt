@@ -1,17 +1,11 @@
 -- Worked rows, computed on the definitions: the table 1, 2, 3, 4 over the field of order 257, whose challenges are drawn
 -- of three cells, of which two are the rate, under a turn by two places.
-use Rattle.std.proofs.Common.{◌≡◌, ℕ, List, [], ◌∷◌, inl, map, refl, ap}
-use Rattle.std.specs.List.{flat_map}
-use Rattle.p3_challenger.specs.DuplexCalls.{DuplexSponge, duplex_by_calls}
-use Rattle.p3_challenger.specs.F257Residues.{F257, residues}
-use Rattle.p3_challenger.specs.Rounds.{AreRounds}
+use Rattle.std.{proofs.Common.{◌≡◌, ℕ, List, [], ◌∷◌, inl, map, refl, ap}, specs.List.flat_map}
+use Rattle.p3_challenger.specs.{DuplexCalls.{DuplexSponge, duplex_by_calls}, F257Residues.{F257, residues}, Turn.turned}
+use Rattle.p3_challenger.specs.{Rounds.AreRounds, Segments.{Call, draw, observe, run_calls}}
+use Rattle.p3_sumcheck.specs.{Claims.{HasLuckyRound, Reduces, claim_after, true_rounds}, Sumchecks.pair_of}
+use Rattle.p3_sumcheck.specs.{Tables.{folded_at, total}, declared.round.Round.Round}
 use Rattle.p3_challenger.specs.Scalar as scalar
-use Rattle.p3_challenger.specs.Segments.{Call, draw, observe, run_calls}
-use Rattle.p3_challenger.specs.Turn.{turned}
-use Rattle.p3_sumcheck.specs.Claims.{HasLuckyRound, Reduces, claim_after, true_rounds}
-use Rattle.p3_sumcheck.specs.Sumchecks.{pair_of}
-use Rattle.p3_sumcheck.specs.Tables.{folded_at, total}
-use Rattle.p3_sumcheck.specs.declared.round.Round.{Round}
 
 abbrev elements : List ℕ → List F257
 elements numbers = map residues.of numbers

@@ -1,8 +1,7 @@
 -- What the rounds of a sumcheck say of a claim, and the rounds that a table has.
 use Rattle.std.specs.Prelude.{◌≡◌, List, [], ◌∷◌, ◌⊎◌}
 use Rattle.p3_challenger.specs.Residues.{Residues, sum_of}
-use Rattle.p3_sumcheck.specs.declared.round.Round.{Round}
-use Rattle.p3_sumcheck.specs.Tables.{folded, high_half, low_half, total, value_at}
+use Rattle.p3_sumcheck.specs.{declared.round.Round.Round, Tables.{folded, high_half, low_half, total, value_at}}
 
 -- the claim after a round: the value at its challenge of the line that has its pair at 0 and 1
 abbrev pub claim_after : {F : Type 0} → Residues F → Round F → F
@@ -19,8 +18,7 @@ true_pair r table = total r (low_half table) ∷ total r (high_half table) ∷ [
 
 -- the true round at a challenge
 abbrev pub true_round : {F : Type 0} → Residues F → List F → F → Round F
-true_round r table x =
-    record { first = total r (low_half table); second = total r (high_half table); challenge = x }
+true_round r table x = record { first = total r (low_half table); second = total r (high_half table); challenge = x }
 
 -- those of a table at a point, each of the table as it is folded so far
 abbrev pub true_rounds : {F : Type 0} → Residues F → List F → List F → List (Round F)

@@ -1,10 +1,7 @@
 -- Laws of steps that a recorder takes where some pattern begins with them.
 use Rattle.std.proofs.Common.{◌≡◌, inl, inr, false, List, [], ◌∷◌, ◌++◌, sym, ap, subst, ◌∙◌, append_assoc}
-use Rattle.p3_challenger.specs.Kind.TheVariants.{Protocol}
-use Rattle.p3_challenger.specs.PatternGrammar.{IsPattern, IsViable}
-use Rattle.p3_challenger.specs.Recording.{Recording, RefusesToRecord}
-use Rattle.p3_challenger.specs.Steps.{Step}
-use Rattle.p3_challenger.specs.TranscriptError.{TranscriptError}
+use Rattle.p3_challenger.specs.{Kind.TheVariants.Protocol, PatternGrammar.{IsPattern, IsViable}, Steps.Step}
+use Rattle.p3_challenger.specs.{Recording.{Recording, RefusesToRecord}, TranscriptError.TranscriptError}
 use Rattle.p3_challenger.specs.TranscriptError.TheVariants.{OutOfMemory}
 
 -- steps that some pattern begins with: the first ones, and one after them

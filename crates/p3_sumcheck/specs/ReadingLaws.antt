@@ -1,15 +1,10 @@
 -- What a step that reads, and is next, is refused for: the proof has another shape there, or the challenger or memory is
 -- refused.
-use Rattle.std.specs.Prelude.{refl}
-use Rattle.std.proofs.Common.{inl, inr}
-use Rattle.p3_challenger.specs.Driving.{Driving}
-use Rattle.p3_challenger.specs.Reads.{Reading}
-use Rattle.p3_challenger.specs.TranscriptError.{TranscriptError}
+use Rattle.std.{specs.Prelude.refl, proofs.Common.{inl, inr}}
+use Rattle.p3_challenger.specs.{Driving.Driving, Reads.Reading, TranscriptError.TranscriptError, Transcripts.IsNext}
 use Rattle.p3_challenger.specs.TranscriptError.TheVariants.{BadProofShape, Challenger, InvalidKind, LabelTooLong}
 use Rattle.p3_challenger.specs.TranscriptError.TheVariants.{MismatchedBeginEnd, MissingBegin, MissingEnd, OutOfMemory}
-use Rattle.p3_challenger.specs.TranscriptError.TheVariants.{Pattern}
-use Rattle.p3_challenger.specs.TranscriptLaws.{next-not_refused}
-use Rattle.p3_challenger.specs.Transcripts.{IsNext}
+use Rattle.p3_challenger.specs.{TranscriptError.TheVariants.Pattern, TranscriptLaws.next-not_refused}
 use Rattle.p3_challenger.specs.Verifying.{RefusesToRead}
 use Rattle.p3_sumcheck.specs.Faults.{IsNoPatternFault}
 

@@ -1,29 +1,16 @@
 -- A sumcheck in a transcript: its rounds, as both sides play them, and what each side makes of
 -- them.
 use Rattle.std.specs.Prelude.{◌≡◌, ℕ, ◌^◌, ◌<◌, ◌≤◌, ◌⊎◌, List, [], ◌∷◌, ◌++◌, codes, length, map}
-use Rattle.p3_challenger.specs.Algebras.{NamedAlgebra, algebra_step}
-use Rattle.p3_challenger.specs.Driving.{Driving}
-use Rattle.p3_challenger.specs.Encoding.{Encoding}
-use Rattle.p3_challenger.specs.Kind.TheVariants.{Challenge, Message}
-use Rattle.p3_challenger.specs.Length.TheVariants.{Fixed, Scalar}
-use Rattle.p3_challenger.specs.Meanings.{drawn, sent_list}
-use Rattle.p3_challenger.specs.Observation.{Observation}
-use Rattle.p3_challenger.specs.Proving.{RefusesToWrite, Writes}
-use Rattle.p3_challenger.specs.Reads.{Reading, received_list}
-use Rattle.p3_challenger.specs.Recording.{Recording, RefusesToRecord}
-use Rattle.p3_challenger.specs.Residues.{Residues, sum_of}
-use Rattle.p3_challenger.specs.Rounds.{AreRounds}
-use Rattle.p3_challenger.specs.Sampling.{Sampling}
-use Rattle.p3_challenger.specs.Steps.{Step}
-use Rattle.p3_challenger.specs.TranscriptError.{TranscriptError}
-use Rattle.p3_challenger.specs.TranscriptError.TheVariants.{OutOfMemory}
-use Rattle.p3_challenger.specs.Transcripts.{Meaning, PlaysStep, RefusesStep, Transcript}
-use Rattle.p3_challenger.specs.Verifying.{RefusesToRead}
-use Rattle.p3_sumcheck.specs.declared.error.SumcheckError.{SumcheckError}
-use Rattle.p3_sumcheck.specs.declared.error.SumcheckError.TheVariants as fault
-use Rattle.p3_sumcheck.specs.declared.round.Round.{Round}
+use Rattle.p3_challenger.specs.{Algebras.{NamedAlgebra, algebra_step}, Driving.Driving, Encoding.Encoding, Steps.Step}
+use Rattle.p3_challenger.specs.{Kind.TheVariants.{Challenge, Message}, Length.TheVariants.{Fixed, Scalar}}
+use Rattle.p3_challenger.specs.{Meanings.{drawn, sent_list}, Observation.Observation, Proving.{RefusesToWrite, Writes}}
+use Rattle.p3_challenger.specs.{Reads.{Reading, received_list}, Recording.{Recording, RefusesToRecord}}
+use Rattle.p3_challenger.specs.{Residues.{Residues, sum_of}, Rounds.{AreRounds, steps_of_rounds}, Sampling.Sampling}
+use Rattle.p3_challenger.specs.{TranscriptError.TranscriptError, TranscriptError.TheVariants.OutOfMemory}
+use Rattle.p3_challenger.specs.{Transcripts.{Meaning, PlaysStep, RefusesStep, Transcript}, Verifying.RefusesToRead}
+use Rattle.p3_sumcheck.specs.{declared.error.SumcheckError.SumcheckError, declared.round.Round.Round, Tables.folded_at}
 use Rattle.p3_sumcheck.specs.Claims.{Reduces, true_pair, true_rounds}
-use Rattle.p3_sumcheck.specs.Tables.{folded_at}
+use Rattle.p3_sumcheck.specs.declared.error.SumcheckError.TheVariants as fault
 
 -- ---- what is played
 
@@ -34,6 +21,10 @@ pair_step field = algebra_step Message (codes "round") field (Fixed 2)
 abbrev pub round_steps : NamedAlgebra → List Step
 round_steps field = pair_step field ∷ algebra_step Challenge (codes "fold") field Scalar ∷ []
 
+-- those of so many rounds
+abbrev pub sumcheck_steps : NamedAlgebra → ℕ → List Step
+sumcheck_steps field n = steps_of_rounds (round_steps field) n
+
 -- what a sumcheck is played over: a field, what steps say of it, and how an element is observed,
 -- drawn and encoded
 pub record Sumcheck (S Symbol F : Type 0) : Type 1 where
@@ -43,10 +34,9 @@ pub record Sumcheck (S Symbol F : Type 0) : Type 1 where
   pub sampling : Sampling S F
   pub encoding : Encoding F
 
-abbrev pub sumcheck_of : {S Symbol F : Type 0} → Residues F → NamedAlgebra →
-    Observation S Symbol F → Sampling S F → Encoding F → Sumcheck S Symbol F
-sumcheck_of r field o d e =
-    record { residues = r; field = field; observation = o; sampling = d; encoding = e }
+abbrev pub sumcheck_of : {S Symbol F : Type 0} → Residues F → NamedAlgebra → Observation S Symbol F → Sampling S F →
+    Encoding F → Sumcheck S Symbol F
+sumcheck_of r field o d e = record { residues = r; field = field; observation = o; sampling = d; encoding = e }
 
 abbrev pub pair_of : {F : Type 0} → Round F → List F
 pair_of round = round.first ∷ round.second ∷ []
@@ -67,11 +57,10 @@ module _ {S Symbol F : Type 0} (m : Sumcheck S Symbol F) where
 
   -- a round is played, by either side: its pair is observed, and its challenge is drawn right after
   -- it
-  pub record PlaysRound (before : Transcript S) (round : Round F) (after : Transcript S) : Type 0
-    where
-      pub here : Transcript S
-      pub sends : PlaysStep (sent_pair (pair_of round)) before (pair_of round) here
-      pub draws : PlaysStep drawn_challenge here round.challenge after
+  pub record PlaysRound (before : Transcript S) (round : Round F) (after : Transcript S) : Type 0 where
+    pub here : Transcript S
+    pub sends : PlaysStep (sent_pair (pair_of round)) before (pair_of round) here
+    pub draws : PlaysStep drawn_challenge here round.challenge after
 
   -- a prover plays it, and adds the bytes of its pair
   pub record WritesRound (before : Driving S) (round : Round F) (after : Driving S) : Type 0 where
@@ -105,8 +94,8 @@ module _ {S Symbol F : Type 0} (m : Sumcheck S Symbol F) where
 
   -- the true rounds at a point are written, and then the next one is given up, or there is no room
   -- for the point
-  pub record RefusesToProve (table : List F) (before : Driving S) (e : TranscriptError)
-      (after : Driving S) : Type 0 where
+  pub record RefusesToProve (table : List F) (before : Driving S) (e : TranscriptError) (after : Driving S)
+      : Type 0 where
     pub point : List F
     pub here : Driving S
     pub writes : AreRounds WritesRound before (true_rounds m.residues table point) here
@@ -117,11 +106,16 @@ module _ {S Symbol F : Type 0} (m : Sumcheck S Symbol F) where
   -- ---- the verifier's side
 
   -- so many rounds are read, and bring the claim to the last one
-  pub record Accepts (claim : F) (n : ℕ) (before : Driving S) (rounds : List (Round F)) (last : F)
-      (after : Driving S) : Type 0 where
+  pub record Accepts (claim : F) (n : ℕ) (before : Driving S) (rounds : List (Round F)) (last : F) (after : Driving S)
+      : Type 0 where
     pub count : length rounds ≡ n
     pub reads : AreRounds ReadsRound before rounds after
     pub reduces : AreRounds (Reduces m.residues) claim rounds last
+
+  -- the same of rounds whose challenges are the point
+  abbrev pub AcceptsAt : F → ℕ → Driving S → List F → F → Driving S → Type 0
+  AcceptsAt claim n before point last after =
+      (played : List (Round F)) × (point ≡ challenges_of played) × Accepts claim n before played last after
 
   -- a pair is read, and does not add to the claim
   abbrev pub Disagrees : F → Driving S → Driving S → Type 0
@@ -135,13 +129,12 @@ module _ {S Symbol F : Type 0} (m : Sumcheck S Symbol F) where
   RefusesRound claim i before (fault.Round j) after = (j ≡ i) × Disagrees claim before after
   RefusesRound claim i before (fault.Transcript e) after =
       RefusesToRead read_pair before e after
-      ⊎ ((first : F) × (second : F) × (here : Driving S)
-      × ReadsPair before (first ∷ second ∷ []) here × (sum_of m.residues first second ≡ claim)
-      × RefusesStep drawn_challenge here.transcript e after.transcript × (after.bytes ≡ here.bytes))
+      ⊎ ((first : F) × (second : F) × (here : Driving S) × ReadsPair before (first ∷ second ∷ []) here
+      × (sum_of m.residues first second ≡ claim) × RefusesStep drawn_challenge here.transcript e after.transcript
+      × (after.bytes ≡ here.bytes))
 
   -- some rounds are accepted, and then the next one is given up, or there is no room for the point
-  pub record Refuses (claim : F) (n : ℕ) (before : Driving S) (e : SumcheckError)
-      (after : Driving S) : Type 0 where
+  pub record Refuses (claim : F) (n : ℕ) (before : Driving S) (e : SumcheckError) (after : Driving S) : Type 0 where
     pub rounds : List (Round F)
     pub current : F
     pub here : Driving S
@@ -158,6 +151,5 @@ IsMemory e = e ≡ fault.Transcript OutOfMemory
 -- some of these steps are recorded, and the next one is refused
 abbrev pub RefusesToDeclare : List Step → Recording → TranscriptError → Recording → Type 0
 RefusesToDeclare steps before e after =
-    (done : List Step) × (next : Step) × (others : List Step) × (here : Recording)
-    × (steps ≡ done ++ (next ∷ others)) × (here.steps ≡ before.steps ++ done)
-    × RefusesToRecord here next e after
+    (done : List Step) × (next : Step) × (others : List Step) × (here : Recording) × (steps ≡ done ++ (next ∷ others))
+    × (here.steps ≡ before.steps ++ done) × RefusesToRecord here next e after

@@ -1,6 +1,5 @@
 -- Tables of values: their sums, and what is left of them when they are folded.
-use Rattle.std.specs.Prelude.{◌/◌, List, [], ◌∷◌, length, take, drop, map, sum_by}
-use Rattle.std.specs.List.{zip}
+use Rattle.std.specs.{Prelude.{◌/◌, List, [], ◌∷◌, length, take, drop, map, sum_by}, List.zip}
 use Rattle.p3_challenger.specs.Residues.{Residues, sum_of, difference_of, product_of}
 
 abbrev pub low_half : {F : Type 0} → List F → List F

@@ -1,12 +1,8 @@
 //! The steps of a sumcheck in a pattern.
 ghost use Rattle.std.specs.Prelude.{◌≡◌, ◌++◌, ℕ, List, false, length, IfErr, OnOk};
-ghost use Rattle.p3_challenger.specs.PatternGrammar.{IsViable};
-ghost use Rattle.p3_challenger.specs.Playing.{Playing};
-ghost use Rattle.p3_challenger.specs.Rounds.{steps_of_rounds};
-ghost use Rattle.p3_challenger.specs.Steps.{Step};
+ghost use Rattle.p3_challenger.specs.{PatternGrammar.IsViable, Playing.Playing, Steps.Step, Transcripts.AreNext};
 ghost use Rattle.p3_challenger.specs.TranscriptError.TheVariants.{OutOfMemory};
-ghost use Rattle.p3_challenger.specs.Transcripts.{AreNext};
-ghost use Rattle.p3_sumcheck.specs.Sumchecks.{RefusesToDeclare, round_steps};
+ghost use Rattle.p3_sumcheck.specs.Sumchecks.{RefusesToDeclare, sumcheck_steps};
 
 use p3_challenger::fs::{
     Declared, Hierarchy, Interaction, Kind, Length, Pattern, PatternState, TranscriptError,
@@ -25,16 +21,13 @@ pub fn declare<F: ScalarField, U, D: DigestHasher>(
     recorder: &mut PatternState<U>,
     rounds: usize,
 ) -> Result<(), TranscriptError>
-    ensures steps { let steps = round_steps ⟦<F as Declared<F, D>>⟧.algebra in
-        OnOk result (recorder.new.steps
-        ≡ recorder.old.steps ++ steps_of_rounds steps rounds) }
+    ensures steps { OnOk result (recorder.new.steps
+        ≡ recorder.old.steps ++ sumcheck_steps ⟦<F as Declared<F, D>>⟧.algebra rounds) }
     ensures going { OnOk result (recorder.old.finished ≡ false → recorder.new.finished ≡ false) }
-    ensures err { let steps = round_steps ⟦<F as Declared<F, D>>⟧.algebra in
-        IfErr result (λ e. RefusesToDeclare (steps_of_rounds steps rounds) recorder.old e
-        recorder.new) }
-    ensures only { let steps = round_steps ⟦<F as Declared<F, D>>⟧.algebra in
-        recorder.old.finished ≡ false →
-        IsViable (recorder.old.steps ++ steps_of_rounds steps rounds) →
+    ensures err { IfErr result (λ e. RefusesToDeclare
+        (sumcheck_steps ⟦<F as Declared<F, D>>⟧.algebra rounds) recorder.old e recorder.new) }
+    ensures only { recorder.old.finished ≡ false →
+        IsViable (recorder.old.steps ++ sumcheck_steps ⟦<F as Declared<F, D>>⟧.algebra rounds) →
         IfErr result (λ e. e ≡ OutOfMemory) }
 {
     let leaf = Hierarchy::Atomic;
@@ -53,11 +46,10 @@ pub fn declare<F: ScalarField, U, D: DigestHasher>(
 ///
 /// A law: the body does nothing, and a caller cites the clause.
 pub fn declared_rounds_are_next<F: ScalarField, D: DigestHasher>()
-    ensures { let steps = round_steps ⟦<F as Declared<F, D>>⟧.algebra in
+    ensures { let steps = sumcheck_steps ⟦<F as Declared<F, D>>⟧.algebra in
         (n : ℕ) (before after : List Step) (playing : Playing) →
-        playing.pattern.steps ≡ before ++ (steps_of_rounds steps n ++ after) →
-        playing.position ≡ length before → playing.finished ≡ false →
-        AreNext (steps_of_rounds steps n) playing }
+        playing.pattern.steps ≡ before ++ (steps n ++ after) → playing.position ≡ length before →
+        playing.finished ≡ false → AreNext (steps n) playing }
 {
     listed_steps_are_next();
 }

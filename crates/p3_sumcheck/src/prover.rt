@@ -1,11 +1,8 @@
 //! The prover's side.
 ghost use Rattle.std.specs.Prelude.{◌≡◌, ◌≤◌, ◌^◌, ℕ, ◌∷◌, [], length, IfErr, IfOk, MatchResult};
-ghost use Rattle.p3_challenger.specs.Completeness.{IsOwnRefusal};
-ghost use Rattle.p3_challenger.specs.Drivers.{proving_of};
-ghost use Rattle.p3_challenger.specs.Rounds.{steps_of_rounds};
-ghost use Rattle.p3_challenger.specs.Transcripts.{AreNext, steps_on};
-ghost use Rattle.p3_sumcheck.specs.Sumchecks.{Proves, RefusesToProve, RefusesToSend, WritesRound};
-ghost use Rattle.p3_sumcheck.specs.Sumchecks.{round_steps, sumcheck_of};
+ghost use Rattle.p3_challenger.specs.{Completeness.IsOwnRefusal, Drivers.proving_of, Transcripts.{AreNext, steps_on}};
+ghost use Rattle.p3_sumcheck.specs.Sumchecks.{Proves, RefusesToProve, RefusesToSend, WritesRound, sumcheck_of};
+ghost use Rattle.p3_sumcheck.specs.Sumchecks.{sumcheck_steps};
 
 use crate::table::{fold, sums_of_halves};
 use p3_challenger::CanObserve;
@@ -39,22 +36,19 @@ pub fn prove<
     // The true pairs are written, and the table's value at the point is answered.
     ensures ok { let m = sumcheck_of F.residues ⟦<F as Declared<F, D>>⟧.algebra
         Cdc.observation Cdc.sampling Cdc.encoding in
-        let before = proving_of C.state prover.old in
-        let after = proving_of C.state prover.new in
-        IfOk result (λ sent. Proves m table.items sent.0.items sent.1 before after) }
+        IfOk result (λ sent. Proves m table.items sent.0.items sent.1
+        (proving_of C.state prover.old) (proving_of C.state prover.new)) }
     ensures err { let m = sumcheck_of F.residues ⟦<F as Declared<F, D>>⟧.algebra
         Cdc.observation Cdc.sampling Cdc.encoding in
-        let before = proving_of C.state prover.old in
-        let after = proving_of C.state prover.new in
-        IfErr result (λ e. RefusesToProve m table.items before e after) }
+        IfErr result (λ e. RefusesToProve m table.items (proving_of C.state prover.old) e
+        (proving_of C.state prover.new)) }
     // Where the rounds are next they are played, and the prover then stands after them; or the
     // challenger alone refuses, or memory is out.
-    ensures only { let steps = steps_of_rounds (round_steps ⟦<F as Declared<F, D>>⟧.algebra) in
+    ensures only { let steps = sumcheck_steps ⟦<F as Declared<F, D>>⟧.algebra in
         let before = (proving_of C.state prover.old).transcript.playing in
-        let after = (proving_of C.state prover.new).transcript.playing in
-        (n : ℕ) → length table.items ≡ 2 ^ n → AreNext (steps n) before →
-        MatchResult result (λ sent. (length sent.0.items ≡ n)
-        × (after ≡ steps_on (steps n) before)) IsOwnRefusal }
+        (n : ℕ) → length table.items ≡ 2 ^ n → AreNext (steps n) before → MatchResult result
+        (λ sent. (length sent.0.items ≡ n) × ((proving_of C.state prover.new).transcript.playing
+        ≡ steps_on (steps n) before)) IsOwnRefusal }
 {
     let mut point = Vec::new(alloc);
     let mut pair = sums_of_halves(&table);
@@ -77,15 +71,15 @@ fn send_round<
     requires { 128 ≤ Cdc.SECURITY_BITS }
     ensures ok { let m = sumcheck_of F.residues ⟦<F as Declared<F, D>>⟧.algebra
         Cdc.observation Cdc.sampling Cdc.encoding in
-        let before = proving_of C.state prover.old in
-        let after = proving_of C.state prover.new in
-        IfOk result (λ x. WritesRound m before
-        (record { first = pair.0; second = pair.1; challenge = x }) after) }
+        IfOk result (λ x. WritesRound m (proving_of C.state prover.old) (record {
+          first = pair.0;
+          second = pair.1;
+          challenge = x;
+        }) (proving_of C.state prover.new)) }
     ensures err { let m = sumcheck_of F.residues ⟦<F as Declared<F, D>>⟧.algebra
         Cdc.observation Cdc.sampling Cdc.encoding in
-        let before = proving_of C.state prover.old in
-        let after = proving_of C.state prover.new in
-        IfErr result (λ e. RefusesToSend m (pair.0 ∷ pair.1 ∷ []) before e after) }
+        IfErr result (λ e. RefusesToSend m (pair.0 ∷ pair.1 ∷ []) (proving_of C.state prover.old) e
+        (proving_of C.state prover.new)) }
 {
     prover.add_scalars::<F, Cdc>("round", &[pair.0, pair.1])?;
     let challenge = prover.challenge_scalar::<F, Cdc>("fold")?;

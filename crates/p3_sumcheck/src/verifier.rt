@@ -1,18 +1,12 @@
 //! The verifier's side.
 ghost use Rattle.std.specs.Prelude.{◌≡◌, ◌<◌, ◌≤◌, ◌++◌, ◌^◌, ◌∷◌, ◌⊎◌, [], ℕ, List, Err, length, IfErr, IfOk};
 ghost use Rattle.std.specs.Prelude.{MatchResult, OnOk};
-ghost use Rattle.p3_challenger.specs.Driving.{Driving};
-ghost use Rattle.p3_challenger.specs.Drivers.{verifying_of};
-ghost use Rattle.p3_challenger.specs.Residues.{sum_of};
-ghost use Rattle.p3_challenger.specs.Rounds.{steps_of_rounds};
-ghost use Rattle.p3_challenger.specs.TranscriptError.{TranscriptError};
-ghost use Rattle.p3_challenger.specs.Transcripts.{AreNext, steps_on};
+ghost use Rattle.p3_challenger.specs.{Driving.Driving, Drivers.verifying_of, Residues.sum_of};
+ghost use Rattle.p3_challenger.specs.{TranscriptError.TranscriptError, Transcripts.{AreNext, steps_on}};
 ghost use Rattle.p3_challenger.specs.Verifying.{ReceivesOrRefuses};
-ghost use Rattle.p3_sumcheck.specs.Faults.{IsNoPatternFault};
-ghost use Rattle.p3_sumcheck.specs.Claims.{HasLuckyRound};
-ghost use Rattle.p3_sumcheck.specs.Sumchecks.{Accepts, Disagrees, IsMemory, Proves, ReadsRound, Refuses};
-ghost use Rattle.p3_sumcheck.specs.Sumchecks.{RefusesRound, challenges_of, read_pair, round_steps, sumcheck_of};
-ghost use Rattle.p3_sumcheck.specs.Tables.{folded_at, total};
+ghost use Rattle.p3_sumcheck.specs.{Faults.IsNoPatternFault, Claims.HasLuckyRound, Tables.{folded_at, total}};
+ghost use Rattle.p3_sumcheck.specs.Sumchecks.{Accepts, AcceptsAt, Disagrees, IsMemory, Proves, ReadsRound, Refuses};
+ghost use Rattle.p3_sumcheck.specs.Sumchecks.{RefusesRound, challenges_of, read_pair, sumcheck_of, sumcheck_steps};
 ghost use Rattle.p3_sumcheck.specs.declared.error.SumcheckError.TheVariants as fault;
 ghost use Rattle.p3_sumcheck.specs.declared.round.Round.{Round};
 
@@ -54,44 +48,35 @@ pub fn verify<
     // claim, and each challenge drawn right after its pair.
     ensures accepts { let m = sumcheck_of F.residues ⟦<F as Declared<F, D>>⟧.algebra
         Cdc.observation Cdc.sampling Cdc.encoding in
-        let before = verifying_of C.state verifier.old in
-        let after = verifying_of C.state verifier.new in
-        IfOk result (λ read. (played : List (Round F)) × (read.0.items ≡ challenges_of played)
-        × Accepts m claim rounds before played read.1 after) }
-    ensures passed { let steps = steps_of_rounds (round_steps ⟦<F as Declared<F, D>>⟧.algebra) in
-        let before = (verifying_of C.state verifier.old).transcript.playing in
-        let after = (verifying_of C.state verifier.new).transcript.playing in
-        OnOk result (after ≡ steps_on (steps rounds) before) }
+        IfOk result (λ read. AcceptsAt m claim rounds (verifying_of C.state verifier.old)
+        read.0.items read.1 (verifying_of C.state verifier.new)) }
+    ensures passed { let steps = sumcheck_steps ⟦<F as Declared<F, D>>⟧.algebra rounds in
+        OnOk result ((verifying_of C.state verifier.new).transcript.playing
+        ≡ steps_on steps (verifying_of C.state verifier.old).transcript.playing) }
     // Rounds that may be so accepted are, or memory is out.
     ensures only { let m = sumcheck_of F.residues ⟦<F as Declared<F, D>>⟧.algebra
         Cdc.observation Cdc.sampling Cdc.encoding in
-        let before = verifying_of C.state verifier.old in
-        let after = verifying_of C.state verifier.new in
         (played : List (Round F)) (last : F) (end : Driving C.State) →
-        Accepts m claim rounds before played last end → MatchResult result
-        (λ read. (read.0.items ≡ challenges_of played) × (read.1 ≡ last) × (after ≡ end))
-        IsMemory }
+        Accepts m claim rounds (verifying_of C.state verifier.old) played last end →
+        MatchResult result (λ read. (read.0.items ≡ challenges_of played) × (read.1 ≡ last)
+        × (verifying_of C.state verifier.new ≡ end)) IsMemory }
     ensures refuses { let m = sumcheck_of F.residues ⟦<F as Declared<F, D>>⟧.algebra
         Cdc.observation Cdc.sampling Cdc.encoding in
-        let before = verifying_of C.state verifier.old in
-        let after = verifying_of C.state verifier.new in
-        IfErr result (λ e. Refuses m claim rounds before e after) }
+        IfErr result (λ e. Refuses m claim rounds (verifying_of C.state verifier.old) e
+        (verifying_of C.state verifier.new)) }
     // Where the rounds are next, no step is refused for the sake of the pattern: the proof has
     // another shape there, or the challenger or memory is refused.
-    ensures next { let steps = steps_of_rounds (round_steps ⟦<F as Declared<F, D>>⟧.algebra) in
-        AreNext (steps rounds) (verifying_of C.state verifier.old).transcript.playing →
-        (e : TranscriptError) → result ≡ Err (fault.Transcript e) →
-        IsNoPatternFault e }
+    ensures next { AreNext (sumcheck_steps ⟦<F as Declared<F, D>>⟧.algebra rounds)
+        (verifying_of C.state verifier.old).transcript.playing → (e : TranscriptError) →
+        result ≡ Err (fault.Transcript e) → IsNoPatternFault e }
     // The first pair that does not add to the running claim is refused as that of its round, with
     // no challenge drawn after it, or memory is out.
     ensures disagrees { let m = sumcheck_of F.residues ⟦<F as Declared<F, D>>⟧.algebra
         Cdc.observation Cdc.sampling Cdc.encoding in
-        let before = verifying_of C.state verifier.old in
-        let after = verifying_of C.state verifier.new in
-        (i : ℕ) (played : List (Round F)) (current : F) (here end : Driving C.State) →
-        i < rounds → Accepts m claim i before played current here →
-        Disagrees m current here end → MatchResult result (λ _. ⊥)
-        (λ e. IsMemory e ⊎ ((e ≡ fault.Round i) × (after ≡ end))) }
+        (i : ℕ) (played : List (Round F)) (current : F) (here end : Driving C.State) → i < rounds →
+        Accepts m claim i (verifying_of C.state verifier.old) played current here →
+        Disagrees m current here end → MatchResult result (λ _. ⊥) (λ e. IsMemory e
+        ⊎ ((e ≡ fault.Round i) × (verifying_of C.state verifier.new ≡ end))) }
     // What a prover sent of a table from the same transcript is accepted for the table's sum, or
     // memory is out.
     ensures complete { let m = sumcheck_of F.residues ⟦<F as Declared<F, D>>⟧.algebra
@@ -99,23 +84,19 @@ pub fn verify<
         (table point : List F) (value : F) (start end : Driving C.State) (sent rest : List ℕ) →
         Proves m table point value start end → length table ≡ 2 ^ rounds →
         claim ≡ total F.residues table → end.bytes ≡ start.bytes ++ sent →
-        verifying_of C.state verifier.old
-        ≡ record { transcript = start.transcript; bytes = sent ++ rest } →
+        verifying_of C.state verifier.old ≡ record start { bytes = sent ++ rest } →
         MatchResult result (λ read. (read.0.items ≡ point) × (read.1 ≡ value)
-        × (verifying_of C.state verifier.new
-        ≡ record { transcript = end.transcript; bytes = rest })) IsMemory }
+        × (verifying_of C.state verifier.new ≡ record end { bytes = rest })) IsMemory }
     // For every table: where the claim is not its sum, and yet the last claim is its value at the
     // point, some round's challenge makes one claim of its pair and of the true one, which is
     // another.
     ensures sound { let m = sumcheck_of F.residues ⟦<F as Declared<F, D>>⟧.algebra
         Cdc.observation Cdc.sampling Cdc.encoding in
-        let before = verifying_of C.state verifier.old in
-        let after = verifying_of C.state verifier.new in
         (table : List F) (played : List (Round F)) → length table ≡ 2 ^ rounds →
         (claim ≡ total F.residues table → ⊥) →
-        IfOk result (λ read. Accepts m claim rounds before played read.1 after →
-        folded_at F.residues read.0.items table ≡ read.1 ∷ [] →
-        HasLuckyRound F.residues table played) }
+        IfOk result (λ read. Accepts m claim rounds (verifying_of C.state verifier.old) played
+        read.1 (verifying_of C.state verifier.new) → folded_at F.residues read.0.items table
+        ≡ read.1 ∷ [] → HasLuckyRound F.residues table played) }
 {
     // Laws, which do nothing: where a pair was sent, or a challenge drawn, memory alone can be
     // refused.
@@ -140,10 +121,8 @@ fn receive_rounds<
     requires { 128 ≤ Cdc.SECURITY_BITS }
     ensures accepts { let m = sumcheck_of F.residues ⟦<F as Declared<F, D>>⟧.algebra
         Cdc.observation Cdc.sampling Cdc.encoding in
-        let before = verifying_of C.state verifier.old in
-        let after = verifying_of C.state verifier.new in
-        IfOk result (λ read. (played : List (Round F)) × (read.0.items ≡ challenges_of played)
-        × Accepts m claim rounds before played read.1 after) }
+        IfOk result (λ read. AcceptsAt m claim rounds (verifying_of C.state verifier.old)
+        read.0.items read.1 (verifying_of C.state verifier.new)) }
     ensures refuses { let m = sumcheck_of F.residues ⟦<F as Declared<F, D>>⟧.algebra
         Cdc.observation Cdc.sampling Cdc.encoding in
         IfErr result (λ e. Refuses m claim rounds (verifying_of C.state verifier.old) e

@@ -1,5 +1,5 @@
 //! The group that has bits and proofs of work beside the plain steps.
-ghost use Rattle.std.specs.Prelude.{◌≡◌, true, false, IsErr, IfErr};
+ghost use Rattle.std.specs.Prelude.{◌≡◌, true, false, IsErr};
 
 use crate::groups::{BitsPow, StepGroup, not_there};
 use p3_challenger_core::CanSampleBits;

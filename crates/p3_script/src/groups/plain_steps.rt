@@ -1,5 +1,5 @@
 //! The group of the plain steps alone.
-ghost use Rattle.std.specs.Prelude.{◌≡◌, false, IsErr, IfErr};
+ghost use Rattle.std.specs.Prelude.{◌≡◌, false, IsErr};
 
 use crate::groups::{Plain, StepGroup, not_there};
 use p3_challenger_core::Sponge;
@@ -12,8 +12,7 @@ use p3_symmetric::DigestHasher;
 impl<C: Sponge, F: ScalarField> StepGroup<C, F> for Plain {
     ghost use Rattle.std.specs.Prelude.{Some, []};
     ghost use Rattle.p3_script.specs.GroupLaws.{not_there};
-    ghost use Rattle.p3_challenger_core.specs.Observation.{unrefused_observe};
-    ghost use Rattle.p3_challenger_core.specs.Sampling.{unrefused_draw};
+    ghost use Rattle.p3_challenger_core.specs.{Observation.unrefused_observe, Sampling.unrefused_draw};
 
     const HAS_POW: bool = false;
 

@@ -1,8 +1,5 @@
 use Rattle.std.proofs.Common.{refl, sym, append-nil}
-use Rattle.p3_binding.proofs.Bound.{symbols-bind}
-use Rattle.p3_binding.proofs.Lawful.{Lawful}
-use Rattle.p3_binding.proofs.Scripts.{step-told}
-use Rattle.p3_binding.proofs.Uninfluenced.{script-hints}
+use Rattle.p3_binding.proofs.{Bound.symbols-bind, Lawful.Lawful, Scripts.step-told, Uninfluenced.script-hints}
 use Rattle.p3_binding.proofs.symbols_bind.binding.Goals as goal
 
 pub returns-clause-equal_symbols_bind : goal.returns-clause-equal_symbols_bind

@@ -1,5 +1,4 @@
-use Rattle.p3_runs.specs.ProofFaultLaws.{proofs-one_fault}
-use Rattle.p3_runs.specs.ProvingFaultLaws.{provings-one_fault}
+use Rattle.p3_runs.specs.{ProofFaultLaws.proofs-one_fault, ProvingFaultLaws.provings-one_fault}
 use Rattle.p3_script.proofs.faults.faults_are_one.Goals as goal
 
 pub returns-clause-verifying : goal.returns-clause-verifying

@@ -1,28 +1,22 @@
 -- Each kind of step, by the laws of what it does.
 use Rattle.std.proofs.Common.{subst, ◌∷◌, [], Some, refl, inl, inr}
-use Rattle.std.specs.Prelude as list
-use Rattle.p3_fs_core.specs.Algebras.{algebra_step}
-use Rattle.p3_fs_core.specs.ScalarLaws.{is_encoding}
-use Rattle.p3_fs_core.specs.StepFits.{FitsLength}
-use Rattle.p3_fs_core.specs.declared.step.Kind.TheVariants as kind
-use Rattle.p3_fs_core.specs.declared.step.Length.TheVariants as lengths
+use Rattle.p3_fs_core.specs.{Algebras.algebra_step, ScalarLaws.is_encoding, StepFits.FitsLength}
 use Rattle.p3_driver_core.specs.Effects.{untouched}
-use Rattle.p3_driver_core.specs.Meanings as meaning
-use Rattle.p3_driver_core.specs.Reads as reads
 use Rattle.p3_step_laws.specs.Memory.{OnlyMemoryRefusesToRead}
-use Rattle.p3_runs.specs.Plays.{no_challenge}
-use Rattle.p3_runs.specs.Rules.{Rules}
+use Rattle.p3_runs.specs.{Plays.no_challenge, Rules.Rules}
 use Rattle.p3_runs.specs.Values.{IsNothing, bytes_in, scalar_in, scalars_in, extension_in}
-use Rattle.p3_runs.specs.Values as value
-use Rattle.p3_script.proofs.Canonical.{step-canonical}
-use Rattle.p3_script.proofs.Determined.{step-determined}
+use Rattle.p3_script.{proofs.Canonical.step-canonical, proofs.Determined.step-determined, specs.SuiteRules.rules_of}
 use Rattle.p3_script.proofs.Possible.{IsRefusedForMemory, known_with-refused, known-refused, counted-refused}
 use Rattle.p3_script.proofs.Possible.{sends-refused, within_refused, untouched-tells, witness-refused, carried-refused}
-use Rattle.p3_script.specs.Scripts.{play_of, list_sent, counted_known}
-use Rattle.p3_script.specs.SuiteRules.{rules_of}
+use Rattle.p3_script.{specs.Scripts.{play_of, list_sent, counted_known}, proofs.laws.script_steps_are_lawful.Given.Over}
+use Rattle.std.specs.Prelude as list
+use Rattle.p3_fs_core.specs.declared.step.Kind.TheVariants as kind
+use Rattle.p3_fs_core.specs.declared.step.Length.TheVariants as lengths
+use Rattle.p3_driver_core.specs.Meanings as meaning
+use Rattle.p3_driver_core.specs.Reads as reads
+use Rattle.p3_runs.specs.Values as value
 use Rattle.p3_script.specs.declared.steps.Step as script
 use Rattle.p3_script.specs.declared.steps.Step.TheVariants as step
-use Rattle.p3_script.proofs.laws.script_steps_are_lawful.Given.{Over}
 use Rattle.p3_script.proofs.laws.script_steps_are_lawful.Goals as goal
 
 -- what the bounds of a suite say of its steps

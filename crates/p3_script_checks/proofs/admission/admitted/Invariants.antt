@@ -1,7 +1,6 @@
 use Rattle.std.proofs.Common.{drop}
 use Rattle.p3_runs.specs.Runs.{AreAdmitted}
-use Rattle.p3_script.specs.Scripts.{play_of}
-use Rattle.p3_script.specs.SuiteRules.{rules_of}
+use Rattle.p3_script.specs.{Scripts.play_of, SuiteRules.rules_of}
 use Rattle.p3_script_checks.proofs.admission.admitted.Given as goal
 
 -- what is so of the steps that are left is so of all

@@ -1,4 +1,4 @@
-use Rattle.std.proofs.Common.{refl, sym, ap, ◌∙◌, length}
+use Rattle.std.proofs.Common.{refl, sym, ◌∙◌}
 use Rattle.p3_script_checks.proofs.Checking.{not_true}
 use Rattle.p3_script_checks.proofs.fitting.fits.Goals as goal
 

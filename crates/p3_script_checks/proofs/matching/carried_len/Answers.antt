@@ -1,7 +1,7 @@
-use Rattle.std.proofs.Common.{arith, refl, true, false}
+use Rattle.std.proofs.Common.{arith, true, false}
 use Rattle.p3_script_checks.proofs.Checking.{counted-on, counted-past}
-use Rattle.p3_script_checks.proofs.matching.carried_len.Goals as goal
 use Rattle.p3_script_checks.proofs.matching.carried_len.Goals.{then-is_carried, else-is_carried}
+use Rattle.p3_script_checks.proofs.matching.carried_len.Goals as goal
 
 pub loop-step-preserved : goal.loop-step-preserved
 loop-step-preserved g c =

@@ -1,7 +1,6 @@
 use Rattle.std.proofs.Common.{◌≡◌, ◌≤◌, ◌+◌, drop}
 use Rattle.p3_runs.specs.Runs.{carried_count}
-use Rattle.p3_script.specs.Scripts.{play_of}
-use Rattle.p3_script.specs.SuiteRules.{rules_of}
+use Rattle.p3_script.specs.{Scripts.play_of, SuiteRules.rules_of}
 use Rattle.p3_script_checks.proofs.matching.carried_len.Given as goal
 
 -- those so far are counted

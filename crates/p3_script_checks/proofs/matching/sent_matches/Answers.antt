@@ -1,8 +1,8 @@
 use Rattle.std.proofs.Common.{rules, refl, arith, ◌<◌, ◌≤◌, ◌≡◌, length, eq-eqb, eqb-true}
 use Rattle.p3_script.specs.Scripts.{value_sent}
 use Rattle.p3_script_checks.proofs.Checking.{not_true, handed-on, handed-back, handed-none, passed-on, passed-back, ended, none-left}
-use Rattle.p3_script_checks.proofs.matching.sent_matches.Goals as goal
 use Rattle.p3_script_checks.proofs.matching.sent_matches.Goals.{then-is_sent+in-Some, else-is_sent}
+use Rattle.p3_script_checks.proofs.matching.sent_matches.Goals as goal
 
 pub returns-in_default : goal.returns-in_default
 returns-in_default g c =

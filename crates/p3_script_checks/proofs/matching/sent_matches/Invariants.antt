@@ -1,7 +1,6 @@
 use Rattle.std.proofs.Common.{◌≤◌, drop, length, map}
 use Rattle.p3_runs.specs.Provings.{AreHanded}
-use Rattle.p3_script.specs.Scripts.{play_of, value_sent}
-use Rattle.p3_script.specs.SuiteRules.{rules_of}
+use Rattle.p3_script.specs.{Scripts.{play_of, value_sent}, SuiteRules.rules_of}
 use Rattle.p3_script_checks.proofs.matching.sent_matches.Given as goal
 
 -- what is so of the steps and the values that are left is so of all

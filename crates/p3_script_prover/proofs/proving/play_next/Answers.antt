@@ -1,5 +1,4 @@
-use Rattle.std.proofs.Common.{inr, refl, ap}
-use Rattle.std.proofs.lemmas.Result.{err_from_is_err_and}
+use Rattle.std.proofs.{Common.{inr, refl, ap}, lemmas.Result.err_from_is_err_and}
 use Rattle.p3_driver_core.specs.Transcripts.{Transcript}
 use Rattle.p3_script_prover.proofs.Handing.{handed-next, refused-next, played-next}
 use Rattle.p3_script_prover.proofs.proving.play_next.Goals as goal

@@ -1,8 +1,6 @@
 use Rattle.std.proofs.Common.{arith, inl, inr, refl, ◌<◌, ◌≤◌, length}
-use Rattle.p3_runs.specs.CarriedLaws.{proved-count}
+use Rattle.p3_runs.specs.{CarriedLaws.proved-count, RefusalLaws.start-never, Verdicts.script_of}
 use Rattle.p3_runs.specs.ProvingLaws.{proves-start, proves-next, proves-end, proves-not_ended}
-use Rattle.p3_runs.specs.RefusalLaws.{start-never}
-use Rattle.p3_runs.specs.Verdicts.{script_of}
 use Rattle.p3_script_prover.proofs.NextLaws.{part-on, next-admitted, next-on, next-refused, next-never, end-never}
 use Rattle.p3_script_prover.proofs.proving.prove.Goals as goal
 

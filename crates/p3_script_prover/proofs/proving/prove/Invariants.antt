@@ -1,8 +1,6 @@
 use Rattle.p3_drivers.specs.Drivers.{proving_of}
-use Rattle.p3_runs.specs.ProvingLaws.{Proves}
-use Rattle.p3_runs.specs.Verdicts.{script_of}
-use Rattle.p3_script.specs.Scripts.{play_of, values_sent, challenges_of}
-use Rattle.p3_script.specs.SuiteRules.{rules_of}
+use Rattle.p3_runs.specs.{ProvingLaws.Proves, Verdicts.script_of}
+use Rattle.p3_script.specs.{Scripts.{play_of, values_sent, challenges_of}, SuiteRules.rules_of}
 use Rattle.p3_script_prover.proofs.proving.prove.Given as goal
 
 -- the steps so far were played

@@ -1,5 +1,4 @@
-use Rattle.std.proofs.Common.{inl}
-use Rattle.std.proofs.lemmas.Result.{err_from_is_err_and}
+use Rattle.std.proofs.{Common.inl, lemmas.Result.err_from_is_err_and}
 use Rattle.p3_script_round_trip.proofs.round_trip.prove_and_verify.Goals as goal
 
 pub returns-in_err-proved-clause-refused : goal.returns-in_err-proved-clause-refused

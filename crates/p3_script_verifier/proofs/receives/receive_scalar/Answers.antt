@@ -1,8 +1,6 @@
-use Rattle.std.proofs.Common.{refl, subst, ap, sym, List, ℕ, Some}
+use Rattle.std.proofs.Common.{refl, subst, ap, List, ℕ, Some}
 use Rattle.p3_challenger_core.specs.Reading.{AreBytes}
-use Rattle.p3_driver_core.specs.Driving.{Driving}
-use Rattle.p3_runs.specs.Stepping.{TakesStep}
-use Rattle.p3_runs.specs.Values.{bytes_in, scalar_in, scalars_in, extension_in}
+use Rattle.p3_runs.specs.Values.{scalar_in}
 use Rattle.p3_script_verifier.proofs.Taking.{sent-taken}
 use Rattle.p3_script_verifier.proofs.receives.receive_scalar.Goals as goal
 

@@ -1,6 +1,5 @@
-use Rattle.std.proofs.Common.{arith, ◌<◌, ◌≤◌, ◌≡◌, ◌∷◌, ◌+◌, length, drop, refl, inl, inr}
-use Rattle.p3_runs.specs.FollowingLaws.{follows-start, follows-refused, follows-not_ended}
-use Rattle.p3_runs.specs.NoProofLaws.{refused-so}
+use Rattle.std.proofs.Common.{arith, ◌<◌, ◌≤◌, length, refl, inl, inr}
+use Rattle.p3_runs.specs.{FollowingLaws.{follows-start, follows-refused, follows-not_ended}, NoProofLaws.refused-so}
 use Rattle.p3_runs.specs.Verdicts.{script_of}
 use Rattle.p3_script_verifier.proofs.Following.{part-on, next-admitted, next-carried, follows-kept}
 use Rattle.p3_script_verifier.proofs.Following.{follows-accepts}

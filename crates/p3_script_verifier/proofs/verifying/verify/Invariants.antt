@@ -1,8 +1,6 @@
 use Rattle.p3_drivers.specs.Drivers.{verifying_of}
-use Rattle.p3_runs.specs.FollowingLaws.{Follows}
-use Rattle.p3_runs.specs.Verdicts.{script_of}
-use Rattle.p3_script.specs.Scripts.{play_of, values_received, challenges_of}
-use Rattle.p3_script.specs.SuiteRules.{rules_of}
+use Rattle.p3_runs.specs.{FollowingLaws.Follows, Verdicts.script_of}
+use Rattle.p3_script.specs.{Scripts.{play_of, values_received, challenges_of}, SuiteRules.rules_of}
 use Rattle.p3_script_verifier.proofs.verifying.verify.Given as goal
 
 -- the steps so far were played, and what is received and drawn is theirs

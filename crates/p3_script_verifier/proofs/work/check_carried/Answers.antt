@@ -1,5 +1,4 @@
-use Rattle.std.proofs.Common.{refl, sym, ap, None}
-use Rattle.std.specs.Option.{option_map}
+use Rattle.std.{proofs.Common.{refl, sym, ap, None}, specs.Option.option_map}
 use Rattle.p3_runs.specs.Values.{Witness}
 use Rattle.p3_script_verifier.proofs.work.check_carried.Goals as goal
 

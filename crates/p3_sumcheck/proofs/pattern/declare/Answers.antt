@@ -1,7 +1,5 @@
-use Rattle.std.proofs.Common.{codes, ap, ◌∙◌}
-use Rattle.std.proofs.lemmas.Result.{err_from_is_err_and}
-use Rattle.p3_challenger.specs.Kind.TheVariants.{Challenge}
-use Rattle.p3_challenger.specs.Length.TheVariants.{Scalar}
+use Rattle.std.proofs.{Common.{codes, ap, ◌∙◌}, lemmas.Result.err_from_is_err_and}
+use Rattle.p3_challenger.specs.{Kind.TheVariants.Challenge, Length.TheVariants.Scalar}
 use Rattle.p3_sumcheck.proofs.Declaring.{alike, declares-more, stops-first, stops-second}
 use Rattle.p3_sumcheck.proofs.pattern.declare.Goals as goal
 

@@ -1,7 +1,5 @@
-use Rattle.std.proofs.Common.{◌≡◌, ◌++◌, false}
-use Rattle.p3_challenger.specs.Rounds.{steps_of_rounds}
-use Rattle.p3_challenger.specs.Interactions.{step_of}
-use Rattle.std.proofs.Common.{[], ◌∷◌}
+use Rattle.std.proofs.{Common.{◌≡◌, ◌++◌, false}, Common.{[], ◌∷◌}}
+use Rattle.p3_challenger.specs.{Rounds.steps_of_rounds, Interactions.step_of}
 use Rattle.p3_sumcheck.proofs.pattern.declare.Given as goal
 
 -- the steps of the rounds so far are recorded

@@ -1,8 +1,6 @@
-use Rattle.std.proofs.Common.{ap, length, arith, refl}
-use Rattle.std.proofs.lemmas.Result.{err_from_is_err_and}
+use Rattle.std.proofs.{Common.{ap, length, arith, refl}, lemmas.Result.err_from_is_err_and}
 use Rattle.p3_challenger.specs.Drivers.{proving_of}
-use Rattle.p3_sumcheck.proofs.Folding.{folded-half}
-use Rattle.p3_sumcheck.proofs.Over.{over}
+use Rattle.p3_sumcheck.proofs.{Folding.folded-half, Over.over}
 use Rattle.p3_sumcheck.proofs.Sending.{own_refusal, passes, sends-end, sends-more, sends-none, stops-after, stops-at}
 use Rattle.p3_sumcheck.proofs.prover.prove.Goals as goal
 

@@ -1,7 +1,6 @@
 use Rattle.std.proofs.Common.{length}
 use Rattle.p3_challenger.specs.Drivers.{proving_of}
-use Rattle.p3_sumcheck.proofs.Over.{over}
-use Rattle.p3_sumcheck.proofs.Sending.{Sends}
+use Rattle.p3_sumcheck.proofs.{Over.over, Sending.Sends}
 use Rattle.p3_sumcheck.proofs.prover.prove.Given as goal
 
 -- the rounds so far are sent, and this table is left

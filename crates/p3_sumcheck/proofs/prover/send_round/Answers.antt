@@ -1,9 +1,6 @@
-use Rattle.std.proofs.Common.{◌∷◌, [], inr, refl}
-use Rattle.std.proofs.lemmas.Result.{err_from_is_err_and}
+use Rattle.std.proofs.{Common.{◌∷◌, [], inr, refl}, lemmas.Result.err_from_is_err_and}
 use Rattle.p3_challenger.specs.Drivers.{proving_of}
-use Rattle.p3_sumcheck.specs.Sumchecks.{sent_pair}
-use Rattle.p3_sumcheck.proofs.Over.{over}
-use Rattle.p3_sumcheck.proofs.Sending.{round-written, writes-given}
+use Rattle.p3_sumcheck.{specs.Sumchecks.sent_pair, proofs.Over.over, proofs.Sending.{round-written, writes-given}}
 use Rattle.p3_sumcheck.proofs.prover.send_round.Goals as goal
 
 pub returns-clause-ok : goal.returns-clause-ok

@@ -1,6 +1,5 @@
 use Rattle.std.proofs.Common.{◌∙◌, ap}
-use Rattle.p3_sumcheck.specs.Tables.{total}
-use Rattle.p3_sumcheck.proofs.Folding.{taken-folded, front-half, back-half}
+use Rattle.p3_sumcheck.{specs.Tables.total, proofs.Folding.{taken-folded, front-half, back-half}}
 use Rattle.p3_sumcheck.proofs.table.fold_halves.Goals as goal
 
 pub returns-clause-folded : goal.returns-clause-folded

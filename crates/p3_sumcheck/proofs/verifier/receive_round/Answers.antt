@@ -1,5 +1,4 @@
-use Rattle.std.proofs.Common.{inr, refl, rules, subst}
-use Rattle.std.proofs.lemmas.Result.{err_from_is_err_and}
+use Rattle.std.proofs.{Common.{inr, refl, rules, subst}, lemmas.Result.err_from_is_err_and}
 use Rattle.p3_challenger.specs.Reading.{AreBytes}
 use Rattle.p3_sumcheck.proofs.Reading.{pair-read, round-read}
 use Rattle.p3_sumcheck.proofs.verifier.receive_round.Goals as goal

@@ -1,5 +1,4 @@
-use Rattle.std.proofs.Common.{◌≡◌, arith, refl}
-use Rattle.std.proofs.lemmas.Result.{err_from_is_err_and}
+use Rattle.std.proofs.{Common.{◌≡◌, arith, refl}, lemmas.Result.err_from_is_err_and}
 use Rattle.p3_sumcheck.proofs.Outcomes.{reaches-more, reaches-none, refuses-at, refuses-room}
 use Rattle.p3_sumcheck.proofs.verifier.receive_rounds.Goals as goal
 

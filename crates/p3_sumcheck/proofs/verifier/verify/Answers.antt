@@ -1,6 +1,5 @@
 use Rattle.std.proofs.Common.{◌∷◌, []}
-use Rattle.p3_sumcheck.proofs.Outcomes.{complete, disagrees, outcome, passed, sound}
-use Rattle.p3_sumcheck.proofs.Refusing.{faults}
+use Rattle.p3_sumcheck.proofs.{Outcomes.{complete, disagrees, outcome, passed, sound}, Refusing.faults}
 use Rattle.p3_sumcheck.proofs.verifier.verify.Goals as goal
 
 pub returns-clause-only : goal.returns-clause-only
