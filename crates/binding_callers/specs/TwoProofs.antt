@@ -1,13 +1,7 @@
 -- Two accepted proofs of one script.
 use Rattle.std.specs.Prelude.{◌≡◌, ℕ, List}
-use Rattle.p3_challenger.specs.AnswersBound.{AgreeButHints}
-use Rattle.p3_challenger.specs.Fronts.{Run, symbols}
-use Rattle.p3_challenger.specs.Rules.{Rules}
-use Rattle.p3_challenger.specs.Scripts.{play_of}
-use Rattle.p3_challenger.specs.Step.{Step}
-use Rattle.p3_challenger.specs.Verdicts.{with_steps}
-use Rattle.p3_challenger.specs.Verified.{Verified}
-use Rattle.p3_challenger.specs.VerifierAnswers.{IsVerifiedScript}
+use Rattle.p3_challenger.specs.{AnswersBound.AgreeButHints, Fronts.{Run, symbols}, Rules.Rules, Scripts.play_of}
+use Rattle.p3_challenger.specs.{Step.Step, Verdicts.with_steps, Verified.Verified, VerifierAnswers.IsVerifiedScript}
 
 -- Both are accepted, and where their runs fed the same symbols, the answers agree but for hints.
 pub record AreTwoProofs {Su F EF U O C K Ac D G It S Symbol : Type 0} (rules : Rules S Symbol It F EF O Ac)

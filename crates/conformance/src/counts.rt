@@ -1,5 +1,4 @@
 // Counts of lists, and how many bits a number takes.
-ghost use Rattle.std.specs.Prelude.{◌≤◌};
 
 use anyhow::{Result, bail};
 use conformance_calls::replay::Replayed;

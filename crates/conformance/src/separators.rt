@@ -1,5 +1,4 @@
 // What binds a transcript to a protocol, and the seed that it gives a challenger.
-ghost use Rattle.std.specs.Prelude.{◌≤◌, length};
 
 use anyhow::{Result, bail};
 use conformance_calls::replay::{Replayed, first_difference};

@@ -1,11 +1,9 @@
 -- How a digest lies in memory: as the array of its values does.
-use Rattle.std.proofs.Common.{◌≡◌, ℕ, ◌+◌, ◌-◌, ◌*◌, ◌%◌, ◌<◌, ap, sym, subst, ◌∙◌}
-use Rattle.std.proofs.Math.Nat.{max-eq_left}
+use Rattle.std.proofs.{Common.{◌≡◌, ℕ, ◌+◌, ◌-◌, ◌*◌, ◌%◌, ◌<◌, ap, sym, subst, ◌∙◌}, Math.Nat.max-eq_left}
 use Prim.Native.Nat.{max}
 use native.Mathlib.Nat.{mod_self, add-zero, zero-add, sub-zero}
 use mir.Syntax.{Ty}
-use prog.Memory.{size, align, up}
-use prog.Align.{Dv, dv→, dv_zero, dv_one, dv_mul, align_pos, align_size}
+use prog.{Memory.{size, align, up}, Align.{Dv, dv→, dv_zero, dv_one, dv_mul, align_pos, align_size}}
 
 -- a multiple is its own next multiple
 up-multiple : (k n : ℕ) → Dv k n → up k n ≡ n

@@ -115,8 +115,7 @@ trait Counts<const W: usize, const S: usize>: Copy {
 struct Listed;
 
 impl<K: Counts<W, S>, const W: usize, const S: usize> ByteCandidates<W, S> for LowBytes<K> {
-    ghost use Rattle.std.specs.Prelude.{take, nat_eq, bit_and, slice_index};
-    ghost use Rattle.std.specs.Int.{to_le_bytes, w64};
+    ghost use Rattle.std.specs.{Prelude.{take, nat_eq, bit_and, slice_index}, Int.{to_le_bytes, w64}};
 
     ghost encoded = { λ _ candidate. take W (to_le_bytes w64 candidate) };
 

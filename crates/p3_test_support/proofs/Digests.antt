@@ -1,9 +1,7 @@
 -- Sums of bytes, taken one byte at a time, and the places of a digest.
 use Rattle.std.proofs.Common.{◌≡◌, refl, map, ℕ, ◌+◌, ◌%◌, ◌<◌, List, length, take, slice_index_or, ap, sym, ◌∙◌}
-use Rattle.std.specs.List.{range_with_len, sum}
+use Rattle.std.{specs.List.{range_with_len, sum}, proofs.Math.Nat.mod-add-mod, proofs.lemmas.List.Sums.sum_by_more}
 use Rattle.p3_test_support.specs.LengthHasher.{digest_of_length}
-use Rattle.std.proofs.Math.Nat.{mod-add-mod}
-use Rattle.std.proofs.lemmas.List.Sums.{sum_by_more}
 
 -- one more byte
 pub sum_more : (bytes : List ℕ) (i d : ℕ) → i < length bytes →

@@ -7,8 +7,7 @@ use Rattle.p3_challenger_core.specs.Segments.{Call, observe, observe_empty_array
 use Rattle.p3_challenger_core.specs.Segments.{run_calls, run_calls_to_digest, run_segments, run_segments_to_digest}
 use Rattle.p3_sponge.specs.Outputs.{stepped, step_queries, outputs_from}
 use Rattle.p3_sponge.specs.SpongeSegments.{absorbed_blocks, block_queries}
-use Rattle.p3_duplex.specs.DuplexCalls.{DuplexSponge, fresh, duplex_by_calls}
-use Rattle.p3_duplex.specs.DuplexSegments.{duplex_by_segments}
+use Rattle.p3_duplex.specs.{DuplexCalls.{DuplexSponge, fresh, duplex_by_calls}, DuplexSegments.duplex_by_segments}
 
 abbrev start : DuplexSponge F257
 start = fresh residues 3

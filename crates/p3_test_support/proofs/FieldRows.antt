@@ -1,12 +1,10 @@
 -- Worked rows on elements of fields, computed on the definitions.
-use Rattle.std.proofs.Common.{◌≡◌, ◌%◌, [], ◌∷◌, Ok, Err, refl}
-use Rattle.std.specs.List.{flat_map}
+use Rattle.std.{proofs.Common.{◌≡◌, ◌%◌, [], ◌∷◌, Ok, Err, refl}, specs.List.flat_map}
+use Rattle.p3_fs_core.specs.{BigEndian.big_endian, Packing.{packed, first_chunks}}
 use Rattle.p3_field.specs.BabyBearResidues as baby_bear
 use Rattle.p3_field.specs.F257Residues as f257
-use Rattle.p3_fs_core.specs.BigEndian.{big_endian}
 use Rattle.p3_fs_core.specs.Scalar as scalar
 use Rattle.p3_codecs.specs.Extension as extension
-use Rattle.p3_fs_core.specs.Packing.{packed, first_chunks}
 
 -- 78 00 00 00 is the greatest element of the field of 31 bits, 78 00 00 01 none, and three bytes are too few
 greatest : scalar.read baby_bear.residues 4 (0x78 ∷ 0 ∷ 0 ∷ 0 ∷ []) ≡ Ok (baby_bear.residues.of 2013265920, [])

@@ -1,10 +1,8 @@
 -- Worked rows, computed on the definitions: the places of a digest are the length of the message plus 0, 1, ..
-use Rattle.std.proofs.Common.{◌≡◌, ℕ, List, [], ◌∷◌, replicate, refl, ap}
-use Rattle.std.specs.List.{range_with_len}
+use Rattle.std.{proofs.Common.{◌≡◌, ℕ, List, [], ◌∷◌, replicate, refl, ap}, specs.List.range_with_len}
 use Rattle.p3_challenger_core.specs.Segments.{Call, observe, observe_empty_array, draw, Run, Segment, IsCutOf}
 use Rattle.p3_challenger_core.specs.Segments.{segments, run_calls, run_calls_to_digest, run_segments}
-use Rattle.p3_challenger_core.specs.Segments.{run_segments_to_digest}
-use Rattle.p3_challenger_core.specs.SegmentLaws.{cut-only}
+use Rattle.p3_challenger_core.specs.{Segments.run_segments_to_digest, SegmentLaws.cut-only}
 use Rattle.p3_sponge.specs.Outputs.{stepped, step_queries, outputs_from}
 use Rattle.p3_hash_challenger.specs.HashCalls.{HashFunction, HashSponge, with_pending, hash_by_calls}
 use Rattle.p3_hash_challenger.specs.HashSegments.{hash_by_segments}

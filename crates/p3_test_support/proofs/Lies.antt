@@ -4,17 +4,12 @@ use Rattle.std.proofs.Common.{Bool, true, false, Ok, refl, lit<, inl, inr, arith
 use Rattle.p3_symmetric.specs.Digests.{IsDigest}
 use Rattle.p3_field_core.specs.Residues.{Residues}
 use Rattle.p3_challenger_core.specs.Reading.{IsByte, AreBytes, IsPrefixCodeOn, OneBegins, IsPrefixFree}
-use Rattle.p3_challenger_core.specs.Sponge.{IsFed, after_steps}
-use Rattle.p3_challenger_core.specs.Observation.{Observation, IsObservation}
-use Rattle.p3_challenger_core.specs.Sampling.{Sampling, IsSampling}
-use Rattle.p3_challenger_core.specs.declared.error.ChallengerError.{ChallengerError}
+use Rattle.p3_challenger_core.specs.{Sponge.{IsFed, after_steps}, Observation.{Observation, IsObservation}}
+use Rattle.p3_challenger_core.specs.{Sampling.{Sampling, IsSampling}, declared.error.ChallengerError.ChallengerError}
 use Rattle.p3_challenger_core.specs.declared.error.ChallengerError.TheVariants.{OutOfMemory, DrawLimit, NoWitness, TooLong}
-use Rattle.p3_grinding.specs.UniformDraws.{UniformDraw, IsUniformDraw}
-use Rattle.p3_grinding.specs.Checks.{passed, IsLeast, RefusesSearch}
-use Rattle.p3_fs_core.specs.Alphabet.{AreItems}
-use Rattle.p3_fs_core.specs.Encoding.{Encoding, IsEncoding}
-use Rattle.p3_driver_core.specs.Effects.{Effect}
-use Rattle.p3_driver_core.specs.Feeding.{Feeds, OnlyDraws}
+use Rattle.p3_grinding.specs.{UniformDraws.{UniformDraw, IsUniformDraw}, Checks.{passed, IsLeast, RefusesSearch}}
+use Rattle.p3_fs_core.specs.{Alphabet.AreItems, Encoding.{Encoding, IsEncoding}}
+use Rattle.p3_driver_core.specs.{Effects.Effect, Feeding.{Feeds, OnlyDraws}}
 
 heads : (x y : ℕ) (xs ys : List ℕ) → x ∷ xs ≡ y ∷ ys → x ≡ y
 heads x y xs ys e = cc

@@ -6,10 +6,10 @@ use Rattle.p3_challenger_core.specs.Segments.{Call, observe, observe_empty_array
 use Rattle.p3_small_primes.specs.F257Residues.{F257, residues}
 use Rattle.p3_read_back.specs.Queries.{observed_values, CollideAtSomePlace, ReadsBack}
 use Rattle.p3_hash_challenger.specs.HashCalls.{HashRun, with_pending, hash_by_calls}
-use Rattle.p3_hash_challenger.specs.HashReadBack as hash
 use Rattle.p3_duplex.specs.DuplexCalls.{DuplexRun, fresh, duplex_by_calls}
-use Rattle.p3_duplex.specs.DuplexReadBack as duplex
 use Rattle.p3_test_support.specs.ReadBackWorlds.{by_length, turn, element_of}
+use Rattle.p3_hash_challenger.specs.HashReadBack as hash
+use Rattle.p3_duplex.specs.DuplexReadBack as duplex
 
 -- ---- a hash function of lengths, with 0, 1, 2, 3 pending at the start
 

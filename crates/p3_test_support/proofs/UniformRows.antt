@@ -3,19 +3,14 @@
 -- c).
 use Rattle.std.proofs.Common.{◌≡◌, ℕ, Bool, true, false, List, [], ◌∷◌, Option, Some, None, refl}
 use Rattle.p3_field_core.specs.Residues.{Residues}
-use Rattle.p3_small_primes.specs.BabyBearResidues as baby_bear
 use Rattle.p3_small_primes.specs.BabyBearResidues.{BabyBear}
-use Rattle.p3_small_primes.specs.F257Residues as f257
-use Rattle.p3_small_primes.specs.F257Residues.{F257}
 use Rattle.p3_symmetric.specs.Turn.{turned}
-use Rattle.p3_challenger_core.specs.Observation.{unrefused_observe, observed_all}
-use Rattle.p3_challenger_core.specs.Sampling.{Sampling}
-use Rattle.p3_grinding.specs.Candidates.{first_accepted, after_first_accepted}
-use Rattle.p3_grinding.specs.UniformDraws.{UniformDraw}
+use Rattle.p3_challenger_core.specs.Observation.{observed_all}
+use Rattle.p3_grinding.specs.{Candidates.{first_accepted, after_first_accepted}, UniformDraws.UniformDraw}
 use Rattle.p3_grinding.specs.declared.error.ResamplingError.{ResamplingError}
-use Rattle.p3_duplex.specs.DuplexCalls.{fresh}
-use Rattle.p3_duplex.specs.DuplexState.{DuplexState, observed, sampled}
-use Rattle.p3_duplex.specs.DuplexUniform.{uniform_bits}
+use Rattle.p3_duplex.specs.{DuplexCalls.fresh, DuplexState.{DuplexState, observed, sampled}, DuplexUniform.uniform_bits}
+use Rattle.p3_small_primes.specs.BabyBearResidues as baby_bear
+use Rattle.p3_small_primes.specs.F257Residues as f257
 
 -- a challenger, by the number of places that its permutation turns
 abbrev Challenger : Type 0 → Type 0

@@ -1,8 +1,6 @@
 -- A challenger that keeps what it is fed.
-use Rattle.std.proofs.Common.{◌≡◌, List, [], ◌∷◌, ◌++◌, inl, refl, append_assoc}
-use Rattle.std.proofs.lemmas.List.{append-nil}
-use Rattle.p3_challenger_core.specs.Sponge.{IsNonEmpty}
-use Rattle.p3_challenger_core.specs.Observation.{Observation, IsObservation, LeavesInCalls}
+use Rattle.std.proofs.{Common.{◌≡◌, List, [], ◌∷◌, ◌++◌, inl, refl, append_assoc}, lemmas.List.append-nil}
+use Rattle.p3_challenger_core.specs.{Sponge.IsNonEmpty, Observation.{Observation, IsObservation, LeavesInCalls}}
 use Rattle.p3_challenger_core.specs.ObservationLaws.{exact-observation, unchanged-front}
 
 abbrev pub of_value : {T : Type 0} → Observation (List T) T T

@@ -1,7 +1,6 @@
 -- Draws from a list of what is still to be drawn.
 use Rattle.std.specs.Prelude.{◌≡◌, List, [], ◌∷◌, Option, Some, None, refl}
-use Rattle.p3_challenger_core.specs.Sampling.{IsSampling}
-use Rattle.p3_challenger_core.specs.SamplingLaws.{one_step}
+use Rattle.p3_challenger_core.specs.{Sampling.IsSampling, SamplingLaws.one_step}
 
 -- the next draw, if one is left
 abbrev pub first_of : {T : Type 0} → List T → Option T

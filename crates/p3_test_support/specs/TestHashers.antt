@@ -1,7 +1,6 @@
 -- A hash function for tests, of no strength at all. It is laid out as the one of lengths that the
 -- worked rows use: its digest counts on from a first byte.
-use Rattle.std.specs.Prelude.{ℕ, ◌%◌, List}
-use Rattle.std.specs.List.{sum}
+use Rattle.std.specs.{Prelude.{ℕ, ◌%◌, List}, List.sum}
 use Rattle.p3_test_support.specs.LengthHasher.{digest_of_length}
 
 -- the first byte is the sum of the bytes of the message

@@ -1,6 +1,6 @@
 //! Two challengers whose hash function, or permutation, has no strength, and what the clauses of `new` say of them:
 //! other values were observed, all ends alike, and so there is a collision.
-ghost use Rattle.std.specs.Prelude.{ℕ, List, [], ◌∷◌, ◌++◌, map};
+ghost use Rattle.std.specs.Prelude.{[], ◌∷◌, ◌++◌, map};
 ghost use Rattle.p3_small_primes.specs.F257Residues.{residues};
 ghost use Rattle.p3_read_back.specs.Queries.{CollideAtSomePlace};
 ghost use Rattle.p3_hash_challenger.specs.HashReadBack as hash_read_back;

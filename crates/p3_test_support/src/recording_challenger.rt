@@ -37,9 +37,7 @@ impl<T> RecordingChallenger<T> {
 }
 
 impl<T: Copy> Sponge for RecordingChallenger<T> {
-    ghost use Rattle.std.specs.Prelude.{◌++◌};
-    ghost use Rattle.std.proofs.Common.{append_assoc};
-    ghost use Rattle.std.proofs.lemmas.List.{append-nil};
+    ghost use Rattle.std.{specs.Prelude.◌++◌, proofs.Common.append_assoc, proofs.lemmas.List.append-nil};
 
     type State = Self;
 

@@ -1,5 +1,4 @@
-ghost use Rattle.std.specs.Prelude.{◌≡◌, ◌%◌, [], length, replicate, IfOk};
-ghost use Rattle.std.specs.List.{sum};
+ghost use Rattle.std.specs.{Prelude.{◌≡◌, ◌%◌, [], length, replicate, IfOk}, List.sum};
 ghost use Rattle.p3_test_support.specs.LengthHasher.{digest_of_length};
 
 use p3_hash_challenger::HashChallenger;
@@ -15,8 +14,7 @@ pub struct LengthHasher;
 pub struct SumHasher;
 
 impl CryptographicHasher<u8, [u8; 32]> for LengthHasher {
-    ghost use Rattle.std.specs.Prelude.{refl};
-    ghost use Rattle.std.proofs.Common.{lit<};
+    ghost use Rattle.std.{specs.Prelude.refl, proofs.Common.lit<};
     ghost use Rattle.p3_test_support.specs.LengthHasher.{length_digest};
 
     const LANES: usize = 4;
@@ -37,8 +35,7 @@ impl CryptographicHasher<u8, [u8; 32]> for LengthHasher {
 }
 
 impl CryptographicHasher<u8, [u8; 32]> for SumHasher {
-    ghost use Rattle.std.specs.Prelude.{refl};
-    ghost use Rattle.std.proofs.Common.{lit<};
+    ghost use Rattle.std.{specs.Prelude.refl, proofs.Common.lit<};
     ghost use Rattle.p3_test_support.specs.TestHashers.{sum_digest};
 
     const LANES: usize = 1;

@@ -1,8 +1,6 @@
 // One step of a script by itself, and whether it may be played so.
 ghost use Rattle.std.specs.Prelude.{◌≡◌, [], ◌∷◌, IfOk, IfSome, IsTrue};
-ghost use Rattle.p3_challenger.specs.Scripts.{play_of};
-ghost use Rattle.p3_challenger.specs.Sending.{value_given};
-ghost use Rattle.p3_challenger.specs.Stepping.{IsCarriedTo};
+ghost use Rattle.p3_challenger.specs.{Scripts.play_of, Sending.value_given, Stepping.IsCarriedTo};
 
 use anyhow::{Result, bail};
 use p3_challenger::fs::script::{Meaning, Sent, Step, Suite, admitted, sent_matches};

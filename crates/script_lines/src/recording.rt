@@ -79,21 +79,14 @@ fn parts<S: World>(step: &Step<S>) -> (Kind, Label, Length, Type) {
         Step::HintBounded { label, max } => (Hint, *label, Bounded(*max), Bytes),
         Step::PublicScalar { label, .. } => (Public, *label, Scalar, Scalars),
         Step::PublicScalars { label, values } => { (Public, *label, Fixed(values.len()), Scalars) }
-        Step::PublicScalarsBounded { label, max, .. } => {
-            (Public, *label, Bounded(*max), Scalars)
-        }
+        Step::PublicScalarsBounded { label, max, .. } => (Public, *label, Bounded(*max), Scalars),
         Step::Scalar { label } => (Message, *label, Scalar, Scalars),
         Step::Scalars { label, n } => (Message, *label, Fixed(*n), Scalars),
         Step::ScalarsBounded { label, max } => (Message, *label, Bounded(*max), Scalars),
-        Step::Extension { label } | Step::ObserveExtension { label, .. } => {
-            (Message, *label, Scalar, Extensions)
-        }
-        Step::ObserveExtensions { label, values } => {
-            (Message, *label, Fixed(values.len()), Extensions)
-        }
-        Step::ObserveExtensionsBounded { label, max, .. } => {
-            (Message, *label, Bounded(*max), Extensions)
-        }
+        Step::Extension { label } => extensions(label, Scalar),
+        Step::ObserveExtension { label, .. } => extensions(label, Scalar),
+        Step::ObserveExtensions { label, values } => extensions(label, Fixed(values.len())),
+        Step::ObserveExtensionsBounded { label, max, .. } => extensions(label, Bounded(*max)),
         Step::Opaque { label, .. } => (Message, *label, Scalar, Opaque),
         Step::ChallengeScalar { label } => (Challenge, *label, Scalar, Scalars),
         Step::ChallengeScalars { label, n } => (Challenge, *label, Fixed(*n), Scalars),
@@ -114,4 +107,9 @@ fn parts<S: World>(step: &Step<S>) -> (Kind, Label, Length, Type) {
             (Pow, *label, Fixed(*bits), Scalars)
         }
     }
+}
+
+// A message of extension elements.
+fn extensions(label: &Label, length: Length) -> (Kind, Label, Length, Type) {
+    (Message, *label, length, Extensions)
 }

@@ -1,11 +1,8 @@
 // A protocol on either side, by one call.
 ghost use Rattle.std.specs.Prelude.{◌≡◌, length, IsOk, IfOk, IfErr};
-ghost use Rattle.p3_challenger.specs.ProverAnswers.{IsProvedScript, IsRefusedScript};
-ghost use Rattle.p3_challenger.specs.Provings.{AreHanded};
-ghost use Rattle.p3_challenger.specs.Runs.{AreAdmitted, carried_count};
-ghost use Rattle.p3_challenger.specs.Scripts.{play_of, values_sent};
-ghost use Rattle.p3_challenger.specs.Verdicts.{script_of};
-ghost use Rattle.p3_challenger.specs.VerifierAnswers.{IsVerifiedScript, IsRefusedProof};
+ghost use Rattle.p3_challenger.specs.{ProverAnswers.{IsProvedScript, IsRefusedScript}, Provings.AreHanded};
+ghost use Rattle.p3_challenger.specs.{Runs.{AreAdmitted, carried_count}, Scripts.{play_of, values_sent}};
+ghost use Rattle.p3_challenger.specs.{Verdicts.script_of, VerifierAnswers.{IsVerifiedScript, IsRefusedProof}};
 
 use anyhow::{Result, bail};
 use p3_challenger::Sponge;

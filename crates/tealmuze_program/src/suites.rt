@@ -24,8 +24,7 @@ pub trait HashesBytes: World {
 pub struct GoldilocksBytes;
 
 impl Suite for GoldilocksBytes {
-    ghost use Rattle.std.specs.Prelude.{◌≡◌, length};
-    ghost use Rattle.std.specs.List.{each_same};
+    ghost use Rattle.std.specs.{Prelude.{◌≡◌, length}, List.each_same};
 
     type Field = Goldilocks;
 

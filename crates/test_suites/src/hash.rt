@@ -12,8 +12,7 @@ use p3_symmetric::Sha256Hasher;
 pub struct HashSuite;
 
 impl Suite for HashSuite {
-    ghost use Rattle.std.specs.Prelude.{◌≡◌, length};
-    ghost use Rattle.std.specs.List.{each_same};
+    ghost use Rattle.std.specs.{Prelude.{◌≡◌, length}, List.each_same};
 
     type Field = BabyBear;
 

@@ -12,11 +12,8 @@ use p3_symmetric::{Hash, Sha256Hasher};
 pub struct Serializing64Suite;
 
 impl Suite for Serializing64Suite {
-    ghost use Rattle.std.proofs.Common.{lit<};
-    ghost use Rattle.std.specs.List.{each_same};
-    ghost use Rattle.p3_challenger.specs.Bytes.{AreWords};
-    ghost use Rattle.p3_challenger.specs.HashValueLaws.{values-injective};
-    ghost use Rattle.p3_challenger.specs.HashValues.{values_of};
+    ghost use Rattle.std.{proofs.Common.lit<, specs.List.each_same};
+    ghost use Rattle.p3_challenger.specs.{Bytes.AreWords, HashValueLaws.values-injective, HashValues.values_of};
 
     type Field = Goldilocks;
 

@@ -12,8 +12,7 @@ use std::test::Fail;
 struct OneByte(u8);
 
 impl ByteCandidates<1, 1> for OneByte {
-    ghost use Rattle.std.specs.Prelude.{nat_eq, ◌%◌, [], ◌∷◌, slice_index};
-    ghost use Rattle.std.proofs.Common.{lit<};
+    ghost use Rattle.std.{specs.Prelude.{nat_eq, ◌%◌, [], ◌∷◌, slice_index}, proofs.Common.lit<};
 
     ghost encoded = { λ _ candidate. candidate % 256 ∷ [] };
 
@@ -37,8 +36,7 @@ impl ByteCandidates<1, 1> for OneByte {
 struct NoByte(u8);
 
 impl ByteCandidates<0, 1> for NoByte {
-    ghost use Rattle.std.specs.Prelude.{nat_eq, [], slice_index};
-    ghost use Rattle.std.proofs.Common.{lit<};
+    ghost use Rattle.std.{specs.Prelude.{nat_eq, [], slice_index}, proofs.Common.lit<};
 
     ghost encoded = { λ _ _. [] };
 

@@ -67,8 +67,7 @@ pub struct CountedSum<C> {
 
 // (the toolchain has no contract for a constant of a type with a lifetime, so the counter is a type)
 impl<C: Counter> CryptographicHasher<u8, [u8; 32]> for CountedSum<C> {
-    ghost use Rattle.std.specs.Prelude.{refl};
-    ghost use Rattle.std.proofs.Common.{lit<};
+    ghost use Rattle.std.{specs.Prelude.refl, proofs.Common.lit<};
     ghost use Rattle.p3_test_support.specs.TestHashers.{sum_digest};
 
     const LANES: usize = 4;

@@ -1,7 +1,7 @@
 -- Lemmas on the arguments of a command line.
 use Rattle.std.proofs.Common.{◌≡◌, ℕ, zero, suc, ◌<◌, ◌≤◌, List, [], ◌∷◌, length, map, get_or, Bor, false, nat_eq, Option, Some, None, IfNone, refl, sym, ◌∙◌, arith}
-use mathlib.Core.Bool.{true≢false}
 use Rattle.std.specs.Cmp.Lexicographic.{pointwise, bytes_decides}
+use mathlib.Core.Bool.{true≢false}
 use Rattle.p3_challenger.specs.BabyBearResidues.{BabyBear}
 use Rattle.transcript_program.specs.Arguments.{IsScalarText, IsOneScalar, AreScalarTexts, IsListText, IsOneList}
 

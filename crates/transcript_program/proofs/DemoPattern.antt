@@ -1,8 +1,6 @@
 -- The steps of the demo protocol are a pattern.
 use Rattle.std.proofs.Common.{[], refl, inl}
-use Rattle.p3_challenger.specs.Hierarchy.TheVariants.{Begin, End}
-use Rattle.p3_challenger.specs.Kind.TheVariants.{Protocol}
-use Rattle.p3_challenger.specs.Steps.{Closes}
+use Rattle.p3_challenger.specs.{Hierarchy.TheVariants.{Begin, End}, Kind.TheVariants.Protocol, Steps.Closes}
 use Rattle.p3_challenger.specs.PatternGrammar.{IsPattern, nothing, leaf, container}
 use Rattle.transcript_program.specs.Demo as demo
 

@@ -1,11 +1,9 @@
 -- Lemmas on the first path.
 use Rattle.std.proofs.Common.{◌≡◌, ℕ, ◌==◌, List, length, drop, take, Bool, true, false, if◌then◌else◌, nat_lt, Ok}
 use Rattle.std.proofs.Common.{Err, sym, ap, ◌∙◌}
-use Rattle.p3_challenger.specs.BigEndian.{big_endian}
-use Rattle.p3_challenger.specs.Scalar.{not_enough_bytes, outside_range}
-use Rattle.transcript_program.specs.Scalar.{order, width, read}
-use Rattle.p3_challenger.specs.Errors.{Decodes}
+use Rattle.p3_challenger.specs.{BigEndian.big_endian, Scalar.{not_enough_bytes, outside_range}, Errors.Decodes}
 use Rattle.p3_challenger.specs.BabyBearResidues.{BabyBear, residues}
+use Rattle.transcript_program.specs.Scalar.{order, width, read}
 use Rattle.transcript_program.specs.First.{read_whole, nothing_after, too_short, trailing_bytes}
 
 whole_by : (short canonical : Bool) (y : BabyBear) (rest : List ℕ) (value : BabyBear) → length rest ≡ 0 →

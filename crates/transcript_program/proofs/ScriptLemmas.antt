@@ -1,11 +1,8 @@
 -- Lemmas on the demo script.
 use Rattle.std.proofs.Common.{◌≡◌, ◌≤◌, ℕ, zero, suc, ◌<◌, List, [], ◌∷◌, length, map, get_or, lit<, lit≤, subst, sym, arith}
-use Rattle.p3_challenger.specs.BitLaws.{greatest-is}
-use Rattle.p3_challenger.specs.Bits.{most_bits_of}
-use Rattle.p3_challenger.specs.BabyBearResidues.{BabyBear}
+use Rattle.p3_challenger.specs.{BitLaws.greatest-is, Bits.most_bits_of, BabyBearResidues.BabyBear}
+use Rattle.transcript_program.specs.{DemoTypes.{DemoValue, DemoDrawn}, Report.report}
 use Rattle.p3_challenger.specs.Values as value
-use Rattle.transcript_program.specs.DemoTypes.{DemoValue, DemoDrawn}
-use Rattle.transcript_program.specs.Report.{report}
 
 -- a draw from the field of order 15 * 2 ^ 27 + 1 has at most 30 bits
 most : most_bits_of 2013265921 ≡ 30

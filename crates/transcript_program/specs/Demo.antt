@@ -2,15 +2,11 @@
 use Rattle.std.specs.Prelude.{ℕ, List, [], ◌∷◌, ◌++◌, codes}
 use Rattle.hex.specs.Hex.{encode_lower}
 use Rattle.sha2.specs.Sha256.{sha256}
-use Rattle.p3_challenger.specs.Hierarchy.{Hierarchy}
-use Rattle.p3_challenger.specs.Hierarchy.TheVariants.{Atomic, Begin, End}
-use Rattle.p3_challenger.specs.Kind.{Kind}
-use Rattle.p3_challenger.specs.Kind.TheVariants.{Protocol, Public, Message, Hint, Challenge, Pow, Salt}
-use Rattle.p3_challenger.specs.Length.{Length}
-use Rattle.p3_challenger.specs.Length.TheVariants.{Scalar, Fixed, Bounded}
+use Rattle.p3_challenger.specs.{Hierarchy.Hierarchy, Hierarchy.TheVariants.{Atomic, Begin, End}, Kind.Kind}
+use Rattle.p3_challenger.specs.{Kind.TheVariants.{Protocol, Public, Message, Hint, Challenge, Pow, Salt}, Length.Length}
+use Rattle.p3_challenger.specs.{Length.TheVariants.{Scalar, Fixed, Bounded}, Rendering.rendering}
 use Rattle.p3_challenger.specs.TypeTag.TheVariants.{Bytes, Algebra, UniformBits}
 use Rattle.p3_challenger.specs.Steps.{Step, step_with, marker_of, alternate_text}
-use Rattle.p3_challenger.specs.Rendering.{rendering}
 
 -- the opener or the closer of the whole protocol
 abbrev pub container : Hierarchy → Step

@@ -1,25 +1,15 @@
 -- The demo protocol as a script, and what its two sides answer.
-use Rattle.std.specs.declared.alloc.Global.{Global}
-use Rattle.std.specs.Borrow.{Bor}
-use Rattle.std.specs.Prelude.{◌≡◌, ℕ, List, [], ◌∷◌, Vec, codes}
-use Rattle.p3_challenger.specs.BabyBearResidues.{BabyBear}
-use Rattle.p3_challenger.specs.HashCalls.{with_pending}
-use Rattle.p3_challenger.specs.Kind.TheVariants as kind
-use Rattle.p3_challenger.specs.PatternSteps.{steps_of}
-use Rattle.p3_challenger.specs.ProverOutcomes.{IsProved}
-use Rattle.p3_challenger.specs.Provings.{RefusesToProve, IsProverRun}
-use Rattle.p3_challenger.specs.Scripts.{play_of}
-use Rattle.p3_challenger.specs.SeparatorParts.{separator_of}
-use Rattle.p3_challenger.specs.DomainSeparator.{DomainSeparator}
-use Rattle.p3_challenger.specs.TranscriptError.{TranscriptError}
-use Rattle.p3_challenger.specs.TranscriptError.TheVariants.{OutOfMemory}
-use Rattle.p3_challenger.specs.Values as value
+use Rattle.std.specs.{declared.alloc.Global.Global, Borrow.Bor, Prelude.{◌≡◌, ℕ, List, [], ◌∷◌, Vec, codes}}
+use Rattle.p3_challenger.specs.{BabyBearResidues.BabyBear, HashCalls.with_pending, PatternSteps.steps_of}
+use Rattle.p3_challenger.specs.{ProverOutcomes.IsProved, Provings.{RefusesToProve, IsProverRun}, Scripts.play_of}
+use Rattle.p3_challenger.specs.{SeparatorParts.separator_of, DomainSeparator.DomainSeparator}
+use Rattle.p3_challenger.specs.{TranscriptError.TranscriptError, TranscriptError.TheVariants.OutOfMemory}
 use Rattle.p3_challenger.specs.Verdicts.{Accepts, RefusesProof, HasNoProof, with_steps}
-use Rattle.p3_challenger.specs.Step.TheVariants as step
-use Rattle.transcript_program.specs.Demo.{demo_steps}
+use Rattle.transcript_program.specs.{Demo.demo_steps, Report.report, declared.arguments.ToProve.ToProve}
 use Rattle.transcript_program.specs.DemoTypes.{DemoChallenger, DemoStep, DemoRules, DemoRun, DemoValue, DemoDrawn}
-use Rattle.transcript_program.specs.Report.{report}
-use Rattle.transcript_program.specs.declared.arguments.ToProve.{ToProve}
+use Rattle.p3_challenger.specs.Kind.TheVariants as kind
+use Rattle.p3_challenger.specs.Values as value
+use Rattle.p3_challenger.specs.Step.TheVariants as step
 
 -- a label, which says this
 pub record LabelOf (text : List ℕ) : Type 0 where

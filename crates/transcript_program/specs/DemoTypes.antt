@@ -1,20 +1,11 @@
 -- The types of the demo protocol.
 use Rattle.std.specs.Prelude.{ℕ}
-use Rattle.p3_challenger.specs.BabyBearResidues.{BabyBear}
-use Rattle.p3_challenger.specs.Coeffs.{Coeffs}
-use Rattle.p3_challenger.specs.Sha256Hasher.{Sha256Hasher}
-use Rattle.p3_challenger.specs.FieldUnit.{FieldUnit}
-use Rattle.p3_challenger.specs.FieldToFieldCodec.{FieldToFieldCodec}
-use Rattle.p3_challenger.specs.AcceptAll.{AcceptAll}
-use Rattle.p3_challenger.specs.Both.{Both}
-use Rattle.p3_challenger.specs.Hash.{Hash}
-use Rattle.p3_challenger.specs.HashState.{HashState}
-use Rattle.p3_challenger.specs.SerializingState.{SerializingState}
-use Rattle.p3_challenger.specs.Step as script
-use Rattle.p3_challenger.specs.Fronts.{Run}
-use Rattle.p3_challenger.specs.Rules.{Rules}
-use Rattle.p3_challenger.specs.Values.{Value, Challenge}
+use Rattle.p3_challenger.specs.{BabyBearResidues.BabyBear, Coeffs.Coeffs, Sha256Hasher.Sha256Hasher, Both.Both}
+use Rattle.p3_challenger.specs.{FieldUnit.FieldUnit, FieldToFieldCodec.FieldToFieldCodec, AcceptAll.AcceptAll}
+use Rattle.p3_challenger.specs.{Hash.Hash, HashState.HashState, SerializingState.SerializingState, Fronts.Run}
+use Rattle.p3_challenger.specs.{Rules.Rules, Values.{Value, Challenge}}
 use Rattle.transcript_program.specs.declared.script.Demo.{Demo}
+use Rattle.p3_challenger.specs.Step as script
 
 -- a challenger of scalars over the bytes of SHA-256
 abbrev pub DemoChallenger : Type 0

@@ -1,13 +1,10 @@
 -- The first path: one scalar is sent and one is drawn.
 use Rattle.std.specs.Prelude.{◌≡◌, ℕ, ◌==◌, List, length, codes, nat_lt, Option, Some, Result, Ok, Err, if◌then◌else◌}
-use Rattle.transcript_program.specs.Scalar as scalar
-use Rattle.p3_challenger.specs.HashCalls.{HashFunction}
-use Rattle.p3_challenger.specs.HashState.{HashState, observed, sampled, after_sampled}
-use Rattle.transcript_program.specs.Scalar.{width, read}
-use Rattle.p3_challenger.specs.Errors.{IsBadShape}
-use Rattle.p3_challenger.specs.BabyBearResidues.{BabyBear}
-use Rattle.p3_challenger.specs.TranscriptError.{TranscriptError}
+use Rattle.p3_challenger.specs.{HashCalls.HashFunction, HashState.{HashState, observed, sampled, after_sampled}}
+use Rattle.p3_challenger.specs.{Errors.IsBadShape, BabyBearResidues.BabyBear, TranscriptError.TranscriptError}
 use Rattle.p3_challenger.specs.TranscriptError.TheVariants.{OutOfMemory}
+use Rattle.transcript_program.specs.Scalar.{width, read}
+use Rattle.transcript_program.specs.Scalar as scalar
 
 -- the scalar that is drawn, and the challenger after it
 abbrev pub drawn_scalar : {H : Type 0} → (H → HashFunction ℕ) → HashState ℕ H → Option BabyBear

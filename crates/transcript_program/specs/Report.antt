@@ -1,6 +1,5 @@
 -- What is printed of a proof that was accepted.
-use Rattle.std.specs.Prelude.{ℕ, List, [], ◌∷◌, ◌++◌, codes, flat_map}
-use Rattle.std.specs.Fmt.{decimal}
+use Rattle.std.specs.{Prelude.{ℕ, List, [], ◌∷◌, ◌++◌, codes, flat_map}, Fmt.decimal}
 use Rattle.hex.specs.Hex.{encode_lower}
 use Rattle.p3_challenger.specs.BabyBearResidues.{BabyBear, residues}
 

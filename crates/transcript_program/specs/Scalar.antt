@@ -1,10 +1,8 @@
 -- The scalar of the first path: an element of the field of order 15 * 2 ^ 27 + 1, in four bytes.
 use Rattle.std.specs.Prelude.{ℕ, List, Option, Result}
-use Rattle.p3_challenger.specs.BabyBearResidues.{BabyBear, residues}
-use Rattle.p3_challenger.specs.Observation.{observed_all}
-use Rattle.p3_challenger.specs.Sampling.{unrefused_draw}
+use Rattle.p3_challenger.specs.{BabyBearResidues.{BabyBear, residues}, Observation.observed_all}
+use Rattle.p3_challenger.specs.{Sampling.unrefused_draw, BytesToField.drawn_bytes}
 use Rattle.p3_challenger.specs.Scalar as scalar
-use Rattle.p3_challenger.specs.BytesToField.{drawn_bytes}
 
 -- the order of the field
 abbrev pub order : ℕ

@@ -1,8 +1,7 @@
 //! The protocol that the program shows.
 
 ghost use Rattle.std.specs.Prelude.{◌≡◌, map, IfOk, IfErr};
-ghost use Rattle.p3_challenger.specs.Interactions.{step_of};
-ghost use Rattle.p3_challenger.specs.PatternSteps.{steps_of};
+ghost use Rattle.p3_challenger.specs.{Interactions.step_of, PatternSteps.steps_of};
 ghost use Rattle.transcript_program.specs.Demo.{demo_steps};
 
 use p3_challenger::fs::{

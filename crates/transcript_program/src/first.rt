@@ -1,9 +1,7 @@
 //! A transcript in two functions, without a driver: a scalar is sent, and one is drawn.
 ghost use Rattle.std.specs.Prelude.{◌≡◌, Some, IfOk, IfErr, MatchResult};
-ghost use Rattle.p3_challenger.specs.HashState.{HashState, function_of};
+ghost use Rattle.p3_challenger.specs.{HashState.{HashState, function_of}, BabyBearResidues.BabyBear, Errors.IsBadShape};
 ghost use Rattle.transcript_program.specs.Scalar.{wire};
-ghost use Rattle.p3_challenger.specs.BabyBearResidues.{BabyBear};
-ghost use Rattle.p3_challenger.specs.Errors.{IsBadShape};
 ghost use Rattle.transcript_program.specs.First.{IsRun, drawn_scalar, after_scalar, read_whole, Verifies};
 
 use p3_challenger::HashChallenger;

@@ -1,6 +1,5 @@
 //! Standard input, read to its end.
-ghost use Rattle.std.specs.Prelude.{IfOk, OnOk, IfErr, List, ℕ};
-ghost use Rattle.std.specs.Io.KnownBytes.{Consumes, IsAtEnd};
+ghost use Rattle.std.specs.{Prelude.{IfOk, OnOk, IfErr, List, ℕ}, Io.KnownBytes.{Consumes, IsAtEnd}};
 
 use std::alloc::Global;
 use std::io::{ErrorKind, Read};

@@ -1,8 +1,7 @@
 //! The demo protocol as a script, on both sides.
 ghost use Rattle.std.specs.Prelude.{◌≡◌, ◌⊎◌, IfOk, IfErr, string_bytes, List, ℕ};
-ghost use Rattle.p3_challenger.specs.Runs.{AreAdmitted, carried_count};
-ghost use Rattle.p3_challenger.specs.Scripts.{play_of, values_sent, values_received, challenges_of};
-ghost use Rattle.p3_challenger.specs.Scripts.{value_received, challenge_of};
+ghost use Rattle.p3_challenger.specs.{Runs.{AreAdmitted, carried_count}, Scripts.challenge_of};
+ghost use Rattle.p3_challenger.specs.Scripts.{play_of, values_sent, values_received, challenges_of, value_received};
 ghost use Rattle.p3_challenger.specs.Values as value;
 ghost use Rattle.p3_challenger.specs.BabyBearResidues.{BabyBear};
 ghost use Rattle.transcript_program.specs.DemoScript.{DemoLabels, demo_script, demo_challenger, IsDemoSeparator};
@@ -25,11 +24,8 @@ use std::alloc::{AllocError, Global};
 pub struct Demo;
 
 impl Suite for Demo {
-    ghost use Rattle.std.proofs.Common.{lit<};
-    ghost use Rattle.p3_challenger.specs.Reading.{AreBytes};
-    ghost use Rattle.p3_challenger.specs.HashValueLaws.{values-injective};
-    ghost use Rattle.p3_challenger.specs.HashValues.{values_of};
-    ghost use Rattle.std.specs.List.{each_same};
+    ghost use Rattle.std.{proofs.Common.lit<, specs.List.each_same};
+    ghost use Rattle.p3_challenger.specs.{Reading.AreBytes, HashValueLaws.values-injective, HashValues.values_of};
 
     type Field = BabyBear;
 

@@ -1,11 +1,7 @@
 -- A duplex challenger and a hash challenger are call by call.
 use Rattle.std.proofs.Common.{◌≡◌, ℕ, List, ◌++◌, ap}
-use Rattle.p3_challenger.specs.Residues.{Residues}
-use Rattle.p3_challenger.specs.Segments.{Call}
-use Rattle.p3_challenger.specs.CallRowLaws.{run_calls-append}
-use Rattle.p3_challenger.specs.DuplexCalls.{duplex_by_calls}
-use Rattle.p3_challenger.specs.DuplexState.{DuplexState}
-use Rattle.p3_challenger.specs.HashCalls.{HashFunction, hash_by_calls}
+use Rattle.p3_challenger.specs.{Residues.Residues, Segments.Call, CallRowLaws.run_calls-append, DuplexState.DuplexState}
+use Rattle.p3_challenger.specs.{DuplexCalls.duplex_by_calls, HashCalls.{HashFunction, hash_by_calls}}
 use Rattle.p3_challenger.specs.HashState.{HashState}
 use Rattle.transcript_read_back.specs.CallByCall.{after_calls, duplex_run, hash_run}
 

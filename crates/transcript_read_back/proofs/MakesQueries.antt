@@ -1,17 +1,11 @@
 -- Each finished run of a script is calls, and makes a query.
 use Rattle.std.proofs.Common.{List, refl}
-use Rattle.p3_challenger.specs.Reading.{AreBytes}
-use Rattle.p3_challenger.specs.Segments.{Call, Run}
-use Rattle.p3_challenger.specs.SeparatorSeed.{seed_of_separator}
-use Rattle.p3_challenger.specs.DomainSeparator.{DomainSeparator}
-use Rattle.p3_challenger.specs.Fronts.{seed}
-use Rattle.p3_challenger.specs.Rules.{Rules}
-use Rattle.p3_challenger.specs.Scripts.{play_of}
-use Rattle.p3_challenger.specs.Step as script
-use Rattle.transcript_read_back.specs.CallByCall.{IsCallByCall}
-use Rattle.transcript_read_back.specs.RunCallLaws.{run-has_calls}
+use Rattle.p3_challenger.specs.{Reading.AreBytes, Segments.{Call, Run}, SeparatorSeed.seed_of_separator, Fronts.seed}
+use Rattle.p3_challenger.specs.{DomainSeparator.DomainSeparator, Rules.Rules, Scripts.play_of}
+use Rattle.transcript_read_back.specs.{CallByCall.IsCallByCall, RunCallLaws.run-has_calls}
 use Rattle.transcript_read_back.specs.ScriptReadBack.{EachScriptMakesQueries}
 use Rattle.transcript_read_back.proofs.Steps.{FeedsAndDraws, step-exactly}
+use Rattle.p3_challenger.specs.Step as script
 
 module _ {S T M I F EF O Ac : Type 0} (Su U C K D G It St Sy : Type 0) (r : Rules S T I F EF O Ac)
     (run : S → List (Call T) → Run T M S) (fed : S → List T → S) (next : S → S) (by : IsCallByCall run fed next)

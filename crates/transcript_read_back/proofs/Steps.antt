@@ -1,30 +1,17 @@
 -- What each kind of step does to the challenger: it draws, feeds its symbols, and draws.
 use Rattle.std.proofs.Common.{◌≡◌, ℕ, zero, suc, List, [], ◌∷◌, ◌++◌, Bool, Option, Some, None, IsSome}
-use Rattle.std.proofs.Common.{length, flat_map, refl, ap, ◌∙◌}
-use Rattle.std.specs.Option.{option_map}
-use Rattle.p3_challenger.specs.Reading.{AreBytes}
-use Rattle.p3_challenger.specs.Sponge.{IsNonEmpty}
-use Rattle.p3_challenger.specs.Observation.{Observation, IsObservation, observed_all}
-use Rattle.p3_challenger.specs.Sampling.{Sampling, IsSampling, after_draws}
-use Rattle.p3_challenger.specs.SamplingLaws.{in_row-is_sampling}
-use Rattle.p3_challenger.specs.Algebras.{algebra_step}
-use Rattle.p3_challenger.specs.Alphabet.{AreItems}
-use Rattle.p3_challenger.specs.Counts.{count_bytes}
-use Rattle.p3_challenger.specs.Kind.TheVariants.{Pow}
-use Rattle.p3_challenger.specs.Length.TheVariants.{Fixed}
-use Rattle.p3_challenger.specs.FeedingLaws.{drawing_rejecting-draws}
-use Rattle.p3_challenger.specs.Working.{work_of, checking, where_passed}
-use Rattle.p3_challenger.specs.WorkingLaws.{work-feeds}
-use Rattle.p3_challenger.specs.Binding.{IsHeld}
-use Rattle.p3_challenger.specs.Plays.{giving, no_challenge}
-use Rattle.p3_challenger.specs.Rules.{Rules}
-use Rattle.p3_challenger.specs.Values.{Value}
-use Rattle.p3_challenger.specs.Values as value
-use Rattle.p3_challenger.specs.Scripts.{play_of}
-use Rattle.p3_challenger.specs.Step as script
-use Rattle.p3_challenger.specs.Step.TheVariants as step
+use Rattle.std.{proofs.Common.{length, flat_map, refl, ap, ◌∙◌}, specs.Option.option_map}
+use Rattle.p3_challenger.specs.{Reading.AreBytes, Sponge.IsNonEmpty, Sampling.{Sampling, IsSampling, after_draws}}
+use Rattle.p3_challenger.specs.{Observation.{Observation, IsObservation, observed_all}, SamplingLaws.in_row-is_sampling}
+use Rattle.p3_challenger.specs.{Algebras.algebra_step, Alphabet.AreItems, Counts.count_bytes, Kind.TheVariants.Pow}
+use Rattle.p3_challenger.specs.{Length.TheVariants.Fixed, FeedingLaws.drawing_rejecting-draws, WorkingLaws.work-feeds}
+use Rattle.p3_challenger.specs.{Working.{work_of, checking, where_passed}, Binding.IsHeld, Plays.{giving, no_challenge}}
+use Rattle.p3_challenger.specs.{Rules.Rules, Values.Value, Scripts.play_of}
 use Rattle.transcript_read_back.specs.AmidLaws.{FedExactly, ObservesExactly, fed-exactly, amid-exactly}
 use Rattle.transcript_read_back.specs.AmidLaws.{unchanged-exactly, drawn-exactly, row-exactly}
+use Rattle.p3_challenger.specs.Values as value
+use Rattle.p3_challenger.specs.Step as script
+use Rattle.p3_challenger.specs.Step.TheVariants as step
 
 -- each value is one
 abbrev pub Any : {T : Type 0} → T → Type 0

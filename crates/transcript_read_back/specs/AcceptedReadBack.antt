@@ -1,18 +1,11 @@
 -- What two accepted proofs of one script queried tells of them.
 use Rattle.std.specs.Prelude.{◌≡◌, ◌⊎◌, ℕ, List, length}
-use Rattle.p3_challenger.specs.Segments.{Call}
-use Rattle.p3_challenger.specs.Segments as segments
-use Rattle.p3_challenger.specs.Queries.{CollideAtSomePlace}
-use Rattle.p3_challenger.specs.AnswersBound.{AgreeButHints}
-use Rattle.p3_challenger.specs.Fronts.{Run}
-use Rattle.p3_challenger.specs.Rules.{Rules}
-use Rattle.p3_challenger.specs.RunsBound.{HoldsProof}
-use Rattle.p3_challenger.specs.Scripts.{play_of}
-use Rattle.p3_challenger.specs.Step as script
-use Rattle.p3_challenger.specs.Verdicts.{with_steps}
-use Rattle.p3_challenger.specs.Verified.{Verified}
-use Rattle.p3_challenger.specs.VerifierAnswers.{IsVerifiedScript}
+use Rattle.p3_challenger.specs.{Segments.Call, Queries.CollideAtSomePlace, AnswersBound.AgreeButHints, Fronts.Run}
+use Rattle.p3_challenger.specs.{Rules.Rules, RunsBound.HoldsProof, Scripts.play_of, Verdicts.with_steps}
+use Rattle.p3_challenger.specs.{Verified.Verified, VerifierAnswers.IsVerifiedScript}
 use Rattle.transcript_read_back.specs.TranscriptReadBack.{MakesQueries}
+use Rattle.p3_challenger.specs.Segments as segments
+use Rattle.p3_challenger.specs.Step as script
 
 module _ {F EF O Ac M : Type 0} (Su U C K D G It S T : Type 0) (rules : Rules S T It F EF O Ac) (state : C → S)
     (run : S → List (Call T) → segments.Run T M S) (pending : S → List T) where

@@ -1,18 +1,14 @@
 -- From what accepted proofs of one script queried to their values.
 use Rattle.std.proofs.Common.{◌≡◌, inl, inr, List, refl, sym, ap, ◌∙◌}
-use Rattle.p3_challenger.specs.Segments.{Call}
-use Rattle.p3_challenger.specs.Segments as segments
-use Rattle.p3_challenger.specs.Queries.{LeaveSamePending}
-use Rattle.p3_challenger.specs.Queries as queries
-use Rattle.p3_challenger.specs.AnswersBound.{AgreeButHints, EqualSymbolsHaveEqualValues}
-use Rattle.p3_challenger.specs.Fronts.{last, symbols}
-use Rattle.p3_challenger.specs.Rules.{Rules}
-use Rattle.p3_challenger.specs.Scripts.{play_of}
+use Rattle.p3_challenger.specs.{Segments.Call, Queries.LeaveSamePending, Fronts.{last, symbols}, Rules.Rules}
+use Rattle.p3_challenger.specs.{AnswersBound.{AgreeButHints, EqualSymbolsHaveEqualValues}, Scripts.play_of}
 use Rattle.p3_challenger.specs.Verdicts.{with_steps}
 use Rattle.transcript_read_back.specs.AcceptedReadBack.{Script, Accepted, AcceptsAndQueries, AnswersEndAlike}
 use Rattle.transcript_read_back.specs.AcceptedReadBack.{AcceptedReadBack, AcceptedReadBackOrCollide}
 use Rattle.transcript_read_back.specs.CallByCall.{IsCallByCall}
 use Rattle.transcript_read_back.specs.TranscriptReadBackLaws.{symbols-told, symbols-told_or_collide}
+use Rattle.p3_challenger.specs.Segments as segments
+use Rattle.p3_challenger.specs.Queries as queries
 
 module _ {F EF O Ac M : Type 0} (Su U C K D G It S T : Type 0) (rules : Rules S T It F EF O Ac) (state : C → S)
     (run : S → List (Call T) → segments.Run T M S) (pending : S → List T) (fed : S → List T → S) (next : S → S)

@@ -1,10 +1,8 @@
 -- A state to which symbols are fed, after some draws and before some.
 use Rattle.std.proofs.Common.{◌≡◌, ℕ, List, [], ◌∷◌, ◌++◌, append-nil, flat_map, refl, sym, ap, ◌∙◌}
-use Rattle.p3_challenger.specs.Sponge.{IsNonEmpty, IsStepsOn, after_steps}
+use Rattle.p3_challenger.specs.{Sponge.{IsNonEmpty, IsStepsOn, after_steps}, ObservationLaws.nothing-fed}
 use Rattle.p3_challenger.specs.Observation.{Observation, IsObservation, unrefused_observe, observed_all}
-use Rattle.p3_challenger.specs.ObservationLaws.{nothing-fed}
-use Rattle.p3_challenger.specs.Alphabet.{AreItems}
-use Rattle.p3_challenger.specs.Feeding.{FedAmidDraws}
+use Rattle.p3_challenger.specs.{Alphabet.AreItems, Feeding.FedAmidDraws}
 
 module _ {S Symbol : Type 0} (next : S → S) (fed : S → List Symbol → S) where
   -- exactly so

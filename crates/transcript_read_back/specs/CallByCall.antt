@@ -1,12 +1,8 @@
 -- A challenger call by call, with its whole state.
 use Rattle.std.specs.Prelude.{◌≡◌, ℕ, ◌-◌, List, [], ◌++◌, length, map, replicate, slice_get}
-use Rattle.p3_challenger.specs.Residues.{Residues}
-use Rattle.p3_challenger.specs.Sponge.{after_steps}
-use Rattle.p3_challenger.specs.Segments.{Call, observe, draw, Run}
-use Rattle.p3_challenger.specs.DuplexState.{DuplexState}
+use Rattle.p3_challenger.specs.{Residues.Residues, Sponge.after_steps, Segments.{Call, observe, draw, Run}}
+use Rattle.p3_challenger.specs.{DuplexState.DuplexState, HashCalls.HashFunction, HashState.HashState}
 use Rattle.p3_challenger.specs.DuplexState as duplex
-use Rattle.p3_challenger.specs.HashCalls.{HashFunction}
-use Rattle.p3_challenger.specs.HashState.{HashState}
 use Rattle.p3_challenger.specs.HashState as hash
 
 -- A challenger of states S and symbols T: what calls from a state on answer and query, and the

@@ -1,16 +1,11 @@
 -- What `new` of a challenger says, of the challenger with its whole state.
 use Rattle.std.proofs.Common.{◌≡◌, ℕ, suc, List, [], ◌∷◌, length, sym, subst}
-use Rattle.p3_challenger.specs.Residues.{Residues}
-use Rattle.p3_challenger.specs.Segments.{Call}
-use Rattle.p3_challenger.specs.Sponge.{IsNonEmpty}
-use Rattle.p3_challenger.specs.Queries.{LeaveSamePending}
+use Rattle.p3_challenger.specs.{Residues.Residues, Segments.Call, Sponge.IsNonEmpty, Queries.LeaveSamePending}
+use Rattle.p3_challenger.specs.{DuplexState.DuplexState, HashCalls.HashFunction, HashState.HashState}
+use Rattle.transcript_read_back.specs.CallByCall.{duplex_run, duplex_pending, hash_run, hash_pending, EndInSame}
 use Rattle.p3_challenger.specs.Queries as queries
 use Rattle.p3_challenger.specs.DuplexReadBack as duplex
-use Rattle.p3_challenger.specs.DuplexState.{DuplexState}
-use Rattle.p3_challenger.specs.HashCalls.{HashFunction}
 use Rattle.p3_challenger.specs.HashReadBack as hash
-use Rattle.p3_challenger.specs.HashState.{HashState}
-use Rattle.transcript_read_back.specs.CallByCall.{duplex_run, duplex_pending, hash_run, hash_pending, EndInSame}
 
 -- a list of some length has an element
 pub some-of_length : {T : Type 0} (n : ℕ) (xs : List T) → length xs ≡ suc n → IsNonEmpty xs

@@ -1,7 +1,6 @@
 -- What the steps of a group are made of.
 use Rattle.std.specs.Prelude.{ℕ, List}
-use Rattle.p3_challenger.specs.Observation.{Observation, IsObservation}
-use Rattle.p3_challenger.specs.Sampling.{Sampling, IsSampling}
+use Rattle.p3_challenger.specs.{Observation.{Observation, IsObservation}, Sampling.{Sampling, IsSampling}}
 
 -- Each draw of bits, of uniform bits, and of what comes before a witness takes some number of the
 -- smallest draws, and a witness that is observed feeds its symbols.

@@ -1,28 +1,18 @@
 -- Whole transcripts over a duplex challenger of BabyBear, and over a hash challenger of bytes.
 use Rattle.std.specs.Prelude.{ℕ, List}
-use Rattle.p3_challenger.specs.AcceptAll.{AcceptAll}
-use Rattle.p3_challenger.specs.BabyBearResidues.{BabyBear, residues}
-use Rattle.p3_challenger.specs.Both.{Both}
-use Rattle.p3_codecs.specs.declared.bytes_to_field.BytesToFieldCodec.{BytesToFieldCodec}
-use Rattle.p3_challenger.specs.Coeffs.{Coeffs}
-use Rattle.p3_challenger.specs.DuplexReadBack as duplex
-use Rattle.p3_challenger.specs.DuplexState.{DuplexState}
-use Rattle.p3_challenger.specs.FieldToFieldCodec.{FieldToFieldCodec}
-use Rattle.p3_challenger.specs.FieldUnit.{FieldUnit}
-use Rattle.p3_challenger.specs.Hash.{Hash}
-use Rattle.p3_challenger.specs.HashCalls.{HashFunction}
-use Rattle.p3_challenger.specs.HashReadBack as hash
-use Rattle.p3_challenger.specs.HashState.{HashState}
-use Rattle.p3_script.specs.declared.groups.Plain.{Plain}
-use Rattle.p3_challenger.specs.Rules.{Rules}
+use Rattle.p3_challenger.specs.{AcceptAll.AcceptAll, BabyBearResidues.{BabyBear, residues}, Both.Both, Coeffs.Coeffs}
+use Rattle.p3_challenger.specs.{DuplexState.DuplexState, FieldToFieldCodec.FieldToFieldCodec, FieldUnit.FieldUnit}
+use Rattle.p3_challenger.specs.{Hash.Hash, HashCalls.HashFunction, HashState.HashState, Rules.Rules}
 use Rattle.p3_challenger.specs.Sha256Hasher.{Sha256Hasher}
+use Rattle.p3_codecs.specs.declared.bytes_to_field.BytesToFieldCodec.{BytesToFieldCodec}
+use Rattle.p3_script.specs.declared.groups.Plain.{Plain}
 use Rattle.transcript_read_back.specs.AcceptedReadBack.{AcceptedReadBack, AcceptedReadBackOrCollide}
 use Rattle.transcript_read_back.specs.CallByCall.{duplex_run, duplex_pending, EndInSame}
-use Rattle.transcript_read_back.specs.CallByCall.{hash_run, hash_pending}
+use Rattle.transcript_read_back.specs.{CallByCall.{hash_run, hash_pending}, ScriptReadBack.ScriptsReadBackOrCollide}
 use Rattle.transcript_read_back.specs.ScriptReadBack.{EachScriptMakesQueries, ScriptsReadBack}
-use Rattle.transcript_read_back.specs.ScriptReadBack.{ScriptsReadBackOrCollide}
-use Rattle.transcript_read_back.specs.declared.recursive.OverDuplex.{OverDuplex}
-use Rattle.transcript_read_back.specs.declared.recursive.OverHash.{OverHash}
+use Rattle.transcript_read_back.specs.declared.recursive.{OverDuplex.OverDuplex, OverHash.OverHash}
+use Rattle.p3_challenger.specs.DuplexReadBack as duplex
+use Rattle.p3_challenger.specs.HashReadBack as hash
 
 -- a duplex challenger, as contracts see it
 abbrev pub Challenger : Type 0 → Type 0

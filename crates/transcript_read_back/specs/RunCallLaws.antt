@@ -1,21 +1,14 @@
 -- The calls of a run: that there are some, what they observe, and the state that they leave.
 use Rattle.std.proofs.Common.{◌≡◌, ℕ, List, [], ◌∷◌, ◌++◌, IsSome, map, flat_map, replicate, refl, sym, ap, ap₂, ◌∙◌}
 use Rattle.std.proofs.lemmas.List.{append-nil}
-use Rattle.p3_challenger.specs.Sponge.{after_steps}
-use Rattle.p3_challenger.specs.Segments.{Call, observe, draw}
-use Rattle.p3_challenger.specs.Segments as segments
+use Rattle.p3_challenger.specs.{Sponge.after_steps, Segments.{Call, observe, draw}, Queries.observed_values, Plays.Play}
 use Rattle.p3_challenger.specs.CallRowLaws.{observed_values-append, observed_values-observes, observed_values-draws}
-use Rattle.p3_challenger.specs.Queries.{observed_values}
-use Rattle.p3_challenger.specs.Binding.{IsHeld, AreHeld}
-use Rattle.p3_challenger.specs.Fronts.{Run, IsFinished, seed, seeded, last}
-use Rattle.p3_challenger.specs.Fronts as fronts
-use Rattle.p3_challenger.specs.Plays.{Play}
-use Rattle.p3_challenger.specs.Rules.{Rules}
-use Rattle.p3_challenger.specs.Runs.{Finishes, symbols, absorbed, after}
-use Rattle.p3_challenger.specs.Values.{Value}
-use Rattle.transcript_read_back.specs.CallByCall.{after_calls, IsCallByCall}
+use Rattle.p3_challenger.specs.{Binding.{IsHeld, AreHeld}, Fronts.{Run, IsFinished, seed, seeded, last}, Rules.Rules}
+use Rattle.p3_challenger.specs.{Runs.{Finishes, symbols, absorbed, after}, Values.Value}
+use Rattle.transcript_read_back.specs.{CallByCall.{after_calls, IsCallByCall}, AmidLaws.FedExactly}
 use Rattle.transcript_read_back.specs.RunCalls.{amid_draws, AreOfStep, AreOfSteps, AreOfRun}
-use Rattle.transcript_read_back.specs.AmidLaws.{FedExactly}
+use Rattle.p3_challenger.specs.Segments as segments
+use Rattle.p3_challenger.specs.Fronts as fronts
 
 -- ---- what calls observe
 

@@ -1,12 +1,9 @@
 -- The calls on a challenger that a run of a script makes.
 use Rattle.std.specs.Prelude.{◌≡◌, ℕ, List, [], ◌∷◌, ◌++◌, map, flat_map, replicate}
-use Rattle.p3_challenger.specs.Segments.{Call, observe, draw}
-use Rattle.p3_challenger.specs.Segments as segments
-use Rattle.p3_challenger.specs.Fronts.{Run, seed, seeded}
-use Rattle.p3_challenger.specs.Plays.{Play}
-use Rattle.p3_challenger.specs.Rules.{Rules}
+use Rattle.p3_challenger.specs.{Segments.{Call, observe, draw}, Fronts.{Run, seed, seeded}, Plays.Play, Rules.Rules}
 use Rattle.p3_challenger.specs.Values.{Value}
 use Rattle.transcript_read_back.specs.CallByCall.{after_calls}
+use Rattle.p3_challenger.specs.Segments as segments
 
 -- so many draws; then values that are observed in order; and then so many draws
 abbrev pub amid_draws : {T : Type 0} → ℕ → List T → ℕ → List (Call T)

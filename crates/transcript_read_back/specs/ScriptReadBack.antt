@@ -1,11 +1,9 @@
 -- The same of scripts.
 use Rattle.std.specs.Prelude.{List}
-use Rattle.p3_challenger.specs.Segments.{Call, Run}
-use Rattle.p3_challenger.specs.Rules.{Rules}
-use Rattle.p3_challenger.specs.Scripts.{play_of}
-use Rattle.p3_challenger.specs.Step as script
+use Rattle.p3_challenger.specs.{Segments.{Call, Run}, Rules.Rules, Scripts.play_of}
 use Rattle.transcript_read_back.specs.TranscriptReadBack.{EachMakesQueries, TranscriptsReadBack}
 use Rattle.transcript_read_back.specs.TranscriptReadBack.{TranscriptsReadBackOrCollide}
+use Rattle.p3_challenger.specs.Step as script
 
 module _ {S T M I F EF O Ac : Type 0} (Su U C K D G It St Sy : Type 0) (rules : Rules S T I F EF O Ac)
     (run : S → List (Call T) → Run T M S) where

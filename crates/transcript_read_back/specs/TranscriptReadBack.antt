@@ -1,13 +1,9 @@
 -- What whole transcripts query a permutation, or a hash function, with tells of them.
 use Rattle.std.specs.Prelude.{◌≡◌, ◌⊎◌, List, length}
-use Rattle.p3_challenger.specs.Segments.{Call}
-use Rattle.p3_challenger.specs.Segments as segments
-use Rattle.p3_challenger.specs.Queries.{CollideAtSomePlace}
-use Rattle.p3_challenger.specs.Binding.{AreHeld, AreBound}
-use Rattle.p3_challenger.specs.Fronts.{Run, IsFinished, IsWhole, absorbed, last}
-use Rattle.p3_challenger.specs.Plays.{Play}
-use Rattle.p3_challenger.specs.Rules.{Rules}
+use Rattle.p3_challenger.specs.{Segments.Call, Queries.CollideAtSomePlace, Binding.{AreHeld, AreBound}, Plays.Play}
+use Rattle.p3_challenger.specs.{Fronts.{Run, IsFinished, IsWhole, absorbed, last}, Rules.Rules}
 use Rattle.transcript_read_back.specs.RunCalls.{AreOfRun}
+use Rattle.p3_challenger.specs.Segments as segments
 
 -- a challenger of states S and symbols T call by call, where a query is an M: a state of its
 -- permutation, or a string that it hashes

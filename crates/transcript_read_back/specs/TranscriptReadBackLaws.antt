@@ -1,17 +1,12 @@
 -- From what is queried to equal runs.
 use Rattle.std.proofs.Common.{◌≡◌, ◌⊎◌, inl, inr, List, length, refl, sym, ap, ◌∙◌, subst}
-use Rattle.p3_challenger.specs.Segments.{Call}
-use Rattle.p3_challenger.specs.Segments as segments
-use Rattle.p3_challenger.specs.Queries.{observed_values, LeaveSamePending, CollideAtSomePlace}
-use Rattle.p3_challenger.specs.Queries as queries
-use Rattle.p3_challenger.specs.Binding.{SymbolsBind, AreBound}
-use Rattle.p3_challenger.specs.Fronts.{Run, last, symbols}
-use Rattle.p3_challenger.specs.Plays.{Play}
-use Rattle.p3_challenger.specs.Rules.{Rules}
-use Rattle.transcript_read_back.specs.CallByCall.{after_calls, IsCallByCall}
+use Rattle.p3_challenger.specs.{Segments.Call, Queries.{observed_values, LeaveSamePending, CollideAtSomePlace}}
+use Rattle.p3_challenger.specs.{Binding.{SymbolsBind, AreBound}, Fronts.{Run, last, symbols}, Plays.Play, Rules.Rules}
+use Rattle.transcript_read_back.specs.{CallByCall.{after_calls, IsCallByCall}, RunCallLaws.{observed-run, after-run}}
 use Rattle.transcript_read_back.specs.TranscriptReadBack.{MakesQueries, EndAlike, TranscriptsReadBack}
 use Rattle.transcript_read_back.specs.TranscriptReadBack.{TranscriptsReadBackOrCollide}
-use Rattle.transcript_read_back.specs.RunCallLaws.{observed-run, after-run}
+use Rattle.p3_challenger.specs.Segments as segments
+use Rattle.p3_challenger.specs.Queries as queries
 
 module _ {S T M : Type 0} (run : S → List (Call T) → segments.Run T M S) (pending : S → List T)
     (fed : S → List T → S) (next : S → S) (by : IsCallByCall run fed next) {X I F EF O Ac U D : Type 0}

@@ -13,13 +13,11 @@
 //! Each function here cites the law that symbols bind and the contract of the `new` that it calls.
 ghost use Rattle.std.specs.Prelude.{◌≡◌, ◌<◌, ◌≤◌};
 ghost use Rattle.p3_challenger.specs.BabyBearResidues as baby_bear;
-ghost use Rattle.p3_challenger.specs.DuplexCalls.{fresh};
-ghost use Rattle.p3_challenger.specs.HashCalls.{with_pending};
-ghost use Rattle.p3_challenger.specs.HashState.{function_of};
+ghost use Rattle.p3_challenger.specs.{DuplexCalls.fresh, HashCalls.with_pending, HashState.function_of};
 ghost use Rattle.transcript_read_back.specs.Recursive.{EachQueriesStates, StatesTell, StatesTellOrCollide};
-ghost use Rattle.transcript_read_back.specs.Recursive.{StatesTellValues, StatesTellValuesOrCollide};
-ghost use Rattle.transcript_read_back.specs.Recursive.{EachQueriesStrings, StringsTell, StringsTellOrCollide};
-ghost use Rattle.transcript_read_back.specs.Recursive.{StringsTellValues, StringsTellValuesOrCollide};
+ghost use Rattle.transcript_read_back.specs.Recursive.{StatesTellValues, StatesTellValuesOrCollide, EachQueriesStrings};
+ghost use Rattle.transcript_read_back.specs.Recursive.{StringsTell, StringsTellOrCollide, StringsTellValues};
+ghost use Rattle.transcript_read_back.specs.Recursive.{StringsTellValuesOrCollide};
 
 use crate::call_by_call::{duplex_is_call_by_call, hash_is_call_by_call};
 use crate::groups::{all_steps_draw_and_feed, plain_steps_draw_and_feed};
@@ -44,10 +42,8 @@ pub struct OverDuplex<P, const WIDTH: usize, const RATE: usize>(PhantomData<P>);
 
 impl<P: LanePermutation<BabyBear, WIDTH>, const WIDTH: usize, const RATE: usize> Suite
     for OverDuplex<P, WIDTH, RATE> {
-    ghost use Rattle.std.proofs.Common.{lit<};
-    ghost use Rattle.std.specs.List.{each_same};
-    ghost use Rattle.p3_challenger.specs.HashValueLaws.{values-injective};
-    ghost use Rattle.p3_challenger.specs.HashValues.{values_of};
+    ghost use Rattle.std.{proofs.Common.lit<, specs.List.each_same};
+    ghost use Rattle.p3_challenger.specs.{HashValueLaws.values-injective, HashValues.values_of};
 
     type Field = BabyBear;
 
@@ -81,8 +77,7 @@ impl<P: LanePermutation<BabyBear, WIDTH>, const WIDTH: usize, const RATE: usize>
 pub struct OverHash<H>(PhantomData<H>);
 
 impl<H: CryptographicHasher<u8, [u8; 32]>> Suite for OverHash<H> {
-    ghost use Rattle.std.specs.Prelude.{◌≡◌, length};
-    ghost use Rattle.std.specs.List.{each_same};
+    ghost use Rattle.std.specs.{Prelude.{◌≡◌, length}, List.each_same};
 
     type Field = BabyBear;
 

@@ -1,9 +1,7 @@
 //! The law that a run of a script is calls on the challenger.
 ghost use Rattle.std.specs.Prelude.{List};
-ghost use Rattle.p3_challenger.specs.Segments.{Call, Run};
-ghost use Rattle.p3_challenger.specs.Sponge.{IsNonEmpty};
-ghost use Rattle.transcript_read_back.specs.CallByCall.{IsCallByCall};
-ghost use Rattle.transcript_read_back.specs.GroupDraws.{DrawsAndFeeds};
+ghost use Rattle.p3_challenger.specs.{Segments.{Call, Run}, Sponge.IsNonEmpty};
+ghost use Rattle.transcript_read_back.specs.{CallByCall.IsCallByCall, GroupDraws.DrawsAndFeeds};
 ghost use Rattle.transcript_read_back.specs.ScriptReadBack.{EachScriptMakesQueries};
 
 use p3_challenger::fs::script::{Meaning, Suite};

@@ -1,7 +1,6 @@
 -- A value, a byte string and a second value are three calls of one observation.
 use Rattle.std.proofs.Common.{◌≡◌, ℕ, ◌⊎◌, inl, inr, List, [], ◌∷◌, ◌++◌, length, sym, ap, ◌∙◌, subst, append_assoc}
-use Rattle.std.proofs.Common.{append-nil, arith}
-use Rattle.std.proofs.lemmas.List.{length-append, nil_from_length}
+use Rattle.std.proofs.{Common.{append-nil, arith}, lemmas.List.{length-append, nil_from_length}}
 use Rattle.std.specs.List.{flat_map}
 use Rattle.p3_challenger.specs.Sponge.{IsFed}
 use Rattle.p3_challenger.specs.Observation.{
@@ -14,13 +13,10 @@ use Rattle.p3_challenger.specs.Observation.{
   observed_as,
 }
 use Rattle.p3_challenger.specs.ObservationLaws.{all-fed, calls-leave, in_slice-is_observation}
-use Rattle.p3_challenger.specs.ObservationLaws.{observed_as-is_observation}
-use Rattle.p3_challenger.specs.Reading.{IsPrefixCode, OneBegins}
-use Rattle.p3_challenger.specs.Alphabet.{RefusesBytes, LeavesItems}
-use Rattle.p3_challenger.specs.ChallengerError.{ChallengerError}
+use Rattle.p3_challenger.specs.{ObservationLaws.observed_as-is_observation, Reading.{IsPrefixCode, OneBegins}}
+use Rattle.p3_challenger.specs.{Alphabet.{RefusesBytes, LeavesItems}, ChallengerError.ChallengerError}
 use Rattle.p3_challenger.specs.ChallengerError.TheVariants.{OutOfMemory, DrawLimit, NoWitness, TooLong}
-use Rattle.uses.specs.BoundValues.{of_three, RefusesInTurn}
-use Rattle.uses.proofs.Either.{either, either-is_observation}
+use Rattle.uses.{specs.BoundValues.{of_three, RefusesInTurn}, proofs.Either.{either, either-is_observation}}
 
 -- a byte string in an alphabet, whose items are observed as one slice or one by one
 module _ {S Symbol I : Type 0} (fed : S → List Symbol → S) (fed_nothing : (s : S) → fed s [] ≡ s)

@@ -2,8 +2,7 @@
 use Rattle.std.proofs.Common.{◌≡◌, ℕ, ◌+◌, ◌<◌, ◌==◌, Bool, true, false, List, [], ◌∷◌, ◌++◌, Some, refl}
 use Rattle.std.proofs.Common.{sym, ap, subst, ◌∙◌, length, take, get_or, if◌then◌else◌, ◌||◌}
 use Rattle.std.specs.List.{AllByRecursion, IsDistinct, list_any}
-use Rattle.p3_challenger.specs.RoundLaws.{rounds-more, rounds-taken}
-use Rattle.p3_challenger.specs.Sampling.{Sampling}
+use Rattle.p3_challenger.specs.{RoundLaws.{rounds-more, rounds-taken}, Sampling.Sampling}
 use Rattle.uses.specs.CommitPhase.{AreDrawnInTurn, AreNumbersDrawn, DrawsAndKeeps, ObservesAndDraws, kept_with}
 
 -- a round more: of the caps one is observed, and one more challenge is drawn

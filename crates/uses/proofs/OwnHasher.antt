@@ -1,10 +1,8 @@
 -- A byte more of a hashed string.
 use Rattle.std.proofs.Common.{◌≡◌, ℕ, suc, ◌+◌, ◌*◌, ◌/◌, ◌%◌, ◌^◌, ◌<◌, ◌≤◌, List, ◌∷◌, length, drop, get_or}
 use Rattle.std.proofs.Common.{add-mul, add_assoc, mul_assoc, mul_comm, mod-eq_of_lt, mul-one, add-zero, zero-mul, zero-add}
-use Rattle.std.proofs.Common.{pow-suc, ap, sym, ◌∙◌, add-one}
-use Rattle.std.proofs.Math.Nat.{div-add-mod, mul-add-mod_self_left}
-use Rattle.std.proofs.Math.Seq.{drop-cons}
-use Rattle.std.proofs.Math.ListN.{drop_of_length-le}
+use Rattle.std.proofs.{Common.{pow-suc, ap, sym, ◌∙◌, add-one}, Math.Nat.{div-add-mod, mul-add-mod_self_left}}
+use Rattle.std.proofs.Math.{Seq.drop-cons, ListN.drop_of_length-le}
 use Rattle.uses.specs.OwnHasher.{polynomial}
 
 -- a factor may be reduced first

@@ -1,8 +1,7 @@
 -- A draw of one value that a rule may reject.
 use Rattle.std.proofs.Common.{◌≡◌, ℕ, zero, suc, Bool, true, false, List, [], ◌∷◌, ◌++◌, Option, Some, None, refl, sym, ◌∙◌}
 use Rattle.std.proofs.Common.{if◌then◌else◌, ap, map, length, get_or}
-use Rattle.p3_challenger.specs.Sampling.{Sampling}
-use Rattle.p3_challenger.specs.Rejecting.{Rule, Outcome, given, go_on, taken, keeps}
+use Rattle.p3_challenger.specs.{Sampling.Sampling, Rejecting.{Rule, Outcome, given, go_on, taken, keeps}}
 
 module _ {S T : Type 0} (d : Sampling S T) (rule : Rule T) where
   chosen-passes : (kept : List T) (x y : T) (takes : Bool) (t : S) (others : Outcome S T) → rule y kept ≡ takes →

@@ -1,16 +1,10 @@
 -- What a round leaves where one of its steps is refused.
 use Rattle.std.proofs.Common.{◌≡◌, ℕ, List, [], ◌++◌, inl, inr, Result, Ok, Err, Some, sym, ap, ◌∙◌}
-use Rattle.std.specs.List.{flat_map}
-use Rattle.std.specs.Result.{IfOk, OnErr}
-use Rattle.p3_challenger.specs.TranscriptError.{TranscriptError}
-use Rattle.p3_challenger.specs.Alphabet.{Alphabet}
-use Rattle.p3_challenger.specs.Effects.{observing, observing_bytes}
-use Rattle.p3_challenger.specs.Feeding.{Feeds, OnlyDraws}
+use Rattle.std.specs.{List.flat_map, Result.{IfOk, OnErr}}
+use Rattle.p3_challenger.specs.{TranscriptError.TranscriptError, Alphabet.Alphabet, Feeding.{Feeds, OnlyDraws}}
+use Rattle.p3_challenger.specs.{Effects.{observing, observing_bytes}, Observation.Observation, Sampling.Sampling}
 use Rattle.p3_challenger.specs.FeedingLaws.{in_sequence-feeds, played-fed, refused-fed, refused-drawn}
-use Rattle.p3_challenger.specs.Observation.{Observation}
-use Rattle.p3_challenger.specs.Driving.{Driving, KeepsOrRefuses}
-use Rattle.p3_challenger.specs.Proving.{Writes, RefusesToWrite}
-use Rattle.p3_challenger.specs.Sampling.{Sampling}
+use Rattle.p3_challenger.specs.{Driving.{Driving, KeepsOrRefuses}, Proving.{Writes, RefusesToWrite}}
 use Rattle.p3_challenger.specs.Transcripts.{Meaning}
 use Rattle.uses.specs.SentAndDrawn.{DrawnAfter, LeavesRound}
 

@@ -1,17 +1,11 @@
 -- Two calls that observe, and a draw after them.
 use Rattle.std.proofs.Common.{◌≡◌, ◌⊎◌, inl, inr, List, [], ◌∷◌, ◌++◌, Some, Result, Ok, Err, sym, ap, ◌∙◌, subst}
-use Rattle.std.proofs.Common.{append-nil}
-use Rattle.std.specs.List.{flat_map}
-use Rattle.std.specs.Result.{IfOk, OnOk}
-use Rattle.p3_challenger.specs.Sponge.{IsFed}
+use Rattle.std.{proofs.Common.append-nil, specs.List.flat_map, specs.Result.{IfOk, OnOk}}
+use Rattle.p3_challenger.specs.{Sponge.IsFed, ObservationLaws.{all-fed, calls-leave}, ChallengerError.ChallengerError}
 use Rattle.p3_challenger.specs.Observation.{Observation, IsObservation, LeavesFed, LeavesInCalls, RefusesObserve}
-use Rattle.p3_challenger.specs.ObservationLaws.{all-fed, calls-leave}
-use Rattle.p3_challenger.specs.Sampling.{Sampling, IsSampling, RefusesDraw}
-use Rattle.p3_challenger.specs.ChallengerError.{ChallengerError}
+use Rattle.p3_challenger.specs.{Sampling.{Sampling, IsSampling, RefusesDraw}, Dependence.DrawsAfter}
 use Rattle.p3_challenger.specs.ChallengerError.TheVariants.{OutOfMemory, DrawLimit, NoWitness, TooLong}
-use Rattle.p3_challenger.specs.Dependence.{DrawsAfter}
-use Rattle.uses.specs.ThreeCalls.{RefusesThreeCalls}
-use Rattle.uses.proofs.Either.{either, either-is_observation}
+use Rattle.uses.{specs.ThreeCalls.RefusesThreeCalls, proofs.Either.{either, either-is_observation}}
 
 module _ {S Symbol A B X : Type 0} (fed : S → List Symbol → S) (fed_nothing : (s : S) → fed s [] ≡ s)
     (fed_more : (s : S) (a b : List Symbol) → fed (fed s a) b ≡ fed s (a ++ b)) (next : S → S)

@@ -1,7 +1,6 @@
 -- What two rounds observe.
 use Rattle.std.proofs.Common.{◌≡◌, List, [], ◌∷◌, ◌++◌, map, ap, ◌∙◌, append-nil}
-use Rattle.p3_challenger.specs.Segments.{observe, draw}
-use Rattle.p3_challenger.specs.Queries.{observed_values}
+use Rattle.p3_challenger.specs.{Segments.{observe, draw}, Queries.observed_values}
 use Rattle.p3_challenger.specs.CallRowLaws.{observed_values-append, observed_values-observes}
 use Rattle.uses.specs.TwoRounds.{two_rounds}
 

@@ -1,9 +1,6 @@
 -- A value, a byte string and a second value, absorbed one after another.
-use Rattle.std.specs.Prelude.{ℕ, List, ◌++◌}
-use Rattle.std.specs.List.{flat_map}
-use Rattle.p3_challenger.specs.Sponge.{IsFed}
-use Rattle.p3_challenger.specs.Observation.{LeavesFed}
-use Rattle.p3_challenger.specs.ChallengerError.{ChallengerError}
+use Rattle.std.specs.{Prelude.{ℕ, List, ◌++◌}, List.flat_map}
+use Rattle.p3_challenger.specs.{Sponge.IsFed, Observation.LeavesFed, ChallengerError.ChallengerError}
 use Rattle.p3_challenger.specs.ChallengerError.TheVariants.{OutOfMemory, TooLong}
 
 -- the symbols of a byte string, by its items in an alphabet

@@ -1,8 +1,7 @@
 -- The commit phase of FRI, and its queries.
 use Rattle.std.specs.Prelude.{◌≡◌, ℕ, ◌==◌, Bool, true, List, [], ◌∷◌, ◌++◌, Some, length, if◌then◌else◌}
 use Rattle.std.specs.List.{IsDistinct, list_any}
-use Rattle.p3_challenger.specs.Rounds.{AreRounds}
-use Rattle.p3_challenger.specs.Sampling.{Sampling}
+use Rattle.p3_challenger.specs.{Rounds.AreRounds, Sampling.Sampling}
 
 -- a value is observed, and one more is drawn after it, whose parts the draw gives
 abbrev pub ObservesAndDraws : {S T X Y : Type 0} → (S → T → S) → Sampling S X → (Y → X) → S × List Y → T →

@@ -1,21 +1,12 @@
 -- The demo protocol as a script.
-use Rattle.std.specs.declared.alloc.Global.{Global}
-use Rattle.std.specs.Borrow.{Bor}
-use Rattle.std.specs.Prelude.{◌≡◌, ℕ, List, [], ◌∷◌, Vec, codes}
-use Rattle.p3_challenger.specs.Goldilocks.{Goldilocks}
-use Rattle.p3_challenger.specs.Sha256Hasher.{Sha256Hasher}
-use Rattle.p3_challenger.specs.FieldUnit.{FieldUnit}
-use Rattle.p3_challenger.specs.FieldToFieldCodec.{FieldToFieldCodec}
-use Rattle.p3_challenger.specs.AcceptAll.{AcceptAll}
-use Rattle.p3_challenger.specs.Both.{Both}
-use Rattle.p3_challenger.specs.Hash.{Hash}
-use Rattle.p3_challenger.specs.HashCalls.{with_pending}
-use Rattle.p3_challenger.specs.HashState.{HashState}
+use Rattle.std.specs.{declared.alloc.Global.Global, Borrow.Bor, Prelude.{◌≡◌, ℕ, List, [], ◌∷◌, Vec, codes}}
+use Rattle.p3_challenger.specs.{Goldilocks.Goldilocks, Sha256Hasher.Sha256Hasher, FieldUnit.FieldUnit, Both.Both}
+use Rattle.p3_challenger.specs.{FieldToFieldCodec.FieldToFieldCodec, AcceptAll.AcceptAll, Hash.Hash}
+use Rattle.p3_challenger.specs.{HashCalls.with_pending, HashState.HashState, SerializingState.SerializingState}
+use Rattle.uses.specs.declared.demo_script.Demo.{Demo}
 use Rattle.p3_challenger.specs.Kind.TheVariants as kind
-use Rattle.p3_challenger.specs.SerializingState.{SerializingState}
 use Rattle.p3_challenger.specs.Step as script
 use Rattle.p3_challenger.specs.Step.TheVariants as step
-use Rattle.uses.specs.declared.demo_script.Demo.{Demo}
 
 -- a challenger of scalars over the bytes of SHA-256
 abbrev pub ScriptChallenger : Type 0

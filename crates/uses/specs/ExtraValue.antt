@@ -1,6 +1,5 @@
 -- A value that no step carries, observed before a step.
-use Rattle.p3_challenger.specs.Observation.{Observation}
-use Rattle.p3_challenger.specs.Transcripts.{Transcript}
+use Rattle.p3_challenger.specs.{Observation.Observation, Transcripts.Transcript}
 
 -- the state, where the challenger has observed a value more
 abbrev pub after_value : {S Symbol T : Type 0} → Observation S Symbol T → T → Transcript S → Transcript S

@@ -1,11 +1,8 @@
 -- What holds of the coefficients of an algebra of one's own.
-use Rattle.std.specs.Prelude.{◌≡◌, Bool}
-use Rattle.p3_challenger.specs.BabyBearResidues.{BabyBear}
+use Rattle.std.specs.{Prelude.{◌≡◌, Bool}, Cmp.Lexicographic.{pointwise, pointwise_decides}}
+use Rattle.p3_challenger.specs.{BabyBearResidues.BabyBear, Equality.{IsExact, exact-by}}
+use Rattle.uses.specs.{OwnAlgebra.coefficients_of, declared.own_algebra.Quartic.Quartic}
 use Rattle.p3_challenger.specs.CoefficientLaws as laws
-use Rattle.p3_challenger.specs.Equality.{IsExact, exact-by}
-use Rattle.std.specs.Cmp.Lexicographic.{pointwise, pointwise_decides}
-use Rattle.uses.specs.OwnAlgebra.{coefficients_of}
-use Rattle.uses.specs.declared.own_algebra.Quartic.{Quartic}
 
 -- elements of the same coefficients are one
 pub coefficients-injective : (x y : Quartic) → coefficients_of x ≡ coefficients_of y → x ≡ y

@@ -1,7 +1,6 @@
 -- A hash function of bytes, as an example.
 use Rattle.std.specs.Prelude.{ℕ, zero, suc, ◌+◌, ◌*◌, ◌%◌, ◌^◌, ◌<◌, List, [], ◌∷◌, length, replicate, slice_index}
-use Rattle.std.proofs.Common.{refl, arith}
-use Rattle.std.proofs.Math.Nat.{mod-lt}
+use Rattle.std.proofs.{Common.{refl, arith}, Math.Nat.mod-lt}
 use Rattle.p3_challenger.specs.Digests.{IsDigest}
 
 -- the value at 31 of the polynomial of these coefficients, the first one the highest

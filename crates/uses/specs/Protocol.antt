@@ -1,21 +1,11 @@
 -- What a run of the small protocol says.
 use Rattle.std.specs.Prelude.{◌≡◌, ◌==◌, ◌-◌, ℕ, List, [], ◌∷◌, ◌++◌, Bool, true, false, Option, Some, None, not, codes}
 use Rattle.std.specs.Prelude.{Result, MatchResult}
-use Rattle.p3_challenger.specs.BabyBearResidues.{BabyBear, residues}
-use Rattle.p3_challenger.specs.Encoding.{Encoding}
-use Rattle.p3_challenger.specs.Kind.{Kind}
-use Rattle.p3_challenger.specs.Kind.TheVariants.{Challenge, Hint, Message}
-use Rattle.p3_challenger.specs.Length.{Length}
-use Rattle.p3_challenger.specs.Length.TheVariants.{Fixed, Scalar}
-use Rattle.p3_challenger.specs.Observation.{Observation}
-use Rattle.p3_challenger.specs.Rejecting.{taken}
-use Rattle.p3_challenger.specs.Residues.{sum_of, product_of, power_of}
-use Rattle.p3_challenger.specs.Sampling.{Sampling}
-use Rattle.p3_challenger.specs.Steps.{Step}
-use Rattle.p3_challenger.specs.Algebras.{algebra_of, algebra_step}
-use Rattle.p3_challenger.specs.Transcripts.{bytes_step}
-use Rattle.p3_challenger.specs.Driving.{Driving}
-use Rattle.p3_challenger.specs.TranscriptError.{TranscriptError}
+use Rattle.p3_challenger.specs.{BabyBearResidues.{BabyBear, residues}, Encoding.Encoding, Kind.Kind, Length.Length}
+use Rattle.p3_challenger.specs.{Kind.TheVariants.{Challenge, Hint, Message}, Length.TheVariants.{Fixed, Scalar}}
+use Rattle.p3_challenger.specs.{Observation.Observation, Rejecting.taken, Residues.{sum_of, product_of, power_of}}
+use Rattle.p3_challenger.specs.{Sampling.Sampling, Steps.Step, Algebras.{algebra_of, algebra_step}, Driving.Driving}
+use Rattle.p3_challenger.specs.{Transcripts.bytes_step, TranscriptError.TranscriptError}
 use Rattle.p3_challenger.specs.TranscriptError.TheVariants.{OutOfMemory}
 use Rattle.uses.specs.declared.protocol.Claim.{Claim}
 

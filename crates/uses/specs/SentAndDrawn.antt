@@ -1,8 +1,6 @@
 -- A value is sent, and one is drawn after it.
 use Rattle.std.specs.Prelude.{◌≡◌, List, Some, ◌⊎◌}
-use Rattle.p3_challenger.specs.Sponge.{IsFed, IsStepsOn}
-use Rattle.p3_challenger.specs.Observation.{LeavesFed}
-use Rattle.p3_challenger.specs.Sampling.{Sampling}
+use Rattle.p3_challenger.specs.{Sponge.{IsFed, IsStepsOn}, Observation.LeavesFed, Sampling.Sampling}
 
 -- what is left of the challenger where one of the two steps is refused: a front of the value's symbols was fed, or all
 -- of them were and then some of the smallest draws were made

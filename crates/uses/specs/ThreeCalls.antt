@@ -1,10 +1,7 @@
 -- Values are observed in two calls, and one is drawn in a third.
 use Rattle.std.specs.Prelude.{◌≡◌, List, ◌⊎◌}
-use Rattle.p3_challenger.specs.Sponge.{IsFed, IsStepsOn}
-use Rattle.p3_challenger.specs.Observation.{LeavesFed}
-use Rattle.p3_challenger.specs.Sampling.{Sampling}
-use Rattle.p3_challenger.specs.ChallengerError.{ChallengerError}
-use Rattle.p3_challenger.specs.ChallengerError.TheVariants.{OutOfMemory, DrawLimit}
+use Rattle.p3_challenger.specs.{Sponge.{IsFed, IsStepsOn}, Observation.LeavesFed, Sampling.Sampling}
+use Rattle.p3_challenger.specs.{ChallengerError.ChallengerError, ChallengerError.TheVariants.{OutOfMemory, DrawLimit}}
 
 -- What the calls leave where one answers this error. Where memory is refused, a front of the symbols was fed, or all
 -- of them were and then some of the smallest draws were made; where the draw meets its limit, it was made.

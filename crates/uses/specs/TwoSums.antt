@@ -1,24 +1,14 @@
 -- Two sumchecks in one transcript, each after the sum that it is of.
-use Rattle.std.specs.Prelude.{◌≡◌, ◌<◌, ◌⊎◌, ℕ, List, [], ◌∷◌, ◌++◌, false, codes}
-use Rattle.p3_challenger.specs.Algebras.{NamedAlgebra, algebra_step}
-use Rattle.p3_challenger.specs.Driving.{Driving}
-use Rattle.p3_challenger.specs.Kind.TheVariants.{Message}
-use Rattle.p3_challenger.specs.Length.TheVariants.{Scalar}
-use Rattle.p3_challenger.specs.Meanings.{sent}
-use Rattle.p3_challenger.specs.PatternSteps.{PatternSteps}
-use Rattle.p3_challenger.specs.Playing.{IsPlayed}
-use Rattle.p3_challenger.specs.Proving.{Writes}
-use Rattle.p3_challenger.specs.Rounds.{steps_of_rounds}
-use Rattle.p3_challenger.specs.Steps.{Step}
-use Rattle.p3_challenger.specs.Transcripts.{Meaning, PlaysStep}
+use Rattle.std.specs.Prelude.{◌≡◌, ◌<◌, ℕ, List, [], ◌∷◌, ◌++◌, false, codes}
+use Rattle.p3_challenger.specs.{Algebras.{NamedAlgebra, algebra_step}, Driving.Driving, Kind.TheVariants.Message}
+use Rattle.p3_challenger.specs.{Length.TheVariants.Scalar, Meanings.sent, PatternSteps.PatternSteps, Playing.IsPlayed}
+use Rattle.p3_challenger.specs.{Proving.Writes, Rounds.steps_of_rounds, Steps.Step, Transcripts.{Meaning, PlaysStep}}
 use Rattle.p3_challenger.specs.Verifying.{EndsReading}
-use Rattle.p3_sumcheck.specs.Faults.{IsNoPatternFault}
-use Rattle.p3_sumcheck.specs.declared.error.SumcheckError.{SumcheckError}
-use Rattle.p3_sumcheck.specs.declared.error.SumcheckError.TheVariants as fault
+use Rattle.p3_sumcheck.specs.{Faults.IsNoPatternFault, declared.error.SumcheckError.SumcheckError, Tables.total}
 use Rattle.p3_sumcheck.specs.declared.round.Round.{Round}
 use Rattle.p3_sumcheck.specs.Sumchecks.{Accepts, Proves, Sumcheck, challenges_of, round_steps}
-use Rattle.p3_sumcheck.specs.Tables.{total}
 use Rattle.uses.specs.declared.two_sums.Reduced.{Reduced}
+use Rattle.p3_sumcheck.specs.declared.error.SumcheckError.TheVariants as fault
 
 -- the steps of a sum, and of the rounds after it; and those of two
 abbrev pub sum_step : NamedAlgebra → Step

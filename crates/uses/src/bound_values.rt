@@ -1,8 +1,7 @@
 //! A value, a byte string and a second value are absorbed one after another. Whatever the challenger, the codec and
 //! the alphabet are: the call says which symbols it fed, and those symbols bind the three, as a law.
 ghost use Rattle.std.specs.Prelude.{◌≡◌, ℕ, List, ◌++◌, length, OnOk, IfErr};
-ghost use Rattle.p3_challenger.specs.Sponge.{IsFed};
-ghost use Rattle.p3_challenger.specs.Reading.{AreBytes, IsPrefixCodeOn};
+ghost use Rattle.p3_challenger.specs.{Sponge.IsFed, Reading.{AreBytes, IsPrefixCodeOn}};
 ghost use Rattle.uses.specs.BoundValues.{of_three, of_bytes, RefusesInTurn};
 
 use p3_challenger::fs::{Codec, Unit};

@@ -5,8 +5,7 @@
 //! of work, and then indices are drawn as uniform bits, each once. [`prove`] and [`verify`] differ in one call, and
 //! have one contract: that what they answer is drawn of what was observed, in this order.
 ghost use Rattle.std.specs.Prelude.{◌≡◌, ◌≤◌, true, IfOk, IfSome, OnOk};
-ghost use Rattle.p3_challenger.specs.Checks.{all_zero, check_of};
-ghost use Rattle.p3_challenger.specs.Sampling.{in_row};
+ghost use Rattle.p3_challenger.specs.{Checks.{all_zero, check_of}, Sampling.in_row};
 ghost use Rattle.uses.specs.CommitPhase.{AreDrawnInTurn, AreQueries, IsCommitPhase, kept_with};
 
 use p3_challenger::{

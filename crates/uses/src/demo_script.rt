@@ -5,10 +5,8 @@
 //! are drawn, of 4 bits each. No code stands here for any of these steps. The contract of [`verify`] says which bytes
 //! are accepted, and what comes of them; that of [`prove_and_verify`], that both sides end in one state.
 ghost use Rattle.std.specs.Prelude.{◌≡◌, List, [], IfOk, IfErr, IfSome};
-ghost use Rattle.p3_challenger.specs.Runs.{AreAdmitted, carried_count};
-ghost use Rattle.p3_challenger.specs.Scripts.{play_of, challenges_of};
-ghost use Rattle.p3_challenger.specs.Verdicts.{script_of};
-ghost use Rattle.p3_challenger.specs.VerifierAnswers.{IsVerifiedScript, IsRefusedProof};
+ghost use Rattle.p3_challenger.specs.{Runs.{AreAdmitted, carried_count}, Scripts.{play_of, challenges_of}};
+ghost use Rattle.p3_challenger.specs.{Verdicts.script_of, VerifierAnswers.{IsVerifiedScript, IsRefusedProof}};
 ghost use Rattle.uses.specs.DemoScript.{AreDemoSteps, fresh_challenger};
 
 use p3_challenger::fs::script::{
@@ -28,11 +26,8 @@ use std::alloc::Global;
 pub struct Demo;
 
 impl Suite for Demo {
-    ghost use Rattle.std.proofs.Common.{lit<};
-    ghost use Rattle.std.specs.List.{each_same};
-    ghost use Rattle.p3_challenger.specs.HashValueLaws.{values-injective};
-    ghost use Rattle.p3_challenger.specs.HashValues.{values_of};
-    ghost use Rattle.p3_challenger.specs.Reading.{AreBytes};
+    ghost use Rattle.std.{proofs.Common.lit<, specs.List.each_same};
+    ghost use Rattle.p3_challenger.specs.{HashValueLaws.values-injective, HashValues.values_of, Reading.AreBytes};
 
     type Field = Goldilocks;
 

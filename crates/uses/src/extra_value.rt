@@ -2,11 +2,9 @@
 ghost use Rattle.std.specs.Prelude.{IfOk};
 ghost use Rattle.p3_challenger.specs.Bound.{bound_value};
 ghost use Rattle.p3_challenger.specs.Meanings as meaning;
-ghost use Rattle.p3_challenger.specs.Drivers.{proving_of};
-ghost use Rattle.p3_challenger.specs.Proving.{Writes};
+ghost use Rattle.p3_challenger.specs.{Drivers.proving_of, Proving.Writes};
 ghost use Rattle.p3_challenger.specs.Reads as reads;
-ghost use Rattle.p3_challenger.specs.Drivers.{verifying_of};
-ghost use Rattle.p3_challenger.specs.Verifying.{Receives};
+ghost use Rattle.p3_challenger.specs.{Drivers.verifying_of, Verifying.Receives};
 ghost use Rattle.uses.specs.ExtraValue.{after_value};
 
 use p3_challenger::CanObserve;

@@ -2,8 +2,7 @@
 ghost use Rattle.std.specs.Prelude.{◌≡◌, [], ◌∷◌, true, map, IfOk, IfErr};
 ghost use Rattle.p3_challenger.specs.Bound.{bound_value};
 ghost use Rattle.p3_challenger.specs.Reads as reads;
-ghost use Rattle.p3_challenger.specs.Drivers.{verifying_of};
-ghost use Rattle.p3_challenger.specs.Verifying.{Receives, ReceivesOrRefuses};
+ghost use Rattle.p3_challenger.specs.{Drivers.verifying_of, Verifying.{Receives, ReceivesOrRefuses}};
 
 use p3_challenger::Sponge;
 use p3_challenger::fs::{

@@ -6,11 +6,8 @@
 //! place was drawn. The contract of [`verify`] says that they do, that the proof is these bytes and no others, and that
 //! whatever is drawn next depends on the leaf and the salt too. The leaf is lent from the proof itself.
 ghost use Rattle.std.specs.Prelude.{◌≡◌, ◌<◌, ◌↔◌, ◌++◌, [], ◌∷◌, IsTrue, IfOk, IfSome, OnOk};
-ghost use Rattle.p3_challenger.specs.HashCalls.{with_pending};
-ghost use Rattle.p3_challenger.specs.HashState.{observed};
-ghost use Rattle.p3_challenger.specs.Observation.{observed_all};
-ghost use Rattle.p3_challenger.specs.SeparatorSeed.{seed_of_separator};
-ghost use Rattle.p3_challenger.specs.Drivers.{verifying_of};
+ghost use Rattle.p3_challenger.specs.{HashCalls.with_pending, HashState.observed, Observation.observed_all};
+ghost use Rattle.p3_challenger.specs.{SeparatorSeed.seed_of_separator, Drivers.verifying_of};
 ghost use Rattle.uses.specs.MerkleOpening.{IsClimb, IsDrawnPlace, IsOpened, above, leaf_node_of, parent_of};
 
 use p3_challenger::fs::{

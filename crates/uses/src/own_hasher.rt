@@ -13,8 +13,7 @@ use p3_symmetric::{CryptographicHasher, DigestHasher};
 pub struct Polynomial;
 
 impl CryptographicHasher<u8, [u8; 32]> for Polynomial {
-    ghost use Rattle.std.specs.Prelude.{refl};
-    ghost use Rattle.std.proofs.Common.{lit<};
+    ghost use Rattle.std.{specs.Prelude.refl, proofs.Common.lit<};
     ghost use Rattle.uses.specs.OwnHasher.{polynomial_digest};
 
     const LANES: usize = 1;

@@ -4,9 +4,8 @@
 //! it is hard to invert, or a permutation at all, no contract says; it is the word of who brings it. Where witnesses are
 //! searched for, it works on states side by side in lanes too, and is proved to make of each what it makes of one alone.
 //! [`Stir`] shows the form and is of no strength.
-ghost use Rattle.std.specs.Prelude.{◌≡◌, ◌+◌, ◌<◌, ℕ, slice_index_or};
-ghost use Rattle.p3_challenger.specs.BabyBearResidues.{residues};
-ghost use Rattle.p3_challenger.specs.Residues.{power_of, plus};
+ghost use Rattle.std.specs.Prelude.{◌≡◌, ◌+◌, ◌<◌, ℕ};
+ghost use Rattle.p3_challenger.specs.{BabyBearResidues.residues, Residues.{power_of, plus}};
 
 use p3_challenger::DuplexChallenger;
 use p3_field::{BabyBear, PrimeCharacteristicRing};

@@ -5,9 +5,7 @@
 ghost use Rattle.std.specs.Prelude.{[], ◌∷◌};
 ghost use Rattle.p3_challenger.specs.Bound.{bound_values};
 ghost use Rattle.p3_challenger.specs.Meanings as meaning;
-ghost use Rattle.p3_challenger.specs.Drivers.{proving_of};
-ghost use Rattle.p3_challenger.specs.Proving.{WritesOrRefuses};
-ghost use Rattle.p3_challenger.specs.Algebras.{algebra_of, algebra_step};
+ghost use Rattle.p3_challenger.specs.{Drivers.proving_of, Proving.WritesOrRefuses, Algebras.{algebra_of, algebra_step}};
 
 use p3_challenger::Sponge;
 use p3_challenger::fs::{

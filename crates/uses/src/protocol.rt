@@ -6,17 +6,12 @@
 //! [`verify`] says that they do, and which bytes the proof is.
 ghost use Rattle.std.specs.Prelude.{◌≡◌, ◌+◌, ◌++◌, ℕ, List, [], Some, codes, length, IfOk, OnOk, MatchResult};
 ghost use Rattle.p3_challenger.specs.BabyBearResidues as baby_bear;
-ghost use Rattle.p3_challenger.specs.HashCalls.{with_pending};
-ghost use Rattle.p3_challenger.specs.Drivers.{proving_of};
-ghost use Rattle.p3_challenger.specs.Reading.{AreBytes};
-ghost use Rattle.p3_challenger.specs.SeparatorSeed.{pattern_of, seed_of_separator};
-ghost use Rattle.p3_challenger.specs.Transcripts.{IsNext, step_on};
-ghost use Rattle.p3_challenger.specs.Drivers.{verifying_of};
-ghost use Rattle.p3_challenger.specs.DomainSeparator.{DomainSeparator};
-ghost use Rattle.p3_challenger.specs.Steps.{Step};
+ghost use Rattle.p3_challenger.specs.{HashCalls.with_pending, Drivers.{proving_of, verifying_of}, Reading.AreBytes};
+ghost use Rattle.p3_challenger.specs.{SeparatorSeed.{pattern_of, seed_of_separator}, Transcripts.{IsNext, step_on}};
+ghost use Rattle.p3_challenger.specs.{DomainSeparator.DomainSeparator, Steps.Step};
 ghost use Rattle.uses.specs.declared.protocol.Claim.{Claim};
-ghost use Rattle.uses.specs.Protocol.{AcceptsRuns, AnswersRun, IsAhead, IsDivisor, IsPast, IsRun, IsSent};
-ghost use Rattle.uses.specs.Protocol.{after_line, bytes_of, element_step, may_divide, steps_of_line};
+ghost use Rattle.uses.specs.Protocol.{AcceptsRuns, AnswersRun, IsAhead, IsDivisor, IsPast, IsRun, IsSent, after_line};
+ghost use Rattle.uses.specs.Protocol.{bytes_of, element_step, may_divide, steps_of_line};
 
 use p3_challenger::fs::{
     BytesToFieldCodec, Codec, DomainSeparator, ExtensionFieldCodec, Hierarchy, Interaction,

@@ -16,9 +16,7 @@
 //! ```
 ghost use Rattle.std.specs.Prelude.{◌≡◌, ◌<◌, ◌≤◌, ◌++◌, List};
 ghost use Rattle.p3_challenger.specs.BabyBearResidues as baby_bear;
-ghost use Rattle.p3_challenger.specs.Segments.{run_calls};
-ghost use Rattle.p3_challenger.specs.HashCalls.{with_pending};
-ghost use Rattle.p3_challenger.specs.HashState.{function_of};
+ghost use Rattle.p3_challenger.specs.{Segments.run_calls, HashCalls.with_pending, HashState.function_of};
 ghost use Rattle.p3_challenger.specs.HashReadBack as hash;
 ghost use Rattle.p3_challenger.specs.DuplexCalls.{duplex_by_calls, fresh};
 ghost use Rattle.p3_challenger.specs.DuplexReadBack as duplex;

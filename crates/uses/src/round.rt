@@ -4,12 +4,9 @@
 //! on what the drawn scalar depends on: just the symbols of the sent one. Nothing is known here of the challenger and
 //! the codec; the contracts of the drivers' steps and three laws say it, each called in a body for its clause.
 ghost use Rattle.std.specs.Prelude.{◌≡◌, ◌≤◌, ◌++◌, Some, flat_map, IfOk, OnErr};
-ghost use Rattle.p3_challenger.specs.Bound.{bound_value};
-ghost use Rattle.p3_challenger.specs.Drivers.{proving_of};
+ghost use Rattle.p3_challenger.specs.{Bound.bound_value, Drivers.{proving_of, verifying_of}, Dependence.DrawsAfter};
 ghost use Rattle.p3_challenger.specs.SeparatorSeed.{seed_of_separator};
-ghost use Rattle.p3_challenger.specs.Drivers.{verifying_of};
 ghost use Rattle.uses.specs.SentAndDrawn.{DrawnAfter, LeavesRound};
-ghost use Rattle.p3_challenger.specs.Dependence.{DrawsAfter};
 
 use p3_challenger::CanObserve;
 use p3_challenger::fs::{

@@ -1,7 +1,6 @@
 //! Three calls in a row on any challenger: a value is observed, then others as one slice, then a value is drawn.
 //! Where one of the calls is refused, the traits alone say which front of the symbols was fed.
-ghost use Rattle.std.specs.Prelude.{◌≡◌, ◌++◌, Some, flat_map, IfOk, IfErr};
-ghost use Rattle.p3_challenger.specs.Sponge.{IsFed};
+ghost use Rattle.std.specs.Prelude.{◌++◌, flat_map, IfOk, IfErr};
 ghost use Rattle.p3_challenger.specs.Dependence.{DrawsAfter};
 ghost use Rattle.uses.specs.ThreeCalls.{RefusesThreeCalls};
 

@@ -4,18 +4,13 @@
 //! the second, whose challenges depend on all that was sent before. Whoever has the tables checks in the end that each
 //! has the last value at its point.
 ghost use Rattle.std.specs.Prelude.{◌≡◌, ◌≤◌, ◌^◌, ◌++◌, [], ℕ, List, false, length, IfErr, IfOk, MatchResult, OnOk};
-ghost use Rattle.p3_challenger.specs.Completeness.{IsOwnRefusal};
-ghost use Rattle.p3_challenger.specs.Driving.{Driving};
-ghost use Rattle.p3_challenger.specs.Drivers.{proving_of, verifying_of};
-ghost use Rattle.p3_challenger.specs.Observation.{observed_all};
-ghost use Rattle.p3_challenger.specs.PatternGrammar.{IsViable};
-ghost use Rattle.p3_challenger.specs.PatternSteps.{steps_of};
-ghost use Rattle.p3_challenger.specs.SeparatorSeed.{pattern_of, seed_of_separator};
+ghost use Rattle.p3_challenger.specs.{Completeness.IsOwnRefusal, Driving.Driving, Drivers.{proving_of, verifying_of}};
+ghost use Rattle.p3_challenger.specs.{Observation.observed_all, PatternGrammar.IsViable, PatternSteps.steps_of};
+ghost use Rattle.p3_challenger.specs.{SeparatorSeed.{pattern_of, seed_of_separator}, Transcripts.{AreNext, steps_on}};
 ghost use Rattle.p3_challenger.specs.TranscriptError.TheVariants.{OutOfMemory};
-ghost use Rattle.p3_challenger.specs.Transcripts.{AreNext, steps_on};
 ghost use Rattle.p3_sumcheck.specs.Sumchecks.{IsMemory, sumcheck_of};
-ghost use Rattle.uses.specs.TwoSums.{AcceptsTwo, AreReduced, IsReduced, ProvesTwo, ReadsSum, ReadsTwo, SendsSum, SendsTwo};
-ghost use Rattle.uses.specs.TwoSums.{IsSumcheckFault, steps_of_sum, steps_of_two, with_bytes};
+ghost use Rattle.uses.specs.TwoSums.{AcceptsTwo, AreReduced, IsReduced, ProvesTwo, ReadsSum, ReadsTwo, SendsSum};
+ghost use Rattle.uses.specs.TwoSums.{SendsTwo, IsSumcheckFault, steps_of_sum, steps_of_two, with_bytes};
 
 use p3_challenger::CanObserve;
 use p3_challenger::fs::{

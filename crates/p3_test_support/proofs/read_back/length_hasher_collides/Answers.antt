@@ -2,10 +2,8 @@ use Rattle.std.proofs.Common.{◌≡◌, ℕ, List, [], ◌∷◌, ◌++◌, len
 use Rattle.std.proofs.Common.{length-append}
 use Rattle.p3_challenger_core.specs.Segments.{observe, draw}
 use Rattle.p3_read_back.specs.QueriesLaws.{number-decides}
-use Rattle.p3_hash_challenger.specs.HashCalls.{HashSponge, with_pending}
-use Rattle.p3_hash_challenger.specs.HashReadBack.{ReadsBackOrCollides}
-use Rattle.p3_test_support.specs.LengthHasher.{digest_of_length, length_digest}
-use Rattle.p3_test_support.specs.ReadBackWorlds.{by_length}
+use Rattle.p3_hash_challenger.specs.{HashCalls.{HashSponge, with_pending}, HashReadBack.ReadsBackOrCollides}
+use Rattle.p3_test_support.specs.{LengthHasher.{digest_of_length, length_digest}, ReadBackWorlds.by_length}
 use Rattle.p3_test_support.proofs.read_back.length_hasher_collides.Goals as goal
 
 -- strings of one length have one digest

@@ -1,10 +1,8 @@
 use Rattle.std.proofs.Common.{◌≡◌, ℕ, List, [], ◌∷◌, refl, ap, subst, inl, inr, lit<}
 use Rattle.p3_challenger_core.specs.Segments.{Call, observe, draw}
 use Rattle.p3_small_primes.specs.F257Residues.{F257, residues}
-use Rattle.p3_duplex.specs.DuplexCalls.{DuplexSponge, fresh}
-use Rattle.p3_duplex.specs.DuplexReadBack.{ReadsBackOrCollides}
-use Rattle.p3_test_support.specs.ReadBackWorlds.{turn, element_of}
-use Rattle.p3_test_support.proofs.ReadBackRows.{one_is_not_two}
+use Rattle.p3_duplex.specs.{DuplexCalls.{DuplexSponge, fresh}, DuplexReadBack.ReadsBackOrCollides}
+use Rattle.p3_test_support.{specs.ReadBackWorlds.{turn, element_of}, proofs.ReadBackRows.one_is_not_two}
 use Rattle.p3_test_support.proofs.read_back.turn_collides.Goals as goal
 
 abbrev observed : ℕ → Call F257

@@ -1,5 +1,4 @@
-use Rattle.std.proofs.Common.{◌≡◌, ◌%◌, take}
-use Rattle.std.specs.List.{sum}
+use Rattle.std.{proofs.Common.{◌≡◌, ◌%◌, take}, specs.List.sum}
 use Rattle.p3_test_support.proofs.test_hashers.byte_sum.Given as goal
 
 -- the sum of the bytes so far

@@ -1,5 +1,4 @@
-use Rattle.std.proofs.Common.{arith, ◌∙◌}
-use Rattle.std.proofs.lemmas.List.FromFn.{fill_by_all}
+use Rattle.std.proofs.{Common.{arith, ◌∙◌}, lemmas.List.FromFn.fill_by_all}
 use Rattle.p3_test_support.proofs.Digests.{digest_place, digest_places}
 use Rattle.p3_test_support.proofs.test_hashers.digest_from.Goals as goal
 

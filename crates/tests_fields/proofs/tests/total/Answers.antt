@@ -1,5 +1,4 @@
-use Rattle.std.proofs.Common.{◌+◌, ◌%◌, ◌∙◌, take, sum_by, sym, ap}
-use Rattle.std.proofs.Math.Nat.{mod-add-mod}
+use Rattle.std.proofs.{Common.{◌+◌, ◌%◌, ◌∙◌, take, sum_by, sym, ap}, Math.Nat.mod-add-mod}
 use Rattle.std.proofs.lemmas.List.Sums.{sum_by_more}
 use Rattle.tests_fields.proofs.tests.total.Goals as goal
 

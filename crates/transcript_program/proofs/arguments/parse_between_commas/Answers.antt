@@ -1,8 +1,6 @@
 use Rattle.std.proofs.Common.{◌≡◌, ℕ, List, ◌==◌, length, map, lit<, ap, sym, ◌∙◌, arith, rules, subst, Bor, IfSome}
-use Rattle.std.specs.List.{slice_split}
-use Rattle.std.proofs.lemmas.Iterator.Splits.{YieldsList-from_str_split}
+use Rattle.std.{specs.List.slice_split, proofs.lemmas.Iterator.Splits.YieldsList-from_str_split}
 use Rattle.std.proofs.lemmas.Iterator.Consumers.{YieldsList-at, YieldsList-turn, YieldsList-end}
-use Rattle.p3_challenger.specs.BabyBearResidues.{BabyBear}
 use Rattle.transcript_program.specs.Arguments.{AreScalarTexts}
 use Rattle.transcript_program.proofs.ArgumentLemmas.{scalar_texts-as_many, none_weaker}
 use Rattle.transcript_program.proofs.arguments.parse_between_commas.Goals as goal

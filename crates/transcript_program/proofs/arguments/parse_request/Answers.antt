@@ -1,5 +1,4 @@
-use Rattle.std.proofs.Common.{rules, sym, ◌∙◌}
-use Rattle.std.specs.Cmp.Lexicographic.{same_text}
+use Rattle.std.{proofs.Common.{rules, sym, ◌∙◌}, specs.Cmp.Lexicographic.same_text}
 use Rattle.transcript_program.proofs.ArgumentLemmas.{no_arguments}
 use Rattle.transcript_program.proofs.arguments.parse_request.Goals as goal
 

@@ -1,6 +1,5 @@
 use Rattle.std.proofs.Common.{sym, subst}
-use Rattle.p3_challenger.specs.Kind.TheVariants.{Protocol}
-use Rattle.p3_challenger.specs.PatternGrammar.{IsPattern}
+use Rattle.p3_challenger.specs.{Kind.TheVariants.Protocol, PatternGrammar.IsPattern}
 use Rattle.transcript_program.proofs.DemoPattern.{demo_is_pattern}
 use Rattle.transcript_program.proofs.demo.pattern.Goals as goal
 

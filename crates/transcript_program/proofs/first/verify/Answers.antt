@@ -1,11 +1,9 @@
 use Rattle.std.proofs.Common.{◌≡◌, [], length, drop, Option, Some, Result, Ok, arith, refl, sym, ap, ◌∙◌, length-drop}
-use Rattle.transcript_program.specs.Scalar as scalar
-use Rattle.p3_challenger.specs.HashState.{observed, function_of}
-use Rattle.transcript_program.specs.Scalar.{width}
-use Rattle.p3_challenger.specs.BabyBearResidues.{BabyBear}
+use Rattle.p3_challenger.specs.{HashState.{observed, function_of}, BabyBearResidues.BabyBear}
 use Rattle.p3_challenger.specs.TranscriptError.{TranscriptError}
-use Rattle.transcript_program.specs.First.{drawn_scalar, after_scalar, read_whole}
+use Rattle.transcript_program.specs.{Scalar.width, First.{drawn_scalar, after_scalar, read_whole}}
 use Rattle.transcript_program.proofs.FirstLemmas.{read_whole-decoded}
+use Rattle.transcript_program.specs.Scalar as scalar
 use Rattle.transcript_program.proofs.first.verify.Goals as goal
 
 -- the proof is, whole, the scalar that was decoded

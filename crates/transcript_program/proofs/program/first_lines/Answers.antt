@@ -1,5 +1,4 @@
-use Rattle.std.proofs.Common.{◌≡◌, string_bytes, ◌∙◌}
-use Rattle.std.proofs.lemmas.Result.{IfOk-weaker}
+use Rattle.std.proofs.{Common.{◌≡◌, string_bytes, ◌∙◌}, lemmas.Result.IfOk-weaker}
 use Rattle.transcript_program.specs.Program.{lines}
 use Rattle.transcript_program.proofs.program.first_lines.Goals as goal
 

@@ -1,11 +1,7 @@
 use Rattle.std.proofs.Common.{◌≡◌, ℕ, List, [], sym, ap, ◌∙◌, subst}
 use Rattle.sha2.specs.Sha256.{sha256}
-use Rattle.p3_challenger.specs.HashState.{HashState, function_of}
-use Rattle.p3_challenger.specs.HashCalls.{with_pending}
-use Rattle.p3_challenger.specs.Sha256Hasher.{Sha256Hasher}
-use Rattle.transcript_program.specs.Scalar.{wire}
-use Rattle.transcript_program.specs.First.{IsRun}
-use Rattle.transcript_program.specs.Program.{lines}
+use Rattle.p3_challenger.specs.{HashState.{HashState, function_of}, HashCalls.with_pending, Sha256Hasher.Sha256Hasher}
+use Rattle.transcript_program.specs.{Scalar.wire, First.IsRun, Program.lines}
 use Rattle.transcript_program.proofs.program.first_text.Goals as goal
 
 abbrev fresh_with : List ℕ → HashState ℕ Sha256Hasher

@@ -1,9 +1,7 @@
-use Rattle.std.proofs.Common.{◌≡◌, [], ap, sym, ◌∙◌, lit<}
-use Rattle.std.proofs.lemmas.Result.{IfOk-weaker}
+use Rattle.std.proofs.{Common.{◌≡◌, [], ap, sym, ◌∙◌, lit<}, lemmas.Result.IfOk-weaker}
 use Rattle.p3_challenger.specs.Scripts.{value_received, challenge_of}
+use Rattle.transcript_program.{specs.DemoTypes.{DemoValue, DemoDrawn}, proofs.ScriptLemmas.{item-shown, told-same}}
 use Rattle.p3_challenger.specs.Values as value
-use Rattle.transcript_program.specs.DemoTypes.{DemoValue, DemoDrawn}
-use Rattle.transcript_program.proofs.ScriptLemmas.{item-shown, told-same}
 use Rattle.transcript_program.proofs.script.told.Goals as goal
 
 pub bytes_received-requires : goal.bytes_received-requires

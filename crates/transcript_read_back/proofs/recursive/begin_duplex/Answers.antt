@@ -1,6 +1,5 @@
 use Rattle.std.proofs.Common.{◌<◌, ap, arith}
-use Rattle.p3_challenger.specs.BabyBearResidues.{residues}
-use Rattle.p3_challenger.specs.HashValueLaws.{length-values}
+use Rattle.p3_challenger.specs.{BabyBearResidues.residues, HashValueLaws.length-values}
 use Rattle.transcript_read_back.specs.AcceptedReadBackLaws.{accepted-read_back, accepted-read_back_or_collide}
 use Rattle.transcript_read_back.specs.CallByCall.{duplex_run}
 use Rattle.transcript_read_back.specs.ChallengerReadBackLaws.{duplex-reads_back, duplex-reads_back_or_collides}

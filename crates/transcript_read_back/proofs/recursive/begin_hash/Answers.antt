@@ -1,10 +1,8 @@
 use Rattle.std.proofs.Common.{ap}
-use Rattle.p3_challenger.specs.QueriesLaws.{number-decides}
-use Rattle.p3_challenger.specs.HashState.{function_of}
+use Rattle.p3_challenger.specs.{QueriesLaws.number-decides, HashState.function_of}
 use Rattle.transcript_read_back.specs.AcceptedReadBackLaws.{accepted-read_back, accepted-read_back_or_collide}
-use Rattle.transcript_read_back.specs.CallByCall.{hash_run}
+use Rattle.transcript_read_back.specs.{CallByCall.hash_run, ChallengerReadBackLaws.some-of_length}
 use Rattle.transcript_read_back.specs.ChallengerReadBackLaws.{hash-reads_back, hash-reads_back_or_collides}
-use Rattle.transcript_read_back.specs.ChallengerReadBackLaws.{some-of_length}
 use Rattle.transcript_read_back.specs.TranscriptReadBackLaws.{transcripts-read_back, transcripts-read_back_or_collide}
 use Rattle.transcript_read_back.proofs.recursive.begin_hash.Goals as goal
 

@@ -1,8 +1,7 @@
 use Rattle.p3_challenger.specs.SamplingLaws.{in_row-is_sampling, made_of-is_sampling}
-use Rattle.p3_challenger.specs.Sampling as sampling
-use Rattle.transcript_read_back.specs.AmidLaws.{some-exactly, row-exactly}
-use Rattle.transcript_read_back.proofs.MakesQueries.{each-makes_queries}
+use Rattle.transcript_read_back.{specs.AmidLaws.{some-exactly, row-exactly}, proofs.MakesQueries.each-makes_queries}
 use Rattle.transcript_read_back.proofs.Steps.{FeedsAndDraws, Any, each-any}
+use Rattle.p3_challenger.specs.Sampling as sampling
 use Rattle.transcript_read_back.proofs.scripts.scripts_are_calls.Goals as goal
 
 pub returns : goal.returns

@@ -1,9 +1,7 @@
-use Rattle.std.proofs.Common.{ℕ, List, length}
-use Rattle.std.proofs.lemmas.Result.{err_from_is_err_and, on_ok_weaker, IfErr-weaker}
+use Rattle.std.proofs.{Common.{ℕ, List, length}, lemmas.Result.{err_from_is_err_and, on_ok_weaker, IfErr-weaker}}
 use Rattle.p3_challenger.specs.Observation.{Observation, IsObservation}
 use Rattle.uses.proofs.BoundValues.{text_of, text-is_observation, first-refused, message-refused, second-refused}
-use Rattle.uses.proofs.BoundValues.{three-fed}
-use Rattle.uses.proofs.bound_values.absorb_values.Given.{Over}
+use Rattle.uses.proofs.{BoundValues.three-fed, bound_values.absorb_values.Given.Over}
 use Rattle.uses.proofs.bound_values.absorb_values.Goals as goal
 
 abbrev text : (g : Over) → Observation g.row.C-State.Denot g.row.C-Symbol.Denot (List ℕ)

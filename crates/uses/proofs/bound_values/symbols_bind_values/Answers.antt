@@ -1,5 +1,4 @@
-use Rattle.uses.specs.BoundValues.{of_bytes}
-use Rattle.uses.proofs.BoundValues.{symbols-bind}
+use Rattle.uses.{specs.BoundValues.of_bytes, proofs.BoundValues.symbols-bind}
 use Rattle.uses.proofs.bound_values.symbols_bind_values.Goals as goal
 
 pub returns : goal.returns

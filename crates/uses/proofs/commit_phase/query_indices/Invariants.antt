@@ -1,5 +1,4 @@
-use Rattle.std.proofs.Common.{◌==◌, true}
-use Rattle.std.specs.List.{IsDistinct}
+use Rattle.std.{proofs.Common.{◌==◌, true}, specs.List.IsDistinct}
 use Rattle.uses.specs.CommitPhase.{AreNumbersDrawn}
 use Rattle.uses.proofs.commit_phase.query_indices.Given as goal
 

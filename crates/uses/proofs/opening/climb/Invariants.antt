@@ -1,7 +1,7 @@
 use Rattle.std.proofs.Common.{◌≡◌}
 use Rattle.p3_challenger.specs.Drivers.{verifying_of}
-use Rattle.p3_symmetric.specs.contracts.sha256.Sha256HasherDigestHasher.TheImpl as digests
 use Rattle.uses.proofs.MerkleOpening.{IsClimbed}
+use Rattle.p3_symmetric.specs.contracts.sha256.Sha256HasherDigestHasher.TheImpl as digests
 use Rattle.uses.proofs.opening.climb.Given as goal
 
 -- the siblings so far are read and climbed over, and the challenger takes no part in it

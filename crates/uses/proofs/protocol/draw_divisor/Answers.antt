@@ -1,9 +1,6 @@
-use Rattle.std.proofs.Common.{arith, refl, [], ◌∷◌}
-use Rattle.std.proofs.lemmas.Result.{err_from_is_err_and}
+use Rattle.std.proofs.{Common.{arith, refl, [], ◌∷◌}, lemmas.Result.err_from_is_err_and}
 use Rattle.p3_challenger.specs.Bound.{bound_value}
-use Rattle.uses.specs.Protocol.{may_divide}
-use Rattle.uses.proofs.Accepting.{draws-one, one-given}
-use Rattle.uses.proofs.Rejecting.{one-of}
+use Rattle.uses.{specs.Protocol.may_divide, proofs.Accepting.{draws-one, one-given}, proofs.Rejecting.one-of}
 use Rattle.uses.proofs.protocol.draw_divisor.Goals as goal
 
 pub index-requires : goal.index-requires

@@ -1,10 +1,6 @@
 use Rattle.std.proofs.Common.{List, ℕ, ap, codes, subst, ◌∙◌}
-use Rattle.p3_challenger.specs.Kind.{Kind}
-use Rattle.p3_challenger.specs.Kind.TheVariants.{Challenge, Message}
-use Rattle.p3_challenger.specs.Hierarchy.TheVariants.{Atomic}
-use Rattle.p3_challenger.specs.Length.{Length}
-use Rattle.p3_challenger.specs.Length.TheVariants.{Fixed, Scalar}
-use Rattle.p3_challenger.specs.Recording.{Records}
+use Rattle.p3_challenger.specs.{Kind.Kind, Kind.TheVariants.{Challenge, Message}, Hierarchy.TheVariants.Atomic}
+use Rattle.p3_challenger.specs.{Length.Length, Length.TheVariants.{Fixed, Scalar}, Recording.Records}
 use Rattle.p3_challenger.specs.Steps.{Step, carried_by, step_with}
 use Rattle.uses.proofs.Accepting.{once-ok, recorded-five}
 use Rattle.uses.proofs.protocol.record.Goals as goal

@@ -1,16 +1,9 @@
-use Rattle.std.proofs.Common.{arith, ◌∙◌, ap, refl, subst, sym}
-use Rattle.std.proofs.lemmas.Result.{err_from_is_err_and}
-use Rattle.p3_challenger.specs.BabyBearResidues.{residues}
-use Rattle.p3_challenger.specs.Reading.{AreBytes}
-use Rattle.p3_challenger.specs.Residues.{sum_of}
-use Rattle.p3_challenger.specs.SmallPrimeLaws.{compared-by-numbers}
-use Rattle.p3_challenger.specs.SeparatorSeed.{pattern_of, seed_of_separator}
-use Rattle.p3_symmetric.specs.contracts.sha256.Sha256HasherDigestHasher.TheImpl as digests
-use Rattle.p3_challenger.specs.Drivers.{verifying_of}
-use Rattle.uses.specs.Protocol.{IsAnswer}
-use Rattle.uses.proofs.Accepting.{ahead-of, ends-reading}
-use Rattle.uses.proofs.Begun.{begun-as}
+use Rattle.std.proofs.{Common.{arith, ◌∙◌, ap, refl, subst, sym}, lemmas.Result.err_from_is_err_and}
+use Rattle.p3_challenger.specs.{BabyBearResidues.residues, Reading.AreBytes, Residues.sum_of, Drivers.verifying_of}
+use Rattle.p3_challenger.specs.{SmallPrimeLaws.compared-by-numbers, SeparatorSeed.{pattern_of, seed_of_separator}}
+use Rattle.uses.{specs.Protocol.IsAnswer, proofs.Accepting.{ahead-of, ends-reading}, proofs.Begun.begun-as}
 use Rattle.uses.proofs.Runs.{answered, received-alone, run-as}
+use Rattle.p3_symmetric.specs.contracts.sha256.Sha256HasherDigestHasher.TheImpl as digests
 use Rattle.uses.proofs.protocol.verify.Goals as goal
 
 pub returns-clause-run : goal.returns-clause-run

@@ -1,6 +1,5 @@
 use Rattle.std.proofs.Common.{lit<, ◌∙◌, sym}
-use Rattle.uses.specs.TwoRounds.{two_rounds}
-use Rattle.uses.proofs.TwoRounds.{rounds-observe}
+use Rattle.uses.{specs.TwoRounds.two_rounds, proofs.TwoRounds.rounds-observe}
 use Rattle.uses.proofs.read_back.begin_with_zeros.Goals as goal
 
 pub returns-clause-tells : goal.returns-clause-tells

@@ -1,7 +1,5 @@
 use Rattle.std.proofs.Common.{ap}
-use Rattle.p3_challenger.specs.Bound.{bound_value}
-use Rattle.p3_challenger.specs.Alphabet.{alphabet_of}
-use Rattle.p3_challenger.specs.SeparatorSeed.{seed_of_separator}
+use Rattle.p3_challenger.specs.{Bound.bound_value, Alphabet.alphabet_of, SeparatorSeed.seed_of_separator}
 use Rattle.uses.proofs.SentAndDrawn.{drawn-first}
 use Rattle.uses.proofs.round.first_challenge.Goals as goal
 

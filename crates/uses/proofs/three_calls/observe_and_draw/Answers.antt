@@ -1,5 +1,4 @@
-use Rattle.std.proofs.Common.{List}
-use Rattle.std.proofs.lemmas.Result.{err_from_is_err_and, IfErr-weaker}
+use Rattle.std.proofs.{Common.List, lemmas.Result.{err_from_is_err_and, IfErr-weaker}}
 use Rattle.p3_challenger.specs.Observation.{Observation, IsObservation, in_slice}
 use Rattle.p3_challenger.specs.ObservationLaws.{in_slice-is_observation}
 use Rattle.uses.proofs.ThreeCalls.{first-refused, rest-refused, draw-refused, drawn}

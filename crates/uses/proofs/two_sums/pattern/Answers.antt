@@ -1,7 +1,6 @@
 use Rattle.std.proofs.Common.{ap}
 use Rattle.p3_challenger.specs.Algebras.{algebra_of}
-use Rattle.uses.specs.TwoSums.{steps_of_two}
-use Rattle.uses.proofs.RecordSums.{ends-own, two-are, two-recorded, two-viable}
+use Rattle.uses.{specs.TwoSums.steps_of_two, proofs.RecordSums.{ends-own, two-are, two-recorded, two-viable}}
 use Rattle.uses.proofs.two_sums.pattern.Goals as goal
 
 pub returns-clause-only : goal.returns-clause-only

@@ -1,14 +1,8 @@
-use Rattle.std.proofs.Common.{◌∙◌, Err, ap, subst}
-use Rattle.std.proofs.lemmas.Result.{err_from_is_err_and}
-use Rattle.p3_challenger.specs.Algebras.{algebra_of}
-use Rattle.p3_challenger.specs.Drivers.{verifying_of}
-use Rattle.p3_challenger.specs.Reading.{AreBytes}
-use Rattle.p3_sumcheck.specs.ReadingLaws.{next-reading_fault}
-use Rattle.p3_sumcheck.specs.Sumchecks.{sumcheck_of}
+use Rattle.std.proofs.{Common.{◌∙◌, Err, ap, subst}, lemmas.Result.err_from_is_err_and}
+use Rattle.p3_challenger.specs.{Algebras.algebra_of, Drivers.verifying_of, Reading.AreBytes}
+use Rattle.p3_sumcheck.specs.{ReadingLaws.next-reading_fault, Sumchecks.sumcheck_of, Tables.total}
 use Rattle.p3_sumcheck.specs.declared.error.SumcheckError.TheVariants.{Transcript}
-use Rattle.p3_sumcheck.specs.Tables.{total}
-use Rattle.uses.specs.TwoSums.{sum_step}
-use Rattle.uses.proofs.ReadSums.{read_sum, sum-passes, sum-read, sum-then, sumcheck-fault}
+use Rattle.uses.{specs.TwoSums.sum_step, proofs.ReadSums.{read_sum, sum-passes, sum-read, sum-then, sumcheck-fault}}
 use Rattle.uses.proofs.TwoSums.{rounds-bytes, rounds-left, sum-received, sum-refused}
 use Rattle.uses.proofs.two_sums.receive_sum.Goals as goal
 

@@ -1,11 +1,7 @@
-use Rattle.std.proofs.Common.{ap}
-use Rattle.std.proofs.lemmas.Result.{err_from_is_err_and}
-use Rattle.p3_challenger.specs.Algebras.{algebra_of}
-use Rattle.p3_challenger.specs.Rounds.{steps_of_rounds}
-use Rattle.p3_sumcheck.specs.DeclaringLaws.{only-memory}
-use Rattle.p3_sumcheck.specs.Sumchecks.{round_steps}
-use Rattle.uses.specs.TwoSums.{sum_step}
-use Rattle.uses.proofs.RecordSums.{on-both, viable-then, viable-taken}
+use Rattle.std.proofs.{Common.ap, lemmas.Result.err_from_is_err_and}
+use Rattle.p3_challenger.specs.{Algebras.algebra_of, Rounds.steps_of_rounds}
+use Rattle.p3_sumcheck.specs.{DeclaringLaws.only-memory, Sumchecks.round_steps}
+use Rattle.uses.{specs.TwoSums.sum_step, proofs.RecordSums.{on-both, viable-then, viable-taken}}
 use Rattle.uses.proofs.two_sums.record_sum.Goals as goal
 
 pub returns-clause-only : goal.returns-clause-only

@@ -1,10 +1,7 @@
 use Rattle.std.proofs.lemmas.Result.{err_from_is_err_and}
-use Rattle.p3_challenger.specs.Algebras.{algebra_of}
-use Rattle.p3_challenger.specs.Completeness.{IsOwnRefusal}
-use Rattle.p3_challenger.specs.Drivers.{proving_of}
+use Rattle.p3_challenger.specs.{Algebras.algebra_of, Completeness.IsOwnRefusal, Drivers.proving_of}
 use Rattle.p3_sumcheck.specs.Sumchecks.{sumcheck_of}
-use Rattle.uses.specs.TwoSums.{steps_of_sum}
-use Rattle.uses.proofs.TwoSums.{both-passed, first-next, match-then, ok-then, second-next}
+use Rattle.uses.{specs.TwoSums.steps_of_sum, proofs.TwoSums.{both-passed, first-next, match-then, ok-then, second-next}}
 use Rattle.uses.proofs.two_sums.send_two.Goals as goal
 
 pub returns-clause-sent : goal.returns-clause-sent

@@ -1,14 +1,9 @@
-use Rattle.std.proofs.Common.{inr, sym, ap}
-use Rattle.std.proofs.lemmas.Result.{err_from_is_err_and}
-use Rattle.p3_challenger.specs.Algebras.{algebra_of}
-use Rattle.p3_challenger.specs.Drivers.{verifying_of}
-use Rattle.p3_challenger.specs.Observation.{observed_all}
+use Rattle.std.proofs.{Common.{inr, sym, ap}, lemmas.Result.err_from_is_err_and}
+use Rattle.p3_challenger.specs.{Algebras.algebra_of, Drivers.verifying_of, Observation.observed_all}
 use Rattle.p3_challenger.specs.SeparatorSeed.{pattern_of, seed_of_separator}
-use Rattle.p3_sumcheck.specs.Sumchecks.{sumcheck_of}
-use Rattle.p3_sumcheck.specs.declared.error.SumcheckError.TheVariants.{Transcript}
-use Rattle.uses.specs.TwoSums.{begun, steps_of_two}
+use Rattle.p3_sumcheck.specs.{Sumchecks.sumcheck_of, declared.error.SumcheckError.TheVariants.Transcript}
+use Rattle.uses.{specs.TwoSums.{begun, steps_of_two}, proofs.TwoSums.{reads-end, start-memory, start-own}}
 use Rattle.uses.proofs.ReadSums.{begun-next, end-fault, passed-played, two-accepted}
-use Rattle.uses.proofs.TwoSums.{reads-end, start-memory, start-own}
 use Rattle.uses.proofs.two_sums.verify_two.Goals as goal
 
 pub returns-clause-accepts : goal.returns-clause-accepts

@@ -1,9 +1,7 @@
 use Rattle.std.proofs.Common.{◌≡◌, ◌<◌, ◌∙◌, ◌+◌, ℕ, List, [], ◌∷◌, map, length, slice_index_or, sym, ap, ap₂, lit<, arith}
 use Rattle.std.proofs.lemmas.List.{get_or-map}
-use Rattle.p3_challenger.specs.BabyBearResidues.{BabyBear, residues}
-use Rattle.p3_challenger.specs.Residues.{plus, power_of, sum_of}
-use Rattle.p3_lanes.specs.SmallPrimeLanes.{element_in}
-use Rattle.p3_lanes.specs.declared.small_prime_lanes.SmallPrimeLanes.{SmallPrimeLanes}
+use Rattle.p3_challenger.specs.{BabyBearResidues.{BabyBear, residues}, Residues.{plus, power_of, sum_of}}
+use Rattle.p3_lanes.specs.{SmallPrimeLanes.element_in, declared.small_prime_lanes.SmallPrimeLanes.SmallPrimeLanes}
 use Rattle.uses.specs.OwnPermutation.{stirred_cell}
 use Rattle.uses.proofs.own_permutation.StirLanePermutationBabyBear4.permute_lanes.Goals as goal
 
