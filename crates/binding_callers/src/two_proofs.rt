@@ -1,7 +1,7 @@
 //! Two proofs of one script, verified: a caller that cites what follows of the law.
 ghost use Rattle.std.specs.Prelude.{◌≡◌, length, IfOk};
 ghost use Rattle.binding_callers.specs.TwoProofs.{AreTwoProofs};
-ghost use Rattle.p3_challenger.specs.{Reading.IsPrefixCodeOn, Runs.{AreAdmitted, carried_count}, RunsBound.AreOwn};
+ghost use Rattle.p3_challenger.specs.{Reading.IsPrefixCodeOn, Runs.{AreAdmitted, carried_count}, AnswersBound.AreOwn};
 ghost use Rattle.p3_challenger.specs.{Scripts.play_of, Verdicts.script_of};
 
 use p3_challenger::fs::script::{Fault, Meaning, Step, Suite, Verified, verify};

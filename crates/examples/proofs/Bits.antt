@@ -1,6 +1,6 @@
 -- How many bits a draw from the field of order 15 * 2 ^ 27 + 1 may ask for.
 use Rattle.std.proofs.Common.{◌≡◌, ◌≤◌, lit<, lit≤, subst, sym}
-use Rattle.p3_challenger.specs.{BitLaws.greatest-is, Bits.most_bits_of}
+use Rattle.p3_challenger.specs.{BitLaws.greatest-is, Sampling.most_bits_of}
 
 most : most_bits_of 2013265921 ≡ 30
 most = greatest-is 2013265921 63 30 (lit< tt) (lit≤ tt) (lit≤ tt)

@@ -1,7 +1,7 @@
 -- What a suite promises of what is fed.
 use Rattle.std.proofs.Common.{◌≡◌, ℕ, ◌<◌, ◌≤◌, ◌^◌, List, ◌++◌, length, flat_map}
 use Rattle.p3_challenger_core.specs.Reading.{AreBytes, OneBegins, IsPrefixCode, IsPrefixCodeOn}
-use Rattle.p3_fs_core.specs.Counts.{count_bytes}
+use Rattle.p3_fs_core.specs.BigEndian.{count_bytes}
 use Rattle.p3_runs.specs.Rules.{Rules, Coding}
 
 module _ {S Symbol I F EF O Ac : Type 0} (rules : Rules S Symbol I F EF O Ac) where

@@ -2,15 +2,15 @@
 use Rattle.std.proofs.Common.{◌≡◌, ℕ, zero, suc, ◌^◌, ◌<◌, ◌≤◌, List, [], ◌∷◌, ◌++◌, length, map, flat_map, inl, inr}
 use Rattle.std.{proofs.Common.{refl, sym, ap, ◌∙◌, append_assoc, arith}, specs.List.AllByRecursion}
 use Rattle.std.proofs.lemmas.List.{append-nil, length-map}
-use Rattle.p3_challenger_core.specs.Reading.{AreBytes, OneBegins, IsPrefixCodeOn}
-use Rattle.p3_challenger_core.specs.SymbolLaws.{row-prefix_code, places-prefix_code}
+use Rattle.p3_challenger_core.specs.{Reading.{AreBytes, OneBegins, IsPrefixCodeOn}, SymbolLaws.row-prefix_code}
+use Rattle.p3_challenger_core.specs.SymbolLaws.{places-prefix_code}
 use Rattle.p3_fs_core.specs.{BigEndianLaws.{length-in_bytes, AreBytes-in_bytes}, CountLaws.count_width-most, Steps.Step}
-use Rattle.p3_fs_core.specs.{Counts.{count_bytes, count_width}, declared.step.Kind.Kind, declared.step.Length.Length}
+use Rattle.p3_fs_core.specs.{BigEndian.{count_bytes, count_width}, declared.step.{Kind.Kind, Length.Length}}
 use Rattle.p3_fs_core.specs.declared.step.{Kind.TheVariants.{Hint, Challenge, Pow}, TypeTag.TypeTag}
 use Rattle.p3_fs_core.specs.declared.step.Length.TheVariants.{None, Scalar, Fixed, Bounded}
 use Rattle.p3_driver_core.specs.Working.{symbols_of_check}
-use Rattle.p3_runs.specs.Absorbed.{Absorbed, Nothing, Bytes, Elements, Own, Witness, witness_of}
-use Rattle.p3_runs.specs.Rules.{Rules, Coding}
+use Rattle.p3_runs.specs.{Absorbed.{Absorbed, Nothing, Bytes, Elements, Own, Witness, witness_of}, Rules.Rules}
+use Rattle.p3_runs.specs.Rules.{Coding}
 use Rattle.p3_binding.proofs.Lawful.{Lawful, LawfulCoding, bytes_symbols, IsShort}
 use Rattle.p3_fs_core.specs.declared.step.TypeTag.TheVariants as tag
 

@@ -1,10 +1,9 @@
 -- Hints and witnesses of 0 bits leave the challenger as it is.
 use Rattle.std.proofs.Common.{◌≡◌, zero, List, [], ◌∷◌, Option, Some, None, refl, sym, ◌∙◌, subst}
 use Rattle.p3_driver_core.specs.Effects.{Effect, untouched}
-use Rattle.p3_binding.specs.Hints.{SameButHint, SameButHints, HintsDoNotInfluence}
-use Rattle.p3_binding.specs.ScriptBinding.{ScriptHintsDoNotInfluence}
-use Rattle.p3_runs.specs.{Fronts.seeded, Plays.{Play, effect_some}, Rules.Rules, Runs.{challenges, after}}
-use Rattle.p3_runs.specs.Values.{Value, bytes_in, witness_in}
+use Rattle.p3_binding.specs.{Hints.{SameButHint, SameButHints, HintsDoNotInfluence}, Binding.ScriptHintsDoNotInfluence}
+use Rattle.p3_runs.specs.{Fronts.seeded, Plays.{effect_some, Play}, Rules.Rules, Runs.{challenges, after}}
+use Rattle.p3_runs.specs.Values.{witness_in, bytes_in, Value}
 use Rattle.p3_script.specs.Scripts.{play_of}
 use Rattle.p3_script.specs.declared.steps.Step as script
 use Rattle.p3_script.specs.declared.steps.Step.TheVariants as step

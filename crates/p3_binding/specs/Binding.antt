@@ -1,11 +1,14 @@
--- What two runs that feed the same symbols have in common.
+-- What two runs that feed the same symbols have in common; and of scripts, that symbols bind and hints do not influence.
 use Rattle.std.specs.Prelude.{◌≡◌, ◌↔◌, ℕ, ◌⊎◌, List, [], ◌∷◌, length}
 use Rattle.p3_challenger_core.specs.Reading.{AreBytes}
 use Rattle.p3_fs_core.specs.Steps.{Step, alternate_text}
 use Rattle.p3_patterns.specs.{PatternSteps.{PatternSteps, steps_of}, Rendering.{rendering, SameButTypeNames}}
-use Rattle.p3_domain_separator.specs.SeparatorParts.{separator_of}
-use Rattle.p3_runs.specs.{Absorbed.{Absorbed, Bytes, Own}, Plays.Play, Rules.Rules}
-use Rattle.p3_runs.specs.Fronts.{Run, pattern, IsFinished, IsWhole, symbols, absorbed}
+use Rattle.p3_domain_separator.specs.SeparatorSeed.{separator_of}
+use Rattle.p3_runs.specs.{Plays.Play, Rules.Rules, Fronts.{Run, pattern, IsFinished, IsWhole, symbols, absorbed}}
+use Rattle.p3_runs.specs.Absorbed.{Absorbed, Bytes, Own}
+use Rattle.p3_binding.specs.Hints.{HintsDoNotInfluence}
+use Rattle.p3_script.specs.Scripts.{play_of}
+use Rattle.p3_script.specs.declared.steps.Step as script
 
 -- ---- patterns
 
@@ -20,8 +23,7 @@ pub record Collide (digest_of : List ℕ → List ℕ) (a b : List ℕ) : Type 0
 
 -- two patterns have one alternate rendering exactly if they are the same but for the names of types
 abbrev pub RenderingsTellPatterns : Type 0
-RenderingsTellPatterns =
-    (x y : PatternSteps) →
+RenderingsTellPatterns = (x y : PatternSteps) →
     (alternate_rendering (steps_of x) ≡ alternate_rendering (steps_of y) ↔ SameButTypeNames (steps_of x) (steps_of y))
 
 -- ---- what is absorbed
@@ -68,3 +70,15 @@ abbrev pub SymbolsBind : {X S Symbol I F EF O Ac : Type 0} (U D : Type 0) → Ru
     (X → Play S Symbol F EF O) → Type 0
 SymbolsBind {X} {S} {Symbol} {I} {F} {EF} U D rules play =
     (x y : Run X F EF S U D) → FeedTheSame rules play x y → AreBound rules play x y
+
+-- ---- scripts
+
+module _ {S Symbol I F EF O Ac : Type 0} (Su U C K D G It St Sy : Type 0) (rules : Rules S Symbol I F EF O Ac) where
+  -- equal symbols bind, of scripts
+  abbrev pub ScriptSymbolsBind : Type 0
+  ScriptSymbolsBind = SymbolsBind U D rules (λ (x : script.Step Su F EF U O C K Ac D G It St Sy). play_of rules x)
+
+  -- hints do not influence, in scripts
+  abbrev pub ScriptHintsDoNotInfluence : Type 0
+  ScriptHintsDoNotInfluence =
+      HintsDoNotInfluence U D rules (λ (x : script.Step Su F EF U O C K Ac D G It St Sy). play_of rules x)

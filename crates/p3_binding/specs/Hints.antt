@@ -54,7 +54,6 @@ module _ {X S Symbol I F EF O Ac U D : Type 0} (rules : Rules S Symbol I F EF O 
 -- and witnesses of 0 bits, have the same challenges and final challengers
 abbrev pub HintsDoNotInfluence : {X S Symbol I F EF O Ac : Type 0} (U D : Type 0) → Rules S Symbol I F EF O Ac →
     (X → Play S Symbol F EF O) → Type 0
-HintsDoNotInfluence {X} {S} {Symbol} {I} {F} {EF} U D rules play =
-    (x : Run X F EF S U D) (others : List (Value F EF)) → IsFinished rules play x →
-    IsFinished rules play (record x { values = others }) → SameButHints play x.steps x.values others →
-    SameEnds rules play x (record x { values = others })
+HintsDoNotInfluence {X} {S} {Symbol} {I} {F} {EF} U D rules play = (x : Run X F EF S U D) (others : List (Value F EF)) →
+    IsFinished rules play x → IsFinished rules play (record x { values = others }) →
+    SameButHints play x.steps x.values others → SameEnds rules play x (record x { values = others })

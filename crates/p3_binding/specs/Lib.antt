@@ -1,3 +1,2 @@
 pub mod Binding
 pub mod Hints
-pub mod ScriptBinding

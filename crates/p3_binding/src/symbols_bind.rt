@@ -1,7 +1,6 @@
 //! The law that equal symbols bind.
 ghost use Rattle.p3_challenger_core.specs.Reading.{IsPrefixCodeOn};
-ghost use Rattle.p3_binding.specs.Binding.{RenderingsTellPatterns};
-ghost use Rattle.p3_binding.specs.ScriptBinding.{ScriptSymbolsBind, ScriptHintsDoNotInfluence};
+ghost use Rattle.p3_binding.specs.Binding.{RenderingsTellPatterns, ScriptSymbolsBind, ScriptHintsDoNotInfluence};
 
 use p3_codecs::symbols_begin;
 use p3_domain_separator::{
@@ -35,12 +34,12 @@ pub fn binding<S: Suite>()
     requires values { S.Codec.feeds_prefix_code }
     requires opaque { IsPrefixCodeOn S.is_own S.Challenger.CanObserve-2.observation.symbols }
     ensures equal_symbols_bind { let rules = ⟦<S as Meaning>⟧.rules S.Field.DIMENSION in
-        ScriptSymbolsBind S S.Unit S.Challenger S.Codec S.Digest S.Group S.Unit.Item S.Challenger.State
-        S.Challenger.Symbol rules }
+        ScriptSymbolsBind S S.Unit S.Challenger S.Codec S.Digest S.Group S.Unit.Item
+        S.Challenger.State S.Challenger.Symbol rules }
     ensures equal_renderings_are_equal_patterns { RenderingsTellPatterns }
     ensures hints_do_not_influence { let rules = ⟦<S as Meaning>⟧.rules S.Field.DIMENSION in
-        ScriptHintsDoNotInfluence S S.Unit S.Challenger S.Codec S.Digest S.Group S.Unit.Item S.Challenger.State
-        S.Challenger.Symbol rules }
+        ScriptHintsDoNotInfluence S S.Unit S.Challenger S.Codec S.Digest S.Group S.Unit.Item
+        S.Challenger.State S.Challenger.Symbol rules }
 {
     symbols_begin::<S::Unit, S::Challenger>();
     counts_are_told();

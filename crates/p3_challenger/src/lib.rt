@@ -2,7 +2,8 @@
 //! come out, the same for both.
 //!
 //! This crate has no code of its own. It shows the challengers at its root and typed transcripts
-//! under [`fs`], and to those who write contracts all definitions, so that a user names one crate.
+//! under [`fs`], and to those who write contracts all definitions but those of fields, which
+//! `p3_field` shows.
 #![tactic(auto)]
 
 pub mod fs;

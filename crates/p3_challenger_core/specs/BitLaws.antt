@@ -1,8 +1,8 @@
 -- The greatest number of bits whose power of two is below an order.
 use Rattle.std.proofs.Common.{◌≡◌, ℕ, zero, suc, ◌<◌, ◌≤◌, ◌+◌, ◌-◌, ◌*◌, ◌%◌, ◌^◌, Bool, true, false, nat_lt, Some}
 use Rattle.std.proofs.{Common.{if◌then◌else◌, refl, ap, ◌∙◌, inl, inr, arith, add-one}, lemmas.Bool.Decides.nat_tests}
-use Rattle.std.proofs.{lemmas.Nat.{pow_below, pow_pos}, Math.Pow.pow_mono, lemmas.Bool.cases_lt, Math.Nat.mod-eq_of_lt}
-use Rattle.p3_challenger_core.specs.Bits.{greatest_below, most_bits_of}
+use Rattle.std.proofs.{lemmas.{Nat.{pow_below, pow_pos}, Bool.cases_lt}, Math.{Pow.pow_mono, Nat.mod-eq_of_lt}}
+use Rattle.p3_challenger_core.specs.Sampling.{greatest_below, most_bits_of}
 
 choose : (b : Bool) (x y z : ℕ) → (b ≡ true → x ≡ z) → (b ≡ false → y ≡ z) → (if b then x else y) ≡ z
 choose true x y z holds fails = holds refl

@@ -1,9 +1,8 @@
 -- Calls made one after another.
 use Rattle.std.proofs.Common.{◌≡◌, ℕ, ◌+◌, ◌<◌, ◌≤◌, List, [], ◌∷◌, length, drop, get_or, sym, ap, ◌∙◌, inl, inr, subst}
-use Rattle.std.proofs.{Common.add-one, Math.ListN.drop_of_length-le, Math.Seq.drop-cons}
+use Rattle.std.proofs.{Common.add-one, Math.{ListN.drop_of_length-le, Seq.drop-cons}}
 use Rattle.p3_challenger_core.specs.Observation.{observed_all, LeavesInCalls, RefusesObserve}
-use Rattle.p3_challenger_core.specs.declared.error.ChallengerError.{ChallengerError}
-use Rattle.p3_challenger_core.specs.declared.error.ChallengerError.TheVariants.{OutOfMemory}
+use Rattle.p3_challenger_core.specs.declared.error.ChallengerError.{ChallengerError, TheVariants.OutOfMemory}
 
 -- from here on, the calls that are left lead where all of them lead from the start
 pub record GoesOn {S T : Type 0} (step : S → T → S) (MayLeave : S → T → S → Type 0) (start : S) (values : List T)

@@ -1,9 +1,8 @@
 -- Draws in a row, one after another.
-use Rattle.std.proofs.Common.{◌≡◌, ℕ, suc, ◌+◌, ◌-◌, ◌<◌, ◌≤◌, List, [], ◌∷◌, ◌++◌, Option, Some, None}
-use Rattle.std.proofs.{Common.{is_some, refl, sym, ap, ◌∙◌, inl, inr}, Common.{append_assoc, append-nil, arith}}
-use Rattle.std.specs.Option.{option_map}
-use Rattle.p3_challenger_core.specs.{declared.error.ChallengerError.ChallengerError, Sampling.RefusesDraws}
-use Rattle.p3_challenger_core.specs.Sampling.{Sampling, draws, after_draws, RefusesDraw}
+use Rattle.std.proofs.Common.{◌≡◌, ℕ, suc, ◌+◌, ◌-◌, ◌<◌, ◌≤◌, List, [], ◌∷◌, ◌++◌, Option, Some, None, is_some, refl}
+use Rattle.std.{proofs.Common.{sym, ap, ◌∙◌, inl, inr, append_assoc, append-nil, arith}, specs.Option.option_map}
+use Rattle.p3_challenger_core.specs.Sampling.{RefusesDraws, Sampling, draws, after_draws, RefusesDraw}
+use Rattle.p3_challenger_core.specs.declared.error.ChallengerError.{ChallengerError}
 
 module _ {S T : Type 0} (d : Sampling S T) where
   -- Of n draws from a start, xs were drawn: what is left of them goes on from here.

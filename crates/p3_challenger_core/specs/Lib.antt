@@ -1,5 +1,4 @@
 pub mod BitLaws
-pub mod Bits
 pub mod CallLaws
 pub mod DrawLaws
 pub mod Observation

@@ -1,5 +1,5 @@
 -- What observing a value does to a challenger.
-use Rattle.std.specs.{Prelude.{◌≡◌, ℕ, List, [], ◌∷◌, ◌++◌, ◌⊎◌, take}, List.flat_map}
+use Rattle.std.specs.{Prelude.{◌≡◌, ℕ, List, [], ◌∷◌, ◌++◌, ◌⊎◌, ◌↔◌, take, Result, MatchResult}, List.flat_map}
 use Rattle.p3_challenger_core.specs.{Sponge.IsFed, declared.error.ChallengerError.ChallengerError}
 use Rattle.p3_challenger_core.specs.declared.error.ChallengerError.TheVariants.{OutOfMemory}
 
@@ -21,11 +21,11 @@ LeavesAfter fed s before symbols t = (n : ℕ) × (t ≡ fed s (before ++ take n
 -- left that could be dropped, so there both hold exactly.
 pub record IsObservation {S Symbol T : Type 0} (fed : S → List Symbol → S) (o : Observation S Symbol T) : Type 0 where
   pub observes : (s : S) (x : T) → IsFed fed s (o.symbols x) (o.observed s x)
-  pub observes_after : (s : S) (y : Symbol) (ys : List Symbol) (x : T)
-      → o.observed (fed s (y ∷ ys)) x ≡ fed s ((y ∷ ys) ++ o.symbols x)
+  pub observes_after : (s : S) (y : Symbol) (ys : List Symbol) (x : T) →
+      o.observed (fed s (y ∷ ys)) x ≡ fed s ((y ∷ ys) ++ o.symbols x)
   pub leaves : (s : S) (x : T) (t : S) → o.may_leave s x t → LeavesFed fed s (o.symbols x) t
-  pub leaves_after : (s : S) (y : Symbol) (ys : List Symbol) (x : T) (t : S) → o.may_leave (fed s (y ∷ ys)) x t
-      → LeavesAfter fed s (y ∷ ys) (o.symbols x) t
+  pub leaves_after : (s : S) (y : Symbol) (ys : List Symbol) (x : T) (t : S) → o.may_leave (fed s (y ∷ ys)) x t →
+      LeavesAfter fed s (y ∷ ys) (o.symbols x) t
 
 -- an observation that is never refused
 abbrev pub unrefused_observe : {S Symbol T : Type 0} → (T → List Symbol) → (S → T → S) → Observation S Symbol T
@@ -53,26 +53,49 @@ abbrev pub RefusesObserve : {S : Type 0} → (S → Type 0) → ChallengerError 
 RefusesObserve MayLeave OutOfMemory t = MayLeave t
 RefusesObserve MayLeave _ t = ⊥
 
+-- the same of one value
+abbrev pub RefusesValue : {S Symbol T : Type 0} → Observation S Symbol T → T → ChallengerError → S → S → Type 0
+RefusesValue o x e s t = RefusesObserve (o.may_leave s x) e t
+
+-- a call observes a value, or is refused and leaves what its error may leave
+abbrev pub ObservesOrRefuses : {S Symbol T : Type 0} → Observation S Symbol T → T → S →
+    Result (Unit {0}) ChallengerError → S → Type 0
+ObservesOrRefuses o x s result t = MatchResult result (λ _. t ≡ o.observed s x) (λ e. RefusesValue o x e s t)
+
 -- the values of a list, observed one after another, as one observation
 abbrev pub in_row : {S Symbol T : Type 0} → Observation S Symbol T → Observation S Symbol (List T)
-in_row o =
-    record {
-      symbols = flat_map o.symbols;
-      observed = observed_all o.observed;
-      may_leave = LeavesInCalls o.observed o.may_leave;
-    }
+in_row o = record {
+  symbols = flat_map o.symbols;
+  observed = observed_all o.observed;
+  may_leave = LeavesInCalls o.observed o.may_leave;
+}
 
 -- what is observed as another value
 abbrev pub observed_as : {S Symbol T U : Type 0} → (U → T) → Observation S Symbol T → Observation S Symbol U
-observed_as f o =
-    record {
-      symbols = λ x. o.symbols (f x);
-      observed = λ s x. o.observed s (f x);
-      may_leave = λ s x t. o.may_leave s (f x) t;
-    }
+observed_as f o = record {
+  symbols = λ x. o.symbols (f x);
+  observed = λ s x. o.observed s (f x);
+  may_leave = λ s x t. o.may_leave s (f x) t;
+}
 
 -- the values of a list, observed as one slice
-abbrev pub in_slice : {S Symbol T : Type 0} → Observation S Symbol T → (S → List T → S → Type 0)
-    → Observation S Symbol (List T)
+abbrev pub in_slice : {S Symbol T : Type 0} → Observation S Symbol T → (S → List T → S → Type 0) →
+    Observation S Symbol (List T)
 in_slice o slice_may_leave =
     record { symbols = flat_map o.symbols; observed = observed_all o.observed; may_leave = slice_may_leave }
+
+-- the values of a list, observed one after another, each as another value
+abbrev pub each_as : {S Symbol T U : Type 0} → (U → T) → Observation S Symbol T → Observation S Symbol (List U)
+each_as f o = in_row (observed_as f o)
+
+-- what a value does to each state is what this step does with what is made of the value
+abbrev pub ActsAs : {S T V : Type 0} → (S → T → S) → (S → V → S) → (T → V) → Type 0
+ActsAs {S} {T} act step made = (s : S) (x : T) → act s x ≡ step s (made x)
+
+-- a value is observed as another one that it stands for: it feeds the same symbols, makes the same state, and may leave
+-- the same one where it is refused
+pub record ObservesSame {S Symbol T U : Type 0} (o : Observation S Symbol U) (f : U → T) (p : Observation S Symbol T)
+    : Type 0 where
+  pub symbols : (x : U) → o.symbols x ≡ p.symbols (f x)
+  pub observed : ActsAs o.observed p.observed f
+  pub left : (s : S) (x : U) (t : S) → o.may_leave s x t ↔ p.may_leave s (f x) t

@@ -1,12 +1,10 @@
 -- Laws of what is observed: what is fed, one value and several in a row.
-use Rattle.std.proofs.Common.{◌≡◌, ℕ, zero, suc, inl, inr, List, [], ◌∷◌, ◌++◌, take, Result, Ok, Err}
-use Rattle.std.{proofs.Common.{refl, sym, ap, ◌∙◌, append_assoc, append-nil, subst}, specs.List.flat_map}
-use Rattle.std.specs.Result.{OnOk}
-use Rattle.p3_challenger_core.specs.{Sponge.{IsNonEmpty, IsFed}, Observation.{in_slice, observed_as}}
-use Rattle.p3_challenger_core.specs.Observation.{Observation, IsObservation, LeavesFed, LeavesAfter, LeavesInCalls}
-use Rattle.p3_challenger_core.specs.Observation.{RefusesObserve, observed_all, unrefused_observe, in_row}
-use Rattle.p3_challenger_core.specs.declared.error.ChallengerError.{ChallengerError}
-use Rattle.p3_challenger_core.specs.declared.error.ChallengerError.TheVariants.{OutOfMemory}
+use Rattle.std.proofs.Common.{◌≡◌, ℕ, zero, suc, inl, inr, List, [], ◌∷◌, ◌++◌, take, Result, Ok, Err, refl, sym, ap}
+use Rattle.std.{proofs.Common.{◌∙◌, append_assoc, append-nil, subst}, specs.{List.flat_map, Result.OnOk}}
+use Rattle.p3_challenger_core.specs.{Sponge.{IsNonEmpty, IsFed}, Observation.{in_slice, observed_as, Observation}}
+use Rattle.p3_challenger_core.specs.Observation.{IsObservation, LeavesFed, LeavesAfter, LeavesInCalls, RefusesObserve}
+use Rattle.p3_challenger_core.specs.Observation.{observed_all, unrefused_observe, in_row}
+use Rattle.p3_challenger_core.specs.declared.error.ChallengerError.{ChallengerError, TheVariants.OutOfMemory}
 
 -- what follows of an observation that was not refused
 pub on_ok : {T E : Type 0} (result : Result T E) {A B : Type 0} → (A → B) → OnOk result A → OnOk result B

@@ -1,9 +1,9 @@
 -- Drawing values from a challenger.
 use Rattle.std.specs.Prelude.{◌≡◌, ℕ, zero, suc, List, ◌∷◌, [], ◌⊎◌, Option, Some, None, option_and_then, IsSome}
-use Rattle.std.specs.{Prelude.{is_some, if◌then◌else◌}, Option.option_map}
-use Rattle.p3_challenger_core.specs.{Sponge.IsStepsOn, Observation.RefusesObserve}
-use Rattle.p3_challenger_core.specs.declared.error.ChallengerError.{ChallengerError}
+use Rattle.std.specs.{Prelude.{is_some, if◌then◌else◌, Result, MatchResult, ◌^◌, nat_lt}, Option.option_map}
+use Rattle.p3_challenger_core.specs.{Sponge.IsStepsOn, declared.error.ChallengerError.ChallengerError}
 use Rattle.p3_challenger_core.specs.declared.error.ChallengerError.TheVariants.{OutOfMemory, DrawLimit}
+use Rattle.p3_challenger_core.specs.Observation.{RefusesObserve}
 
 -- what a draw gives, which is none where it meets the draw limit; the state after it; the states whose draw
 -- meets the limit; and what may be left of a state where memory is refused
@@ -30,6 +30,11 @@ abbrev pub RefusesDraw : {S T : Type 0} → Sampling S T → ChallengerError →
 RefusesDraw d OutOfMemory s t = d.may_leave s t
 RefusesDraw d DrawLimit s t = d.meets_limit s × (t ≡ d.after s)
 RefusesDraw d _ s t = ⊥
+
+-- a call gives what a draw gives and leaves the state after it, or is refused and leaves what its error may leave
+abbrev pub DrawsOrRefuses : {S T : Type 0} → Sampling S T → S → Result T ChallengerError → S → Type 0
+DrawsOrRefuses d s result t =
+    MatchResult result (λ x. (d.sampled s ≡ Some x) × (t ≡ d.after s)) (λ e. RefusesDraw d e s t)
 
 -- ---- draws in a row
 
@@ -59,20 +64,30 @@ RefusesDrawVec d n e s t = RefusesObserve (λ u. u ≡ s) e t ⊎ RefusesDraws d
 
 -- n draws in a row as one draw of their values
 abbrev pub in_row : {S T : Type 0} → Sampling S T → ℕ → Sampling S (List T)
-in_row d n =
-    record {
-      sampled = draws d n;
-      after = after_draws d n;
-      meets_limit = SomeDraw d d.meets_limit n;
-      may_leave = λ s t. SomeDraw d (λ u. d.may_leave u t) n s;
-    }
+in_row d n = record {
+  sampled = draws d n;
+  after = after_draws d n;
+  meets_limit = SomeDraw d d.meets_limit n;
+  may_leave = λ s t. SomeDraw d (λ u. d.may_leave u t) n s;
+}
 
 -- a draw of what is made of a drawn value
 abbrev pub made_of : {S T U : Type 0} → (T → U) → Sampling S T → Sampling S U
-made_of f d =
-    record {
-      sampled = λ s. option_map f (d.sampled s);
-      after = d.after;
-      meets_limit = d.meets_limit;
-      may_leave = d.may_leave;
-    }
+made_of f d = record {
+  sampled = λ s. option_map f (d.sampled s);
+  after = d.after;
+  meets_limit = d.meets_limit;
+  may_leave = d.may_leave;
+}
+
+-- ---- draws of bits
+
+-- the greatest k up to a bound whose power of two is below a number
+unfoldable pub greatest_below : ℕ → ℕ → ℕ
+greatest_below order zero = 0
+greatest_below order (suc k) = if nat_lt (2 ^ suc k) order then suc k else greatest_below order k
+
+-- how many bits a draw from a field of this order may ask for: the greatest number below 64 whose power
+-- of two is below the order
+abbrev pub most_bits_of : ℕ → ℕ
+most_bits_of order = greatest_below order 63

@@ -1,13 +1,12 @@
 -- Laws of segments: a list of calls has one cut, and what the calls do one by one is what its segments do,
 -- wherever each step of a segment does what one call does.
-use Rattle.std.proofs.Common.{◌≡◌, ℕ, zero, suc, ◌<◌, List, [], ◌∷◌, ◌++◌, inl, inr, map, replicate, refl, sym, ap, ◌∙◌}
-use Rattle.std.{proofs.Common.{append_assoc, append-nil, arith}, specs.List.All}
-use Rattle.std.proofs.lemmas.List.Elements.{All-nil, All-cons, All-head, All-tail}
-use Rattle.p3_challenger_core.specs.Sponge.{IsNonEmpty}
-use Rattle.p3_challenger_core.specs.Segments.{Call, observe, observe_empty_array, draw, Segment, nothing, value_before}
-use Rattle.p3_challenger_core.specs.Segments.{draw_before, segments, calls_of, AreCutInto, IsCutOf, Run, stays}
-use Rattle.p3_challenger_core.specs.Segments.{run_before, ByCalls, run_calls, run_calls_to_digest, BySegments}
-use Rattle.p3_challenger_core.specs.Segments.{run_segment, run_others, run_segments, run_segments_to_digest}
+use Rattle.std.{specs.List.All, proofs.lemmas.List.Elements.{All-cons, All-head, All-tail, All-nil}}
+use Rattle.std.proofs.Common.{append_assoc, append-nil, replicate, arith, zero, List, ◌++◌, refl, ◌≡◌, suc, ◌<◌, ◌∷◌}
+use Rattle.std.proofs.Common.{inl, inr, map, sym, ◌∙◌, [], ap, ℕ}
+use Rattle.p3_challenger_core.specs.{Sponge.IsNonEmpty, Segments.{Call, observe, observe_empty_array, draw, Segment}}
+use Rattle.p3_challenger_core.specs.Segments.{nothing, value_before, draw_before, segments, calls_of, AreCutInto}
+use Rattle.p3_challenger_core.specs.Segments.{IsCutOf, Run, stays, run_before, ByCalls, run_calls, run_calls_to_digest}
+use Rattle.p3_challenger_core.specs.Segments.{BySegments, run_segment, run_others, run_segments, run_segments_to_digest}
 
 -- ---- the cut of a list of calls is one
 

@@ -53,8 +53,7 @@ calls_of segment = map observe segment.values ++ replicate segment.draws draw
 -- calls are those of a segment and then the rest, where the next segment begins: an array of no places
 -- stands between them; or nothing does, and then the segment draws and the next one observes a value
 abbrev pub EndsBefore : {T : Type 0} → Segment T → Segment T → List (Call T) → List (Call T) → Type 0
-EndsBefore segment next rest calls =
-    (calls ≡ calls_of segment ++ observe_empty_array ∷ rest)
+EndsBefore segment next rest calls = (calls ≡ calls_of segment ++ observe_empty_array ∷ rest)
     ⊎ ((calls ≡ calls_of segment ++ rest) × (0 < segment.draws) × IsNonEmpty next.values)
 
 -- calls are those of a segment and of the others after it, and each ends before the next one
@@ -82,12 +81,11 @@ stays s = record { answers = []; queries = []; after = s }
 
 -- one run and then another
 abbrev pub run_before : {A M S R : Type 0} → Run A M S → Run A M R → Run A M R
-run_before first next =
-    record {
-      answers = first.answers ++ next.answers;
-      queries = first.queries ++ next.queries;
-      after = next.after;
-    }
+run_before first next = record {
+  answers = first.answers ++ next.answers;
+  queries = first.queries ++ next.queries;
+  after = next.after;
+}
 
 -- ---- call by call
 

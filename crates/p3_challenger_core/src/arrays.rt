@@ -11,13 +11,13 @@ use crate::{CanSample, ChallengerError};
 pub fn sample_array<T: Copy, C: CanSample<T>, const N: usize>(
     challenger: &mut C,
 ) -> Result<[T; N], ChallengerError>
-    ensures drawn { IfOk result (λ values.
-        draws C.sampling N (C.state challenger.old) ≡ Some values) }
+    ensures drawn { IfOk result
+        (λ values. draws C.sampling N (C.state challenger.old) ≡ Some values) }
     ensures places { IfOk result (λ values. length values ≡ N) }
-    ensures after { OnOk result (
-        C.state challenger.new ≡ after_draws C.sampling N (C.state challenger.old)) }
-    ensures err { IfErr result (λ e.
-        RefusesDraws C.sampling N e (C.state challenger.old) (C.state challenger.new)) }
+    ensures after { OnOk result
+        (C.state challenger.new ≡ after_draws C.sampling N (C.state challenger.old)) }
+    ensures err { IfErr result
+        (λ e. RefusesDraws C.sampling N e (C.state challenger.old) (C.state challenger.new)) }
 {
     if N == 0 {
         return drawn_array(empty_array());

@@ -96,18 +96,18 @@ pub trait CanSample<T: Drop>: Sponge {
     fn sample(&mut self) -> Result<T, ChallengerError>
         ensures drawn { IfOk result (λ x. sampling.sampled (Self.state self.old) ≡ Some x) }
         ensures after { OnOk result (Self.state self.new ≡ sampling.after (Self.state self.old)) }
-        ensures err { IfErr result (λ e.
-            RefusesDraw sampling e (Self.state self.old) (Self.state self.new)) };
+        ensures err { IfErr result
+            (λ e. RefusesDraw sampling e (Self.state self.old) (Self.state self.new)) };
 
     /// Draws a value for each place, in order, as [`sample`](CanSample::sample) for each would.
     ///
     /// The errors are those of `sample`. After one, the draws before the refused one are done, and what the places hold
     /// is not promised.
     fn sample_into_slice(&mut self, values: &mut [T]) -> Result<(), ChallengerError>
-        ensures drawn { OnOk result (
-            draws sampling (length values.old) (Self.state self.old) ≡ Some values.new) }
-        ensures after { OnOk result (
-            Self.state self.new ≡ after_draws sampling (length values.old) (Self.state self.old)) }
+        ensures drawn { OnOk result
+            (draws sampling (length values.old) (Self.state self.old) ≡ Some values.new) }
+        ensures after { OnOk result
+            (Self.state self.new ≡ after_draws sampling (length values.old) (Self.state self.old)) }
         ensures err { IfErr result (λ e. RefusesDraws
             sampling (length values.old) e (Self.state self.old) (Self.state self.new)) }
     {
@@ -122,12 +122,12 @@ pub trait CanSample<T: Drop>: Sponge {
     ///
     /// The errors are those of `sample`, and [`ChallengerError::OutOfMemory`] with nothing drawn.
     fn sample_vec(&mut self, alloc: Global, n: usize) -> Result<Vec<T>, ChallengerError>
-        ensures drawn { IfOk result (λ values.
-            draws sampling n (Self.state self.old) ≡ Some values.items) }
-        ensures after { OnOk result (
-            Self.state self.new ≡ after_draws sampling n (Self.state self.old)) }
-        ensures err { IfErr result (λ e.
-            RefusesDrawVec sampling n e (Self.state self.old) (Self.state self.new)) }
+        ensures drawn { IfOk result
+            (λ values. draws sampling n (Self.state self.old) ≡ Some values.items) }
+        ensures after { OnOk result
+            (Self.state self.new ≡ after_draws sampling n (Self.state self.old)) }
+        ensures err { IfErr result
+            (λ e. RefusesDrawVec sampling n e (Self.state self.old) (Self.state self.new)) }
     {
         let mut values = Vec::with_capacity(alloc, n)?;
         for _ in 0..n {
@@ -177,12 +177,12 @@ pub trait CanSampleBits<T>: Sponge {
     /// The errors are those of [`CanSample::sample`], and leave what they leave there.
     fn sample_bits(&mut self, bits: usize) -> Result<T, ChallengerError>
         requires { bits ≤ most_bits }
-        ensures drawn { IfOk result (λ x.
-            (bits_sampling bits).sampled (Self.state self.old) ≡ Some x) }
+        ensures drawn { IfOk result
+            (λ x. (bits_sampling bits).sampled (Self.state self.old) ≡ Some x) }
         ensures after { OnOk result
             (Self.state self.new ≡ (bits_sampling bits).after (Self.state self.old)) }
-        ensures err { IfErr result (λ e.
-            RefusesDraw (bits_sampling bits) e (Self.state self.old) (Self.state self.new)) };
+        ensures err { IfErr result
+            (λ e. RefusesDraw (bits_sampling bits) e (Self.state self.old) (Self.state self.new)) };
 
     // Each of these draws is made of the smallest ones.
     ghost samples_bits: { (bits : ℕ) → IsSampling Self.next (bits_sampling bits) };

@@ -1,7 +1,7 @@
 //! Elements of vector spaces over a challenger's field: each is observed and drawn by its coefficients, coefficient 0
 //! first.
 ghost use Rattle.std.specs.Prelude.{◌≡◌, ◌-◌, ◌∷◌, Some, OnOk, IfOk, IfErr, replicate};
-ghost use Rattle.p3_challenger_core.specs.Observation.{observed_all, observed_as, in_row, in_slice, RefusesObserve};
+ghost use Rattle.p3_challenger_core.specs.Observation.{observed_all, each_as, in_slice, RefusesObserve, RefusesValue};
 ghost use Rattle.p3_challenger_core.specs.Sampling.{draws, after_draws, RefusesDraws};
 
 use crate::{CanObserve, CanSample, CanSampleBits, ChallengerError};
@@ -36,12 +36,11 @@ pub trait FieldChallenger<F: Field>: CanObserve<F> + CanSample<F> + CanSampleBit
         &mut self,
         elements: &[A],
     ) -> Result<(), ChallengerError>
-        ensures ok { OnOk result (Self.state self.new ≡ (in_row (observed_as A.coefficients
-            (in_slice Self.observation Self.slice_may_leave))).observed
-            (Self.state self.old) elements.now) }
-        ensures err { IfErr result (λ e. RefusesObserve ((in_row (observed_as A.coefficients
-            (in_slice Self.observation Self.slice_may_leave))).may_leave
-            (Self.state self.old) elements.now) e (Self.state self.new)) }
+        ensures ok { OnOk result (Self.state self.new ≡ (each_as A.coefficients (in_slice
+            Self.observation Self.slice_may_leave)).observed (Self.state self.old) elements.now) }
+        ensures err { IfErr result (λ e. RefusesValue
+            (each_as A.coefficients (in_slice Self.observation Self.slice_may_leave)) elements.now e
+            (Self.state self.old) (Self.state self.new)) }
     {
         for i in 0..elements.len() {
             self.observe_algebra_element(elements[i])?;
@@ -56,8 +55,8 @@ pub trait FieldChallenger<F: Field>: CanObserve<F> + CanSample<F> + CanSampleBit
     fn sample_algebra_element<A: BasedVectorSpace<F>>(&mut self) -> Result<A, ChallengerError>
         ensures drawn { IfOk result (λ element.
             draws Self.sampling A.DIMENSION (Self.state self.old) ≡ Some (A.coefficients element)) }
-        ensures after { OnOk result (
-            Self.state self.new ≡ after_draws Self.sampling A.DIMENSION (Self.state self.old)) }
+        ensures after { OnOk result
+            (Self.state self.new ≡ after_draws Self.sampling A.DIMENSION (Self.state self.old)) }
         ensures err { IfErr result (λ e. RefusesDraws
             Self.sampling A.DIMENSION e (Self.state self.old) (Self.state self.new)) }
     {

@@ -19,8 +19,7 @@ and_then f (Err reason) = Err reason
 unfoldable pub read_all : {F : Type 0} → (List ℕ → Result (F × List ℕ) (List ℕ)) → ℕ → List ℕ →
     Result (List F × List ℕ) (List ℕ)
 read_all read zero bytes = Ok ([], bytes)
-read_all read (suc n) bytes =
-    and_then (λ x. and_then (λ xs. Ok (x.0 ∷ xs.0, xs.1)) (read_all read n x.1)) (read bytes)
+read_all read (suc n) bytes = and_then (λ x. and_then (λ xs. Ok (x.0 ∷ xs.0, xs.1)) (read_all read n x.1)) (read bytes)
 
 -- the element of n coefficients in a row
 abbrev pub read_coefficients : {F A : Type 0} → (List ℕ → Result (F × List ℕ) (List ℕ)) → ℕ → (List F → A) → List ℕ →
@@ -35,12 +34,11 @@ read base width n element bytes =
 
 -- an element is encoded as its n coefficients, one after another
 abbrev pub encoding : {F A : Type 0} → Encoding F → ℕ → (A → List F) → (List F → A) → Encoding A
-encoding base n coefficients element =
-    record {
-      width = n * base.width;
-      wire = λ x. flat_map base.wire (coefficients x);
-      read = read base.read base.width n element;
-    }
+encoding base n coefficients element = record {
+  width = n * base.width;
+  wire = λ x. flat_map base.wire (coefficients x);
+  read = read base.read base.width n element;
+}
 
 -- it is observed as its coefficients
 abbrev pub observed_coefficients : {S Symbol F A : Type 0} → Observation S Symbol F → (A → List F) →

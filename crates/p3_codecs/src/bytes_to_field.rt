@@ -6,7 +6,13 @@
 //! drawn:         16 bytes more than these, as a number modulo the order
 //! ```
 ghost use Rattle.std.specs.Prelude.{◌≡◌, ◌+◌, ◌*◌};
-ghost use Rattle.p3_codecs.specs.BytesToField.{challenge_of};
+ghost use Rattle.p3_codecs.specs.BytesToField.{challenge_of, observed_bytes, drawn_bytes, draw_bytes};
+ghost use Rattle.p3_codecs.specs.BytesToFieldLaws.{bytes-tell_apart};
+ghost use Rattle.p3_challenger_core.specs.{Observation.in_slice, Sampling.in_row, Reading.{IsPrefixCodeOn, IsByte}};
+ghost use Rattle.p3_challenger_core.specs.ObservationLaws.{in_slice-is_observation, observed_as-is_observation};
+ghost use Rattle.p3_challenger_core.specs.SamplingLaws.{in_row-is_sampling, made_of-is_sampling};
+ghost use Rattle.p3_fs_core.specs.ScalarLaws.{is_encoding, width-positive, width-short, one_reason};
+ghost use Rattle.p3_fs_core.specs.{BigEndian.bytes_for, Scalar.{wire, encoding}};
 
 use crate::{Codec, ScalarCodec};
 use p3_challenger_core::{CanObserve, CanSample, ChallengerError};
@@ -30,13 +36,6 @@ pub const EXTRA_BYTES: usize = 16;
 const MOST_BYTES: usize = 24;
 
 impl<F: PrimeField64, C: CanObserve<u8> + CanSample<u8>> Codec<C, F> for BytesToFieldCodec<F> {
-    ghost use Rattle.p3_challenger_core.specs.{Observation.in_slice, Sampling.in_row, Reading.{IsPrefixCodeOn, IsByte}};
-    ghost use Rattle.p3_challenger_core.specs.ObservationLaws.{in_slice-is_observation, observed_as-is_observation};
-    ghost use Rattle.p3_challenger_core.specs.SamplingLaws.{in_row-is_sampling, made_of-is_sampling};
-    ghost use Rattle.p3_fs_core.specs.{BigEndian.bytes_for, Scalar.{wire, encoding}, ScalarLaws.is_encoding};
-    ghost use Rattle.p3_codecs.specs.BytesToField.{observed_bytes, drawn_bytes, draw_bytes, challenge_of};
-    ghost use Rattle.p3_codecs.specs.BytesToFieldLaws.{bytes-tell_apart};
-
     const SECURITY_BITS: u32 = 128;
 
     ghost SECURITY_BITS = { 128 };
@@ -90,8 +89,6 @@ impl<F: PrimeField64, C: CanObserve<u8> + CanSample<u8>> Codec<C, F> for BytesTo
 
 impl<F: PrimeField64, C: CanObserve<u8> + CanSample<u8>> ScalarCodec<C, F>
     for BytesToFieldCodec<F> {
-    ghost use Rattle.p3_fs_core.specs.{ScalarLaws.{width-positive, width-short, one_reason}, BigEndian.bytes_for};
-
     ghost some = { width-positive F.residues F.are_residues F.bit_length F.bits_below };
 
     ghost short = { width-short F.bit_length F.residues.order F.bits_least F.fits_u64 };

@@ -65,8 +65,8 @@ pub trait Codec<C: Sponge, T> {
         ensures drawn { IfOk result (λ x. sampling.sampled (C.state challenger.old) ≡ Some x) }
         ensures after { OnOk result
             (C.state challenger.new ≡ sampling.after (C.state challenger.old)) }
-        ensures err { IfErr result (λ e.
-            RefusesDraw sampling e (C.state challenger.old) (C.state challenger.new)) };
+        ensures err { IfErr result
+            (λ e. RefusesDraw sampling e (C.state challenger.old) (C.state challenger.new)) };
 
     /// Adds the encoding of a value at the end of `out`.
     ///
@@ -75,8 +75,8 @@ pub trait Codec<C: Sponge, T> {
     fn encode(value: &T, out: &mut Vec<u8>) -> Result<(), TranscriptError>
         ensures ok { OnOk result (out.new.items ≡ out.old.items ++ encoding.wire value.now) }
         ensures err { IfErr result (λ e. e ≡ TranscriptError.OutOfMemory) }
-        ensures left { OnErr result ((n : ℕ)
-            × (out.new.items ≡ out.old.items ++ take n (encoding.wire value.now))) };
+        ensures left { OnErr result
+            ((n : ℕ) × (out.new.items ≡ out.old.items ++ take n (encoding.wire value.now))) };
 
     /// The value whose encoding `bytes` begin with: their first [`wire_len`](Codec::wire_len) bytes.
     ///
@@ -84,8 +84,8 @@ pub trait Codec<C: Sponge, T> {
     /// the codec's own.
     fn decode(bytes: &[u8]) -> Result<T, TranscriptError>
         ensures exact { Decodes (encoding.read bytes.now) result }
-        ensures found { IfOk result (λ x.
-            bytes.now ≡ encoding.wire x ++ drop encoding.width bytes.now) }
+        ensures found { IfOk result
+            (λ x. bytes.now ≡ encoding.wire x ++ drop encoding.width bytes.now) }
         ensures only { (x : T) (rest : List ℕ) →
             bytes.now ≡ encoding.wire x ++ rest → result ≡ Ok x };
 

@@ -1,8 +1,13 @@
 //! The codec of an element of a vector space: each coefficient in turn through a codec of the field, coefficient 0
 //! first.
 ghost use Rattle.std.specs.Prelude.{◌*◌, ◌≤◌, length};
-ghost use Rattle.p3_codecs.specs.Extension as extension;
 ghost use Rattle.p3_fs_core.specs.Errors.{Decodes};
+ghost use Rattle.p3_challenger_core.specs.ObservationLaws.{in_row-is_observation, observed_as-is_observation};
+ghost use Rattle.p3_challenger_core.specs.SamplingLaws.{in_row-is_sampling, made_of-is_sampling};
+ghost use Rattle.p3_codecs.specs.ExtensionLaws.{is_encoding, coefficients-tell_apart};
+ghost use Rattle.p3_codecs.specs.Extension as extension;
+ghost use Rattle.p3_challenger_core.specs.Observation as observation;
+ghost use Rattle.p3_challenger_core.specs.Sampling as sampling;
 
 use crate::{Codec, ScalarCodec};
 use p3_challenger_core::{ChallengerError, Sponge};
@@ -21,13 +26,6 @@ pub struct ExtensionFieldCodec<F, EF, BaseCodec>(PhantomData<(F, EF, BaseCodec)>
 
 impl<C: Sponge, F: Field, EF: BasedVectorSpace<F>, BaseCodec: ScalarCodec<C, F>> Codec<C, EF>
     for ExtensionFieldCodec<F, EF, BaseCodec> {
-    ghost use Rattle.p3_challenger_core.specs.Observation as observation;
-    ghost use Rattle.p3_challenger_core.specs.ObservationLaws.{in_row-is_observation, observed_as-is_observation};
-    ghost use Rattle.p3_challenger_core.specs.Sampling as sampling;
-    ghost use Rattle.p3_challenger_core.specs.SamplingLaws.{in_row-is_sampling, made_of-is_sampling};
-    ghost use Rattle.p3_codecs.specs.Extension as extension;
-    ghost use Rattle.p3_codecs.specs.ExtensionLaws.{is_encoding, coefficients-tell_apart};
-
     const SECURITY_BITS: u32 = BaseCodec::SECURITY_BITS;
 
     ghost SECURITY_BITS = { BaseCodec.SECURITY_BITS };

@@ -3,8 +3,9 @@
 ghost use Rattle.std.specs.Prelude.{◌≡◌, ℕ, ◌<◌, ◌≤◌, List, ◌++◌, length, flat_map, OnOk, IfErr};
 ghost use Rattle.p3_challenger_core.specs.{Observation.{observed_all, LeavesInCalls, RefusesObserve}, Sponge.IsFed};
 ghost use Rattle.p3_challenger_core.specs.Reading.{AreBytes, IsByte, OneBegins, IsPrefixCodeOn};
-ghost use Rattle.p3_fs_core.specs.Packing.{packed, chunk_bytes, IsPackable};
 ghost use Rattle.p3_fs_core.specs.Alphabet.{Alphabet, RefusesBytes, LeavesItems, AreItems, alphabet_of};
+ghost use Rattle.p3_fs_core.specs.{AlphabetLaws.{one_begins, bytes-are_items, all-are_items}, Packing.packed};
+ghost use Rattle.p3_fs_core.specs.{Packing.{chunk_bytes, IsPackable}, PackingLaws.{packed-begins, short-packable}};
 
 use p3_challenger_core::{CanObserve, ChallengerError};
 use p3_field_core::PrimeField64;
@@ -51,9 +52,9 @@ pub trait Unit {
         // What is observed is what the items feed; exactly so, where the challenger feeds them as a prefix code.
         ensures fed { OnOk result (IsFed C.fed (C.state challenger.old)
             (flat_map C.observation.symbols (items bytes.now)) (C.state challenger.new)) }
-        ensures fed_exactly { IsPrefixCodeOn is_item C.observation.symbols → OnOk result
-            (C.state challenger.new ≡ C.fed (C.state challenger.old)
-            (flat_map C.observation.symbols (items bytes.now))) };
+        ensures fed_exactly { IsPrefixCodeOn is_item C.observation.symbols →
+            OnOk result (C.state challenger.new
+            ≡ C.fed (C.state challenger.old) (flat_map C.observation.symbols (items bytes.now))) };
 
     // The items of a byte string are items, and one of at most 255 bytes is not too long, so no count is.
     ghost items_are: { (bytes : List ℕ) → AreBytes bytes → AreItems is_item (items bytes) };
@@ -62,14 +63,12 @@ pub trait Unit {
 
     // Byte strings that begin one list of items begin one another. So byte strings of one length, and all
     // those of which none begins another, are a prefix code.
-    ghost begins: { is_alphabet → (a b : List ℕ) (x y : List Self.Item) → AreBytes a → AreBytes b
-        → (is_too_long (length a) → ⊥) → (is_too_long (length b) → ⊥)
-        → items a ++ x ≡ items b ++ y → OneBegins a b };
+    ghost begins: { is_alphabet → (a b : List ℕ) (x y : List Self.Item) → AreBytes a → AreBytes b →
+        (is_too_long (length a) → ⊥) → (is_too_long (length b) → ⊥) → items a ++ x ≡ items b ++ y →
+        OneBegins a b };
 }
 
 impl Unit for u8 {
-    ghost use Rattle.p3_fs_core.specs.AlphabetLaws.{one_begins, bytes-are_items};
-
     type Item = u8;
 
     ghost is_alphabet = { Unit {0} };
@@ -94,13 +93,13 @@ impl Unit for u8 {
         ensures ok { OnOk result (C.state challenger.new ≡ observed_all C.observation.observed
             (C.state challenger.old) bytes.now) }
         // What is left is what one slice may leave.
-        ensures err { IfErr result (λ e. RefusesObserve (C.slice_may_leave (C.state challenger.old)
-            bytes.now) e (C.state challenger.new)) }
+        ensures err { IfErr result (λ e. RefusesObserve
+            (C.slice_may_leave (C.state challenger.old) bytes.now) e (C.state challenger.new)) }
         ensures fed { OnOk result (IsFed C.fed (C.state challenger.old)
             (flat_map C.observation.symbols bytes.now) (C.state challenger.new)) }
-        ensures fed_exactly { IsPrefixCodeOn IsByte C.observation.symbols → OnOk result
-            (C.state challenger.new ≡ C.fed (C.state challenger.old)
-            (flat_map C.observation.symbols bytes.now)) }
+        ensures fed_exactly { IsPrefixCodeOn IsByte C.observation.symbols →
+            OnOk result (C.state challenger.new
+            ≡ C.fed (C.state challenger.old) (flat_map C.observation.symbols bytes.now)) }
     {
         challenger.observe_slice(bytes)
     }
@@ -117,8 +116,6 @@ impl Unit for u8 {
 pub struct FieldUnit<F>(PhantomData<F>);
 
 impl<F: PrimeField64> Unit for FieldUnit<F> {
-    ghost use Rattle.p3_fs_core.specs.{AlphabetLaws.all-are_items, PackingLaws.{packed-begins, short-packable}};
-
     type Item = F;
 
     ghost is_alphabet = { 256 < F.residues.order };
@@ -150,9 +147,9 @@ impl<F: PrimeField64> Unit for FieldUnit<F> {
             (LeavesInCalls C.observation.observed C.observation.may_leave (C.state challenger.old)
             (packed F.residues (chunk_bytes F.bit_length) bytes.now))
             (C.state challenger.old) e (C.state challenger.new)) }
-        ensures fed { OnOk result (IsFed C.fed (C.state challenger.old)
-            (flat_map C.observation.symbols (packed F.residues (chunk_bytes F.bit_length)
-            bytes.now)) (C.state challenger.new)) }
+        ensures fed { OnOk result
+            (IsFed C.fed (C.state challenger.old) (flat_map C.observation.symbols
+            (packed F.residues (chunk_bytes F.bit_length) bytes.now)) (C.state challenger.new)) }
         ensures fed_exactly { IsPrefixCodeOn (λ _. Unit {0}) C.observation.symbols → OnOk result
             (C.state challenger.new ≡ C.fed (C.state challenger.old) (flat_map C.observation.symbols
             (packed F.residues (chunk_bytes F.bit_length) bytes.now))) }
@@ -182,8 +179,8 @@ impl<U: Unit, C: CanObserve<U::Item>> AlphabetOf<C> for U {
 /// A law: the body is empty, and a caller cites the clause.
 pub fn symbols_begin<U: Unit, C: CanObserve<U::Item>>()
     requires { U.is_alphabet }
-    ensures { IsPrefixCodeOn U.is_item C.observation.symbols → (a b : List ℕ) (x y : List C.Symbol)
-        → AreBytes a → AreBytes b → (U.is_too_long (length a) → ⊥) → (U.is_too_long (length b) → ⊥)
-        → flat_map C.observation.symbols (U.items a) ++ x
+    ensures { IsPrefixCodeOn U.is_item C.observation.symbols → (a b : List ℕ)
+        (x y : List C.Symbol) → AreBytes a → AreBytes b → (U.is_too_long (length a) → ⊥) →
+        (U.is_too_long (length b) → ⊥) → flat_map C.observation.symbols (U.items a) ++ x
         ≡ flat_map C.observation.symbols (U.items b) ++ y → OneBegins a b × (a ≡ b → x ≡ y) }
 {}

@@ -2,7 +2,7 @@
 use Rattle.std.{proofs.Common.{◌≡◌, ℕ, ◌≤◌, List, length, sym, ap, ◌∙◌}, specs.List.All}
 use Rattle.p3_patterns.specs.PatternSteps.{PatternSteps}
 use Rattle.p3_domain_separator.specs.{Seed.{identifier, label_of, FitsCount}, SeedLaws.identifier_injective}
-use Rattle.p3_domain_separator.specs.{SeparatorLaws.only_chunks, SeparatorParts.separator_of, Separators.Separator}
+use Rattle.p3_domain_separator.specs.{SeparatorLaws.only_chunks, SeparatorSeed.separator_of, Separators.Separator}
 use Rattle.p3_domain_separator.specs.declared.domain_separator.DomainSeparator.{DomainSeparator}
 
 module _ {U D : Type 0} where

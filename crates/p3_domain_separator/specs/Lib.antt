@@ -1,7 +1,6 @@
 pub mod Seed
 pub mod SeedLaws
 pub mod SeparatorLaws
-pub mod SeparatorParts
 pub mod SeparatorSeed
 pub mod SeparatorSeedLaws
 pub mod Separators

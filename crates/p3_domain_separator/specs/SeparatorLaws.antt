@@ -1,12 +1,10 @@
 -- Laws of what a separator is made of: its bytes come from one version, one name and one list of chunks.
 use Rattle.std.{specs.Prelude.{◌≡◌, ℕ, ◌≤◌, ◌<◌, List, [], ◌∷◌, ◌++◌, length}, proofs.Common.{sym, subst, ◌∙◌}}
-use Rattle.std.specs.{Coded.{le_prop, Coded-set, coded_list, coded_ℕ}, List.All}
-use Rattle.std.proofs.lemmas.List.Elements.{All-push}
+use Rattle.std.{specs.{Coded.{le_prop, Coded-set, coded_list, coded_ℕ}, List.All}, proofs.lemmas.List.Elements.All-push}
 use Rattle.p3_challenger_core.specs.Reading.{AreBytes}
 use Rattle.p3_fs_core.specs.StepFitLaws.{AreBytes-prop}
-use Rattle.p3_domain_separator.specs.Seed.{identifier, counted, label_of, FitsCount}
-use Rattle.p3_domain_separator.specs.SeedLaws.{identifier_injective, label_injective, chunk_added}
-use Rattle.p3_domain_separator.specs.Separators.{IsIdentifier, IsLabel}
+use Rattle.p3_domain_separator.specs.{Seed.{identifier, counted, label_of, FitsCount}, SeedLaws.identifier_injective}
+use Rattle.p3_domain_separator.specs.{SeedLaws.{label_injective, chunk_added}, Separators.{IsIdentifier, IsLabel}}
 
 -- that bytes are equal has one proof
 bytes-prop : (xs ys : List ℕ) → IsProp (xs ≡ ys)

@@ -1,8 +1,14 @@
--- What a separator gives a driver: its seed, and its pattern.
+-- A separator as contracts see it, and what it gives a driver: its seed, and its pattern.
 use Rattle.std.specs.Prelude.{ℕ, List}
 use Rattle.p3_patterns.specs.PatternSteps.{PatternSteps}
-use Rattle.p3_domain_separator.specs.declared.domain_separator.DomainSeparator.{DomainSeparator}
+use Rattle.p3_domain_separator.specs.{declared.domain_separator.DomainSeparator.DomainSeparator, Separators.Separator}
 use Rattle.p3_domain_separator.specs.Seed.{SeedParts, parts_of, seed_of_parts}
+
+-- what a separator is, wherever it lies
+abbrev pub separator_of : {U D : Type 0} → DomainSeparator U D → Separator
+separator_of s =
+    let id = s.is_identifier in
+    record { version = id.version; name = id.name; chunks = s.is_label.chunks; pattern = s.pattern.value }
 
 -- what its seed is made of, where the digest of bytes is this
 abbrev pub seed_parts : {U D : Type 0} → (List ℕ → List ℕ) → DomainSeparator U D → SeedParts

@@ -1,13 +1,12 @@
 -- The seed of a separator is that of an identifier, a digest and a label, each of them bytes.
 use Rattle.std.proofs.Common.{◌≡◌, ℕ, zero, suc, ◌-◌, ◌<◌, ◌≤◌, List, [], ◌∷◌, ◌++◌, length, replicate, sym, ap, ◌∙◌}
-use Rattle.std.{proofs.Common.{subst, arith, lit<}, specs.List.All}
-use Rattle.std.proofs.lemmas.List.{length-append, length-replicate}
+use Rattle.std.{proofs.{Common.{subst, arith, lit<}, lemmas.List.{length-append, length-replicate}}, specs.List.All}
 use Rattle.p3_challenger_core.specs.Reading.{AreBytes}
 use Rattle.p3_fs_core.specs.{BigEndian.in_bytes, BigEndianLaws.AreBytes-in_bytes}
 use Rattle.p3_patterns.specs.{PatternSteps.steps_of, Rendering.hashed_text}
 use Rattle.p3_symmetric.specs.Digests.{IsDigest}
-use Rattle.p3_domain_separator.specs.Seed.{identifier, counted, label_of, AreSeedParts}
-use Rattle.p3_domain_separator.specs.SeparatorSeed.{seed_parts, seed_of_separator}
+use Rattle.p3_domain_separator.specs.Seed.{AreSeedParts, identifier, label_of, counted}
+use Rattle.p3_domain_separator.specs.SeparatorSeed.{seed_of_separator, seed_parts}
 use Rattle.p3_domain_separator.specs.declared.domain_separator.DomainSeparator.{DomainSeparator}
 
 -- ---- bytes

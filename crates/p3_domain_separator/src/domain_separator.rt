@@ -10,9 +10,9 @@ ghost use Rattle.std.specs.{Prelude.{IfOk, IfErr}, List.{All, flat_map}};
 ghost use Rattle.p3_challenger_core.specs.{Observation.observed_all, Sponge.IsFed, Reading.IsPrefixCodeOn};
 ghost use Rattle.p3_fs_core.specs.Alphabet.{LeavesItems};
 ghost use Rattle.p3_patterns.specs.PatternSteps.{steps_of};
-ghost use Rattle.p3_domain_separator.specs.SeparatorLaws.{IsIdentifier-prop, IsLabel-prop};
 ghost use Rattle.p3_domain_separator.specs.{Separators.{IsIdentifier, IsLabel}, Seed.{AreSeedParts, seed_of_parts}};
 ghost use Rattle.p3_domain_separator.specs.Seed.{identifier, counted, label_of, FitsCount, RefusesChunk, RefusesSeed};
+ghost use Rattle.p3_domain_separator.specs.SeparatorLaws.{IsIdentifier-prop, IsLabel-prop};
 
 use p3_challenger_core::CanObserve;
 use p3_codecs::Unit;
@@ -62,7 +62,7 @@ pub struct DomainSeparator<U, D> {
 }
 
 impl<U, D> DomainSeparator<U, D> {
-    ghost use Rattle.p3_domain_separator.specs.SeparatorParts.{separator_of};
+    ghost use Rattle.p3_domain_separator.specs.SeparatorSeed.{separator_of};
 
     /// A separator of the protocol with this version, name and pattern, for an instance with no label yet.
     ///
@@ -119,15 +119,15 @@ impl<U, D> DomainSeparator<U, D> {
     /// [`TranscriptError::OutOfMemory`]. Both leave the separator as it is. The Rust crate chains calls, panics on a
     /// chunk of 2^32 bytes, and lets a label grow beyond that.
     pub fn instance(&mut self, chunk: &[u8]) -> Result<(), TranscriptError>
-        ensures ok { OnOk result (self.new.instance_label.items
-            ≡ self.old.instance_label.items ++ counted chunk.now) }
+        ensures ok { OnOk result
+            (self.new.instance_label.items ≡ self.old.instance_label.items ++ counted chunk.now) }
         ensures err { IfErr result (λ e. RefusesChunk (length self.old.instance_label.items + 4 +
             length chunk.now) e × (self.new.instance_label.items ≡ self.old.instance_label.items)) }
         ensures rest { (self.new.protocol_id ≡ self.old.protocol_id)
             × (self.new.pattern ≡ self.old.pattern) }
         // The length of a chunk that is taken fits in its four bytes, and so does that of the label.
-        ensures fits { OnOk result (FitsCount chunk.now
-            × (length self.new.instance_label.items < 2 ^ 32)) }
+        ensures fits { OnOk result
+            (FitsCount chunk.now × (length self.new.instance_label.items < 2 ^ 32)) }
         // The separator has this chunk more, or is the same.
         ensures chunks { OnOk result (separator_of self.new ≡ record (separator_of self.old) {
           chunks = (separator_of self.old).chunks ++ (chunk.now ∷ []);
@@ -149,8 +149,8 @@ impl<U, D> DomainSeparator<U, D> {
     pub fn compared_by_parts(&self, other: &Self)
         ensures exact { ⟦<DomainSeparator<U, D> as PartialEq>⟧.eq self.now other.now ≡ true
             ↔ separator_of self.now ≡ separator_of other.now }
-        ensures parts { ⟦<DomainSeparator<U, D> as PartialEq>⟧.eq self.now other.now ≡ true ↔ (
-            (self.now.protocol_id ≡ other.now.protocol_id)
+        ensures parts { ⟦<DomainSeparator<U, D> as PartialEq>⟧.eq self.now other.now ≡ true
+            ↔ ((self.now.protocol_id ≡ other.now.protocol_id)
             × (self.now.instance_label.items ≡ other.now.instance_label.items)
             × (steps_of self.now.pattern.value ≡ steps_of other.now.pattern.value)) }
     {
@@ -196,9 +196,9 @@ impl<U: Unit, D: DigestHasher> DomainSeparator<U, D> {
         ensures fed { OnOk result (IsFed C.fed (C.state challenger.old)
             (flat_map C.observation.symbols (U.items (seed_of_separator D.digest_of self.now)))
             (C.state challenger.new)) }
-        ensures fed_exactly { IsPrefixCodeOn U.is_item C.observation.symbols → OnOk result
-            (C.state challenger.new ≡ C.fed (C.state challenger.old) (flat_map C.observation.symbols
-            (U.items (seed_of_separator D.digest_of self.now)))) }
+        ensures fed_exactly { IsPrefixCodeOn U.is_item C.observation.symbols →
+            OnOk result (C.state challenger.new ≡ C.fed (C.state challenger.old)
+            (flat_map C.observation.symbols (U.items (seed_of_separator D.digest_of self.now)))) }
         // The seed is that of an identifier, a digest and a label.
         ensures parts { OnOk result (AreSeedParts (seed_parts D.digest_of self.now)) }
     {
@@ -263,8 +263,8 @@ pub fn identifiers_are_injective()
 /// A law: the body is empty, and a caller cites the clause.
 #[tactic(auto, using(crate::specs::SeedLaws::label_injective))]
 pub fn labels_are_injective()
-    ensures { (x y : List (List ℕ)) → All FitsCount x → All FitsCount y
-        → label_of x ≡ label_of y → x ≡ y }
+    ensures { (x y : List (List ℕ)) → All FitsCount x → All FitsCount y → label_of x ≡ label_of y →
+        x ≡ y }
 {}
 
 /// Whatever follows, a seed comes from one identifier, one digest and one label.

@@ -1,18 +1,17 @@
 -- Worked rows, computed on the definitions: a challenger that keeps the numbers that it is fed, or whose state is the
 -- numbers that are still to be drawn.
-use Rattle.std.proofs.Common.{◌≡◌, ℕ, ◌%◌, ◌==◌, ◌||◌, Bool, false, not, List, [], ◌∷◌, ◌++◌, Option, Some, None}
-use Rattle.std.proofs.Common.{arith, codes, refl}
+use Rattle.std.proofs.Common.{◌≡◌, ℕ, ◌%◌, ◌==◌, ◌||◌, Bool, false, not, List, [], ◌∷◌, ◌++◌, Option, Some, None, arith}
+use Rattle.std.proofs.Common.{codes, refl}
 use Rattle.p3_field_core.specs.Residues.{Residues}
-use Rattle.p3_challenger_core.specs.Observation.{Observation, unrefused_observe}
-use Rattle.p3_challenger_core.specs.Sampling.{Sampling, draws, after_draws}
-use Rattle.p3_fs_core.specs.{Encoding.Encoding, Packing.{packed, first_chunks}, Steps.Step}
+use Rattle.p3_challenger_core.specs.{Observation.{Observation, unrefused_observe}, Sampling.{Sampling, draws}}
+use Rattle.p3_challenger_core.specs.Sampling.{after_draws}
 use Rattle.p3_fs_core.specs.declared.step.{Kind.TheVariants.{Message, Salt}, Length.TheVariants.{Fixed, Bounded}}
-use Rattle.p3_fs_core.specs.{Counts.{count_width, count_bytes}, Alphabet.{Alphabet, alphabet_of}}
-use Rattle.p3_fs_core.specs.Algebras.{algebra_of, algebra_step}
-use Rattle.p3_driver_core.specs.{Effects.{Effect, drawing, drawing_list}, Meanings.{hinted_bounded, sent_bytes}}
-use Rattle.p3_driver_core.specs.Meanings.{sent, sent_bounded, observed_bounded, sent_bytes_bounded, hinted}
-use Rattle.p3_driver_core.specs.Rejecting.{Rule, taken, keeps, drawing_rejecting}
-use Rattle.p3_driver_core.specs.Transcripts.{Meaning, IsOtherLength, bytes_step}
+use Rattle.p3_fs_core.specs.{Encoding.Encoding, Packing.{packed, first_chunks}, Alphabet.{Alphabet, alphabet_of}}
+use Rattle.p3_fs_core.specs.{Steps.{Step, algebra_of, algebra_step}, BigEndian.{count_width, count_bytes}}
+use Rattle.p3_driver_core.specs.{Effects.{drawing_list, drawing, Effect}, Meanings.sent_bytes_bounded}
+use Rattle.p3_driver_core.specs.Meanings.{observed_bounded, hinted_bounded, sent_bounded, sent_bytes, hinted, sent}
+use Rattle.p3_driver_core.specs.{Rejecting.{drawing_rejecting, taken, keeps, Rule}, Transcripts.IsOtherLength}
+use Rattle.p3_driver_core.specs.Transcripts.{bytes_step, Meaning}
 use Rattle.p3_fs_core.specs.Scalar as scalar
 
 -- ---- counts

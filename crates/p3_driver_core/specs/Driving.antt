@@ -1,8 +1,11 @@
 -- A driver as contracts see it, whichever side it is.
-use Rattle.std.specs.Prelude.{◌≡◌, List, ℕ}
-use Rattle.p3_fs_core.specs.declared.error.TranscriptError.{TranscriptError}
-use Rattle.p3_fs_core.specs.declared.error.TranscriptError.TheVariants.{Challenger, OutOfMemory}
-use Rattle.p3_driver_core.specs.Transcripts.{Meaning, Transcript, OfCall, PlaysOrRefuses}
+use Rattle.std.specs.Prelude.{◌≡◌, List, ℕ, ◌||◌, true}
+use Rattle.p3_fs_core.specs.declared.error.TranscriptError.{TranscriptError, TheVariants.{Challenger, OutOfMemory}}
+use Rattle.p3_fs_core.specs.Steps.{Step}
+use Rattle.p3_driver_core.specs.Transcripts.{Meaning, Transcript, OfCall, PlaysOrRefuses, IsNext, step_on}
+use Rattle.p3_driver_core.specs.declared.steps.Steps.{Steps}
+use Rattle.p3_patterns.specs.Playing.{Playing}
+use Rattle.p3_symmetric.specs.declared.digest_hasher.DigestHasher.{Ghosts}
 use Rattle.p3_challenger_core.specs.declared.error.ChallengerError.TheVariants as challenger
 
 -- its challenger and its pattern as it is played, and the bytes of the proof: those that a prover has written so far,
@@ -21,3 +24,18 @@ abbrev pub RefusesStart : Type 0 → TranscriptError → Type 0
 RefusesStart IsTooLong (Challenger challenger.TooLong) = IsTooLong
 RefusesStart IsTooLong OutOfMemory = Unit {0}
 RefusesStart IsTooLong _ = ⊥
+
+-- a driver's pattern as it is played: nothing may follow while a step is open, or after one was given up
+abbrev pub playing_of : {D : Type 0} {hasher : Ghosts D} → Steps D hasher → Playing
+playing_of s = record (s.player) { finished = s.closed || s.player.finished }
+
+-- the step is the next one, and it is open now: it was held against the pattern, and is not played yet
+pub record Opens {D : Type 0} {hasher : Ghosts D} (before : Steps D hasher) (s : Step)
+    (after : Steps D hasher) : Type 0 where
+  pub is_next : IsNext (playing_of before) s
+  pub player : after.player ≡ step_on (playing_of before)
+  pub closed : after.closed ≡ true
+
+-- a driver between two steps: the state of its challenger, and its pattern as it is played
+abbrev pub transcript_of : {D S : Type 0} {hasher : Ghosts D} → S → Steps D hasher → Transcript S
+transcript_of challenger steps = record { challenger = challenger; playing = playing_of steps }

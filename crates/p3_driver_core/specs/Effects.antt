@@ -1,9 +1,9 @@
 -- What a step of a transcript does to the challenger.
 use Rattle.std.specs.Prelude.{◌≡◌, ℕ, ◌⊎◌, List, [], ◌++◌, length, flat_map, Option, Some, Result, MatchResult}
-use Rattle.p3_challenger_core.specs.Observation.{Observation, RefusesObserve}
 use Rattle.p3_challenger_core.specs.Sampling.{Sampling, RefusesDraw, RefusesDrawVec, draws, after_draws}
+use Rattle.p3_challenger_core.specs.Observation.{Observation, RefusesObserve}
 use Rattle.p3_challenger_core.specs.declared.error.ChallengerError.{ChallengerError}
-use Rattle.p3_fs_core.specs.{Alphabet.{Alphabet, RefusesBytes, LeavesItems}, Counts.count_bytes}
+use Rattle.p3_fs_core.specs.{Alphabet.{Alphabet, RefusesBytes, LeavesItems}, BigEndian.count_bytes}
 use Rattle.p3_challenger_core.specs.Observation as observation
 
 -- What a step feeds, and that none of it is too long for the alphabet; what comes of it, which is none where a draw

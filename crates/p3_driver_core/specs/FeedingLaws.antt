@@ -2,19 +2,17 @@
 use Rattle.std.proofs.Common.{◌≡◌, ℕ, zero, suc, Bool, true, false, Option, Some, None, List, [], ◌∷◌, ◌++◌, length}
 use Rattle.std.proofs.Common.{refl, sym, ap, ◌∙◌, inl, inr, subst, append-nil, if◌then◌else◌, ◌⊎◌}
 use Rattle.std.{proofs.Math.Seq.take-length, specs.List.flat_map}
-use Rattle.p3_challenger_core.specs.{Sponge.{IsFed, IsStepsOn}, Observation.RefusesObserve}
-use Rattle.p3_challenger_core.specs.Observation.{Observation, IsObservation, LeavesFed, LeavesAfter, LeavesInCalls}
-use Rattle.p3_challenger_core.specs.ObservationLaws.{nothing-fed, in_row-is_observation}
-use Rattle.p3_challenger_core.specs.Sampling.{Sampling, IsSampling, RefusesDraw, RefusesDrawVec, in_row}
 use Rattle.p3_challenger_core.specs.SamplingLaws.{no_steps, steps-then, in_row-is_sampling, refused-in_row}
-use Rattle.p3_challenger_core.specs.declared.error.ChallengerError.{ChallengerError}
-use Rattle.p3_challenger_core.specs.declared.error.ChallengerError.TheVariants.{DrawLimit, TooLong}
-use Rattle.p3_fs_core.specs.{Alphabet.LeavesItems, declared.error.TranscriptError.TranscriptError, Alphabet.Alphabet}
-use Rattle.p3_fs_core.specs.declared.error.TranscriptError.{TheVariants.Pattern, TheVariants.{Challenger, OutOfMemory}}
-use Rattle.p3_driver_core.specs.Effects.{Effect, untouched, observing, observing_list, observing_bytes}
-use Rattle.p3_driver_core.specs.{Effects.{drawing, drawing_list, in_sequence}, Feeding.{Feeds, OnlyDraws}}
+use Rattle.p3_challenger_core.specs.{Sponge.{IsFed, IsStepsOn}, ObservationLaws.{nothing-fed, in_row-is_observation}}
+use Rattle.p3_challenger_core.specs.Sampling.{Sampling, IsSampling, RefusesDraw, RefusesDrawVec, in_row}
+use Rattle.p3_challenger_core.specs.declared.error.ChallengerError.{ChallengerError, TheVariants.{DrawLimit, TooLong}}
+use Rattle.p3_challenger_core.specs.Observation.{RefusesObserve, Observation, IsObservation, LeavesFed, LeavesAfter}
+use Rattle.p3_challenger_core.specs.Observation.{LeavesInCalls}
+use Rattle.p3_fs_core.specs.{Alphabet.{LeavesItems, Alphabet}, declared.error.TranscriptError.TranscriptError}
+use Rattle.p3_fs_core.specs.declared.error.TranscriptError.TheVariants.{Pattern, Challenger, OutOfMemory}
 use Rattle.p3_driver_core.specs.Rejecting.{Rule, Outcome, given, go_on, taken, RefusesTaken, keeps, RefusesKeeps}
-use Rattle.p3_driver_core.specs.Rejecting.{drawing_rejecting}
+use Rattle.p3_driver_core.specs.{Rejecting.drawing_rejecting, Feeding.{Feeds, OnlyDraws}, Effects.{Effect, untouched}}
+use Rattle.p3_driver_core.specs.Effects.{observing, observing_list, observing_bytes, drawing, drawing_list, in_sequence}
 use Rattle.p3_driver_core.specs.Transcripts.{Meaning, Transcript, PlaysStep, RefusesStep, LeavesPart}
 use Rattle.p3_challenger_core.specs.Observation as observation
 use Rattle.p3_challenger_core.specs.declared.error.ChallengerError.TheVariants as challenger

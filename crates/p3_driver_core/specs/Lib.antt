@@ -5,7 +5,6 @@ pub mod Effects
 pub mod Feeding
 pub mod FeedingLaws
 pub mod Meanings
-pub mod Opened
 pub mod Proving
 pub mod Reads
 pub mod Rejecting

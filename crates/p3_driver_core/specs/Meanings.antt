@@ -1,12 +1,10 @@
 -- What the steps of a transcript mean, each computed from the step and its values.
 use Rattle.std.specs.Prelude.{ℕ, List, ◌++◌, length, flat_map}
 use Rattle.p3_challenger_core.specs.{Observation.Observation, Sampling.Sampling}
-use Rattle.p3_fs_core.specs.{Encoding.Encoding, Steps.Step, declared.step.Kind.Kind, Counts.count_bytes}
-use Rattle.p3_fs_core.specs.declared.step.{Kind.TheVariants.Hint, Length.TheVariants.{Fixed, Bounded}}
-use Rattle.p3_fs_core.specs.Alphabet.{Alphabet}
-use Rattle.p3_driver_core.specs.Effects.{untouched, observing, observing_list, observing_bytes, drawing}
-use Rattle.p3_driver_core.specs.Effects.{drawing_list, after_count}
-use Rattle.p3_driver_core.specs.Transcripts.{Meaning, with_wire, without_wire, bytes_step}
+use Rattle.p3_fs_core.specs.{Encoding.Encoding, Steps.Step, BigEndian.count_bytes, Alphabet.Alphabet}
+use Rattle.p3_fs_core.specs.declared.step.{Kind.{Kind, TheVariants.Hint}, Length.TheVariants.{Fixed, Bounded}}
+use Rattle.p3_driver_core.specs.Effects.{untouched, observing, observing_list, observing_bytes, drawing, drawing_list}
+use Rattle.p3_driver_core.specs.{Effects.after_count, Transcripts.{Meaning, with_wire, without_wire, bytes_step}}
 
 -- a container is opened or closed
 abbrev pub marked : {S Symbol : Type 0} → Step → Meaning S Symbol (Unit {0})

@@ -1,12 +1,11 @@
 -- Drawing until a rule has taken so many of the candidates.
 use Rattle.std.specs.Prelude.{◌≡◌, ℕ, zero, suc, ◌<◌, Bool, true, false, List, [], ◌∷◌, ◌++◌, length, ◌⊎◌, Option, Some}
 use Rattle.std.specs.{Prelude.{None, Result, MatchResult, if◌then◌else◌}, Fn.Shared}
-use denote.Ref.{Bor}
 use Rattle.p3_challenger_core.specs.{Observation.RefusesObserve, Sampling.{Sampling, RefusesDraw, draws, after_draws}}
-use Rattle.p3_challenger_core.specs.declared.error.ChallengerError.{ChallengerError}
-use Rattle.p3_challenger_core.specs.declared.error.ChallengerError.TheVariants.{DrawLimit}
+use Rattle.p3_challenger_core.specs.declared.error.ChallengerError.{ChallengerError, TheVariants.DrawLimit}
 use Rattle.p3_fs_core.specs.Steps.{Step}
 use Rattle.p3_driver_core.specs.{Effects.{Effect, fitting}, Transcripts.{Meaning, without_wire}}
+use denote.Ref.{Bor}
 
 -- of a candidate and those kept so far, whether the candidate is kept too
 abbrev pub Rule : Type 0 → Type 0

@@ -1,12 +1,11 @@
 -- What a step makes of a verifier.
 use Rattle.std.specs.Prelude.{◌≡◌, ◌≤◌, ◌<◌, ◌⊎◌, true, List, [], ℕ, Some, Ok, Err, Result, MatchResult}
-use Rattle.p3_fs_core.specs.{declared.error.TranscriptError.TranscriptError, Encoding.Encoding, Errors.pattern_error_of}
+use Rattle.p3_fs_core.specs.{Encoding.Encoding, Errors.pattern_error_of, declared.error.TranscriptError.TranscriptError}
 use Rattle.p3_fs_core.specs.declared.error.TranscriptError.TheVariants.{Pattern, BadProofShape, Challenger, OutOfMemory}
-use Rattle.p3_driver_core.specs.{Driving.Driving, Transcripts.{step_on, OfCall}}
-use Rattle.p3_driver_core.specs.Transcripts.{Meaning, PlaysStep, RefusesStep, RefusesOrder, Abandons, IsNext}
-use Rattle.p3_driver_core.specs.Working.{Work, FailsCheck, ChecksOrRefuses}
-use Rattle.p3_driver_core.specs.Transcripts.{RefusesCarried, IsOtherLength, longer_list, another_length}
-use Rattle.p3_driver_core.specs.Reads.{Reading, Unreadable, trailing_bytes, received_work}
+use Rattle.p3_driver_core.specs.{Driving.Driving, Working.{ChecksOrRefuses, FailsCheck, Work}}
+use Rattle.p3_driver_core.specs.Transcripts.{RefusesCarried, another_length, IsOtherLength, RefusesOrder, RefusesStep}
+use Rattle.p3_driver_core.specs.Transcripts.{longer_list, PlaysStep, Abandons, step_on, Meaning, OfCall, IsNext}
+use Rattle.p3_driver_core.specs.Reads.{trailing_bytes, received_work, Unreadable, Reading}
 use Rattle.p3_patterns.specs.Playing.{FaultOfPlayEnd, IsPlayed, next_step}
 use Rattle.p3_challenger_core.specs.declared.error.ChallengerError.TheVariants as challenger
 

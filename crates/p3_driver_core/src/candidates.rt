@@ -17,10 +17,10 @@ pub(crate) trait Candidates<C: Sponge, T> {
 
     fn draw(&self, challenger: &mut C) -> Result<T, ChallengerError>
         requires { may_draw self.now }
-        ensures drawn { IfOk result (λ x.
-            (sampling self.now).sampled (C.state challenger.old) ≡ Some x) }
-        ensures after { OnOk result (
-            C.state challenger.new ≡ (sampling self.now).after (C.state challenger.old)) }
+        ensures drawn { IfOk result
+            (λ x. (sampling self.now).sampled (C.state challenger.old) ≡ Some x) }
+        ensures after { OnOk result
+            (C.state challenger.new ≡ (sampling self.now).after (C.state challenger.old)) }
         ensures err { IfErr result (λ e.
             RefusesDraw (sampling self.now) e (C.state challenger.old) (C.state challenger.new)) };
 }

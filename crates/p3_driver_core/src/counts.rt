@@ -1,7 +1,7 @@
 //! The count of a bounded step.
 ghost use Rattle.std.specs.Prelude.{◌≡◌, ℕ, ◌≤◌, ◌<◌, ◌^◌, length, take, IfErr};
 ghost use Rattle.p3_challenger_core.specs.Reading.{AreBytes};
-ghost use Rattle.p3_fs_core.specs.Counts.{count_width, count_bytes};
+ghost use Rattle.p3_fs_core.specs.BigEndian.{count_width, count_bytes};
 ghost use Rattle.p3_driver_core.specs.Effects.{observing_bytes, Does};
 
 use p3_challenger_core::{CanObserve, ChallengerError};

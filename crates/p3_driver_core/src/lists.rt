@@ -84,12 +84,12 @@ pub fn draw_values<T: Copy, C: Sponge, Cdc: Codec<C, T>>(
     n: usize,
 ) -> Result<Vec<TranscriptBound<T>>, ChallengerError>
     requires { 128 ≤ Cdc.SECURITY_BITS }
-    ensures drawn { IfOk result (λ bounds.
-        draws Cdc.sampling n (C.state challenger.old) ≡ Some (bound_values bounds)) }
-    ensures after { OnOk result (
-        C.state challenger.new ≡ after_draws Cdc.sampling n (C.state challenger.old)) }
-    ensures err { IfErr result (λ e.
-        RefusesDrawVec Cdc.sampling n e (C.state challenger.old) (C.state challenger.new)) }
+    ensures drawn { IfOk result
+        (λ bounds. draws Cdc.sampling n (C.state challenger.old) ≡ Some (bound_values bounds)) }
+    ensures after { OnOk result
+        (C.state challenger.new ≡ after_draws Cdc.sampling n (C.state challenger.old)) }
+    ensures err { IfErr result
+        (λ e. RefusesDrawVec Cdc.sampling n e (C.state challenger.old) (C.state challenger.new)) }
     ensures count { IfOk result (λ bounds. vec_len bounds ≡ n) }
 {
     draw_all(&Values::<Cdc>(PhantomData), challenger, alloc, n)
@@ -109,8 +109,8 @@ pub fn draw_numbers<C: CanSampleBits<usize>>(
     requires { width ≤ C.most_bits }
     ensures drawn { IfOk result (λ bounds.
         draws (C.bits_sampling width) n (C.state challenger.old) ≡ Some (bound_values bounds)) }
-    ensures after { OnOk result (
-        C.state challenger.new ≡ after_draws (C.bits_sampling width) n (C.state challenger.old)) }
+    ensures after { OnOk result
+        (C.state challenger.new ≡ after_draws (C.bits_sampling width) n (C.state challenger.old)) }
     ensures err { IfErr result (λ e. RefusesDrawVec
         (C.bits_sampling width) n e (C.state challenger.old) (C.state challenger.new)) }
     ensures count { IfOk result (λ bounds. vec_len bounds ≡ n) }

@@ -2,7 +2,7 @@
 ghost use Rattle.std.specs.Prelude.{◌≡◌, ◌≤◌, ◌<◌, ◌↔◌, false, IfErr, IfOk, OnOk, IsOk, IsTrue};
 ghost use Rattle.p3_fs_core.specs.Interactions.{step_of};
 ghost use Rattle.p3_patterns.specs.Playing.{RefusesToPlay, IsPlayed, next_step};
-ghost use Rattle.p3_driver_core.specs.{Bound.bound_value, Opened.{playing_of, Opens}, Transcripts.another_length};
+ghost use Rattle.p3_driver_core.specs.{Bound.bound_value, Driving.{playing_of, Opens}, Transcripts.another_length};
 ghost use Rattle.p3_driver_core.specs.Transcripts.{bytes_step, uniform_bits_step, halted_player, RefusesLength};
 ghost use Rattle.p3_driver_core.specs.Transcripts.{RefusesCarried, RefusesPlayEnd, IsOtherLength, longer_list};
 
@@ -74,8 +74,8 @@ impl<D: DigestHasher> Steps<D> {
         label: Label,
         length: Length,
     ) -> Result<(), TranscriptError>
-        ensures ok { OnOk result (Opens self.old
-            (⟦<A as Declared<F, D>>⟧.step kind label.now length) self.new) }
+        ensures ok { OnOk result
+            (Opens self.old (⟦<A as Declared<F, D>>⟧.step kind label.now length) self.new) }
         ensures err { IfErr result (λ e. RefusesToPlay (playing_of self.old)
             (⟦<A as Declared<F, D>>⟧.step kind label.now length) e (playing_of self.new)) }
     {
@@ -123,8 +123,8 @@ impl<D: DigestHasher> Steps<D> {
         width: usize,
         length: Length,
     ) -> Result<(), TranscriptError>
-        ensures ok { OnOk result (Opens self.old (uniform_bits_step label.now width length)
-            self.new) }
+        ensures ok { OnOk result
+            (Opens self.old (uniform_bits_step label.now width length) self.new) }
         ensures err { IfErr result (λ e. RefusesToPlay (playing_of self.old)
             (uniform_bits_step label.now width length) e (playing_of self.new)) }
     {
@@ -143,8 +143,8 @@ impl<D: DigestHasher> Steps<D> {
     /// where the list is longer. None is taken from then on.
     pub fn within(&mut self, len: usize, max: usize) -> Result<(), TranscriptError>
         ensures ok { OnOk result ((len ≤ max) × (self.new ≡ self.old)) }
-        ensures err { IfErr result (λ e. RefusesLength len max (playing_of self.old) e
-            (playing_of self.new)) }
+        ensures err { IfErr result
+            (λ e. RefusesLength len max (playing_of self.old) e (playing_of self.new)) }
     {
         if self.is_finished() {
             return Err(TranscriptError::Pattern(PatternError::Finished));
@@ -182,11 +182,11 @@ impl<D: DigestHasher> Steps<D> {
     /// The errors are [`PatternError::Finished`] where a step was refused before, and then
     /// [`TranscriptError::BadProofShape`] where the next step has another length. None is taken from then on.
     pub fn carried_as_recorded(&mut self, len: usize) -> Result<(), TranscriptError>
-        ensures ok { OnOk result ((IsOtherLength len (next_step (playing_of self.old)) → ⊥) ×
-            (self.new ≡ self.old)) }
-        ensures err { IfErr result (λ e. RefusesCarried
-            (IsOtherLength len (next_step (playing_of self.old))) another_length
-            (playing_of self.old) e (playing_of self.new)) }
+        ensures ok { OnOk result
+            ((IsOtherLength len (next_step (playing_of self.old)) → ⊥) × (self.new ≡ self.old)) }
+        ensures err { IfErr result
+            (λ e. RefusesCarried (IsOtherLength len (next_step (playing_of self.old)))
+            another_length (playing_of self.old) e (playing_of self.new)) }
     {
         if self.is_finished() {
             return Err(TranscriptError::Pattern(PatternError::Finished));

@@ -1,12 +1,11 @@
 //! The steps that a prover and a verifier play alike, for code that plays either side.
 ghost use Rattle.std.specs.Prelude.{◌≡◌, ◌≤◌, ℕ, true, List, IsOk, IfOk, IfErr, vec_len};
-ghost use Rattle.p3_fs_core.specs.Steps.{marker_of};
-ghost use Rattle.p3_driver_core.specs.Bound.{bound_value, bound_values};
-ghost use Rattle.p3_driver_core.specs.Meanings as meaning;
-ghost use Rattle.p3_driver_core.specs.{Rejecting.{Rule, Computes, drawn_rejecting}, Transcripts.uniform_bits_step};
-ghost use Rattle.p3_driver_core.specs.Transcripts.{Transcript, PlaysOrRefuses, KeepsOrder, IsNext, halted, opaque_step};
-ghost use Rattle.p3_fs_core.specs.declared.step.Kind.TheVariants.{Challenge, Message, Protocol};
+ghost use Rattle.p3_fs_core.specs.{Steps.marker_of, declared.step.Kind.TheVariants.{Challenge, Message, Protocol}};
 ghost use Rattle.p3_fs_core.specs.declared.step.Length.TheVariants.{Fixed, Scalar};
+ghost use Rattle.p3_driver_core.specs.{Bound.{bound_value, bound_values}, Rejecting.{Rule, Computes, drawn_rejecting}};
+ghost use Rattle.p3_driver_core.specs.Transcripts.{uniform_bits_step, Transcript, PlaysOrRefuses, KeepsOrder, IsNext};
+ghost use Rattle.p3_driver_core.specs.Transcripts.{halted, opaque_step};
+ghost use Rattle.p3_driver_core.specs.Meanings as meaning;
 
 use crate::TranscriptBound;
 use p3_challenger_core::{CanObserve, Sponge};
@@ -86,8 +85,8 @@ pub trait SymmetricSteps: Driver {
         EF: AlgebraIdentity<F> + Named,
         Cdc: ScalarCodec<Self::Challenger, F>,
     >(&mut self, label: Label, value: &EF) -> Result<TranscriptBound<EF>, TranscriptError>
-        ensures played { PlaysOrRefuses (meaning.observed
-            (⟦<EF as Declared<F, Self::Digest>>⟧.step Message label.now Scalar)
+        ensures played { PlaysOrRefuses
+            (meaning.observed (⟦<EF as Declared<F, Self::Digest>>⟧.step Message label.now Scalar)
             ⟦<ExtensionFieldCodec<F, EF, Cdc> as Codec<Self::Challenger, EF>>⟧.observation
             value.now) (transcript self.old) bound_value result (transcript self.new) }
         ensures bytes { bytes self.new ≡ bytes self.old };
@@ -138,8 +137,8 @@ pub trait SymmetricSteps: Driver {
             (⟦<EF as Declared<F, Self::Digest>>⟧.step Challenge label.now (Fixed n))
             ⟦<ExtensionFieldCodec<F, EF, Cdc> as Codec<Self::Challenger, EF>>⟧.sampling
             rule limit n) (transcript self.old) bound_values result (transcript self.new) }
-        ensures order { KeepsOrder (⟦<EF as Declared<F, Self::Digest>>⟧.step
-            Challenge label.now (Fixed n)) (transcript self.old) result (transcript self.new) }
+        ensures order { KeepsOrder (⟦<EF as Declared<F, Self::Digest>>⟧.step Challenge label.now
+            (Fixed n)) (transcript self.old) result (transcript self.new) }
         ensures count { IfOk result (λ bounds. vec_len bounds ≡ n) }
         ensures bytes { bytes self.new ≡ bytes self.old }
         ensures spent { IfErr result (λ _. (transcript self.new).playing.finished ≡ true) };

@@ -17,14 +17,13 @@ pub fn check_work<C: GrindingChallenger>(
     witness: C::Witness,
 ) -> Result<(), TranscriptError>
     requires { bits ≤ C.most_bits }
-    ensures passes { OnOk result ((check_of C.before_witness C.observation
-        (all_zero (C.bits_sampling bits)) bits
-        witness).sampled (C.state challenger.old) ≡ Some true) }
+    ensures passes { OnOk result ((check_of C.before_witness C.observation (all_zero
+        (C.bits_sampling bits)) bits witness).sampled (C.state challenger.old) ≡ Some true) }
     ensures after { OnOk result (C.state challenger.new ≡ (check_of C.before_witness C.observation
         (all_zero (C.bits_sampling bits)) bits witness).after (C.state challenger.old)) }
-    ensures err { IfErr result (λ e. RefusesWitness (check_of C.before_witness C.observation
-        (all_zero (C.bits_sampling bits)) bits witness) e (C.state challenger.old)
-        (C.state challenger.new)) }
+    ensures err { IfErr result (λ e. RefusesWitness
+        (check_of C.before_witness C.observation (all_zero (C.bits_sampling bits)) bits witness) e
+        (C.state challenger.old) (C.state challenger.new)) }
 {
     if !challenger.check_witness(bits, witness)? {
         return Err(TranscriptError::BadProofShape {

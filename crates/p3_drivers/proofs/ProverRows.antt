@@ -1,22 +1,21 @@
 -- Worked rows, computed on the definitions: numbers below 257, and a challenger that keeps the numbers that it is fed,
 -- the last one first.
-use Rattle.std.proofs.Common.{◌≡◌, ◌≤◌, ◌<◌, ℕ, zero, suc, ◌+◌, ◌%◌, ◌^◌, List, [], ◌∷◌, Some, true, false}
-use Rattle.std.proofs.Common.{codes, replicate, refl, inl, inr, arith, rules, le_refl, lit<}
+use Rattle.std.proofs.Common.{◌≡◌, ◌≤◌, ◌<◌, ℕ, zero, suc, ◌+◌, ◌%◌, ◌^◌, List, [], ◌∷◌, Some, true, false, codes}
+use Rattle.std.proofs.Common.{replicate, refl, inl, inr, arith, rules, le_refl, lit<}
 use Rattle.p3_field_core.specs.Residues.{Residues}
 use Rattle.p3_challenger_core.specs.{Observation.{Observation, unrefused_observe}, Sampling.{Sampling, unrefused_draw}}
 use Rattle.p3_challenger_core.specs.declared.error.ChallengerError.TheVariants.{NoWitness, TooLong}
 use Rattle.p3_fs_core.specs.{Encoding.Encoding, Interactions.step_of, Packing.{packed, first_chunks}}
-use Rattle.p3_fs_core.specs.{declared.error.PatternError.TheVariants.{Finished, WrongStep, OverCap}, Counts.count_width}
+use Rattle.p3_fs_core.specs.declared.error.PatternError.TheVariants.{Finished, WrongStep, OverCap}
 use Rattle.p3_fs_core.specs.declared.error.TranscriptError.TheVariants.{Pattern, Challenger, OutOfMemory}
 use Rattle.p3_fs_core.specs.declared.{interaction.Interaction.Interaction, step.Kind.TheVariants.{Message, Pow}}
-use Rattle.p3_fs_core.specs.{declared.step.Length.TheVariants.{Bounded, Fixed}, Alphabet.{Alphabet, alphabet_of}}
-use Rattle.p3_fs_core.specs.Algebras.{algebra_of, algebra_step}
+use Rattle.p3_fs_core.specs.{declared.step.Length.TheVariants.{Bounded, Fixed}, BigEndian.count_width}
+use Rattle.p3_fs_core.specs.{Alphabet.{Alphabet, alphabet_of}, Steps.{algebra_of, algebra_step}}
 use Rattle.p3_grinding.specs.Checks.{draws_nothing, IsLeast}
 use Rattle.p3_patterns.specs.Playing.{Playing, next_step}
 use Rattle.p3_driver_core.specs.{Meanings.{sent_bounded, sent_bytes_bounded, hinted}, Driving.Driving}
-use Rattle.p3_driver_core.specs.Transcripts.{Meaning, IsNext, step_on}
-use Rattle.p3_driver_core.specs.Working.{Work, work_of, sent_work, RefusesToGrind}
-use Rattle.p3_driver_core.specs.Proving.{Writes, RefusesToWrite, RefusesLongList, Unwritten}
+use Rattle.p3_driver_core.specs.{Transcripts.{Meaning, IsNext, step_on}, Working.{Work, work_of, sent_work}}
+use Rattle.p3_driver_core.specs.{Working.RefusesToGrind, Proving.{Writes, RefusesToWrite, RefusesLongList, Unwritten}}
 use Rattle.p3_fs_core.specs.Scalar as scalar
 
 -- in two bytes each

@@ -1,15 +1,14 @@
 -- Why a step that reads is refused.
 use Rattle.std.proofs.Common.{◌≡◌, ◌∙◌, sym, ap, ℕ, List, length, true, Ok, Err, refl, inl, inr, subst}
-use Rattle.p3_challenger_core.specs.declared.error.ChallengerError.{ChallengerError}
 use Rattle.p3_challenger_core.specs.Observation.{Observation, observed_all}
+use Rattle.p3_challenger_core.specs.declared.error.ChallengerError.{ChallengerError}
 use Rattle.p3_fs_core.specs.{Errors.transcript_error, Steps.Step, declared.error.TranscriptError.TranscriptError}
-use Rattle.p3_fs_core.specs.declared.error.TranscriptError.{TheVariants.BadProofShape, TheVariants.OutOfMemory}
-use Rattle.p3_fs_core.specs.{Encoding.Encoding, Counts.count_bytes, Alphabet.Alphabet}
-use Rattle.p3_driver_core.specs.{Effects.{Effect, observing_bytes}, Transcripts.{IsNext, Abandons, step_on}}
-use Rattle.p3_driver_core.specs.Reads.{Read, Reading, FailsFor, FailsForList, reading_first, then_read}
-use Rattle.p3_driver_core.specs.{Reads.absorbed_first, Reads.message_too_long, Driving.Driving}
-use Rattle.p3_driver_core.specs.Reads.{read_values, read_count, LeavesValues, received_list, received_bounded}
-use Rattle.p3_driver_core.specs.Verifying.{Receives, RefusesToRead}
+use Rattle.p3_fs_core.specs.{declared.error.TranscriptError.TheVariants.{BadProofShape, OutOfMemory}, Encoding.Encoding}
+use Rattle.p3_fs_core.specs.{BigEndian.count_bytes, Alphabet.Alphabet}
+use Rattle.p3_driver_core.specs.{Effects.{observing_bytes, Effect}, Transcripts.{Abandons, step_on, IsNext}}
+use Rattle.p3_driver_core.specs.Reads.{message_too_long, received_bounded, absorbed_first, reading_first, received_list}
+use Rattle.p3_driver_core.specs.Reads.{FailsForList, LeavesValues, read_values, read_count, then_read, FailsFor}
+use Rattle.p3_driver_core.specs.{Reads.{Reading, Read}, Driving.Driving, Verifying.{RefusesToRead, Receives}}
 use Rattle.p3_drivers.proofs.ValuesInTurn.{values-as_many}
 use Rattle.p3_challenger_core.specs.declared.error.ChallengerError.TheVariants as challenger
 

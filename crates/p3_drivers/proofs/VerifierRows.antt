@@ -1,20 +1,20 @@
 -- Worked rows, computed on the definitions: elements of the field of 31 bits, and a challenger that keeps the numbers
 -- that it is fed, the last one first.
 use Rattle.std.proofs.Common.{◌≡◌, ℕ, ◌+◌, ◌%◌, ◌^◌, true, List, [], ◌∷◌, Ok, Err, Some, codes, replicate, refl}
-use denote.Ref.{Bor}
 use Rattle.p3_field_core.specs.Residues.{Residues}
 use Rattle.p3_challenger_core.specs.{Observation.{Observation, unrefused_observe}, Sampling.{Sampling, unrefused_draw}}
 use Rattle.p3_grinding.specs.Checks.{draws_nothing}
-use Rattle.p3_fs_core.specs.{Encoding.Encoding, Steps.Step, declared.error.TranscriptError.TheVariants.BadProofShape}
-use Rattle.p3_fs_core.specs.declared.step.{Kind.TheVariants.{Message, Pow}, Length.Length}
-use Rattle.p3_fs_core.specs.{declared.step.Length.TheVariants.{Scalar, Fixed, Bounded}, Counts.count_width}
-use Rattle.p3_fs_core.specs.{Alphabet.{Alphabet, alphabet_of}, Algebras.{algebra_of, algebra_step}}
+use Rattle.p3_fs_core.specs.{Encoding.Encoding, Steps.{Step, algebra_of, algebra_step}}
+use Rattle.p3_fs_core.specs.declared.{error.TranscriptError.TheVariants.BadProofShape, step.Kind.TheVariants.Message}
+use Rattle.p3_fs_core.specs.declared.step.{Kind.TheVariants.Pow, Length.{Length, TheVariants.{Scalar, Fixed, Bounded}}}
+use Rattle.p3_fs_core.specs.{BigEndian.count_width, Alphabet.{Alphabet, alphabet_of}}
 use Rattle.p3_patterns.specs.Playing.{Playing, IsPlayed}
-use Rattle.p3_driver_core.specs.{Transcripts.{IsNext, step_on}, Working.{Work, work_of}, Driving.Driving}
-use Rattle.p3_driver_core.specs.Reads.{Read, Reading, read_each, received, received_list, received_bounded}
-use Rattle.p3_driver_core.specs.Reads.{received_bytes, received_bytes_bounded, hint_received_bounded, received_work}
-use Rattle.p3_driver_core.specs.Verifying.{Receives, ReadsNothing, FailsWork, EndsReading, RefusesEnd}
+use Rattle.p3_driver_core.specs.{Transcripts.{step_on, IsNext}, Working.{work_of, Work}, Driving.Driving}
+use Rattle.p3_driver_core.specs.Reads.{received_bytes_bounded, hint_received_bounded, received_bounded, received_bytes}
+use Rattle.p3_driver_core.specs.Reads.{received_list, received_work, read_each, received, Reading, Read}
+use Rattle.p3_driver_core.specs.Verifying.{ReadsNothing, EndsReading, RefusesEnd, FailsWork, Receives}
 use Rattle.p3_fs_core.specs.Scalar as scalar
+use denote.Ref.{Bor}
 
 -- the numbers below the order, in four bytes each
 abbrev numbers : Residues ℕ

@@ -3,9 +3,9 @@ use Rattle.std.specs.Prelude.{List, ℕ, false}
 use Rattle.p3_challenger_core.specs.Observation.{Observation, observed_all}
 use Rattle.p3_symmetric.specs.declared.digest_hasher.DigestHasher.{Ghosts}
 use Rattle.p3_patterns.specs.PatternSteps.{PatternSteps}
-use Rattle.p3_driver_core.specs.{Driving.{Driving, KeepsOrRefuses}, Opened.transcript_of}
-use Rattle.p3_driver_core.specs.Transcripts.{Meaning, OfCall, Transcript}
-use Rattle.p3_drivers.specs.declared.{driver.DriverState.DriverState, tape.Written.Written, tape.Unread.Unread}
+use Rattle.p3_driver_core.specs.{Verifying.ReceivesOrRefuses, Driving.{Driving, KeepsOrRefuses, transcript_of}}
+use Rattle.p3_driver_core.specs.{Proving.WritesOrRefuses, Reads.Reading, Transcripts.{Meaning, OfCall, Transcript}}
+use Rattle.p3_drivers.specs.declared.{driver.DriverState.DriverState, tape.{Written.Written, Unread.Unread}}
 
 -- the transcript of a driver of either side, where this is the state of a challenger
 abbrev pub played_by : {C U D P S : Type 0} {hasher : Ghosts D} → (C → S) → DriverState C U D P hasher → Transcript S
@@ -29,6 +29,17 @@ proving_of state = driving_of state (λ tape. tape.narg.items)
 -- a verifier
 abbrev pub verifying_of : {C U D S : Type 0} {hasher : Ghosts D} → (C → S) → DriverState C U D Unread hasher → Driving S
 verifying_of state = driving_of state (λ tape. tape.bytes.now)
+
+module _ {C U D S Symbol A R : Type 0} {hasher : Ghosts D} (state : C → S) where
+  -- a verifier plays a step that reads, and the answer is what was read; or it is refused the step
+  abbrev pub ReadsOrRefuses : Reading S Symbol A → OfCall (DriverState C U D Unread hasher) R A
+  ReadsOrRefuses r before value result after =
+      ReceivesOrRefuses r (verifying_of state before) value result (verifying_of state after)
+
+  -- a prover plays a step that writes, adds its bytes, and the answer is what came of it; or it is refused the step
+  abbrev pub AddsOrRefuses : Meaning S Symbol A → OfCall (DriverState C U D Written hasher) R A
+  AddsOrRefuses m before value result after =
+      WritesOrRefuses m (proving_of state before) value result (proving_of state after)
 
 -- a driver of which no step was played yet: its challenger observed these items, its pattern is at its first step, and
 -- these are the bytes of its tape

@@ -157,9 +157,10 @@ impl<U: Unit, C: CanObserve<U::Item> + Drop, D: DigestHasher, P: Tape> DriverSta
         tape: P,
     ) -> Result<Self, TranscriptError>
         requires { U.is_alphabet }
-        ensures ok { IfOk result (λ driver. driving_of C.state P.bytes driver
-            ≡ beginning C.observation (C.state challenger) (U.items (seed_of_separator
-            D.digest_of separator.now)) (pattern_of separator.now) (P.bytes tape)) }
+        ensures ok { IfOk result
+            (λ driver. driving_of C.state P.bytes driver ≡ beginning C.observation
+            (C.state challenger) (U.items (seed_of_separator D.digest_of separator.now))
+            (pattern_of separator.now) (P.bytes tape)) }
         ensures fits { OnOk result
             (U.is_too_long (length (seed_of_separator D.digest_of separator.now)) → ⊥) }
         ensures err { IfErr result

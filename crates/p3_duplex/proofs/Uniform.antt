@@ -1,13 +1,13 @@
 -- Elements below a bound, and bits in two halves.
 use Rattle.std.proofs.Common.{◌≡◌, ℕ, ◌<◌, ◌≤◌, ◌+◌, ◌-◌, ◌*◌, ◌/◌, ◌%◌, ◌^◌, true, false, nat_lt, arith, sym, ap}
-use Rattle.std.specs.Prelude.{Bool, Some, Result, Ok, Err, IfOk, IfErr, OnOk}
+use Rattle.std.specs.Prelude.{Bool, Some, Result, Ok, Err}
 use Rattle.p3_challenger_core.specs.declared.error.ChallengerError.TheVariants.{OutOfMemory, DrawLimit, NoWitness}
 use Rattle.p3_challenger_core.specs.declared.error.ChallengerError.TheVariants.{TooLong}
 use Rattle.p3_grinding.specs.Candidates.{first_accepted, after_first_accepted, accepted_of, accepted_within}
 use Rattle.p3_grinding.specs.CandidateLaws.{Seeks, seeks-start, seeks-next, seeks-gives, seeks-reached}
 use Rattle.std.proofs.{Common.{◌∙◌, lit<, subst}, Math.Nat.{mod-eq_of_lt, one-le-pow, mul_comm}}
 use Rattle.std.proofs.lemmas.{Nat.{pow-add, pow_below}, Bool.Decides.nat_tests}
-use Rattle.p3_challenger_core.specs.{declared.error.ChallengerError.ChallengerError, Sampling.{Sampling, RefusesDraw}}
+use Rattle.p3_challenger_core.specs.{declared.error.ChallengerError.ChallengerError, Sampling.{Sampling, RefusesDraw, DrawsOrRefuses}}
 
 pub below-true : (n m bound : ℕ) → n ≡ m → n < bound → nat_lt m bound ≡ true
 below-true n m bound same below = grind (arith, nat_tests)
@@ -54,17 +54,6 @@ module _ {S T : Type 0} (d : Sampling S T) (accepts : T → Bool) (allowed : S �
         (seeks-next d accepts (allowed start) start 0 start here x some drawn after
         (seeks-start d accepts (allowed start) start) refused)
 
-    pub rest-gives : {E : Type 0} (result : Result T E) → IfOk result (λ y. first_accepted d accepts left here ≡ Some y)
-        → IfOk result (λ y. first_accepted d accepts (allowed start) start ≡ Some y)
-    rest-gives (Ok y) given = so_far.gives ∙ given
-    rest-gives (Err e) _ = tt
-
-    pub rest-reached : {E : Type 0} (result : Result T E) (t : S)
-        → OnOk result (t ≡ after_first_accepted d accepts left here)
-        → OnOk result (t ≡ after_first_accepted d accepts (allowed start) start)
-    rest-reached (Ok y) t reached = reached ∙ sym so_far.reached
-    rest-reached (Err e) t _ = tt
-
     rest-refuses : (e : ChallengerError) (t : S) → RefusesDraw (accepted_of d accepts left) e here t
         → RefusesDraw (accepted_within d accepts allowed) e start t
     rest-refuses OutOfMemory t h = so_far.refused t h
@@ -72,8 +61,7 @@ module _ {S T : Type 0} (d : Sampling S T) (accepts : T → Bool) (allowed : S �
     rest-refuses NoWitness t h = absurd h
     rest-refuses TooLong t h = absurd h
 
-    pub rest-refused : (result : Result T ChallengerError) (t : S)
-        → IfErr result (λ e. RefusesDraw (accepted_of d accepts left) e here t)
-        → IfErr result (λ e. RefusesDraw (accepted_within d accepts allowed) e start t)
-    rest-refused (Ok x) t _ = tt
-    rest-refused (Err e) t h = rest-refuses e t h
+    pub rest-drawn : (result : Result T ChallengerError) (t : S) → DrawsOrRefuses (accepted_of d accepts left) here result t
+        → DrawsOrRefuses (accepted_within d accepts allowed) start result t
+    rest-drawn (Ok x) t h = (so_far.gives ∙ h.0, h.1 ∙ sym so_far.reached)
+    rest-drawn (Err e) t h = rest-refuses e t h

@@ -1,13 +1,13 @@
 -- A duplex challenger as contracts see it.
-use Rattle.std.specs.{Prelude.{◌≡◌, ℕ, ◌<◌, ◌≤◌, List, take, map}, List.All}
+use Rattle.std.specs.Prelude.{◌≡◌, ℕ, ◌<◌, ◌≤◌, List, take, map}
 use Rattle.p3_field_core.specs.Residues.{Residues}
-use Rattle.p3_challenger_core.specs.Observation.{Observation, observed_all}
-use Rattle.p3_challenger_core.specs.Segments.{Call, observe, Segments, Run, run_calls, run_calls_to_digest}
+use Rattle.p3_challenger_core.specs.{Observation.{Observation, observed_all}, Segments.{Call, observe, Segments, Run}}
+use Rattle.p3_challenger_core.specs.Segments.{run_calls, run_calls_to_digest, run_segments, run_segments_to_digest}
+use Rattle.p3_challenger_core.specs.Sponge.{after_steps}
 use Rattle.p3_sponge.specs.SpongeCalls.{SpongeRule}
 use Rattle.p3_duplex.specs.DuplexCalls.{DuplexSponge, DuplexRun, duplex, duplex_by_calls}
 use Rattle.p3_duplex.specs.DuplexSegments.{duplex_by_segments}
-use Rattle.p3_challenger_core.specs.{Segments.{run_segments, run_segments_to_digest}, Sponge.after_steps}
-use Rattle.p3_sponge.specs.Drawing as drawing
+use Rattle.p3_sponge.specs.Outputs as drawing
 use Rattle.p3_sponge.specs.SpongeCalls as calls
 
 -- what a challenger keeps of its numbers: the rate is some cells but not all of them, and their number

@@ -59,7 +59,7 @@ module _ {F P : Type 0} (r : Residues F) (permute : P → List F → List F) (ra
 
 -- A draw of so many bits gives nothing exactly where each of as many elements as the draw limit allows is drawn and is
 -- not below the bound; there it meets the limit, and leaves the challenger after just so many draws.
-abbrev pub MeetsElementLimit : {F P : Type 0} → Residues F → (P → List F → List F) → ℕ → ℕ
-    → UniformDraw (DuplexState F P) → Type 0
+abbrev pub MeetsElementLimit : {F P : Type 0} → Residues F → (P → List F → List F) → ℕ → ℕ →
+    UniformDraw (DuplexState F P) → Type 0
 MeetsElementLimit r permute rate bits u =
     MeetsLimitExactly (base_draw r permute rate) (is_below r (uniform_bound r.order bits)) draws_allowed u.draw

@@ -1,23 +1,22 @@
 -- Laws of uniform bits that are drawn from a duplex challenger.
-use Rattle.std.proofs.Common.{◌≡◌, ℕ, zero, suc, ◌<◌, ◌≤◌, ◌+◌, ◌-◌, ◌/◌, ◌%◌, ◌^◌, Bool, true, false, List, [], ◌∷◌}
-use Rattle.std.proofs.Common.{Some, None, inl, inr, nat_eq, nat_lt, if◌then◌else◌, refl, sym, ap, ap₂, ◌∙◌, subst}
-use Rattle.std.{proofs.lemmas.List.Sums.sum_by-cons, proofs.lemmas.Bool.Decides.nat_tests, specs.Option.option_map}
-use Rattle.p3_field_core.specs.UniformBounds.{uniform_bound}
-use Rattle.p3_challenger_core.specs.{BitLaws.low_bits-below, Sampling.IsSampling, Observation.unrefused_observe}
-use Rattle.p3_challenger_core.specs.declared.error.ChallengerError.{ChallengerError}
-use Rattle.p3_challenger_core.specs.declared.error.ChallengerError.TheVariants.{OutOfMemory, DrawLimit, NoWitness}
-use Rattle.p3_challenger_core.specs.declared.error.ChallengerError.TheVariants.{TooLong}
-use Rattle.p3_grinding.specs.CandidateLaws.{none_left_behind, accepted-is, limit-met_exactly}
-use Rattle.p3_grinding.specs.Checks.{check_of, draws_nothing, zero_and_uniform}
-use Rattle.p3_grinding.specs.UniformDraws.{UniformDraw, IsUniformDraw, bits_of_one, is_below, low_bits}
-use Rattle.p3_grinding.specs.UniformDrawLaws.{no_bits-is_uniform, bits_of_one-is_uniform, bits_of_one-below}
-use Rattle.p3_grinding.specs.UniformDrawLaws.{in_halves-is_uniform, both-below}
-use Rattle.p3_duplex.specs.DuplexState.{DuplexState, observed, sampled, after_sampled}
-use Rattle.p3_duplex.specs.DuplexUniform.{how_many_give, base_draw, draws_allowed, taken_element, single, in_parts}
-use Rattle.p3_duplex.specs.DuplexUniform.{uniform_bits, SameDraw, halved, MeetsElementLimit}
-use Rattle.std.{proofs.Common.{arith, rules, cond}, proofs.Math.Nat.mod-eq_of_lt, specs.List.{count_by, range_with_len}}
-use Rattle.p3_field_core.specs.{UniformBoundLaws.{bound-within, bound-shared}, Residues.{Residues, IsResidues}}
-use Rattle.p3_challenger_core.specs.{SamplingLaws.{one_step, unrefused_draw-is_sampling}, Sampling.RefusesDraw}
+use Rattle.std.{specs.Prelude.Result, proofs.Common.{◌≡◌, ℕ, zero, suc, ◌<◌, ◌≤◌, ◌+◌, ◌-◌, ◌/◌, ◌%◌, ◌^◌, Bool, true}}
+use Rattle.std.proofs.Common.{false, List, [], ◌∷◌, Some, None, inl, inr, nat_eq, nat_lt, if◌then◌else◌, refl, sym, ap}
+use Rattle.std.{proofs.{Common.{ap₂, ◌∙◌, subst, arith, rules, cond}, Math.Nat.mod-eq_of_lt}, specs.Option.option_map}
+use Rattle.std.{specs.List.{count_by, range_with_len}, proofs.lemmas.{List.Sums.sum_by-cons, Bool.Decides.nat_tests}}
+use Rattle.p3_field_core.specs.{UniformBounds.uniform_bound, UniformBoundLaws.{bound-within, bound-shared}}
+use Rattle.p3_field_core.specs.Residues.{Residues, IsResidues}
+use Rattle.p3_challenger_core.specs.{BitLaws.low_bits-below, Sampling.{IsSampling, RefusesDraw}}
+use Rattle.p3_challenger_core.specs.{Observation.unrefused_observe, SamplingLaws.{one_step, unrefused_draw-is_sampling}}
+use Rattle.p3_challenger_core.specs.declared.error.ChallengerError.{ChallengerError, TheVariants.OutOfMemory}
+use Rattle.p3_challenger_core.specs.declared.error.ChallengerError.TheVariants.{DrawLimit, NoWitness, TooLong}
+use Rattle.p3_grinding.specs.CandidateLaws.{limit-met_exactly, none_left_behind, accepted-is}
+use Rattle.p3_grinding.specs.UniformDraws.{DrawsUniformly, IsUniformDraw, UniformDraw, bits_of_one, is_below, low_bits}
+use Rattle.p3_grinding.specs.Checks.{zero_and_uniform, draws_nothing, check_of}
+use Rattle.p3_grinding.specs.{declared.error.UniformBitsError.UniformBitsError, UniformDrawLaws.bits_of_one-is_uniform}
+use Rattle.p3_grinding.specs.UniformDrawLaws.{in_halves-is_uniform, no_bits-is_uniform, bits_of_one-below, both-below}
+use Rattle.p3_duplex.specs.DuplexState.{after_sampled, DuplexState, observed, sampled}
+use Rattle.p3_duplex.specs.DuplexUniform.{MeetsElementLimit, how_many_give, draws_allowed, taken_element, uniform_bits}
+use Rattle.p3_duplex.specs.DuplexUniform.{base_draw, in_parts, SameDraw, single, halved}
 
 under : (n bound : ℕ) → nat_lt n bound ≡ true → n < bound
 under n bound h = grind (arith, nat_tests)
@@ -200,6 +199,14 @@ module _ {F P : Type 0} (r : Residues F) (permute : P → List F → List F) (ra
     uniform_bits-halved most_of_one (suc n) more =
         subst (λ b. SameDraw (in_parts r permute rate resample b (suc n)) (halved r permute rate resample (suc n)))
         (sym (more_than most_of_one (suc n) more)) (same_draw (halved r permute rate resample (suc n)))
+
+    pub halves-drawn : (most_of_one bits : ℕ) (s : DuplexState F P) (result : Result ℕ UniformBitsError)
+        (t : DuplexState F P) → most_of_one < bits → DrawsUniformly (halved r permute rate resample bits) s result t
+        → DrawsUniformly (uniform_bits r permute rate resample most_of_one bits) s result t
+    halves-drawn most_of_one zero s result t more h = absurd (omega (arith, more))
+    halves-drawn most_of_one (suc n) s result t more h =
+        subst (λ b. DrawsUniformly (in_parts r permute rate resample b (suc n)) s result t)
+        (sym (more_than most_of_one (suc n) more)) h
 
   -- a draw that may not draw another value in the place of a rejected one meets no limit
 

@@ -46,6 +46,5 @@ PassesCheck r permute rate bits c x = HasZeros r bits (sampled r permute rate (o
 
 -- a check of so many bits of an element
 abbrev pub check : {F P : Type 0} → Residues F → (P → List F → List F) → ℕ → ℕ → F → Sampling (DuplexState F P) Bool
-check r permute rate bits =
-    check_of draws_nothing (unrefused_observe (λ x. x ∷ []) (observed r permute rate))
+check r permute rate bits = check_of draws_nothing (unrefused_observe (λ x. x ∷ []) (observed r permute rate))
     (all_zero (unrefused_draw (λ s. Some (r.number (sampled r permute rate s) % 2 ^ bits)) (after_sampled r permute rate))) bits

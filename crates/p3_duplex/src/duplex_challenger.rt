@@ -12,11 +12,16 @@
 //! ```
 //!
 //! An observe drops the outputs that are left. Where nothing is pending, the cells are permuted as they are.
-ghost use Rattle.std.specs.Prelude.{◌≡◌, ◌<◌, ◌≤◌, ◌+◌, List, [], Some, length, take};
-ghost use Rattle.p3_challenger_core.specs.Segments.{Call, segments};
+ghost use Rattle.std.specs.Prelude.{◌≡◌, ◌<◌, ◌≤◌, ◌+◌, List, [], Some, length, take, refl, ◌∷◌};
+ghost use Rattle.p3_challenger_core.specs.{Segments.{Call, segments}, Observation.unrefused_observe};
+ghost use Rattle.p3_challenger_core.specs.Sampling.{unrefused_draw};
 ghost use Rattle.p3_duplex.specs.DuplexReadBack.{ReadsBack, ReadsBackToDigest, ReadsBackOrCollides};
-ghost use Rattle.p3_duplex.specs.DuplexCalls.{duplex, fresh, outputs};
+ghost use Rattle.p3_duplex.specs.{DuplexCalls.{duplex, fresh, outputs}, DuplexState.{run, run_to_digest, segments_run}};
+ghost use Rattle.p3_duplex.specs.DuplexState.{segments_run_to_digest, duplexed, observed, fed, sampled, after_sampled};
+ghost use Rattle.p3_duplex.specs.DuplexStateLaws.{fed-append, is_observation};
 ghost use Rattle.p3_sponge.specs.{SpongeCalls.permutation_input, CallPromises.QueriesDecide};
+ghost use Rattle.p3_sponge.specs.DrawingLaws.{elements-sampled};
+ghost use Rattle.p3_duplex.specs.DuplexState as duplex_state;
 
 mod bits;
 mod calls;
@@ -103,9 +108,6 @@ impl<
     const WIDTH: usize,
     const RATE: usize,
 > DuplexChallenger<F, P, WIDTH, RATE> {
-    ghost use Rattle.p3_duplex.specs.DuplexState.{run, run_to_digest, segments_run, segments_run_to_digest, duplexed};
-    ghost use Rattle.p3_duplex.specs.DuplexState.{observed, fed, sampled, after_sampled};
-
     /// A challenger of zeros, with nothing pending and no output.
     ///
     /// `RATE` is from 1 to 255 and below `WIDTH`. `draw_limit`, at least 1, is for draws that may refuse candidates:
@@ -155,7 +157,8 @@ impl<
         ensures digest { (calls : List (Call F)) →
             run_to_digest F.residues P.permutation RATE self.now calls
             ≡ segments_run_to_digest F.residues P.permutation RATE self.now (segments calls) }
-        ensures queries { (calls : List (Call F)) → QueriesDecide (P.permutation self.now.permutation)
+        ensures queries { (calls : List (Call F)) →
+            QueriesDecide (P.permutation self.now.permutation)
             (λ permute. run F.residues (λ _. permute) RATE self.now calls) }
         ensures queries_to_digest { (calls : List (Call F)) → QueriesDecide
             (P.permutation self.now.permutation)
@@ -320,10 +323,6 @@ impl<
     const WIDTH: usize,
     const RATE: usize,
 > Sponge for DuplexChallenger<F, P, WIDTH, RATE> {
-    ghost use Rattle.std.specs.Prelude.{refl};
-    ghost use Rattle.p3_duplex.specs.DuplexState as duplex_state;
-    ghost use Rattle.p3_duplex.specs.DuplexStateLaws.{fed-append};
-
     type State = Self;
 
     type Symbol = F;
@@ -345,11 +344,6 @@ impl<
     const WIDTH: usize,
     const RATE: usize,
 > CanObserve<F> for DuplexChallenger<F, P, WIDTH, RATE> {
-    ghost use Rattle.p3_challenger_core.specs.Observation.{unrefused_observe};
-    ghost use Rattle.p3_duplex.specs.DuplexStateLaws.{is_observation};
-    ghost use Rattle.std.specs.Prelude.{[], ◌∷◌, refl};
-    ghost use Rattle.p3_duplex.specs.DuplexState as duplex_state;
-
     // An observation takes no memory: it is never refused.
     ghost observation = { unrefused_observe
         (λ x. x ∷ []) (duplex_state.observed F.residues P.permutation RATE) };
@@ -378,11 +372,6 @@ impl<
     const RATE: usize,
     const N: usize,
 > CanObserve<[F; N]> for DuplexChallenger<F, P, WIDTH, RATE> {
-    ghost use Rattle.p3_challenger_core.specs.Observation.{unrefused_observe};
-    ghost use Rattle.p3_duplex.specs.DuplexStateLaws.{is_observation};
-    ghost use Rattle.std.specs.Prelude.{refl};
-    ghost use Rattle.p3_duplex.specs.DuplexState as duplex_state;
-
     // An observation takes no memory: it is never refused.
     ghost observation = { unrefused_observe (λ xs. xs) (λ s xs. duplex_state.fed F.residues P.permutation RATE s xs) };
 
@@ -410,11 +399,6 @@ impl<
     const WIDTH: usize,
     const RATE: usize,
 > CanSample<A> for DuplexChallenger<F, P, WIDTH, RATE> {
-    ghost use Rattle.std.specs.Prelude.{Some};
-    ghost use Rattle.p3_challenger_core.specs.Sampling.{unrefused_draw};
-    ghost use Rattle.p3_duplex.specs.DuplexState as duplex_state;
-    ghost use Rattle.p3_sponge.specs.DrawingLaws.{elements-sampled};
-
     // The element whose coefficients are the next values, coefficient 0 first. A draw takes no memory and has no
     // limit: it is never refused.
     ghost sampling = { unrefused_draw
@@ -439,8 +423,6 @@ impl<
     const WIDTH: usize,
     const RATE: usize,
 > CanFinalizeDigest for DuplexChallenger<F, P, WIDTH, RATE> {
-    ghost use Rattle.p3_duplex.specs.DuplexState as duplex_state;
-
     type Digest = [F; RATE];
 
     // The rate after one more permutation, whether values are pending or not.

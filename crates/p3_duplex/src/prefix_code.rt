@@ -1,7 +1,7 @@
 //! What a duplex challenger feeds is a prefix code: the premises of the laws on symbols.
 ghost use Rattle.std.specs.Prelude.{◌≡◌, List, length, ◌++◌};
 ghost use Rattle.p3_challenger_core.specs.Reading.{IsPrefixCode, IsPrefixCodeOn};
-ghost use Rattle.p3_symmetric.specs.{declared.hash.Hash.Hash, HashValues.values_of};
+ghost use Rattle.p3_symmetric.specs.{declared.hash.Hash.Hash, Digests.values_of};
 
 use crate::DuplexChallenger;
 use p3_challenger_core::CanObserve;

@@ -8,7 +8,6 @@ pub use Rattle.p3_field_core.specs.CoeffsCoefficients
 pub use Rattle.p3_field_core.specs.CoefficientLaws
 pub use Rattle.p3_field_core.specs.Equality
 pub use Rattle.p3_field_core.specs.UniformBounds
-pub use Rattle.p3_field_core.specs.UniformBoundLaws
 pub use Rattle.p3_small_primes.specs.PrimeIdentities
 pub use Rattle.p3_small_primes.specs.SmallPrimes
 pub use Rattle.p3_small_primes.specs.SmallPrimeLaws
@@ -16,8 +15,8 @@ pub use Rattle.p3_small_primes.specs.BabyBearResidues
 pub use Rattle.p3_small_primes.specs.F257Residues
 pub use Rattle.p3_small_primes.specs.KoalaBearResidues
 pub use Rattle.p3_goldilocks.specs.GoldilocksResidues
-pub use Rattle.p3_goldilocks.specs.GoldilocksLaws
-pub use Rattle.p3_field_bridge.specs.BridgeLaws
 pub use Rattle.p3_field_bridge.specs.Bridges
-pub use Rattle.p3_field_bridge.specs.DigitLaws
 pub use Rattle.p3_field_bridge.specs.Digits
+pub use Rattle.p3_small_primes.specs.declared.small_prime.SmallPrime
+pub use Rattle.p3_goldilocks.specs.declared.goldilocks.Goldilocks
+pub use Rattle.p3_field_core.specs.declared.coeffs.Coeffs

@@ -1,9 +1,8 @@
 -- Laws of numbers by their digits.
-use Rattle.std.proofs.Common.{◌≡◌, ℕ, zero, suc, ◌<◌, ◌≤◌, ◌+◌, ◌*◌, ◌/◌, ◌%◌, ◌^◌, List, [], ◌∷◌, length}
-use Rattle.std.proofs.{Common.{get_or, refl, sym, ap, ap₂, ◌∙◌, subst, inl, inr, arith}, Math.Arith.mod-mul}
-use Rattle.std.{proofs.Math.Nat.{pow-succ', pow-zero, one-le-pow, mul-le-mul_left, mod-one, mod-lt}, specs.List.All}
-use Rattle.std.proofs.{Math.Nat.{div-one, div-div-eq-div-mul}, lemmas.Nat.{div-mul-add, mod-mul-add}}
-use Rattle.std.proofs.lemmas.Bool.{cases_lt}
+use Rattle.std.proofs.Common.{◌≡◌, ℕ, zero, suc, ◌<◌, ◌≤◌, ◌+◌, ◌*◌, ◌/◌, ◌%◌, ◌^◌, List, [], ◌∷◌, length, get_or, refl}
+use Rattle.std.proofs.{Common.{sym, ap, ap₂, ◌∙◌, subst, inl, inr, arith}, Math.{Arith.mod-mul, Nat.pow-succ'}}
+use Rattle.std.proofs.Math.Nat.{pow-zero, one-le-pow, mul-le-mul_left, mod-one, mod-lt, div-one, div-div-eq-div-mul}
+use Rattle.std.{specs.List.All, proofs.lemmas.{Nat.{div-mul-add, mod-mul-add}, Bool.cases_lt}}
 use Rattle.p3_field_bridge.specs.Digits.{digit_sum, number_in, digit_at}
 
 -- ---- the number that digits are

@@ -10,9 +10,9 @@ use p3_field_core::PrimeField64;
 ///
 /// A law: the body is empty, and a caller cites the clause.
 pub fn packing_is_injective<F: PrimeField64, PF: PrimeField64, B: FieldBridge<F, PF>>()
-    ensures { F.residues.order < PF.residues.order → (xs ys : List F) → length xs ≡ length ys
-        → length xs ≤ B.ABSORB_COUNT
-        → packed F.residues PF.residues B.RADIX_BITS xs ≡ packed F.residues PF.residues B.RADIX_BITS ys → xs ≡ ys }
+    ensures { F.residues.order < PF.residues.order → (xs ys : List F) → length xs ≡ length ys →
+        length xs ≤ B.ABSORB_COUNT → packed F.residues PF.residues B.RADIX_BITS xs
+        ≡ packed F.residues PF.residues B.RADIX_BITS ys → xs ≡ ys }
 {}
 
 /// The first digits of two elements are the same exactly where their canonical numbers leave the same modulo the
@@ -21,13 +21,13 @@ pub fn packing_is_injective<F: PrimeField64, PF: PrimeField64, B: FieldBridge<F,
 ///
 /// A law: the body is empty, and a caller cites the clauses.
 pub fn digits_tell_elements<F: PrimeField64, PF: PrimeField64>()
-    ensures same { (x y : PF) (count : ℕ)
-        → ((i : ℕ) → i < count → digit_of F.residues PF.residues x i ≡ digit_of F.residues PF.residues y i)
-        ↔ (PF.residues.number x % F.residues.order ^ count ≡ PF.residues.number y % F.residues.order ^ count) }
-    ensures apart { (x y : PF) (count : ℕ) → PF.residues.number x < F.residues.order ^ count
-        → PF.residues.number y < F.residues.order ^ count
-        → ((i : ℕ) → i < count → digit_of F.residues PF.residues x i ≡ digit_of F.residues PF.residues y i)
-        → x ≡ y }
+    ensures same { (x y : PF) (count : ℕ) → ((i : ℕ) → i < count →
+        digit_of F.residues PF.residues x i ≡ digit_of F.residues PF.residues y i)
+        ↔ (PF.residues.number x % F.residues.order ^ count
+        ≡ PF.residues.number y % F.residues.order ^ count) }
+    ensures apart { (x y : PF) (count : ℕ) → PF.residues.number x < F.residues.order ^ count →
+        PF.residues.number y < F.residues.order ^ count → ((i : ℕ) → i < count →
+        digit_of F.residues PF.residues x i ≡ digit_of F.residues PF.residues y i) → x ≡ y }
 {}
 
 /// Where the order of `F` is below that of `PF`, any elements of `F`, no more than digits are drawn from one element,
@@ -35,7 +35,7 @@ pub fn digits_tell_elements<F: PrimeField64, PF: PrimeField64>()
 ///
 /// A law: the body is empty, and a caller cites the clause.
 pub fn digits_are_any<F: PrimeField64, PF: PrimeField64, B: FieldBridge<F, PF>>()
-    ensures { F.residues.order < PF.residues.order → (xs : List F) → length xs ≤ B.SQUEEZE_COUNT
-        → (x : PF) × ((i : ℕ) (d : F) → i < length xs
-        → digit_of F.residues PF.residues x i ≡ slice_index_or xs i d) }
+    ensures { F.residues.order < PF.residues.order → (xs : List F) → length xs ≤ B.SQUEEZE_COUNT →
+        (x : PF) × ((i : ℕ) (d : F) → i < length xs →
+        digit_of F.residues PF.residues x i ≡ slice_index_or xs i d) }
 {}

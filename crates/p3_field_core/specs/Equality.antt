@@ -7,7 +7,7 @@ abbrev pub IsExact : {A : Type 0} → (A → A → Bool) → Type 0
 IsExact {A} eq = (x y : A) → (eq x y ≡ true ↔ x ≡ y)
 
 -- values compare so by a part that tells them apart
-pub exact-by : {A B : Type 0} (part : A → B) {eq : B → B → Bool} → IsExact eq
-    → ((x y : A) → part x ≡ part y → x ≡ y) → IsExact (λ x y. eq (part x) (part y))
+pub exact-by : {A B : Type 0} (part : A → B) {eq : B → B → Bool} → IsExact eq → ((x y : A) → part x ≡ part y → x ≡ y) →
+    IsExact (λ x y. eq (part x) (part y))
 exact-by part exact tells x y =
     (λ e. tells x y ((exact (part x) (part y)).0 e), λ e. (exact (part x) (part y)).1 (ap part e))

@@ -1,9 +1,8 @@
 -- How many numbers below a bound leave a remainder.
-use Rattle.std.proofs.Common.{◌≡◌, ◌≢◌, ℕ, zero, suc, ◌<◌, ◌≤◌, ◌+◌, ◌*◌, ◌/◌, ◌%◌, [], ◌∷◌, ◌++◌, Bool}
-use Rattle.std.proofs.Common.{true, false, cond, nat_eq, ◌⊎◌, inl, inr, refl, sym, ap, ◌∙◌, subst, arith}
-use Rattle.std.proofs.{Math.Nat.{mod-lt, zero-mod, zero-div}, lemmas.Nat.{div-add-mod', div-mul-add, mod-mul-add}}
-use Rattle.std.proofs.lemmas.{Bool.cases_lt, Bool.Decides.nat_tests, List.Sums.sum_by_push}
-use Rattle.std.specs.List.{count_by, range_with_len}
+use Rattle.std.proofs.{lemmas.Nat.{div-add-mod', div-mul-add, mod-mul-add}, Math.Nat.{mod-lt, zero-mod, zero-div}}
+use Rattle.std.proofs.{lemmas.Bool.cases_lt, Common.{◌≡◌, ◌≢◌, ℕ, zero, suc, ◌<◌, ◌≤◌, ◌+◌, ◌*◌, ◌/◌, ◌%◌, [], ◌∷◌}}
+use Rattle.std.proofs.Common.{◌++◌, Bool, true, false, cond, nat_eq, ◌⊎◌, inl, inr, refl, sym, ap, ◌∙◌, subst, arith}
+use Rattle.std.{proofs.lemmas.{Bool.Decides.nat_tests, List.Sums.sum_by_push}, specs.List.{count_by, range_with_len}}
 
 -- one number more
 range-last : (from count : ℕ) → range_with_len from (suc count) ≡ range_with_len from count ++ (from + count) ∷ []

@@ -1,8 +1,7 @@
 -- Residues are a ring.
-use Rattle.std.proofs.Common.{◌≡◌, ℕ, ◌+◌, ◌-◌, ◌*◌, ◌%◌, ◌^◌, ◌≤◌, ◌∙◌, sym, ap, arith}
-use Rattle.std.proofs.Math.Nat.{mod-add-mod, add-mod-mod, add-mod_right, add_comm, add_assoc, add-zero}
-use Rattle.std.proofs.Math.Nat.{mul-add, mul-one, mul-zero, mul_comm, mul_assoc}
-use Rattle.std.proofs.lemmas.Nat.{mul-mod_first, mul-mod_second, pow-mod}
+use Rattle.std.proofs.{Common.{◌≡◌, ℕ, ◌+◌, ◌-◌, ◌*◌, ◌%◌, ◌^◌, ◌≤◌, ◌∙◌, sym, ap, arith}, Math.Nat.mod-add-mod}
+use Rattle.std.proofs.Math.Nat.{add-mod-mod, add-mod_right, add_comm, add_assoc, add-zero, mul-add, mul-one, mul-zero}
+use Rattle.std.proofs.{Math.Nat.{mul_comm, mul_assoc}, lemmas.Nat.{mul-mod_first, mul-mod_second, pow-mod}}
 use Rattle.p3_field_core.specs.Residues.{Residues, IsResidues, sum_of, difference_of, product_of, power_of}
 use Rattle.p3_field_core.specs.{ResidueLaws.of-same, Rings.IsRing}
 

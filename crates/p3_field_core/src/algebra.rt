@@ -1,6 +1,8 @@
 //! Vector spaces over a field and algebras, by their coefficients; a field is one over itself.
-ghost use Rattle.std.specs.Prelude.{◌≡◌, ℕ, ◌-◌, ◌<◌, ◌≤◌, List, ◌∷◌, length, replicate, slice_set};
-ghost use Rattle.p3_field_core.specs.Equality.{IsExact};
+ghost use Rattle.std.specs.Prelude.{◌≡◌, ℕ, ◌-◌, ◌<◌, ◌≤◌, List, ◌∷◌, length, replicate, slice_set, [], refl};
+ghost use Rattle.std.proofs.Common.{lit<, lit≤};
+ghost use Rattle.p3_field_core.specs.{Equality.IsExact, Coefficients.element_of_one};
+ghost use Rattle.p3_field_core.specs.CoefficientLaws.{coefficients-element_of_one, one_coefficient, of_itself};
 
 use crate::{Field, PrimeCharacteristicRing};
 
@@ -56,8 +58,8 @@ pub trait BasedVectorSpace<F: PrimeCharacteristicRing>: Copy + PartialEq {
 ///
 /// `p3-field`'s `Algebra`.
 pub trait Algebra<F: PrimeCharacteristicRing>: BasedVectorSpace<F> + From<F> {
-    ghost from_law: { (value : F) (x : Self) → Self.from_gives value x
-        → Self.coefficients x ≡ value ∷ replicate (Self.DIMENSION - 1) (F.residues.of 0) };
+    ghost from_law: { (value : F) (x : Self) → Self.from_gives value x →
+        Self.coefficients x ≡ value ∷ replicate (Self.DIMENSION - 1) (F.residues.of 0) };
 }
 
 /// An algebra that says which one it is.
@@ -87,10 +89,6 @@ pub trait BinomiallyExtendable<const D: usize>: Field {
 }
 
 impl<F: Field> BasedVectorSpace<F> for F {
-    ghost use Rattle.std.{specs.Prelude.{[], refl}, proofs.Common.{lit<, lit≤}};
-    ghost use Rattle.p3_field_core.specs.Coefficients.{element_of_one};
-    ghost use Rattle.p3_field_core.specs.CoefficientLaws.{one_coefficient, coefficients-element_of_one};
-
     const DIMENSION: usize = 1;
 
     ghost DIMENSION = { 1 };
@@ -125,7 +123,5 @@ impl<F: Field> BasedVectorSpace<F> for F {
 }
 
 impl<F: Field> Algebra<F> for F {
-    ghost use Rattle.p3_field_core.specs.CoefficientLaws.{of_itself};
-
     ghost from_law = { of_itself };
 }

@@ -1,5 +1,5 @@
 //! An element of a vector space as an array of coefficients.
-ghost use Rattle.std.specs.Prelude.{◌≡◌, length};
+ghost use Rattle.std.{specs.Prelude.{◌≡◌, length, ⊤, ◌∷◌, replicate, codes}, proofs.Common.{lit<, lit≤}};
 
 use crate::{Algebra, AlgebraIdentity, BasedVectorSpace, BinomiallyExtendable, Field, Named};
 use std::alloc::AllocError;
@@ -14,8 +14,6 @@ pub struct Coeffs<F, const D: usize> {
 }
 
 impl<F: Copy, const D: usize> Clone for Coeffs<F, D> {
-    ghost use Rattle.std.specs.Prelude.{◌≡◌, ⊤};
-
     ghost is_clone = { λ x y. y ≡ x };
 
     ghost is_infallible = { λ _. ⊤ };
@@ -28,7 +26,6 @@ impl<F: Copy, const D: usize> Clone for Coeffs<F, D> {
 impl<F: Copy, const D: usize> Copy for Coeffs<F, D> {}
 
 impl<F: Field, const D: usize> Coeffs<F, D> {
-    ghost use Rattle.std.specs.Prelude.{◌≡◌};
     ghost use Rattle.p3_field_core.specs.{CoeffsCoefficients.coefficients_of, Equality.IsExact};
 
     /// The element with these coefficients.
@@ -47,7 +44,6 @@ impl<F: Field, const D: usize> Coeffs<F, D> {
 }
 
 impl<F: Field> BasedVectorSpace<F> for Coeffs<F, 4> {
-    ghost use Rattle.std.proofs.Common.{lit<, lit≤};
     ghost use Rattle.p3_field_core.specs.CoeffsCoefficients as coeffs;
     ghost use Rattle.p3_field_core.specs.CoefficientLaws as laws;
 
@@ -89,7 +85,6 @@ impl<F: Field> BasedVectorSpace<F> for Coeffs<F, 4> {
 }
 
 impl<F: Field> From<F> for Coeffs<F, 4> {
-    ghost use Rattle.std.specs.Prelude.{◌≡◌, ◌∷◌, replicate};
     ghost use Rattle.p3_field_core.specs.CoeffsCoefficients as coeffs;
 
     ghost from_gives = { λ value x.
@@ -118,8 +113,6 @@ impl<F: BinomiallyExtendable<4>> AlgebraIdentity<F> for Coeffs<F, 4> {
 const COEFFS: &str = "Coeffs";
 
 impl<F, const D: usize> Named for Coeffs<F, D> {
-    ghost use Rattle.std.specs.Prelude.{codes};
-
     const NAME: &'static str = COEFFS;
 
     ghost name_bytes = { codes "Coeffs" };

@@ -1,5 +1,5 @@
 //! Types with a name, which steps of a protocol carry.
-ghost use Rattle.std.specs.Prelude.{◌≡◌, ℕ, List};
+ghost use Rattle.std.specs.Prelude.{◌≡◌, ℕ, List, codes};
 
 /// A type with a name, which tells apart what is made for different types.
 ///
@@ -17,8 +17,6 @@ pub trait Named {
 }
 
 impl Named for u8 {
-    ghost use Rattle.std.specs.Prelude.{codes};
-
     const NAME: &'static str = "u8";
 
     ghost name_bytes = { codes "u8" };
@@ -29,8 +27,6 @@ impl Named for u8 {
 }
 
 impl Named for usize {
-    ghost use Rattle.std.specs.Prelude.{codes};
-
     const NAME: &'static str = "usize";
 
     ghost name_bytes = { codes "usize" };
@@ -41,8 +37,6 @@ impl Named for usize {
 }
 
 impl Named for () {
-    ghost use Rattle.std.specs.Prelude.{codes};
-
     const NAME: &'static str = "()";
 
     ghost name_bytes = { codes "()" };

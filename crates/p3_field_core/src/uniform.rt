@@ -38,8 +38,9 @@ pub trait UniformSamplingField: PrimeField64 {
 pub fn uniform_bounds_are_whole<F: UniformSamplingField>()
     ensures within { (bits : ℕ) → uniform_bound F.residues.order bits ≤ F.residues.order }
     ensures whole { (bits : ℕ) → uniform_bound F.residues.order bits % 2 ^ bits ≡ 0 }
-    ensures shared { (bits value : ℕ) → value < 2 ^ bits
-        → how_many_have (uniform_bound F.residues.order bits) bits value
+    ensures shared { (bits value : ℕ) → value < 2 ^ bits →
+        how_many_have (uniform_bound F.residues.order bits) bits value
         ≡ uniform_bound F.residues.order bits / 2 ^ bits }
-    ensures positive { (bits : ℕ) → bits ≤ F.MAX_SINGLE_SAMPLE_BITS → 0 < uniform_bound F.residues.order bits }
+    ensures positive { (bits : ℕ) → bits ≤ F.MAX_SINGLE_SAMPLE_BITS →
+        0 < uniform_bound F.residues.order bits }
 {}

@@ -1,6 +1,6 @@
 -- How many bytes the order of a field needs, and a count.
 use Rattle.std.{proofs.Common.{◌≡◌, ℕ, ◌<◌, ◌≤◌, ◌*◌, ◌^◌, subst, sym, arith}, specs.Int.div_ceil}
-use Rattle.p3_fs_core.specs.{BigEndian.bytes_for, CountLaws.{count_width-enough, count_width-least}, Counts.count_width}
+use Rattle.p3_fs_core.specs.{BigEndian.{bytes_for, count_width}, CountLaws.{count_width-enough, count_width-least}}
 use Rattle.p3_fs_core.specs.ScalarLaws.{width-most}
 
 pub counted-width : (bits width : ℕ) → width ≡ div_ceil bits 8 → width ≡ bytes_for bits

@@ -1,8 +1,7 @@
 -- Alphabets of a challenger, and what the observation of a byte string may be refused for.
 use Rattle.std.specs.Prelude.{◌≡◌, ℕ, ◌⊎◌, List, [], ◌∷◌}
 use Rattle.p3_challenger_core.specs.Observation.{Observation, LeavesInCalls}
-use Rattle.p3_challenger_core.specs.declared.error.ChallengerError.{ChallengerError}
-use Rattle.p3_challenger_core.specs.declared.error.ChallengerError.TheVariants.{OutOfMemory, TooLong}
+use Rattle.p3_challenger_core.specs.declared.error.ChallengerError.{ChallengerError, TheVariants.{OutOfMemory, TooLong}}
 
 -- what an observation that answers this error leaves: the byte string was too long, and nothing of it was
 -- absorbed, or it was refused for memory alone

@@ -1,11 +1,10 @@
 -- Laws of numbers as bytes, the highest first.
-use Rattle.std.proofs.Common.{◌≡◌, ℕ, zero, suc, ◌<◌, ◌≤◌, ◌+◌, ◌-◌, ◌*◌, ◌/◌, ◌%◌, ◌^◌, List, [], ◌∷◌, ◌++◌, length}
-use Rattle.std.proofs.Common.{take, drop, replicate, append-nil, refl, sym, ap, ◌∙◌, subst, inl, inr, lit<, arith}
-use Rattle.std.proofs.{Common.{pow-suc, pow_mono}, lemmas.Bool.cases_lt, Math.Nat.{zero-add, suc-add}}
-use Rattle.std.proofs.Math.Nat.{div-div-eq-div-mul, div-eq_of_lt, div-one, mod-lt, lt-mul-div-succ}
-use Rattle.std.proofs.{lemmas.Nat.{pow_pos, pow-add, be_bytes_8}, Math.Seq.{take-append_seam, drop-append_seam}}
+use Rattle.std.proofs.Math.Nat.{zero-add, suc-add, div-div-eq-div-mul, div-eq_of_lt, div-one, mod-lt, lt-mul-div-succ}
+use Rattle.std.proofs.{lemmas.{Bool.cases_lt, Nat.{pow_pos, pow-add, be_bytes_8}}, Common.{◌≡◌, ℕ, zero, suc, ◌<◌, ◌≤◌}}
+use Rattle.std.proofs.Common.{◌+◌, ◌-◌, ◌*◌, ◌/◌, ◌%◌, ◌^◌, List, [], ◌∷◌, ◌++◌, length, take, drop, replicate}
+use Rattle.std.proofs.Common.{append-nil, refl, sym, ap, ◌∙◌, subst, inl, inr, lit<, arith, pow-suc, pow_mono}
+use Rattle.std.{proofs.Math.Seq.{take-append_seam, drop-append_seam}, specs.Int.{w64, byte_at, from_be_bytes}}
 use Rattle.std.proofs.lemmas.List.{length-append, length-replicate, length-drop, take-replicate, take_all, drop_all}
-use Rattle.std.specs.Int.{w64, byte_at, from_be_bytes}
 use Rattle.p3_challenger_core.specs.Reading.{AreBytes}
 use Rattle.p3_fs_core.specs.BigEndian.{big_endian, big_endian_after, in_bytes, bytes_for}
 

@@ -1,7 +1,7 @@
 -- The count of a bounded step takes the least number of bytes, and is told by them.
 use Rattle.std.proofs.Common.{◌≡◌, ℕ, zero, suc, ◌+◌, ◌^◌, ◌<◌, ◌≤◌, Bool, true, false, nat_lt, if◌then◌else◌, refl}
 use Rattle.std.proofs.{Common.{sym, subst, add-zero, arith}, lemmas.Bool.Decides.nat_tests}
-use Rattle.p3_fs_core.specs.Counts.{least_width, count_width}
+use Rattle.p3_fs_core.specs.BigEndian.{least_width, count_width}
 
 is_below : (n m : ℕ) → nat_lt n m ≡ true → n < m
 is_below n m h = grind (arith, nat_tests)

@@ -1,12 +1,11 @@
 -- Refusals of a transcript.
 use Rattle.std.specs.Prelude.{◌≡◌, ℕ, List, Result, Ok, Err}
 use Rattle.p3_fs_core.specs.{Interactions.step_of, Steps.Step, declared.interaction.Interaction.Interaction}
-use Rattle.p3_fs_core.specs.declared.error.{PatternError.PatternError, PatternError.TheVariants.OverCap}
-use Rattle.p3_fs_core.specs.declared.error.PatternError.TheVariants.{Finished, NoMoreSteps, WrongStep, Unplayed}
-use Rattle.p3_fs_core.specs.declared.error.TranscriptError.{TranscriptError}
-use Rattle.p3_fs_core.specs.declared.error.TranscriptError.TheVariants.{MissingBegin, InvalidKind, MismatchedBeginEnd}
-use Rattle.p3_fs_core.specs.declared.error.TranscriptError.TheVariants.{MissingEnd, BadProofShape, Pattern}
-use Rattle.p3_fs_core.specs.declared.error.TranscriptError.TheVariants.{Challenger, LabelTooLong, OutOfMemory}
+use Rattle.p3_fs_core.specs.declared.error.PatternError.{PatternError, TheVariants.{OverCap, Finished, NoMoreSteps}}
+use Rattle.p3_fs_core.specs.declared.error.PatternError.TheVariants.{WrongStep, Unplayed}
+use Rattle.p3_fs_core.specs.declared.error.TranscriptError.{TranscriptError, TheVariants.{MissingBegin, InvalidKind}}
+use Rattle.p3_fs_core.specs.declared.error.TranscriptError.TheVariants.{MismatchedBeginEnd, MissingEnd, BadProofShape}
+use Rattle.p3_fs_core.specs.declared.error.TranscriptError.TheVariants.{Pattern, Challenger, LabelTooLong, OutOfMemory}
 use Rattle.p3_challenger_core.specs.declared.error.ChallengerError.{ChallengerError}
 use Rattle.p3_challenger_core.specs.declared.error.ChallengerError.TheVariants as challenger
 

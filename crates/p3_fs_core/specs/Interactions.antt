@@ -9,16 +9,15 @@ step_of i = step_with i.hierarchy i.kind i.label.now i.type_tag i.type_name.now 
 
 -- some interaction that is the step
 abbrev pub interaction_of : (s : Step) → IsProgramStep s → Interaction
-interaction_of s fits =
-    record {
-      hierarchy = s.hierarchy;
-      kind = s.kind;
-      label = record { ref_ptr = (0, 0); now = s.label };
-      type_tag = s.type_tag;
-      type_name = record { ref_ptr = (0, 0); now = s.type_name };
-      length = s.length;
-      fits = fits;
-    }
+interaction_of s fits = record {
+  hierarchy = s.hierarchy;
+  kind = s.kind;
+  label = record { ref_ptr = (0, 0); now = s.label };
+  type_tag = s.type_tag;
+  type_name = record { ref_ptr = (0, 0); now = s.type_name };
+  length = s.length;
+  fits = fits;
+}
 
 -- some interactions that are the steps
 abbrev pub interactions_of : (steps : List Step) → AreProgramSteps steps → List Interaction

@@ -1,10 +1,8 @@
-pub mod Algebras
 pub mod Alphabet
 pub mod AlphabetLaws
 pub mod BigEndian
 pub mod BigEndianLaws
 pub mod CountLaws
-pub mod Counts
 pub mod DecodingLaws
 pub mod InteractionLaws
 pub mod Interactions
@@ -13,7 +11,6 @@ pub mod PackingLaws
 pub mod Scalar
 pub mod ScalarLaws
 pub mod StepCodeLaws
-pub mod StepCodes
 pub mod StepFitLaws
 pub mod StepFits
 pub mod StepTextLaws

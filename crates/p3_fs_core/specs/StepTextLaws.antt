@@ -1,13 +1,13 @@
 -- Laws of the texts of steps: each is read back from what it prints.
-use Rattle.std.proofs.Common.{◌≡◌, ℕ, ◌+◌, ◌*◌, ◌≤◌, ◌<◌, ◌^◌, ◌/◌, ◌%◌, false, List, [], ◌∷◌, ◌++◌, length, drop, slice_index}
+use Rattle.std.proofs.Common.{◌≡◌, ℕ, ◌+◌, ◌*◌, ◌≤◌, ◌<◌, ◌^◌, ◌/◌, ◌%◌, false, List, [], ◌∷◌, ◌++◌, drop, slice_index}
 use Rattle.std.proofs.{Common.{codes, append_assoc, refl, sym, ap, ◌∙◌, lit<, arith}, lemmas.Bool.Decides.nat_tests}
-use Rattle.std.{proofs.lemmas.Fmt.digits_is_IsNumeral, specs.Char.digit_value, specs.Fmt.{decimal, digits, digit_glyph}}
+use Rattle.std.{proofs.lemmas.Fmt.digits_is_IsNumeral, specs.{Char.digit_value, Fmt.{decimal, digits, digit_glyph}}}
 use Rattle.std.specs.Str.Parse.{AllDigits, digits_value}
 use Rattle.p3_challenger_core.specs.{Reading.{IsPrefixCode, IsPrefixCodeOn, IsByte}, SymbolLaws.bytes-prefix_code}
 use Rattle.p3_fs_core.specs.{StepFits.{FitsLength, IsEnd, FitsTag}, StepTexts.{algebra_end, type_tag_text}}
 use Rattle.p3_fs_core.specs.StepTexts.{hierarchy_text, kind_text, length_text, hex_byte_text}
-use Rattle.p3_fs_core.specs.declared.step.Hierarchy.TheVariants.{Atomic, Begin, End}
-use Rattle.p3_fs_core.specs.declared.step.Kind.TheVariants.{Protocol, Public, Message, Hint, Challenge, Pow, Salt}
+use Rattle.p3_fs_core.specs.declared.step.{Hierarchy.TheVariants.{Atomic, Begin, End}, Kind.TheVariants.Protocol}
+use Rattle.p3_fs_core.specs.declared.step.Kind.TheVariants.{Public, Message, Hint, Challenge, Pow, Salt}
 use Rattle.p3_fs_core.specs.declared.step.Length.TheVariants.{None, Scalar, Fixed, Bounded}
 use Rattle.p3_fs_core.specs.declared.step.TypeTag.TheVariants.{Marker, Bytes, Algebra, BinaryTower, BinaryPolynomial}
 use Rattle.p3_fs_core.specs.declared.step.TypeTag.TheVariants.{Opaque, Bits, UniformBits}

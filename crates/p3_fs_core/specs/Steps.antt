@@ -1,9 +1,9 @@
--- Steps of an interactive protocol, as contracts see them.
+-- Steps of an interactive protocol, and algebras as steps name them, as contracts see them.
 use Rattle.std.specs.{Prelude.{◌≡◌, ℕ, List, ◌++◌, length, codes}, Fmt.decimal}
-use Rattle.p3_fs_core.specs.declared.step.{Hierarchy.Hierarchy, Hierarchy.TheVariants.{Begin, End}, Kind.Kind}
-use Rattle.p3_fs_core.specs.declared.step.{Length.Length, Length.TheVariants.None, TypeTag.TypeTag}
-use Rattle.p3_fs_core.specs.declared.step.TypeTag.TheVariants.{Marker}
 use Rattle.p3_fs_core.specs.StepTexts.{hierarchy_text, kind_text, length_text, type_tag_text}
+use Rattle.p3_fs_core.specs.declared.step.{Hierarchy.{Hierarchy, TheVariants.{Begin, End, Atomic}}, Kind.Kind}
+use Rattle.p3_fs_core.specs.declared.step.{Length.{Length, TheVariants.None}, TypeTag.{TypeTag, TheVariants.Marker}}
+use Rattle.p3_fs_core.specs.declared.step.TypeTag.TheVariants.{Algebra}
 
 -- what a step is: six things, of which two are texts
 pub record Step : Type 0 where
@@ -17,15 +17,14 @@ pub record Step : Type 0 where
 -- the step of these parts: where it stands, what it is for, its label, and what it carries, with the name of the
 -- type that this has in the program
 abbrev pub step_with : Hierarchy → Kind → List ℕ → TypeTag → List ℕ → Length → Step
-step_with hierarchy kind label type_tag type_name length =
-    record {
-      hierarchy = hierarchy;
-      kind = kind;
-      label = label;
-      type_tag = type_tag;
-      type_name = type_name;
-      length = length;
-    }
+step_with hierarchy kind label type_tag type_name length = record {
+  hierarchy = hierarchy;
+  kind = kind;
+  label = label;
+  type_tag = type_tag;
+  type_name = type_name;
+  length = length;
+}
 
 -- the opener or the closer of a container, which carries nothing
 abbrev pub marker_of : Hierarchy → Kind → List ℕ → List ℕ → Step
@@ -48,12 +47,30 @@ carried_by tag length = length
 
 -- a step as people read it: with the name of its type
 abbrev pub plain_text : Step → List ℕ
-plain_text s =
-    hierarchy_text s.hierarchy ++ (codes " " ++ (kind_text s.kind ++ (codes " " ++ (s.label ++ (codes " " ++
-    (length_text s.length ++ (codes " " ++ s.type_name)))))))
+plain_text s = hierarchy_text s.hierarchy ++ (codes " " ++ (kind_text s.kind
+    ++ (codes " " ++ (s.label ++ (codes " " ++ (length_text s.length ++ (codes " " ++ s.type_name)))))))
 
 -- a step as it is hashed: with its type's tag, and with the length of its label before the label
 abbrev pub alternate_text : Step → List ℕ
 alternate_text s =
     hierarchy_text s.hierarchy ++ (codes " " ++ (kind_text s.kind ++ (codes " " ++ (decimal (length s.label) ++
     (codes " " ++ (s.label ++ (codes " " ++ (length_text s.length ++ (codes " " ++ type_tag_text s.type_tag)))))))))
+
+-- an algebra, as the steps that carry its elements name it: the order of its field, how many coefficients an element
+-- has, the digest of its identity, and its name in the program
+pub record NamedAlgebra : Type 0 where
+  pub order : ℕ
+  pub degree : ℕ
+  pub digest : List ℕ
+  pub name : List ℕ
+
+abbrev pub algebra_of : ℕ → ℕ → List ℕ → List ℕ → NamedAlgebra
+algebra_of order degree digest name = record { order = order; degree = degree; digest = digest; name = name }
+
+-- its tag, which a digest of the step has in place of the name
+abbrev pub tag_of : NamedAlgebra → TypeTag
+tag_of algebra = Algebra algebra.order algebra.degree algebra.digest
+
+-- a step that carries elements of it
+abbrev pub algebra_step : Kind → List ℕ → NamedAlgebra → Length → Step
+algebra_step kind label algebra length = step_with Atomic kind label (tag_of algebra) algebra.name length

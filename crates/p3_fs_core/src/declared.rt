@@ -1,7 +1,7 @@
 //! What a step says of the algebra whose elements it carries.
 ghost use Rattle.std.specs.Prelude.{ℕ, List};
-ghost use Rattle.p3_fs_core.specs.{Algebras.{NamedAlgebra, algebra_of, algebra_step}, Steps.Step};
-ghost use Rattle.p3_fs_core.specs.declared.step.{Kind.Kind, Length.Length};
+ghost use Rattle.p3_fs_core.specs.{Steps.{NamedAlgebra, algebra_of, algebra_step, Step}, declared.step.Kind.Kind};
+ghost use Rattle.p3_fs_core.specs.declared.step.Length.{Length};
 
 use crate::{Kind, Length, TranscriptField};
 use p3_field_core::{AlgebraIdentity, Named};

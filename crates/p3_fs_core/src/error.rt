@@ -1,5 +1,7 @@
 //! Why a transcript, a pattern or a step is refused.
-ghost use Rattle.std.specs.Prelude.{◌≡◌};
+ghost use Rattle.std.specs.Prelude.{◌≡◌, ◌↔◌, true};
+ghost use Rattle.p3_fs_core.specs.Errors.{transcript_error, pattern_error_of, refusal_of};
+ghost use Rattle.p3_fs_core.specs.declared.error.TranscriptError.TheVariants.{OutOfMemory};
 
 use crate::Interaction;
 use p3_challenger_core::ChallengerError;
@@ -144,9 +146,6 @@ pub enum PatternError<I = Interaction> {
 }
 
 impl From<ChallengerError> for TranscriptError {
-    ghost use Rattle.std.specs.Prelude.{◌≡◌};
-    ghost use Rattle.p3_fs_core.specs.Errors.{transcript_error};
-
     ghost from_gives = { λ error e. e ≡ transcript_error error };
 
     fn from(error: ChallengerError) -> TranscriptError {
@@ -160,9 +159,6 @@ impl From<ChallengerError> for TranscriptError {
 }
 
 impl From<AllocError> for TranscriptError {
-    ghost use Rattle.std.specs.Prelude.{◌≡◌};
-    ghost use Rattle.p3_fs_core.specs.declared.error.TranscriptError.TheVariants.{OutOfMemory};
-
     ghost from_gives = { λ _ e. e ≡ OutOfMemory };
 
     fn from(_error: AllocError) -> TranscriptError {
@@ -171,9 +167,6 @@ impl From<AllocError> for TranscriptError {
 }
 
 impl<T: Drop> From<AllocFailed<T>> for TranscriptError {
-    ghost use Rattle.std.specs.Prelude.{◌≡◌};
-    ghost use Rattle.p3_fs_core.specs.declared.error.TranscriptError.TheVariants.{OutOfMemory};
-
     ghost from_gives = { λ _ e. e ≡ OutOfMemory };
 
     fn from(_failed: AllocFailed<T>) -> TranscriptError {
@@ -182,9 +175,6 @@ impl<T: Drop> From<AllocFailed<T>> for TranscriptError {
 }
 
 impl PatternError {
-    ghost use Rattle.std.specs.Prelude.{◌≡◌, ◌↔◌, true};
-    ghost use Rattle.p3_fs_core.specs.Errors.{pattern_error_of};
-
     /// Two errors compare equal exactly where they say the same: that of one variant, with the same steps and numbers,
     /// wherever the steps' texts lie.
     ///
@@ -197,9 +187,6 @@ impl PatternError {
 }
 
 impl TranscriptError {
-    ghost use Rattle.std.specs.Prelude.{◌≡◌, ◌↔◌, true};
-    ghost use Rattle.p3_fs_core.specs.Errors.{refusal_of};
-
     /// Two errors compare equal exactly where they say the same: that of one variant, with the same steps, numbers
     /// and reason, wherever the texts lie.
     ///

@@ -1,8 +1,8 @@
 //! One step of an interactive protocol.
 ghost use Rattle.std.specs.Prelude.{◌≡◌, ◌↔◌, true, Some, codes, IsTrue};
-ghost use Rattle.p3_fs_core.specs.{Algebras.tag_of, StepFits.{FitsLength, IsEnd, FitsTag, IsProgramStep}};
+ghost use Rattle.p3_fs_core.specs.Steps.{tag_of, step_with, marker_of, Closes, carried_by, plain_text, alternate_text};
+ghost use Rattle.p3_fs_core.specs.StepFits.{FitsLength, IsEnd, FitsTag, IsProgramStep};
 ghost use Rattle.p3_fs_core.specs.StepFitLaws.{IsProgramStep-prop};
-ghost use Rattle.p3_fs_core.specs.Steps.{step_with, marker_of, Closes, carried_by, plain_text, alternate_text};
 
 use crate::{Declared, Hierarchy, Kind, Length, TranscriptField, TypeTag};
 use p3_field_core::{AlgebraIdentity, Named};
@@ -257,7 +257,6 @@ impl Interaction {
 }
 
 impl fmt::Display for Interaction {
-    ghost use Rattle.std.specs.Prelude.{Some};
     ghost use Rattle.p3_fs_core.specs.{Interactions.step_of, Steps.plain_text};
 
     ghost output = { λ i. Some (plain_text (step_of i)) };
@@ -284,7 +283,6 @@ impl fmt::Display for Interaction {
 pub struct Alternate<'a>(pub &'a Interaction);
 
 impl fmt::Display for Alternate<'_> {
-    ghost use Rattle.std.specs.Prelude.{Some};
     ghost use Rattle.p3_fs_core.specs.{Interactions.step_of, Steps.alternate_text};
 
     ghost output = { λ alternate. Some (alternate_text (step_of alternate.0.now)) };

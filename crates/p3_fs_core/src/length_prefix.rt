@@ -1,6 +1,6 @@
 //! The count of a bounded step: how many bytes it takes, and those bytes.
 ghost use Rattle.std.specs.Prelude.{◌≡◌, ℕ, ◌-◌, ◌^◌, ◌<◌, ◌≤◌, ◌++◌, length, take, replicate};
-ghost use Rattle.p3_fs_core.specs.{BigEndian.{big_endian, in_bytes}, Counts.count_width};
+ghost use Rattle.p3_fs_core.specs.BigEndian.{big_endian, in_bytes, count_width};
 ghost use Rattle.p3_challenger_core.specs.Reading.{IsPrefixCodeOn};
 
 use crate::big_endian::{leading_bytes, number_of_bytes};

@@ -67,9 +67,10 @@ fn observe_blocks<'a, F: PrimeField64, C: CanObserve<F>>(
     ensures ok { IfOk result (λ rest. GoesOn C.observation.observed C.observation.may_leave
         (C.state challenger.old) (packed_chunks F.residues (chunk_bytes F.bit_length) bytes.now)
         (C.state challenger.new) (packed_chunks F.residues (chunk_bytes F.bit_length) rest.now)) }
-    ensures err { IfErr result (λ e. RefusesObserve (LeavesInCalls C.observation.observed
-        C.observation.may_leave (C.state challenger.old) (packed_chunks F.residues
-        (chunk_bytes F.bit_length) bytes.now)) e (C.state challenger.new)) }
+    ensures err { IfErr result
+        (λ e. RefusesObserve (LeavesInCalls C.observation.observed C.observation.may_leave
+        (C.state challenger.old) (packed_chunks F.residues (chunk_bytes F.bit_length) bytes.now)) e
+        (C.state challenger.new)) }
 {
     if !block_fits::<F>() {
         return Ok(bytes);
@@ -95,8 +96,8 @@ pub(crate) fn observe_packed<F: PrimeField64, C: CanObserve<F>>(
     requires { 256 < F.residues.order }
     ensures ok { OnOk result (C.state challenger.new ≡ observed_all C.observation.observed
         (C.state challenger.old) (packed_elements F.residues F.bit_length bytes.now)) }
-    ensures err { IfErr result (λ e. RefusesObserve (LeavesInCalls C.observation.observed
-        C.observation.may_leave (C.state challenger.old)
+    ensures err { IfErr result (λ e. RefusesObserve
+        (LeavesInCalls C.observation.observed C.observation.may_leave (C.state challenger.old)
         (packed_elements F.residues F.bit_length bytes.now)) e (C.state challenger.new)) }
 {
     challenger.observe(F::from_u64(bytes.len() as u64))?;

@@ -4,7 +4,7 @@ ghost use Rattle.std.specs.Prelude.{IfErr};
 ghost use Rattle.p3_challenger_core.specs.{Observation.{observed_all, LeavesInCalls}, Sponge.IsFed};
 ghost use Rattle.p3_challenger_core.specs.Reading.{IsPrefixCode};
 ghost use Rattle.p3_fs_core.specs.{Alphabet.RefusesBytes, Packing.packed_elements, Encoding.IsEncoding, Errors.Decodes};
-ghost use Rattle.p3_fs_core.specs.Scalar.{encoding};
+ghost use Rattle.p3_fs_core.specs.{Scalar.encoding, ScalarLaws.is_encoding};
 
 use crate::big_endian::number_of_bytes;
 use crate::packing::observe_packed;
@@ -48,9 +48,9 @@ pub trait TranscriptField: PrimeField64 {
             (packed_elements Self.residues Self.bit_length bytes.now))
             (C.state challenger.old) e (C.state challenger.new)) }
         // What is observed is what the elements feed; exactly so, where the challenger feeds them as a prefix code.
-        ensures fed { OnOk result (IsFed C.fed (C.state challenger.old)
-            (flat_map C.observation.symbols (packed_elements Self.residues Self.bit_length
-            bytes.now)) (C.state challenger.new)) }
+        ensures fed { OnOk result
+            (IsFed C.fed (C.state challenger.old) (flat_map C.observation.symbols
+            (packed_elements Self.residues Self.bit_length bytes.now)) (C.state challenger.new)) }
         ensures fed_exactly { IsPrefixCode C.observation.symbols → OnOk result
             (C.state challenger.new ≡ C.fed (C.state challenger.old) (flat_map C.observation.symbols
             (packed_elements Self.residues Self.bit_length bytes.now))) }
@@ -93,9 +93,8 @@ pub trait TranscriptField: PrimeField64 {
     /// where their number is not below the order. It takes no memory.
     final fn decode(bytes: &[u8]) -> Result<Self, TranscriptError>
         ensures exact { Decodes ((encoding Self.residues Self.bit_length).read bytes.now) result }
-        ensures found { IfOk result (λ x. bytes.now
-            ≡ (encoding Self.residues Self.bit_length).wire x
-            ++ drop (encoding Self.residues Self.bit_length).width bytes.now) }
+        ensures found { IfOk result (λ x. bytes.now ≡ (encoding Self.residues Self.bit_length).wire
+            x ++ drop (encoding Self.residues Self.bit_length).width bytes.now) }
         ensures only { (x : Self) (rest : List ℕ) →
             bytes.now ≡ (encoding Self.residues Self.bit_length).wire x ++ rest → result ≡ Ok x }
     {
@@ -119,7 +118,5 @@ pub trait TranscriptField: PrimeField64 {
 }
 
 impl<F: PrimeField64> TranscriptField for F {
-    ghost use Rattle.p3_fs_core.specs.ScalarLaws.{is_encoding};
-
     ghost encodes = { is_encoding F.residues F.are_residues F.bit_length F.bits_below };
 }

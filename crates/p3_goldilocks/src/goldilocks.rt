@@ -1,5 +1,7 @@
 //! The prime field of order 2^64 - 2^32 + 1, its elements as their numbers below the order.
-ghost use Rattle.std.specs.Prelude.{◌<◌};
+ghost use Rattle.std.{specs.{Prelude.{◌<◌, ◌≡◌, Some, refl, codes}, Ordering.nat_cmp}, proofs.Common.{lit<, lit≤}};
+ghost use Rattle.p3_field_core.specs.Residues.{sum_of, difference_of, product_of};
+ghost use Rattle.std.specs.Hash as fed;
 
 mod folding;
 
@@ -26,7 +28,6 @@ pub struct Goldilocks {
 const ORDER: u64 = 18446744069414584321;
 
 impl Goldilocks {
-    ghost use Rattle.std.specs.Prelude.{◌≡◌};
     ghost use Rattle.p3_goldilocks.specs.GoldilocksResidues.{residues};
 
     // The element that a number is modulo the order, which is below the order with one subtraction.
@@ -39,15 +40,14 @@ impl Goldilocks {
 }
 
 impl Goldilocks {
-    ghost use Rattle.std.specs.{Prelude.{◌≡◌, Some}, Ordering.nat_cmp};
-    ghost use Rattle.std.specs.Hash as fed;
     ghost use Rattle.p3_goldilocks.specs.GoldilocksResidues.{number};
 
     /// Elements are ordered as their canonical numbers are, and hashed as those.
     ///
     /// A law: the body is empty, and a caller cites the clauses.
     pub fn ordered_and_hashed_by_numbers()
-        ensures order { (x y : Goldilocks) → ⟦<Goldilocks as Ord>⟧.cmp x y ≡ nat_cmp (number x) (number y) }
+        ensures order { (x y : Goldilocks) →
+            ⟦<Goldilocks as Ord>⟧.cmp x y ≡ nat_cmp (number x) (number y) }
         ensures partial { (x y : Goldilocks) →
             ⟦<Goldilocks as PartialOrd>⟧.partial_cmp x y ≡ Some (nat_cmp (number x) (number y)) }
         ensures hash { (x : Goldilocks) → ⟦<Goldilocks as Hash>⟧.hash_input x ≡ fed.u64 (number x) }
@@ -55,7 +55,6 @@ impl Goldilocks {
 }
 
 impl Default for Goldilocks {
-    ghost use Rattle.std.specs.Prelude.{◌≡◌};
     ghost use Rattle.p3_goldilocks.specs.GoldilocksResidues.{residues};
 
     ghost is_default = { λ x. x ≡ residues.of 0 };
@@ -66,8 +65,6 @@ impl Default for Goldilocks {
 }
 
 impl Add for Goldilocks {
-    ghost use Rattle.std.specs.Prelude.{◌≡◌};
-    ghost use Rattle.p3_field_core.specs.Residues.{sum_of};
     ghost use Rattle.p3_goldilocks.specs.GoldilocksResidues.{residues};
 
     type Output = Goldilocks;
@@ -86,8 +83,6 @@ impl Add for Goldilocks {
 }
 
 impl Sub for Goldilocks {
-    ghost use Rattle.std.specs.Prelude.{◌≡◌};
-    ghost use Rattle.p3_field_core.specs.Residues.{difference_of};
     ghost use Rattle.p3_goldilocks.specs.GoldilocksResidues.{residues};
 
     type Output = Goldilocks;
@@ -105,8 +100,6 @@ impl Sub for Goldilocks {
 }
 
 impl Mul for Goldilocks {
-    ghost use Rattle.std.specs.Prelude.{◌≡◌};
-    ghost use Rattle.p3_field_core.specs.Residues.{product_of};
     ghost use Rattle.p3_goldilocks.specs.GoldilocksResidues.{residues};
 
     type Output = Goldilocks;
@@ -121,7 +114,6 @@ impl Mul for Goldilocks {
 }
 
 impl PrimeCharacteristicRing for Goldilocks {
-    ghost use Rattle.std.specs.Prelude.{refl};
     ghost use Rattle.p3_goldilocks.specs.GoldilocksResidues as goldilocks;
     ghost use Rattle.p3_goldilocks.specs.GoldilocksLaws as laws;
 
@@ -187,8 +179,6 @@ impl PrimeCharacteristicRing for Goldilocks {
 }
 
 impl Field for Goldilocks {
-    ghost use Rattle.std.proofs.Common.{lit<, lit≤};
-
     ghost bit_length = { 64 };
 
     ghost bits_below = { lit< tt };
@@ -211,8 +201,6 @@ impl PrimeField for Goldilocks {
 }
 
 impl PrimeField64 for Goldilocks {
-    ghost use Rattle.std.{specs.Prelude.refl, proofs.Common.lit<};
-
     const ORDER_U64: u64 = ORDER;
 
     ghost ORDER_U64 = { 18446744069414584321 };
@@ -231,8 +219,6 @@ impl PrimeField64 for Goldilocks {
 }
 
 impl UniformSamplingField for Goldilocks {
-    ghost use Rattle.std.proofs.Common.{lit≤};
-
     const MAX_SINGLE_SAMPLE_BITS: usize = 32;
 
     ghost MAX_SINGLE_SAMPLE_BITS = { 32 };
@@ -241,8 +227,6 @@ impl UniformSamplingField for Goldilocks {
 }
 
 impl Named for Goldilocks {
-    ghost use Rattle.std.specs.Prelude.{codes};
-
     const NAME: &'static str = "Goldilocks";
 
     ghost name_bytes = { codes "Goldilocks" };
@@ -253,8 +237,6 @@ impl Named for Goldilocks {
 }
 
 impl AlgebraIdentity<Goldilocks> for Goldilocks {
-    ghost use Rattle.std.specs.Prelude.{codes};
-
     ghost identity = { codes "prime:18446744069414584321" };
 
     fn algebra_id() -> &'static [u8] {
@@ -263,8 +245,6 @@ impl AlgebraIdentity<Goldilocks> for Goldilocks {
 }
 
 impl ScalarField for Goldilocks {
-    ghost use Rattle.std.specs.Prelude.{refl};
-
     ghost one_coefficient = { refl };
 
     ghost own_coefficient = { λ _. refl };

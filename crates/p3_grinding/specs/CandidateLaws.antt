@@ -1,12 +1,11 @@
 -- Laws of drawing candidates until one is accepted.
-use Rattle.std.proofs.Common.{◌≡◌, ℕ, zero, suc, ◌+◌, ◌-◌, ◌<◌, ◌≤◌, Bool, true, false, Option, Some, None}
-use Rattle.std.proofs.Common.{option_and_then, if◌then◌else◌, refl, sym, ap, ◌∙◌, inl, inr, subst, arith, rules}
-use Rattle.std.{proofs.Common.{IsSome, ◌↔◌}, specs.Option.option_map}
-use Rattle.p3_challenger_core.specs.{declared.error.ChallengerError.ChallengerError, Sponge.{IsStepsOn, after_steps}}
-use Rattle.p3_challenger_core.specs.declared.error.ChallengerError.TheVariants.{OutOfMemory, DrawLimit, NoWitness}
-use Rattle.p3_challenger_core.specs.declared.error.ChallengerError.TheVariants.{TooLong}
+use Rattle.std.proofs.Common.{option_and_then, if◌then◌else◌, Option, IsSome, false, subst, arith, rules, zero, Bool}
+use Rattle.std.proofs.Common.{true, Some, None, refl, ◌≡◌, suc, ◌+◌, ◌-◌, ◌<◌, ◌≤◌, sym, ◌∙◌, inl, inr, ◌↔◌, ap, ℕ}
+use Rattle.std.specs.Option.{option_map}
+use Rattle.p3_challenger_core.specs.declared.error.ChallengerError.{ChallengerError, TheVariants.OutOfMemory}
+use Rattle.p3_challenger_core.specs.declared.error.ChallengerError.TheVariants.{DrawLimit, NoWitness, TooLong}
+use Rattle.p3_challenger_core.specs.{Sponge.{IsStepsOn, after_steps}, SamplingLaws.{no_steps, steps-then}}
 use Rattle.p3_challenger_core.specs.Sampling.{Sampling, IsSampling, RefusesDraw, made_of}
-use Rattle.p3_challenger_core.specs.SamplingLaws.{no_steps, steps-then}
 use Rattle.p3_grinding.specs.Candidates.{after_refused, first_accepted, after_first_accepted, MeetsLimit, MayLeave}
 use Rattle.p3_grinding.specs.Candidates.{accepted_of, accepted_within, EachRefused, MeetsLimitExactly}
 

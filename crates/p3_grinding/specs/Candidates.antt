@@ -35,23 +35,21 @@ module _ {S T : Type 0} (d : Sampling S T) (accepts : T → Bool) where
 
   -- a draw of the first accepted one of so many candidates
   abbrev pub accepted_of : ℕ → Sampling S T
-  accepted_of limit =
-      record {
-        sampled = first_accepted limit;
-        after = after_first_accepted limit;
-        meets_limit = MeetsLimit limit;
-        may_leave = MayLeave limit;
-      }
+  accepted_of limit = record {
+    sampled = first_accepted limit;
+    after = after_first_accepted limit;
+    meets_limit = MeetsLimit limit;
+    may_leave = MayLeave limit;
+  }
 
   -- the same where the state says how many candidates there may be
   abbrev pub accepted_within : (S → ℕ) → Sampling S T
-  accepted_within limit =
-      record {
-        sampled = λ s. first_accepted (limit s) s;
-        after = λ s. after_first_accepted (limit s) s;
-        meets_limit = λ s. MeetsLimit (limit s) s;
-        may_leave = λ s t. MayLeave (limit s) s t;
-      }
+  accepted_within limit = record {
+    sampled = λ s. first_accepted (limit s) s;
+    after = λ s. after_first_accepted (limit s) s;
+    meets_limit = λ s. MeetsLimit (limit s) s;
+    may_leave = λ s t. MayLeave (limit s) s t;
+  }
 
   -- each of so many candidates, drawn one after another, is refused
   abbrev pub EachRefused : ℕ → S → Type 0

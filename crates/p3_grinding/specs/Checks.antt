@@ -1,6 +1,6 @@
 -- Proof of work: when a witness passes, what its check leaves, and the least witness that passes.
 use Rattle.std.specs.Prelude.{◌≡◌, ℕ, zero, suc, ◌==◌, ◌<◌, ◌⊎◌, Bool, true, false, List, Option, Some, None, IsSome}
-use Rattle.std.specs.{Prelude.{is_some, option_and_then, if◌then◌else◌}, Option.option_map}
+use Rattle.std.specs.{Prelude.{Result, MatchResult, is_some, option_and_then, if◌then◌else◌}, Option.option_map}
 use Rattle.p3_field_core.specs.Residues.{Residues}
 use Rattle.p3_challenger_core.specs.{Observation.Observation, Sampling.{Sampling, unrefused_draw, made_of}}
 use Rattle.p3_challenger_core.specs.declared.error.ChallengerError.{ChallengerError}
@@ -15,13 +15,12 @@ all_zero d = made_of (λ n. n == 0) d
 
 -- the same of uniform bits; where a value is rejected, they are not
 abbrev pub zero_and_uniform : {S : Type 0} → UniformDraw S → Sampling S Bool
-zero_and_uniform u =
-    record {
-      sampled = λ s. if is_some (u.rejects s) then Some false else option_map (λ n. n == 0) (u.draw.sampled s);
-      after = u.draw.after;
-      meets_limit = u.draw.meets_limit;
-      may_leave = u.draw.may_leave;
-    }
+zero_and_uniform u = record {
+  sampled = λ s. if is_some (u.rejects s) then Some false else option_map (λ n. n == 0) (u.draw.sampled s);
+  after = u.draw.after;
+  meets_limit = u.draw.meets_limit;
+  may_leave = u.draw.may_leave;
+}
 
 -- nothing is drawn before the witness
 abbrev pub draws_nothing : {S : Type 0} → Sampling S (Unit {0})
@@ -29,8 +28,8 @@ draws_nothing = unrefused_draw (λ _. Some tt) (λ s. s)
 
 -- What a check of a witness answers, which is none where a draw meets its limit, and what it leaves: it draws what
 -- comes before the witness, observes the witness, and tests what is drawn then.
-abbrev pub checked : {S Symbol W : Type 0} → Sampling S (Unit {0}) → Observation S Symbol W → Sampling S Bool → W
-    → Sampling S Bool
+abbrev pub checked : {S Symbol W : Type 0} → Sampling S (Unit {0}) → Observation S Symbol W → Sampling S Bool → W →
+    Sampling S Bool
 checked before o test witness =
     let ready = before.after in
     record {
@@ -38,8 +37,7 @@ checked before o test witness =
       after = λ s. if is_some (before.sampled s) then test.after (o.observed (ready s) witness) else ready s;
       meets_limit = λ s. before.meets_limit s
           ⊎ (IsSome (before.sampled s) × test.meets_limit (o.observed (ready s) witness));
-      may_leave = λ s t. before.may_leave s t
-          ⊎ (IsSome (before.sampled s)
+      may_leave = λ s t. before.may_leave s t ⊎ (IsSome (before.sampled s)
           × (o.may_leave (ready s) witness t ⊎ test.may_leave (o.observed (ready s) witness) t));
     }
 
@@ -48,8 +46,8 @@ abbrev pub passed : {S : Type 0} → Sampling S Bool
 passed = unrefused_draw (λ _. Some true) (λ s. s)
 
 -- a check of so many bits
-abbrev pub check_of : {S Symbol W : Type 0} → Sampling S (Unit {0}) → Observation S Symbol W → Sampling S Bool → ℕ → W
-    → Sampling S Bool
+abbrev pub check_of : {S Symbol W : Type 0} → Sampling S (Unit {0}) → Observation S Symbol W → Sampling S Bool → ℕ → W →
+    Sampling S Bool
 check_of before o test zero witness = passed
 check_of before o test (suc more) witness = checked before o test witness
 
@@ -70,8 +68,8 @@ module _ {S Symbol W : Type 0} (o : Observation S Symbol W) where
   ready_uniform_check uniform resample bits = checked draws_nothing o (zero_and_uniform (uniform resample bits))
 
 -- A check of a candidate that feeds bytes as one slice, and tests as many bytes as are drawn then.
-abbrev pub byte_check : {S Symbol : Type 0} → Observation S Symbol (List ℕ) → Sampling S (List ℕ) → (ℕ → List ℕ)
-    → (List ℕ → Bool) → ℕ → Sampling S Bool
+abbrev pub byte_check : {S Symbol : Type 0} → Observation S Symbol (List ℕ) → Sampling S (List ℕ) → (ℕ → List ℕ) →
+    (List ℕ → Bool) → ℕ → Sampling S Bool
 byte_check o d encoded accepted n = checked draws_nothing o (made_of accepted d) (encoded n)
 
 -- ---- a search
@@ -113,8 +111,8 @@ abbrev pub MayRunOut : {S W : Type 0} → Type 0 → (W → Sampling S Bool) →
 MayRunOut {S} {W} clones_may_fail check s = clones_may_fail ⊎ ((witness : W) × (t : S) × (check witness).may_leave s t)
 
 -- what a search that answers this error leaves: the challenger as it was; there is no witness, or memory was refused
-abbrev pub RefusesSearch : {S W : Type 0} → Residues W → (S → Type 0) → (W → Sampling S Bool) → ChallengerError → S → S
-    → Type 0
+abbrev pub RefusesSearch : {S W : Type 0} → Residues W → (S → Type 0) → (W → Sampling S Bool) → ChallengerError → S →
+    S → Type 0
 RefusesSearch r may_run_out check OutOfMemory s t = may_run_out s × (t ≡ s)
 RefusesSearch r may_run_out check NoWitness s t = NonePasses r check s × (t ≡ s)
 RefusesSearch r may_run_out check _ s t = ⊥
@@ -122,6 +120,18 @@ RefusesSearch r may_run_out check _ s t = ⊥
 -- the same of a search that tests each candidate on a copy of the challenger
 abbrev pub RefusesTrials : {S W : Type 0} → Residues W → Type 0 → (W → Sampling S Bool) → ChallengerError → S → S → Type 0
 RefusesTrials r clones_may_fail check = RefusesSearch r (MayRunOut clones_may_fail check) check
+
+-- a search finds the least witness that passes, and leaves what its check leaves; or it is refused
+abbrev pub FindsOrRefuses : {S W : Type 0} → Residues W → (S → Type 0) → (W → Sampling S Bool) → S →
+    Result W ChallengerError → S → Type 0
+FindsOrRefuses r may_run_out check s result t =
+    MatchResult result (λ witness. IsLeast r check s witness × (t ≡ (check witness).after s))
+    (λ e. RefusesSearch r may_run_out check e s t)
+
+-- the same of a search that tests each candidate on a copy of the challenger
+abbrev pub TriesOrRefuses : {S W : Type 0} → Residues W → Type 0 → (W → Sampling S Bool) → S →
+    Result W ChallengerError → S → Type 0
+TriesOrRefuses r clones_may_fail check = FindsOrRefuses r (MayRunOut clones_may_fail check) check
 
 -- why no copy of a challenger is made ready for witnesses: memory was refused, or what is drawn before a witness
 -- meets a limit, so that there is no witness

@@ -1,20 +1,17 @@
 -- Laws of draws of uniform bits.
 use Rattle.std.proofs.Common.{◌≡◌, ℕ, ◌+◌, ◌*◌, ◌<◌, ◌≤◌, ◌%◌, ◌^◌, ◌⊎◌, Bool, true, false, Option, Some, None, IsSome}
 use Rattle.std.proofs.Common.{is_some, option_and_then, if◌then◌else◌, refl, sym, ap, inl, inr, subst, arith, rules}
-use Rattle.std.proofs.{Common.◌∙◌, Common.nat_lt, lemmas.Nat.pow-add, lemmas.Bool.Decides.nat_tests}
-use Rattle.std.specs.Option.{option_map}
+use Rattle.std.{proofs.{Common.{◌∙◌, nat_lt}, lemmas.{Nat.pow-add, Bool.Decides.nat_tests}}, specs.Option.option_map}
 use Rattle.p3_field_core.specs.Residues.{Residues}
 use Rattle.p3_challenger_core.specs.{BitLaws.low_bits-below, Sponge.IsStepsOn}
+use Rattle.p3_challenger_core.specs.declared.error.ChallengerError.{ChallengerError, TheVariants.OutOfMemory}
+use Rattle.p3_challenger_core.specs.declared.error.ChallengerError.TheVariants.{DrawLimit, NoWitness, TooLong}
 use Rattle.p3_challenger_core.specs.Sampling.{Sampling, IsSampling, RefusesDraw, unrefused_draw}
-use Rattle.p3_challenger_core.specs.declared.error.ChallengerError.{ChallengerError}
-use Rattle.p3_challenger_core.specs.declared.error.ChallengerError.TheVariants.{OutOfMemory, DrawLimit, NoWitness}
-use Rattle.p3_challenger_core.specs.declared.error.ChallengerError.TheVariants.{TooLong}
 use Rattle.p3_challenger_core.specs.SamplingLaws.{no_steps, steps-then, made_of-is_sampling, unrefused_draw-is_sampling}
 use Rattle.p3_grinding.specs.{Candidates.accepted_within, CandidateLaws.accepted_within-is_sampling}
-use Rattle.p3_grinding.specs.UniformDraws.{UniformDraw, IsUniformDraw, never_rejects, no_bits, is_below, low_bits}
-use Rattle.p3_grinding.specs.UniformDraws.{rejected, bits_of_next, bits_of_first, bits_of_one, in_halves}
-use Rattle.p3_grinding.specs.{UniformDraws.RefusesUniform, declared.error.ResamplingError.ResamplingError}
-use Rattle.p3_grinding.specs.declared.error.UniformBitsError.{UniformBitsError}
+use Rattle.p3_grinding.specs.UniformDraws.{RefusesUniform, IsUniformDraw, never_rejects, bits_of_first, bits_of_next}
+use Rattle.p3_grinding.specs.UniformDraws.{UniformDraw, bits_of_one, in_halves, is_below, low_bits, rejected, no_bits}
+use Rattle.p3_grinding.specs.declared.error.{ResamplingError.ResamplingError, UniformBitsError.UniformBitsError}
 use Rattle.p3_grinding.specs.declared.error.UniformBitsError.TheVariants.{Resampling, Challenger}
 
 none_is_not : false ≡ true → ⊥

@@ -1,11 +1,10 @@
 -- Draws of uniform bits.
 use Rattle.std.specs.Prelude.{◌≡◌, ℕ, ◌+◌, ◌*◌, ◌^◌, ◌%◌, ◌≤◌, ◌⊎◌, Bool, true, false, Option, Some, None, IsSome}
-use Rattle.std.specs.{Prelude.{is_some, option_and_then, if◌then◌else◌, nat_lt}, Option.option_map}
+use Rattle.std.specs.{Prelude.{Result, MatchResult, is_some, option_and_then, if◌then◌else◌, nat_lt}, Option.option_map}
 use Rattle.p3_field_core.specs.Residues.{Residues}
 use Rattle.p3_challenger_core.specs.Sampling.{Sampling, IsSampling, RefusesDraw, made_of, unrefused_draw}
 use Rattle.p3_grinding.specs.{Candidates.accepted_within, declared.error.ResamplingError.ResamplingError}
-use Rattle.p3_grinding.specs.declared.error.UniformBitsError.{UniformBitsError}
-use Rattle.p3_grinding.specs.declared.error.UniformBitsError.TheVariants.{Resampling, Challenger}
+use Rattle.p3_grinding.specs.declared.error.UniformBitsError.{UniformBitsError, TheVariants.{Resampling, Challenger}}
 
 -- a draw of bits, and the value that it rejects, where it may not draw another one in its place
 pub record UniformDraw (S : Type 0) : Type 1 where
@@ -17,6 +16,11 @@ pub record UniformDraw (S : Type 0) : Type 1 where
 abbrev pub RefusesUniform : {S : Type 0} → UniformDraw S → UniformBitsError → S → S → Type 0
 RefusesUniform u (Resampling error) s t = (u.rejects s ≡ Some error) × (t ≡ u.draw.after s)
 RefusesUniform u (Challenger e) s t = RefusesDraw u.draw e s t
+
+-- a call gives uniform bits and leaves the state after them, or is refused and leaves what its error may leave
+abbrev pub DrawsUniformly : {S : Type 0} → UniformDraw S → S → Result ℕ UniformBitsError → S → Type 0
+DrawsUniformly u s result t =
+    MatchResult result (λ x. (u.draw.sampled s ≡ Some x) × (t ≡ u.draw.after s)) (λ e. RefusesUniform u e s t)
 
 -- A draw that rejects a value gives nothing, and meets no limit; the value is not below its bound. One that may draw
 -- another value in its place rejects none.
@@ -52,17 +56,16 @@ rejected r bound (Some x) = if is_below r bound x then None else Some (record { 
 
 -- the bits of the next element, where it is below the bound: another one is not drawn
 abbrev pub bits_of_next : {S F : Type 0} → Residues F → Sampling S F → ℕ → ℕ → UniformDraw S
-bits_of_next r d bound bits =
-    record {
-      draw = record {
-        sampled = λ s.
-            option_and_then (λ x. if is_below r bound x then Some (low_bits r bits x) else None) (d.sampled s);
-        after = d.after;
-        meets_limit = d.meets_limit;
-        may_leave = d.may_leave;
-      };
-      rejects = λ s. rejected r bound (d.sampled s);
-    }
+bits_of_next r d bound bits = record {
+  draw = record {
+    sampled = λ s.
+        option_and_then (λ x. if is_below r bound x then Some (low_bits r bits x) else None) (d.sampled s);
+    after = d.after;
+    meets_limit = d.meets_limit;
+    may_leave = d.may_leave;
+  };
+  rejects = λ s. rejected r bound (d.sampled s);
+}
 
 -- the bits of the first element below the bound, among as many as the state allows
 abbrev pub bits_of_first : {S F : Type 0} → Residues F → Sampling S F → (S → ℕ) → ℕ → ℕ → UniformDraw S
@@ -77,17 +80,16 @@ bits_of_one r d limit false bound bits = bits_of_next r d bound bits
 
 -- one draw, and then another for the bits above it
 abbrev pub in_halves : {S : Type 0} → ℕ → UniformDraw S → UniformDraw S → UniformDraw S
-in_halves low_count low high =
-    record {
-      draw = record {
-        sampled = λ s. option_and_then
-            (λ x. option_map (λ y. x + 2 ^ low_count * y) (high.draw.sampled (low.draw.after s)))
-            (low.draw.sampled s);
-        after = λ s. if is_some (low.draw.sampled s) then high.draw.after (low.draw.after s) else low.draw.after s;
-        meets_limit = λ s. low.draw.meets_limit s
-            ⊎ (IsSome (low.draw.sampled s) × high.draw.meets_limit (low.draw.after s));
-        may_leave = λ s t. low.draw.may_leave s t
-            ⊎ (IsSome (low.draw.sampled s) × high.draw.may_leave (low.draw.after s) t);
-      };
-      rejects = λ s. if is_some (low.draw.sampled s) then high.rejects (low.draw.after s) else low.rejects s;
-    }
+in_halves low_count low high = record {
+  draw = record {
+    sampled = λ s. option_and_then
+        (λ x. option_map (λ y. x + 2 ^ low_count * y) (high.draw.sampled (low.draw.after s)))
+        (low.draw.sampled s);
+    after = λ s. if is_some (low.draw.sampled s) then high.draw.after (low.draw.after s) else low.draw.after s;
+    meets_limit = λ s. low.draw.meets_limit s
+        ⊎ (IsSome (low.draw.sampled s) × high.draw.meets_limit (low.draw.after s));
+    may_leave = λ s t. low.draw.may_leave s t
+        ⊎ (IsSome (low.draw.sampled s) × high.draw.may_leave (low.draw.after s) t);
+  };
+  rejects = λ s. if is_some (low.draw.sampled s) then high.rejects (low.draw.after s) else low.rejects s;
+}

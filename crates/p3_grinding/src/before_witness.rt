@@ -18,10 +18,10 @@ pub trait BeforeWitness: Sponge {
     /// leave there.
     fn draw_before_witness(&mut self) -> Result<(), ChallengerError>
         ensures drawn { OnOk result (before_witness.sampled (Self.state self.old) ≡ Some tt) }
-        ensures after { OnOk result (
-            Self.state self.new ≡ before_witness.after (Self.state self.old)) }
-        ensures err { IfErr result (λ e.
-            RefusesDraw before_witness e (Self.state self.old) (Self.state self.new)) };
+        ensures after { OnOk result
+            (Self.state self.new ≡ before_witness.after (Self.state self.old)) }
+        ensures err { IfErr result
+            (λ e. RefusesDraw before_witness e (Self.state self.old) (Self.state self.new)) };
 
     // It takes some number of the smallest draws.
     ghost prepares: { IsSampling Self.next before_witness };

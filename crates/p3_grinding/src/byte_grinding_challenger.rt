@@ -50,9 +50,10 @@ pub trait ByteGrindingChallenger<const W: usize, const S: usize>: TryClone
         num_candidates: u64,
         candidates: &K,
     ) -> Result<Option<u64>, ChallengerError>
-        ensures found { IfOk result (Finds (byte_check (in_slice Self.observation
-            Self.slice_may_leave) (in_row Self.sampling S) (K.encoded candidates.now)
-            (K.accepted candidates.now)) (Self.state self.now) num_candidates) }
+        ensures found { IfOk result
+            (Finds (byte_check (in_slice Self.observation Self.slice_may_leave)
+            (in_row Self.sampling S) (K.encoded candidates.now) (K.accepted candidates.now))
+            (Self.state self.now) num_candidates) }
         ensures err { IfErr result (λ e. (e ≡ OutOfMemory) × MayRunOut Self.clones_may_fail
             (byte_check (in_slice Self.observation Self.slice_may_leave) (in_row Self.sampling S)
             (K.encoded candidates.now) (K.accepted candidates.now)) (Self.state self.now)) }
@@ -77,8 +78,8 @@ pub fn find_witness_plainly<
     ensures found { IfOk result (Finds (byte_check (in_slice C.observation C.slice_may_leave)
         (in_row C.sampling S) (K.encoded candidates.now) (K.accepted candidates.now))
         (C.state challenger.now) num_candidates) }
-    ensures err { IfErr result (λ e. (e ≡ OutOfMemory) × MayRunOut C.clones_may_fail (byte_check
-        (in_slice C.observation C.slice_may_leave) (in_row C.sampling S)
+    ensures err { IfErr result (λ e. (e ≡ OutOfMemory) × MayRunOut C.clones_may_fail
+        (byte_check (in_slice C.observation C.slice_may_leave) (in_row C.sampling S)
         (K.encoded candidates.now) (K.accepted candidates.now)) (C.state challenger.now)) }
 {
     let mut trial = challenger.try_clone()?;
@@ -103,9 +104,10 @@ fn check_bytes<
     ensures answered { IfOk result (λ passes. (byte_check
         (in_slice C.observation C.slice_may_leave) (in_row C.sampling S) (K.encoded candidates.now)
         (K.accepted candidates.now) candidate).sampled (C.state challenger.old) ≡ Some passes) }
-    ensures err { IfErr result (λ e. RefusesDraw (byte_check (in_slice C.observation
-        C.slice_may_leave) (in_row C.sampling S) (K.encoded candidates.now) (K.accepted
-        candidates.now) candidate) e (C.state challenger.old) (C.state challenger.new)) }
+    ensures err { IfErr result
+        (λ e. RefusesDraw (byte_check (in_slice C.observation C.slice_may_leave)
+        (in_row C.sampling S) (K.encoded candidates.now) (K.accepted candidates.now) candidate) e
+        (C.state challenger.old) (C.state challenger.new)) }
 {
     let bytes = candidates.encode(candidate);
     challenger.observe_slice(&bytes[..])?;

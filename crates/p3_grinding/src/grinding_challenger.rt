@@ -4,9 +4,9 @@
 //! prover    grind(bits)             ->  the least witness that passes; the challenger is as its check leaves it
 //! verifier  check_witness(bits, w)  ->  whether w passes; the challenger is the same
 //! ```
-ghost use Rattle.std.specs.Prelude.{◌≡◌, ◌≤◌, ℕ, Some, OnOk, IfOk, IfErr, IsOk};
-ghost use Rattle.p3_challenger_core.specs.{Reading.IsPrefixFree, Sampling.RefusesDraw};
-ghost use Rattle.p3_grinding.specs.Checks.{bits_check, IsLeast, RefusesSearch};
+ghost use Rattle.std.specs.Prelude.{◌≡◌, ◌≤◌, ℕ, IsOk};
+ghost use Rattle.p3_challenger_core.specs.{Reading.IsPrefixFree, Sampling.DrawsOrRefuses};
+ghost use Rattle.p3_grinding.specs.Checks.{bits_check, FindsOrRefuses};
 
 use crate::BeforeWitness;
 use crate::search::check_plainly;
@@ -31,13 +31,9 @@ pub trait GrindingChallenger: BeforeWitness + CanObserve<Self::Witness> + CanSam
     /// passes, and ends the process where none does.
     fn grind(&mut self, bits: usize) -> Result<Self::Witness, ChallengerError>
         requires { bits ≤ Self.most_bits }
-        ensures least { IfOk result (IsLeast Self.Witness.residues (bits_check Self.observation
-            Self.before_witness Self.bits_sampling bits) (Self.state self.old)) }
-        ensures after { IfOk result (λ witness. Self.state self.new ≡ (bits_check Self.observation
-            Self.before_witness Self.bits_sampling bits witness).after (Self.state self.old)) }
-        ensures err { IfErr result (λ e. RefusesSearch Self.Witness.residues may_run_out
-            (bits_check Self.observation Self.before_witness Self.bits_sampling bits) e
-            (Self.state self.old) (Self.state self.new)) }
+        ensures found { FindsOrRefuses Self.Witness.residues may_run_out
+            (bits_check Self.observation Self.before_witness Self.bits_sampling bits)
+            (Self.state self.old) result (Self.state self.new) }
         ensures free { bits ≡ 0 → IsOk result };
 
     /// Whether a witness passes: what [`draw_before_witness`](BeforeWitness::draw_before_witness) draws is drawn, the witness is
@@ -52,13 +48,9 @@ pub trait GrindingChallenger: BeforeWitness + CanObserve<Self::Witness> + CanSam
         witness: Self::Witness,
     ) -> Result<bool, ChallengerError>
         requires { bits ≤ Self.most_bits }
-        ensures answered { IfOk result (λ passes. (bits_check Self.observation Self.before_witness
-            Self.bits_sampling bits witness).sampled (Self.state self.old) ≡ Some passes) }
-        ensures after { OnOk result (Self.state self.new ≡ (bits_check Self.observation
-            Self.before_witness Self.bits_sampling bits witness).after (Self.state self.old)) }
-        ensures err { IfErr result (λ e. RefusesDraw
-            (bits_check Self.observation Self.before_witness Self.bits_sampling bits witness) e
-            (Self.state self.old) (Self.state self.new)) }
+        ensures { DrawsOrRefuses
+            (bits_check Self.observation Self.before_witness Self.bits_sampling bits witness)
+            (Self.state self.old) result (Self.state self.new) }
     {
         check_plainly(self, bits, witness)
     }

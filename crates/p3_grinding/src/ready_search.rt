@@ -1,6 +1,6 @@
 //! Searches for the least witness by challengers that have a search of their own, for when they are ready for a witness.
 ghost use Rattle.std.specs.Prelude.{◌≡◌, ◌≤◌, IfOk, IfErr, IsOk};
-ghost use Rattle.p3_grinding.specs.Checks.{bits_check, ready_check, IsLeast, RefusesTrials};
+ghost use Rattle.p3_grinding.specs.Checks.{bits_check, ready_check, IsLeast, RefusesTrials, TriesOrRefuses};
 
 use crate::search::prepared_clone;
 use crate::{BeforeWitness, TryClone};
@@ -39,13 +39,9 @@ pub fn least_witness_by_own_search<W: PrimeField64, C: BeforeWitness + ReadySear
     bits: usize,
 ) -> Result<W, ChallengerError>
     requires { bits ≤ C.most_bits }
-    ensures least { IfOk result (IsLeast W.residues (bits_check C.observation C.before_witness
-        C.bits_sampling bits) (C.state challenger.old)) }
-    ensures after { IfOk result (λ witness. C.state challenger.new ≡ (bits_check C.observation
-        C.before_witness C.bits_sampling bits witness).after (C.state challenger.old)) }
-    ensures err { IfErr result (λ e. RefusesTrials W.residues C.clones_may_fail
-        (bits_check C.observation C.before_witness C.bits_sampling bits) e
-        (C.state challenger.old) (C.state challenger.new)) }
+    ensures found { TriesOrRefuses W.residues C.clones_may_fail
+        (bits_check C.observation C.before_witness C.bits_sampling bits)
+        (C.state challenger.old) result (C.state challenger.new) }
     ensures free { bits ≡ 0 → IsOk result }
 {
     if bits == 0 {

@@ -2,8 +2,8 @@
 //! candidate in order is tested on a copy of that one, which is set back for the next. The copy that passed takes the
 //! challenger's place.
 ghost use Rattle.std.specs.Prelude.{◌≡◌, ◌≤◌, Some, OnOk, IfOk, IfErr, IsOk};
-ghost use Rattle.p3_grinding.specs.Checks.{bits_check, ready_check, IsLeast, RefusesReady, RefusesTrials};
-ghost use Rattle.p3_challenger_core.specs.Sampling.{RefusesDraw};
+ghost use Rattle.p3_grinding.specs.Checks.{bits_check, ready_check, RefusesReady, TriesOrRefuses};
+ghost use Rattle.p3_challenger_core.specs.Sampling.{DrawsOrRefuses};
 
 use crate::{BeforeWitness, TryClone};
 use p3_challenger_core::{CanObserve, CanSampleBits, ChallengerError};
@@ -22,13 +22,9 @@ pub fn least_witness<
     C: BeforeWitness + CanObserve<W> + CanSampleBits<usize> + TryClone,
 >(challenger: &mut C, bits: usize) -> Result<W, ChallengerError>
     requires { bits ≤ C.most_bits }
-    ensures least { IfOk result (IsLeast W.residues (bits_check C.observation C.before_witness
-        C.bits_sampling bits) (C.state challenger.old)) }
-    ensures after { IfOk result (λ witness. C.state challenger.new ≡ (bits_check C.observation
-        C.before_witness C.bits_sampling bits witness).after (C.state challenger.old)) }
-    ensures err { IfErr result (λ e. RefusesTrials W.residues C.clones_may_fail
-        (bits_check C.observation C.before_witness C.bits_sampling bits) e
-        (C.state challenger.old) (C.state challenger.new)) }
+    ensures found { TriesOrRefuses W.residues C.clones_may_fail
+        (bits_check C.observation C.before_witness C.bits_sampling bits)
+        (C.state challenger.old) result (C.state challenger.new) }
     ensures free { bits ≡ 0 → IsOk result }
 {
     if bits == 0 {
@@ -49,8 +45,8 @@ pub(crate) fn prepared_clone<C: BeforeWitness + TryClone>(
 ) -> Result<C, ChallengerError>
     ensures drawn { OnOk result (C.before_witness.sampled (C.state challenger.now) ≡ Some tt) }
     ensures after { IfOk result (λ c. C.state c ≡ C.before_witness.after (C.state challenger.now)) }
-    ensures err { IfErr result (λ e.
-        RefusesReady C.clones_may_fail C.before_witness e (C.state challenger.now)) }
+    ensures err { IfErr result
+        (λ e. RefusesReady C.clones_may_fail C.before_witness e (C.state challenger.now)) }
 {
     let mut prepared = challenger.try_clone()?;
     match prepared.draw_before_witness() {
@@ -66,13 +62,8 @@ fn least_prepared<W: PrimeField64, C: CanObserve<W> + CanSampleBits<usize> + Try
     bits: usize,
 ) -> Result<W, ChallengerError>
     requires { bits ≤ C.most_bits }
-    ensures least { IfOk result (IsLeast W.residues
-        (ready_check C.observation C.bits_sampling bits) (C.state challenger.old)) }
-    ensures after { IfOk result (λ witness. C.state challenger.new ≡ (ready_check
-        C.observation C.bits_sampling bits witness).after (C.state challenger.old)) }
-    ensures err { IfErr result (λ e. RefusesTrials W.residues C.clones_may_fail
-        (ready_check C.observation C.bits_sampling bits) e
-        (C.state challenger.old) (C.state challenger.new)) }
+    ensures { TriesOrRefuses W.residues C.clones_may_fail (ready_check C.observation
+        C.bits_sampling bits) (C.state challenger.old) result (C.state challenger.new) }
 {
     let mut trial = challenger.try_clone()?;
     for candidate in 0..W::ORDER_U64 {
@@ -98,12 +89,9 @@ pub(crate) fn check_plainly<
     C: BeforeWitness + CanObserve<W> + CanSampleBits<usize>,
 >(challenger: &mut C, bits: usize, witness: W) -> Result<bool, ChallengerError>
     requires { bits ≤ C.most_bits }
-    ensures answered { IfOk result (λ passes. (bits_check C.observation C.before_witness
-        C.bits_sampling bits witness).sampled (C.state challenger.old) ≡ Some passes) }
-    ensures after { OnOk result (C.state challenger.new ≡ (bits_check C.observation
-        C.before_witness C.bits_sampling bits witness).after (C.state challenger.old)) }
-    ensures err { IfErr result (λ e. RefusesDraw (bits_check C.observation C.before_witness
-        C.bits_sampling bits witness) e (C.state challenger.old) (C.state challenger.new)) }
+    ensures { DrawsOrRefuses
+        (bits_check C.observation C.before_witness C.bits_sampling bits witness)
+        (C.state challenger.old) result (C.state challenger.new) }
 {
     if bits == 0 {
         return Ok(true);
@@ -119,12 +107,8 @@ fn passes<W: PrimeField64, C: CanObserve<W> + CanSampleBits<usize>>(
     witness: W,
 ) -> Result<bool, ChallengerError>
     requires { bits ≤ C.most_bits }
-    ensures answered { IfOk result (λ passes. (ready_check C.observation
-        C.bits_sampling bits witness).sampled (C.state challenger.old) ≡ Some passes) }
-    ensures after { OnOk result (C.state challenger.new
-        ≡ (ready_check C.observation C.bits_sampling bits witness).after (C.state challenger.old)) }
-    ensures err { IfErr result (λ e. RefusesDraw (ready_check C.observation
-        C.bits_sampling bits witness) e (C.state challenger.old) (C.state challenger.new)) }
+    ensures { DrawsOrRefuses (ready_check C.observation C.bits_sampling bits witness)
+        (C.state challenger.old) result (C.state challenger.new) }
 {
     challenger.observe(witness)?;
     Ok(challenger.sample_bits(bits)? == 0)

@@ -1,7 +1,7 @@
 //! Draws of uniform bits. A drawn value at or above a multiple of 2^bits is rejected: then another one is drawn, or the
 //! draw is refused.
-ghost use Rattle.std.specs.Prelude.{◌≡◌, ◌^◌, ◌<◌, ◌≤◌, ℕ, Bool, Some, OnOk, IfOk, IfErr};
-ghost use Rattle.p3_grinding.specs.UniformDraws.{UniformDraw, IsUniformDraw, RefusesUniform};
+ghost use Rattle.std.specs.Prelude.{◌≡◌, ◌^◌, ◌<◌, ◌≤◌, ℕ, Bool, Some};
+ghost use Rattle.p3_grinding.specs.UniformDraws.{UniformDraw, IsUniformDraw, DrawsUniformly};
 
 use crate::UniformBitsError;
 use p3_challenger_core::CanSampleBits;
@@ -26,12 +26,8 @@ pub trait CanSampleUniformBits<F>: CanSampleBits<usize> {
         resample: bool,
     ) -> Result<usize, UniformBitsError>
         requires { bits ≤ Self.most_bits }
-        ensures drawn { IfOk result (λ x.
-            (uniform resample bits).draw.sampled (Self.state self.old) ≡ Some x) }
-        ensures after { OnOk result
-            (Self.state self.new ≡ (uniform resample bits).draw.after (Self.state self.old)) }
-        ensures err { IfErr result (λ e.
-            RefusesUniform (uniform resample bits) e (Self.state self.old) (Self.state self.new)) };
+        ensures { DrawsUniformly
+            (uniform resample bits) (Self.state self.old) result (Self.state self.new) };
 
     // Each of these draws is made of the smallest ones; a value is rejected only where no other is to be drawn.
     ghost draws_uniform: { (resample : Bool) (bits : ℕ) →

@@ -1,7 +1,7 @@
 //! Proof of work by uniform bits.
-ghost use Rattle.std.specs.Prelude.{◌≡◌, ◌≤◌, true, false, Some, OnOk, IfOk, IfErr, IsOk};
-ghost use Rattle.p3_challenger_core.specs.Sampling.{RefusesDraw};
-ghost use Rattle.p3_grinding.specs.Checks.{uniform_check, IsLeast, RefusesSearch};
+ghost use Rattle.std.specs.Prelude.{◌≡◌, ◌≤◌, true, false, IsOk};
+ghost use Rattle.p3_challenger_core.specs.Sampling.{DrawsOrRefuses};
+ghost use Rattle.p3_grinding.specs.Checks.{uniform_check, FindsOrRefuses};
 
 use crate::uniform_search::check_uniformly;
 use crate::{CanSampleUniformBits, GrindingChallenger};
@@ -21,14 +21,9 @@ pub trait UniformGrindingChallenger: GrindingChallenger + CanSampleUniformBits<S
     /// either the challenger is as it was. With 0 bits there is neither.
     fn grind_uniform(&mut self, bits: usize) -> Result<Self::Witness, ChallengerError>
         requires { bits ≤ Self.most_bits }
-        ensures least { IfOk result (IsLeast Self.Witness.residues (uniform_check Self.observation
-            Self.before_witness Self.uniform true bits) (Self.state self.old)) }
-        ensures after { IfOk result (λ witness. Self.state self.new ≡ (uniform_check
-            Self.observation Self.before_witness Self.uniform true bits witness).after
-            (Self.state self.old)) }
-        ensures err { IfErr result (λ e. RefusesSearch Self.Witness.residues Self.may_run_out
-            (uniform_check Self.observation Self.before_witness Self.uniform true bits) e
-            (Self.state self.old) (Self.state self.new)) }
+        ensures found { FindsOrRefuses Self.Witness.residues Self.may_run_out
+            (uniform_check Self.observation Self.before_witness Self.uniform true bits)
+            (Self.state self.old) result (Self.state self.new) }
         ensures free { bits ≡ 0 → IsOk result };
 
     /// The least witness that passes
@@ -38,14 +33,9 @@ pub trait UniformGrindingChallenger: GrindingChallenger + CanSampleUniformBits<S
     /// The errors are those of [`grind_uniform`](UniformGrindingChallenger::grind_uniform).
     fn grind_uniform_may_error(&mut self, bits: usize) -> Result<Self::Witness, ChallengerError>
         requires { bits ≤ Self.most_bits }
-        ensures least { IfOk result (IsLeast Self.Witness.residues (uniform_check Self.observation
-            Self.before_witness Self.uniform false bits) (Self.state self.old)) }
-        ensures after { IfOk result (λ witness. Self.state self.new ≡ (uniform_check
-            Self.observation Self.before_witness Self.uniform false bits witness).after
-            (Self.state self.old)) }
-        ensures err { IfErr result (λ e. RefusesSearch Self.Witness.residues Self.may_run_out
-            (uniform_check Self.observation Self.before_witness Self.uniform false bits) e
-            (Self.state self.old) (Self.state self.new)) }
+        ensures found { FindsOrRefuses Self.Witness.residues Self.may_run_out
+            (uniform_check Self.observation Self.before_witness Self.uniform false bits)
+            (Self.state self.old) result (Self.state self.new) }
         ensures free { bits ≡ 0 → IsOk result };
 
     /// Whether a witness passes: what [`draw_before_witness`](crate::BeforeWitness::draw_before_witness) draws is drawn, the
@@ -60,14 +50,9 @@ pub trait UniformGrindingChallenger: GrindingChallenger + CanSampleUniformBits<S
         witness: Self::Witness,
     ) -> Result<bool, ChallengerError>
         requires { bits ≤ Self.most_bits }
-        ensures answered { IfOk result (λ passes. (uniform_check Self.observation
-            Self.before_witness Self.uniform true bits witness).sampled (Self.state self.old)
-            ≡ Some passes) }
-        ensures after { OnOk result (Self.state self.new ≡ (uniform_check Self.observation
-            Self.before_witness Self.uniform true bits witness).after (Self.state self.old)) }
-        ensures err { IfErr result (λ e. RefusesDraw (uniform_check Self.observation
-            Self.before_witness Self.uniform true bits witness) e
-            (Self.state self.old) (Self.state self.new)) }
+        ensures { DrawsOrRefuses
+            (uniform_check Self.observation Self.before_witness Self.uniform true bits witness)
+            (Self.state self.old) result (Self.state self.new) }
     {
         check_uniformly(self, bits, true, witness)
     }
@@ -81,14 +66,9 @@ pub trait UniformGrindingChallenger: GrindingChallenger + CanSampleUniformBits<S
         witness: Self::Witness,
     ) -> Result<bool, ChallengerError>
         requires { bits ≤ Self.most_bits }
-        ensures answered { IfOk result (λ passes. (uniform_check Self.observation
-            Self.before_witness Self.uniform false bits witness).sampled (Self.state self.old)
-            ≡ Some passes) }
-        ensures after { OnOk result (Self.state self.new ≡ (uniform_check Self.observation
-            Self.before_witness Self.uniform false bits witness).after (Self.state self.old)) }
-        ensures err { IfErr result (λ e. RefusesDraw (uniform_check Self.observation
-            Self.before_witness Self.uniform false bits witness) e
-            (Self.state self.old) (Self.state self.new)) }
+        ensures { DrawsOrRefuses
+            (uniform_check Self.observation Self.before_witness Self.uniform false bits witness)
+            (Self.state self.old) result (Self.state self.new) }
     {
         check_uniformly(self, bits, false, witness)
     }

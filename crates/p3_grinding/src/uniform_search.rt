@@ -1,8 +1,7 @@
 //! The search for the least witness by uniform bits: as `search` has it for plain ones.
-ghost use Rattle.std.specs.Prelude.{◌≡◌, ◌≤◌, Some, OnOk, IfOk, IfErr, IsOk};
-ghost use Rattle.p3_grinding.specs.Checks.{zero_and_uniform, uniform_check, IsLeast, ready_uniform_check};
-ghost use Rattle.p3_grinding.specs.Checks.{RefusesTrials};
-ghost use Rattle.p3_challenger_core.specs.Sampling.{RefusesDraw};
+ghost use Rattle.std.specs.Prelude.{◌≡◌, ◌≤◌, IsOk};
+ghost use Rattle.p3_grinding.specs.Checks.{zero_and_uniform, uniform_check, ready_uniform_check, TriesOrRefuses};
+ghost use Rattle.p3_challenger_core.specs.Sampling.{DrawsOrRefuses};
 
 use crate::search::prepared_clone;
 use crate::{BeforeWitness, CanSampleUniformBits, TryClone, UniformBitsError};
@@ -21,13 +20,9 @@ pub fn least_uniform_witness<
     C: BeforeWitness + CanObserve<W> + CanSampleUniformBits<W> + TryClone,
 >(challenger: &mut C, bits: usize, resample: bool) -> Result<W, ChallengerError>
     requires { bits ≤ C.most_bits }
-    ensures least { IfOk result (IsLeast W.residues (uniform_check C.observation C.before_witness
-        C.uniform resample bits) (C.state challenger.old)) }
-    ensures after { IfOk result (λ witness. C.state challenger.new ≡ (uniform_check C.observation
-        C.before_witness C.uniform resample bits witness).after (C.state challenger.old)) }
-    ensures err { IfErr result (λ e. RefusesTrials W.residues C.clones_may_fail
-        (uniform_check C.observation C.before_witness C.uniform resample bits) e
-        (C.state challenger.old) (C.state challenger.new)) }
+    ensures found { TriesOrRefuses W.residues C.clones_may_fail
+        (uniform_check C.observation C.before_witness C.uniform resample bits)
+        (C.state challenger.old) result (C.state challenger.new) }
     ensures free { bits ≡ 0 → IsOk result }
 {
     if bits == 0 {
@@ -46,13 +41,9 @@ fn least_prepared<W: PrimeField64, C: CanObserve<W> + CanSampleUniformBits<W> + 
     resample: bool,
 ) -> Result<W, ChallengerError>
     requires { bits ≤ C.most_bits }
-    ensures least { IfOk result (IsLeast W.residues
-        (ready_uniform_check C.observation C.uniform resample bits) (C.state challenger.old)) }
-    ensures after { IfOk result (λ witness. C.state challenger.new ≡ (ready_uniform_check
-        C.observation C.uniform resample bits witness).after (C.state challenger.old)) }
-    ensures err { IfErr result (λ e. RefusesTrials W.residues C.clones_may_fail
-        (ready_uniform_check C.observation C.uniform resample bits) e
-        (C.state challenger.old) (C.state challenger.new)) }
+    ensures { TriesOrRefuses W.residues C.clones_may_fail
+        (ready_uniform_check C.observation C.uniform resample bits)
+        (C.state challenger.old) result (C.state challenger.new) }
 {
     let mut trial = challenger.try_clone()?;
     for candidate in 0..W::ORDER_U64 {
@@ -78,12 +69,9 @@ pub(crate) fn check_uniformly<
     C: BeforeWitness + CanObserve<W> + CanSampleUniformBits<W>,
 >(challenger: &mut C, bits: usize, resample: bool, witness: W) -> Result<bool, ChallengerError>
     requires { bits ≤ C.most_bits }
-    ensures answered { IfOk result (λ passes. (uniform_check C.observation C.before_witness
-        C.uniform resample bits witness).sampled (C.state challenger.old) ≡ Some passes) }
-    ensures after { OnOk result (C.state challenger.new ≡ (uniform_check C.observation
-        C.before_witness C.uniform resample bits witness).after (C.state challenger.old)) }
-    ensures err { IfErr result (λ e. RefusesDraw (uniform_check C.observation C.before_witness
-        C.uniform resample bits witness) e (C.state challenger.old) (C.state challenger.new)) }
+    ensures { DrawsOrRefuses
+        (uniform_check C.observation C.before_witness C.uniform resample bits witness)
+        (C.state challenger.old) result (C.state challenger.new) }
 {
     if bits == 0 {
         return Ok(true);
@@ -100,12 +88,8 @@ fn passes<W: PrimeField64, C: CanObserve<W> + CanSampleUniformBits<W>>(
     witness: W,
 ) -> Result<bool, ChallengerError>
     requires { bits ≤ C.most_bits }
-    ensures answered { IfOk result (λ passes. (ready_uniform_check C.observation
-        C.uniform resample bits witness).sampled (C.state challenger.old) ≡ Some passes) }
-    ensures after { OnOk result (C.state challenger.new ≡ (ready_uniform_check C.observation
-        C.uniform resample bits witness).after (C.state challenger.old)) }
-    ensures err { IfErr result (λ e. RefusesDraw (ready_uniform_check C.observation
-        C.uniform resample bits witness) e (C.state challenger.old) (C.state challenger.new)) }
+    ensures { DrawsOrRefuses (ready_uniform_check C.observation C.uniform resample bits witness)
+        (C.state challenger.old) result (C.state challenger.new) }
 {
     challenger.observe(witness)?;
     zero_uniform_bits::<W, C>(challenger, bits, resample)
@@ -118,12 +102,8 @@ fn zero_uniform_bits<F, C: CanSampleUniformBits<F>>(
     resample: bool,
 ) -> Result<bool, ChallengerError>
     requires { bits ≤ C.most_bits }
-    ensures answered { IfOk result (λ passes. (zero_and_uniform (C.uniform resample bits)).sampled
-        (C.state challenger.old) ≡ Some passes) }
-    ensures after { OnOk result (C.state challenger.new
-        ≡ (zero_and_uniform (C.uniform resample bits)).after (C.state challenger.old)) }
-    ensures err { IfErr result (λ e. RefusesDraw (zero_and_uniform (C.uniform resample bits)) e
-        (C.state challenger.old) (C.state challenger.new)) }
+    ensures { DrawsOrRefuses (zero_and_uniform (C.uniform resample bits))
+        (C.state challenger.old) result (C.state challenger.new) }
 {
     match challenger.sample_uniform_bits(bits, resample) {
         Ok(value) => Ok(value == 0),

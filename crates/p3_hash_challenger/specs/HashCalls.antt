@@ -82,12 +82,11 @@ HashRun T = Run T (List T) (HashSponge T)
 abbrev pub run_call : {T : Type 0} → HashFunction T → HashSponge T → Call T → HashRun T
 run_call h s (observe x) = stays (observed s x)
 run_call h s observe_empty_array = stays (array_observed s [])
-run_call h s draw =
-    record {
-      answers = sampled h s ∷ [];
-      queries = queries_by_draw s;
-      after = after_sampled h s;
-    }
+run_call h s draw = record {
+  answers = sampled h s ∷ [];
+  queries = queries_by_draw s;
+  after = after_sampled h s;
+}
 
 abbrev pub run_digest : {T : Type 0} → HashFunction T → HashSponge T → Run T (List T) (List T)
 run_digest h s = record { answers = []; queries = queries_by_digest s; after = digest h s }

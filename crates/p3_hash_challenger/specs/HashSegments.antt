@@ -17,8 +17,7 @@ run_values start (x ∷ xs) = stays (with_pending (start.pending ++ x ∷ xs))
 
 -- the outputs of a chain, and of its hash, hashed again and again
 abbrev pub outputs_of : {T : Type 0} → HashFunction T → Outputs (List T) T
-outputs_of h =
-    record { next = h.digest; row_len = h.out_len; output = λ chain i. slice_index_or chain i h.filler }
+outputs_of h = record { next = h.digest; row_len = h.out_len; output = λ chain i. slice_index_or chain i h.filler }
 
 -- h(n) of a chain is its hash, hashed again and again, n times in all. The outputs of a chain stand in a row: those of
 -- each h(n), from its last place to its first. Draw k of a segment that begins anew is at the place out_len + k of that
@@ -42,10 +41,9 @@ HashSegments T = BySegments T T (List T) (List T) (HashSponge T)
 -- The chain of the next segment is what the one before left pending, and no output is left. The digest
 -- after the last one is the hash of the chain that a next one would have.
 abbrev pub hash_by_segments : {T : Type 0} → HashFunction T → HashSegments T
-hash_by_segments h =
-    record {
-      values = run_values;
-      draws = run_draws h;
-      ended = λ s. with_pending s.pending;
-      digest = λ s. record { answers = []; queries = s.pending ∷ []; after = h.digest s.pending };
-    }
+hash_by_segments h = record {
+  values = run_values;
+  draws = run_draws h;
+  ended = λ s. with_pending s.pending;
+  digest = λ s. record { answers = []; queries = s.pending ∷ []; after = h.digest s.pending };
+}

@@ -1,9 +1,9 @@
 -- A hash challenger as contracts see it.
 use Rattle.std.specs.Prelude.{◌≡◌, ℕ, ◌<◌, ◌≤◌, List, [], ◌∷◌, length, map, Option, Some, None, IfSome}
-use Rattle.p3_challenger_core.specs.Observation.{Observation, LeavesBeginning}
+use Rattle.std.specs.{Option.ForNone, List.flat_map}
 use Rattle.p3_challenger_core.specs.Segments.{Call, observe, observe_empty_array, Run, run_calls, run_calls_to_digest}
+use Rattle.p3_challenger_core.specs.Observation.{Observation, LeavesBeginning}
 use Rattle.p3_hash_challenger.specs.HashCalls.{HashFunction, HashSponge, HashRun, hash_by_calls}
-use Rattle.std.specs.{Option.ForNone, List.{All, flat_map}}
 use Rattle.p3_hash_challenger.specs.HashCalls as calls
 
 -- what a challenger of digests of out_len places keeps: of its digest, how many outputs are left
@@ -45,17 +45,15 @@ abbrev pub observation_of_array : {T H : Type 0} → Observation (HashState T H)
 observation_of_array = record { symbols = λ xs. xs; observed = array_observed; may_leave = λ s _ t. t ≡ s }
 
 abbrev pub observation_of_list : {T H X : Type 0} → (X → List T) → Observation (HashState T H) T X
-observation_of_list values =
-    record { symbols = values; observed = λ s x. fed s (values x); may_leave = λ s _ t. t ≡ s }
+observation_of_list values = record { symbols = values; observed = λ s x. fed s (values x); may_leave = λ s _ t. t ≡ s }
 
 -- a value of parts that are fed one after another; refused, it has fed the parts before the refused one
 abbrev pub observation_of_parts : {T H X U : Type 0} → (X → List U) → (U → List T) → Observation (HashState T H) T X
-observation_of_parts parts items =
-    record {
-      symbols = λ x. flat_map items (parts x);
-      observed = λ s x. fed s (flat_map items (parts x));
-      may_leave = λ s x t. LeavesParts items s (parts x) t;
-    }
+observation_of_parts parts items = record {
+  symbols = λ x. flat_map items (parts x);
+  observed = λ s x. fed s (flat_map items (parts x));
+  may_leave = λ s x t. LeavesParts items s (parts x) t;
+}
 
 -- ---- under the function that each hasher is
 
@@ -81,8 +79,8 @@ abbrev pub run : {T H : Type 0} → (H → HashFunction T) → HashState T H →
 run function s calls = run_calls (hash_by_calls (function s.hasher)) s.sponge calls
 
 -- calls that end in a digest
-abbrev pub run_to_digest : {T H : Type 0} → (H → HashFunction T) → HashState T H → List (Call T)
-    → Run T (List T) (List T)
+abbrev pub run_to_digest : {T H : Type 0} → (H → HashFunction T) → HashState T H → List (Call T) →
+    Run T (List T) (List T)
 run_to_digest function s calls = run_calls_to_digest (hash_by_calls (function s.hasher)) s.sponge calls
 
 -- the challenger after calls

@@ -20,8 +20,8 @@ BeginWith prefix each messages =
     (j : ℕ) → j * each + each ≤ length messages → slice_range messages (j * each) (j * each + length prefix) ≡ prefix
 
 -- the check of a candidate on a hash challenger
-abbrev pub candidate_check : {H : Type 0} → (H → List ℕ → List ℕ) → ℕ → ℕ → ℕ → (ℕ → List ℕ) → (List ℕ → Bool) → ℕ
-    → Sampling (HashState ℕ H) Bool
+abbrev pub candidate_check : {H : Type 0} → (H → List ℕ → List ℕ) → ℕ → ℕ → ℕ → (ℕ → List ℕ) → (List ℕ → Bool) → ℕ →
+    Sampling (HashState ℕ H) Bool
 candidate_check hash out_len filler size encoded accepted =
     let function = function_of hash out_len filler in
     byte_check (in_slice observation_of_value (λ s xs t. IsNonEmpty xs × (t ≡ s)))
@@ -29,8 +29,7 @@ candidate_check hash out_len filler size encoded accepted =
 
 -- the check of a digest of a batch: whether its first outputs are accepted
 abbrev pub digest_check : ℕ → (List ℕ → Bool) → ℕ → Sampling (List (List ℕ)) Bool
-digest_check size accepted j =
-    unrefused_draw
+digest_check size accepted j = unrefused_draw
     (λ digests. option_map (λ digest. accepted (first_outputs size digest)) (slice_get digests j)) (λ digests. digests)
 
 -- digest j is that of the message of candidate first + j, which is what is pending and then bytes, so many

@@ -11,15 +11,18 @@
 //! ```
 //!
 //! An observe drops the outputs that are left.
-ghost use Rattle.std.specs.Prelude.{◌≡◌, ◌<◌, ℕ, List, Some, OnOk, OnErr, IfOk, IfErr};
+ghost use Rattle.std.specs.Prelude.{◌≡◌, ◌<◌, List, Some, OnOk, OnErr, IfOk, IfErr, refl, []};
 ghost use Rattle.p3_challenger_core.specs.Segments.{Call, segments, run_segments, run_segments_to_digest};
-ghost use Rattle.p3_challenger_core.specs.{Observation.RefusesObserve, Sponge.IsNonEmpty, Sampling.RefusesDraws};
-ghost use Rattle.p3_challenger_core.specs.declared.error.ChallengerError.{ChallengerError};
+ghost use Rattle.p3_challenger_core.specs.{Observation.{RefusesObserve, LeavesBeginning}, Sponge.IsNonEmpty};
+ghost use Rattle.p3_challenger_core.specs.{declared.error.ChallengerError.ChallengerError, Sampling.unrefused_draw};
 ghost use Rattle.p3_hash_challenger.specs.{HashSegments.hash_by_segments, HashCalls.{with_pending, outputs}};
 ghost use Rattle.p3_hash_challenger.specs.HashReadBack.{ReadsBack, ReadsBackToDigest, ReadsBackOrCollides};
 ghost use Rattle.p3_hash_challenger.specs.HashState.{function_of, pending_of, run, run_to_digest};
-ghost use Rattle.p3_sponge.specs.CallPromises.{QueriesDecide};
+ghost use Rattle.p3_hash_challenger.specs.HashStateLaws.{fed-append, values-observed, values-front, values-sampled};
+ghost use Rattle.p3_hash_challenger.specs.HashStateLaws.{arrays-observed};
+ghost use Rattle.p3_sponge.specs.CallPromises.{QueriesDecide, IsUnrefusedDraw};
 ghost use Rattle.p3_read_back.specs.Queries.{Decides};
+ghost use Rattle.p3_hash_challenger.specs.HashState as hash_state;
 
 mod calls;
 mod digests;
@@ -78,8 +81,6 @@ impl<T: Copy, H: CryptographicHasher<T, [T; OUT_LEN]>, const OUT_LEN: usize> Has
     H,
     OUT_LEN,
 > {
-    ghost use Rattle.p3_hash_challenger.specs.HashState as hash_state;
-
     /// A challenger that has the initial state pending, and no output. `OUT_LEN` is at least 1.
     ///
     /// What it hashes tells what it observed, for those who check the hashes and not the calls. Two lists of calls that
@@ -151,9 +152,8 @@ impl<T: Copy, H: CryptographicHasher<T, [T; OUT_LEN]>, const OUT_LEN: usize> Has
     ///
     /// A law: the body does nothing, and a caller cites the clause.
     pub fn draws_are_outputs(&self)
-        ensures { (calls : List (Call T)) (other : T) →
-            run (function_of H.hash OUT_LEN other) self.now calls
-            ≡ run (function_of H.hash OUT_LEN H.filler) self.now calls }
+        ensures { (calls : List (Call T)) (other : T) → run (function_of H.hash OUT_LEN other)
+            self.now calls ≡ run (function_of H.hash OUT_LEN H.filler) self.now calls }
     {
         let _ = &self.outputs_left;
     }
@@ -162,8 +162,7 @@ impl<T: Copy, H: CryptographicHasher<T, [T; OUT_LEN]>, const OUT_LEN: usize> Has
     ///
     /// A law: the body is empty, and a caller cites the clause.
     pub fn draws_are_not_refused()
-        ensures { (n : ℕ) (e : ChallengerError) (s t : hash_state.HashState T H) →
-            ¬ (RefusesDraws ⟦<Self as CanSample<T>>⟧.sampling n e s t) }
+        ensures { IsUnrefusedDraw ⟦<Self as CanSample<T>>⟧.sampling }
     {}
 
     /// What the next hash takes: the digest of the last one, and what was observed since. Not in the Rust crate.
@@ -210,8 +209,8 @@ impl<T: Copy, H: CryptographicHasher<T, [T; OUT_LEN]>, const OUT_LEN: usize> Has
     // Feeds the values: as `absorb`, but nothing changes where there are none, and that is not refused.
     fn feed(&mut self, values: &[T]) -> Result<(), ChallengerError>
         ensures ok { OnOk result (self.new ≡ hash_state.fed self.old values.now) }
-        ensures err { IfErr result (λ e. RefusesObserve (λ t. IsNonEmpty values.now
-            × (t ≡ self.old)) e self.new) }
+        ensures err { IfErr result
+            (λ e. RefusesObserve (λ t. IsNonEmpty values.now × (t ≡ self.old)) e self.new) }
     {
         if values.is_empty() {
             return Ok(());
@@ -234,8 +233,8 @@ fn copy_digest<T: Copy, const OUT_LEN: usize>(
     buffer: &mut Vec<T>,
 ) -> Result<(), AllocError>
     ensures ok { OnOk result (buffer.new.items ≡ pending_of digest.now buffer.old.items) }
-    ensures err { OnErr result (pending_of digest.now buffer.new.items
-        ≡ pending_of digest.now buffer.old.items) }
+    ensures err { OnErr result
+        (pending_of digest.now buffer.new.items ≡ pending_of digest.now buffer.old.items) }
 {
     if let Some(digest) = digest {
         buffer.clear();
@@ -246,10 +245,6 @@ fn copy_digest<T: Copy, const OUT_LEN: usize>(
 
 impl<T: Copy, H: CryptographicHasher<T, [T; OUT_LEN]>, const OUT_LEN: usize> Sponge
     for HashChallenger<T, H, OUT_LEN> {
-    ghost use Rattle.std.specs.Prelude.{refl};
-    ghost use Rattle.p3_hash_challenger.specs.HashState as hash_state;
-    ghost use Rattle.p3_hash_challenger.specs.HashStateLaws.{fed-append};
-
     type State = Self;
 
     type Symbol = T;
@@ -267,11 +262,6 @@ impl<T: Copy, H: CryptographicHasher<T, [T; OUT_LEN]>, const OUT_LEN: usize> Spo
 
 impl<T: Copy, H: CryptographicHasher<T, [T; OUT_LEN]>, const OUT_LEN: usize> CanObserve<T>
     for HashChallenger<T, H, OUT_LEN> {
-    ghost use Rattle.std.specs.Prelude.{◌≡◌, []};
-    ghost use Rattle.p3_challenger_core.specs.Sponge.{IsNonEmpty};
-    ghost use Rattle.p3_hash_challenger.specs.HashState as hash_state;
-    ghost use Rattle.p3_hash_challenger.specs.HashStateLaws.{values-observed, values-front};
-
     // A refused call changes nothing.
     ghost observation = { hash_state.observation_of_value };
 
@@ -300,11 +290,6 @@ impl<T: Copy, H: CryptographicHasher<T, [T; OUT_LEN]>, const OUT_LEN: usize> Can
 
 impl<T: Copy, H: CryptographicHasher<T, [T; OUT_LEN]>, const OUT_LEN: usize> CanSample<T>
     for HashChallenger<T, H, OUT_LEN> {
-    ghost use Rattle.p3_challenger_core.specs.Sampling.{unrefused_draw};
-    ghost use Rattle.std.specs.Prelude.{Some};
-    ghost use Rattle.p3_hash_challenger.specs.HashState as hash_state;
-    ghost use Rattle.p3_hash_challenger.specs.HashStateLaws.{values-sampled};
-
     // A draw takes no memory and has no limit: it is never refused, and it always gives a value.
     ghost sampling = { unrefused_draw
         (λ s. Some (hash_state.sampled (hash_state.function_of H.hash OUT_LEN H.filler) s))
@@ -326,8 +311,6 @@ impl<T: Copy, H: CryptographicHasher<T, [T; OUT_LEN]>, const OUT_LEN: usize> Can
 
 impl<T: Copy, H: CryptographicHasher<T, [T; OUT_LEN]>, const OUT_LEN: usize> CanFinalizeDigest
     for HashChallenger<T, H, OUT_LEN> {
-    ghost use Rattle.p3_hash_challenger.specs.HashState as hash_state;
-
     type Digest = [T; OUT_LEN];
 
     // One more hash of all that is pending, whatever outputs are left.
@@ -344,11 +327,6 @@ impl<
     const N: usize,
     const OUT_LEN: usize,
 > CanObserve<[T; N]> for HashChallenger<T, H, OUT_LEN> {
-    ghost use Rattle.std.specs.Prelude.{◌≡◌};
-    ghost use Rattle.p3_challenger_core.specs.Observation.{LeavesBeginning};
-    ghost use Rattle.p3_hash_challenger.specs.HashState as hash_state;
-    ghost use Rattle.p3_hash_challenger.specs.HashStateLaws.{arrays-observed};
-
     // A refused call changes nothing.
     ghost observation = { hash_state.observation_of_array };
 

@@ -7,9 +7,7 @@ abbrev pub element_in : {order : ℕ} → 1 < order → ℕ → List ℕ → Sma
 element_in {order} above_one l numbers = element order above_one (slice_index numbers l)
 
 -- each of `n` lanes has what an operation makes of the elements in that lane of two others
-abbrev pub IsInEachLane : {order : ℕ} → 1 < order → ℕ
-    → (SmallPrime order → SmallPrime order → SmallPrime order)
-    → List ℕ → List ℕ → List ℕ → Type 0
-IsInEachLane above_one n operation xs ys zs =
-    (l : ℕ) → l < n
-    → element_in above_one l zs ≡ operation (element_in above_one l xs) (element_in above_one l ys)
+abbrev pub IsInEachLane : {order : ℕ} → 1 < order → ℕ → (SmallPrime order → SmallPrime order → SmallPrime order) →
+    List ℕ → List ℕ → List ℕ → Type 0
+IsInEachLane above_one n operation xs ys zs = (l : ℕ) → l < n →
+    element_in above_one l zs ≡ operation (element_in above_one l xs) (element_in above_one l ys)

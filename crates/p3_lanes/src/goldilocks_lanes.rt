@@ -1,6 +1,7 @@
 //! Elements of the field side by side in lanes.
-ghost use Rattle.std.specs.Prelude.{◌≡◌, ℕ, ◌<◌, ◌+◌, ◌-◌, ◌*◌, ◌%◌, slice_index};
-ghost use Rattle.p3_goldilocks.specs.GoldilocksResidues.{order};
+ghost use Rattle.std.{specs.Prelude.{◌≡◌, ℕ, ◌<◌, ◌+◌, ◌-◌, ◌*◌, ◌%◌, slice_index}, proofs.Common.{lit<, lit≤}};
+ghost use Rattle.p3_goldilocks.specs.GoldilocksResidues.{order, residues};
+ghost use Rattle.p3_field_core.specs.Residues.{sum_of, difference_of, product_of};
 
 use crate::{PackedField, PackedValue};
 use p3_field_core::PrimeField64;
@@ -25,8 +26,6 @@ pub struct GoldilocksLanes {
 const ORDER: u64 = Goldilocks::ORDER_U64;
 
 impl Add for GoldilocksLanes {
-    ghost use Rattle.p3_field_core.specs.Residues.{sum_of};
-    ghost use Rattle.p3_goldilocks.specs.GoldilocksResidues.{residues};
     ghost use Rattle.p3_lanes.specs.GoldilocksLanes.{IsInEachLane};
 
     type Output = GoldilocksLanes;
@@ -43,8 +42,6 @@ impl Add for GoldilocksLanes {
 }
 
 impl Sub for GoldilocksLanes {
-    ghost use Rattle.p3_field_core.specs.Residues.{difference_of};
-    ghost use Rattle.p3_goldilocks.specs.GoldilocksResidues.{residues};
     ghost use Rattle.p3_lanes.specs.GoldilocksLanes.{IsInEachLane};
 
     type Output = GoldilocksLanes;
@@ -62,8 +59,6 @@ impl Sub for GoldilocksLanes {
 }
 
 impl Mul for GoldilocksLanes {
-    ghost use Rattle.p3_field_core.specs.Residues.{product_of};
-    ghost use Rattle.p3_goldilocks.specs.GoldilocksResidues.{residues};
     ghost use Rattle.p3_lanes.specs.GoldilocksLanes.{IsInEachLane};
 
     type Output = GoldilocksLanes;
@@ -116,8 +111,6 @@ impl PackedValue<Goldilocks> for GoldilocksLanes {
 }
 
 impl PackedField for Goldilocks {
-    ghost use Rattle.std.proofs.Common.{lit<, lit≤};
-
     type Packing = GoldilocksLanes;
 
     ghost some_lanes = { lit< tt };
@@ -142,8 +135,8 @@ fn lane_sums(x: u64x4, y: u64x4) -> u64x4
 fn lane_differences(x: u64x4, y: u64x4) -> u64x4
     requires left { (l : ℕ) → l < 4 → slice_index x l < order }
     requires right { (l : ℕ) → l < 4 → slice_index y l < order }
-    ensures { (l : ℕ) → l < 4
-        → slice_index result l ≡ (slice_index x l + (order - slice_index y l)) % order }
+    ensures { (l : ℕ) → l < 4 →
+        slice_index result l ≡ (slice_index x l + (order - slice_index y l)) % order }
 {
     x.simd_lt(y).select(x + (Simd::splat(ORDER) - y), x - y)
 }

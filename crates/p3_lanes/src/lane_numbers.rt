@@ -13,8 +13,8 @@ pub(crate) fn lane_sums<const N: usize>(
 ) -> Simd<u32, N>
     requires left { (l : ℕ) → l < N → slice_index x l < order }
     requires right { (l : ℕ) → l < N → slice_index y l < order }
-    ensures { (l : ℕ) → l < N
-        → slice_index result l ≡ (slice_index x.entry l + slice_index y.entry l) % order }
+    ensures { (l : ℕ) → l < N →
+        slice_index result l ≡ (slice_index x.entry l + slice_index y.entry l) % order }
 {
     let room = Simd::splat(order) - y;
     x.simd_lt(room).select(x + y, x - room)
@@ -29,8 +29,8 @@ pub(crate) fn lane_differences<const N: usize>(
 ) -> Simd<u32, N>
     requires left { (l : ℕ) → l < N → slice_index x l < order }
     requires right { (l : ℕ) → l < N → slice_index y l < order }
-    ensures { (l : ℕ) → l < N
-        → slice_index result l ≡ (slice_index x.entry l + (order - slice_index y.entry l)) % order }
+    ensures { (l : ℕ) → l < N →
+        slice_index result l ≡ (slice_index x.entry l + (order - slice_index y.entry l)) % order }
 {
     x.simd_lt(y).select(x + (Simd::splat(order) - y), x - y)
 }
@@ -40,8 +40,8 @@ pub(crate) fn lane_differences<const N: usize>(
 pub(crate) fn lane_products<const N: usize>(x: [u32; N], y: [u32; N], order: u32) -> [u32; N]
     requires left { (l : ℕ) → l < N → slice_index x l < order }
     requires right { (l : ℕ) → l < N → slice_index y l < order }
-    ensures { (l : ℕ) → l < N
-        → slice_index result l ≡ slice_index x.entry l * slice_index y.entry l % order }
+    ensures { (l : ℕ) → l < N →
+        slice_index result l ≡ slice_index x.entry l * slice_index y.entry l % order }
 {
     let mut products = x;
     'lanes: for l in 0..N {

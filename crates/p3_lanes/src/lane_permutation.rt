@@ -63,8 +63,8 @@ fn put_in_lane<F: PackedField, const WIDTH: usize>(
 )
     requires { lane < F.Packing.WIDTH }
     ensures put { map (F.Packing.in_lane lane) state.new ≡ cells }
-    ensures others { (l : ℕ) → l < F.Packing.WIDTH → (l ≡ lane → ⊥)
-        → map (F.Packing.in_lane l) state.new ≡ map (F.Packing.in_lane l) state.old }
+    ensures others { (l : ℕ) → l < F.Packing.WIDTH → (l ≡ lane → ⊥) →
+        map (F.Packing.in_lane l) state.new ≡ map (F.Packing.in_lane l) state.old }
 {
     for i in 0..WIDTH {
         state[i] = state[i].with_lane(lane, cells[i]);

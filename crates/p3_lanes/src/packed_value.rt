@@ -34,8 +34,8 @@ pub trait PackedValue<F: PrimeCharacteristicRing>: Copy
     /// The value with the element of one lane replaced. Not in `p3-field`'s trait.
     fn with_lane(self, index: usize, value: F) -> Self
         requires { index < WIDTH }
-        ensures { (l : ℕ) → l < WIDTH
-            → in_lane l result ≡ (if nat_eq l index then value else in_lane l self) };
+        ensures { (l : ℕ) → l < WIDTH →
+            in_lane l result ≡ (if nat_eq l index then value else in_lane l self) };
 
     /// In each lane what the function gives for its place.
     final fn from_fn<G: Fn(usize) -> F>(element: G) -> Self
@@ -52,17 +52,16 @@ pub trait PackedValue<F: PrimeCharacteristicRing>: Copy
     // Every two values have a sum, a difference and a product, lane by lane.
     ghost can_add_law: { (x y : Self) → Self.can_add x y };
 
-    ghost add_law: { (x y r : Self) → Self.add_gives x y r
-        → (l : ℕ) → l < WIDTH → in_lane l r ≡ sum_of F.residues (in_lane l x) (in_lane l y) };
+    ghost add_law: { (x y r : Self) → Self.add_gives x y r → (l : ℕ) → l < WIDTH →
+        in_lane l r ≡ sum_of F.residues (in_lane l x) (in_lane l y) };
 
     ghost can_sub_law: { (x y : Self) → Self.can_sub x y };
 
-    ghost sub_law: { (x y r : Self) → Self.sub_gives x y r
-        → (l : ℕ) → l < WIDTH
-        → in_lane l r ≡ difference_of F.residues (in_lane l x) (in_lane l y) };
+    ghost sub_law: { (x y r : Self) → Self.sub_gives x y r → (l : ℕ) → l < WIDTH →
+        in_lane l r ≡ difference_of F.residues (in_lane l x) (in_lane l y) };
 
     ghost can_mul_law: { (x y : Self) → Self.can_mul x y };
 
-    ghost mul_law: { (x y r : Self) → Self.mul_gives x y r
-        → (l : ℕ) → l < WIDTH → in_lane l r ≡ product_of F.residues (in_lane l x) (in_lane l y) };
+    ghost mul_law: { (x y r : Self) → Self.mul_gives x y r → (l : ℕ) → l < WIDTH →
+        in_lane l r ≡ product_of F.residues (in_lane l x) (in_lane l y) };
 }

@@ -1,5 +1,7 @@
 //! Elements of a small prime field side by side in lanes.
-ghost use Rattle.std.specs.Prelude.{◌≡◌, ◌<◌, ℕ, length, slice_index};
+ghost use Rattle.std.{specs.Prelude.{◌≡◌, ◌<◌, ℕ, length, slice_index}, proofs.Common.{lit<, lit≤}};
+ghost use Rattle.p3_field_core.specs.Residues.{sum_of, difference_of, product_of};
+ghost use Rattle.p3_small_primes.specs.SmallPrimes.{residues_below};
 
 use crate::lane_numbers::{lane_differences, lane_products, lane_sums};
 use crate::{PackedField, PackedValue};
@@ -41,8 +43,6 @@ impl<const ORDER: u32, const N: usize> Add for SmallPrimeLanes<ORDER, N>
 where
     SmallPrime<ORDER>: SmallOrder<ORDER>,
 {
-    ghost use Rattle.p3_field_core.specs.Residues.{sum_of};
-    ghost use Rattle.p3_small_primes.specs.SmallPrimes.{residues_below};
     ghost use Rattle.p3_lanes.specs.SmallPrimeLanes.{IsInEachLane};
 
     type Output = Self;
@@ -65,8 +65,6 @@ impl<const ORDER: u32, const N: usize> Sub for SmallPrimeLanes<ORDER, N>
 where
     SmallPrime<ORDER>: SmallOrder<ORDER>,
 {
-    ghost use Rattle.p3_field_core.specs.Residues.{difference_of};
-    ghost use Rattle.p3_small_primes.specs.SmallPrimes.{residues_below};
     ghost use Rattle.p3_lanes.specs.SmallPrimeLanes.{IsInEachLane};
 
     type Output = Self;
@@ -89,8 +87,6 @@ impl<const ORDER: u32, const N: usize> Mul for SmallPrimeLanes<ORDER, N>
 where
     SmallPrime<ORDER>: SmallOrder<ORDER>,
 {
-    ghost use Rattle.p3_field_core.specs.Residues.{product_of};
-    ghost use Rattle.p3_small_primes.specs.SmallPrimes.{residues_below};
     ghost use Rattle.p3_lanes.specs.SmallPrimeLanes.{IsInEachLane};
 
     type Output = Self;
@@ -150,8 +146,6 @@ where
 }
 
 impl PackedField for BabyBear {
-    ghost use Rattle.std.proofs.Common.{lit<, lit≤};
-
     type Packing = BabyBearLanes;
 
     ghost some_lanes = { lit< tt };
@@ -160,8 +154,6 @@ impl PackedField for BabyBear {
 }
 
 impl PackedField for KoalaBear {
-    ghost use Rattle.std.proofs.Common.{lit<, lit≤};
-
     type Packing = KoalaBearLanes;
 
     ghost some_lanes = { lit< tt };
@@ -170,8 +162,6 @@ impl PackedField for KoalaBear {
 }
 
 impl PackedField for F257 {
-    ghost use Rattle.std.proofs.Common.{lit<, lit≤};
-
     type Packing = F257Lanes;
 
     ghost some_lanes = { lit< tt };

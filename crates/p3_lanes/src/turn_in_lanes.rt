@@ -18,8 +18,8 @@ impl<F: PrimeField64 + PackedField, const K: usize, const WIDTH: usize> LanePerm
 
 // In each lane the element that is a number more.
 fn plus_number_in_lanes<F: PrimeField64 + PackedField>(x: F::Packing, n: u64) -> F::Packing
-    ensures { (l : ℕ) → l < F.Packing.WIDTH
-        → F.Packing.in_lane l result ≡ plus F.residues (F.Packing.in_lane l x) n }
+    ensures { (l : ℕ) → l < F.Packing.WIDTH →
+        F.Packing.in_lane l result ≡ plus F.residues (F.Packing.in_lane l x) n }
 {
     x + F::Packing::broadcast(F::from_u64(n))
 }

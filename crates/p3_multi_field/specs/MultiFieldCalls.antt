@@ -79,14 +79,13 @@ digit_in_row pair cells place =
 
 -- how scalars are absorbed and digits drawn
 abbrev pub scalars_rule : {F PF : Type 0} → FieldPair F PF → (List PF → List PF) → ℕ → SpongeRule (List PF) F
-scalars_rule pair permute rate =
-    record {
-      over = scalars_over pair rate;
-      permute = permute;
-      block_len = batch_of pair rate;
-      row_len = row_of pair rate;
-      output = digit_in_row pair;
-    }
+scalars_rule pair permute rate = record {
+  over = scalars_over pair rate;
+  permute = permute;
+  block_len = batch_of pair rate;
+  row_len = row_of pair rate;
+  output = digit_in_row pair;
+}
 
 -- how many digits a draw has queued, which were neither drawn nor dropped: none where all outputs are left, since
 -- then no draw has come to them
@@ -107,8 +106,7 @@ module _ {F PF : Type 0} (pair : FieldPair F PF) (permute : List PF → List PF)
   -- blocks of words are absorbed one after another, each with its own count
   abbrev pub words_absorbed : MultiFieldSponge F PF → List (List PF) → MultiFieldSponge F PF
   words_absorbed s [] = s
-  words_absorbed s (block ∷ others) =
-      words_absorbed (permuting rule (overwritten pair.outer rate s.cells block)) others
+  words_absorbed s (block ∷ others) = words_absorbed (permuting rule (overwritten pair.outer rate s.cells block)) others
 
   abbrev pub digest_observed : MultiFieldSponge F PF → List PF → MultiFieldSponge F PF
   digest_observed s words = words_absorbed (absorbed_pending s.cells s.pending) (blocks rate words)
@@ -126,8 +124,7 @@ module _ {F PF : Type 0} (pair : FieldPair F PF) (permute : List PF → List PF)
       block_over ∷ queries_by_words (permute block_over) others
 
   abbrev pub queries_by_digest : MultiFieldSponge F PF → List PF → List (List PF)
-  queries_by_digest s words =
-      queries_by_pending s.cells s.pending
+  queries_by_digest s words = queries_by_pending s.cells s.pending
       ++ queries_by_words (absorbed_pending s.cells s.pending).cells (blocks rate words)
 
   -- ---- what a call does

@@ -1,13 +1,12 @@
 -- A multi-field challenger as contracts see it.
-use Rattle.std.specs.{Prelude.{◌≡◌, ℕ, ◌<◌, ◌≤◌, ◌*◌, List, ◌++◌, take, map, replicate}, List.{All, range_with_len}}
-use Rattle.p3_challenger_core.specs.{Observation.observed_all, Segments.{run_segments, run_segments_to_digest}}
-use Rattle.p3_challenger_core.specs.Segments.{Call, observe, draw, segments, Run, run_calls, run_calls_to_digest}
+use Rattle.std.specs.{Prelude.{◌≡◌, ℕ, ◌<◌, ◌≤◌, ◌*◌, List, ◌++◌, take, map, replicate}, List.range_with_len}
+use Rattle.p3_challenger_core.specs.{Observation.observed_all, Segments.{run_segments, run_segments_to_digest, Call}}
+use Rattle.p3_challenger_core.specs.Segments.{observe, draw, segments, Run, run_calls, run_calls_to_digest}
 use Rattle.p3_challenger_core.specs.Sponge.{after_steps}
 use Rattle.p3_sponge.specs.{Outputs.output_at, SpongeSegments.outputs_of, SpongeCalls.SpongeRule}
-use Rattle.p3_multi_field.specs.MultiFieldCalls.{FieldPair, Symbol, MultiFieldSponge, scalars_rule}
-use Rattle.p3_multi_field.specs.MultiFieldCalls.{multi_field_by_calls}
-use Rattle.p3_multi_field.specs.MultiFieldSegments.{absorbed_cells, multi_field_by_segments}
-use Rattle.p3_sponge.specs.Drawing as in_order
+use Rattle.p3_multi_field.specs.MultiFieldCalls.{multi_field_by_calls, MultiFieldSponge, scalars_rule, FieldPair}
+use Rattle.p3_multi_field.specs.{MultiFieldCalls.Symbol, MultiFieldSegments.{multi_field_by_segments, absorbed_cells}}
+use Rattle.p3_sponge.specs.Outputs as in_order
 use Rattle.p3_sponge.specs.SpongeCalls as sponge
 use Rattle.p3_multi_field.specs.MultiFieldCalls as calls
 
@@ -47,8 +46,7 @@ module _ {F PF P : Type 0} (pair : FieldPair F PF) (permute : P → List PF → 
   scalar_observed c x = record c { sponge = sponge.observed (rule c) c.sponge x }
 
   abbrev pub digest_observed : MultiFieldState F PF P → List PF → MultiFieldState F PF P
-  digest_observed c words =
-      record c { sponge = calls.digest_observed pair (permute c.permutation) rate c.sponge words }
+  digest_observed c words = record c { sponge = calls.digest_observed pair (permute c.permutation) rate c.sponge words }
 
   abbrev pub observed : MultiFieldState F PF P → Symbol F PF → MultiFieldState F PF P
   observed c symbol = record c { sponge = calls.observed pair (permute c.permutation) rate c.sponge symbol }
@@ -101,8 +99,8 @@ module _ {F PF P : Type 0} (pair : FieldPair F PF) (permute : P → List PF → 
   after_calls c calls = record c { sponge = (run c calls).after }
 
   -- what a value does to each challenger is what calls do
-  abbrev pub ActsAsCalls : {X : Type 0} → (MultiFieldState F PF P → X → MultiFieldState F PF P)
-      → (X → List (Call (Symbol F PF))) → Type 0
+  abbrev pub ActsAsCalls : {X : Type 0} → (MultiFieldState F PF P → X → MultiFieldState F PF P) →
+      (X → List (Call (Symbol F PF))) → Type 0
   ActsAsCalls {X} act calls = (c : MultiFieldState F PF P) (x : X) → act c x ≡ after_calls c (calls x)
 
   -- each draw after symbols answers its output, counted from the cells that they leave when they are all absorbed

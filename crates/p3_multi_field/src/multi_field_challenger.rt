@@ -142,8 +142,8 @@ impl<
     pub fn new(permutation: P) -> Result<Self, MultiField32ChallengerError>
         requires rate { 0 < RATE }
         requires capacity { RATE < WIDTH }
-        ensures made { IfOk result (λ _.
-            MakeChallenger F.residues.order PF.residues.order (PF.ABSORB_COUNT * RATE)) }
+        ensures made { IfOk result
+            (λ _. MakeChallenger F.residues.order PF.residues.order (PF.ABSORB_COUNT * RATE)) }
         ensures fresh { IfOk result (λ c. c ≡ record {
           permutation = permutation;
           sponge = fresh ⟦<PF as HasFieldPair<F>>⟧.field_pair WIDTH;
@@ -192,9 +192,8 @@ impl<
     /// A law: the body does nothing, and a caller cites the clauses.
     pub fn follows_segments(&self)
         ensures calls { (calls : List (Call (Symbol F PF))) →
-            run ⟦<PF as HasFieldPair<F>>⟧.field_pair P.permutation RATE self.now calls
-            ≡ run_by_segments
-            ⟦<PF as HasFieldPair<F>>⟧.field_pair P.permutation RATE self.now calls }
+            run ⟦<PF as HasFieldPair<F>>⟧.field_pair P.permutation RATE self.now calls ≡
+            run_by_segments ⟦<PF as HasFieldPair<F>>⟧.field_pair P.permutation RATE self.now calls }
         ensures digest { (calls : List (Call (Symbol F PF))) →
             run_to_digest ⟦<PF as HasFieldPair<F>>⟧.field_pair P.permutation RATE self.now calls
             ≡ run_by_segments_to_digest
@@ -202,9 +201,9 @@ impl<
         ensures queries { (calls : List (Call (Symbol F PF))) → QueriesDecide
             (P.permutation self.now.permutation) (λ permute.
             run ⟦<PF as HasFieldPair<F>>⟧.field_pair (λ _. permute) RATE self.now calls) }
-        ensures queries_to_digest { (calls : List (Call (Symbol F PF))) → QueriesDecide
-            (P.permutation self.now.permutation) (λ permute. run_to_digest
-            ⟦<PF as HasFieldPair<F>>⟧.field_pair (λ _. permute) RATE self.now calls) }
+        ensures queries_to_digest { (calls : List (Call (Symbol F PF))) →
+            QueriesDecide (P.permutation self.now.permutation) (λ permute.
+            run_to_digest ⟦<PF as HasFieldPair<F>>⟧.field_pair (λ _. permute) RATE self.now calls) }
     {
         let _ = &self.outputs_left;
     }
@@ -332,8 +331,8 @@ impl<
         requires { length self.old.sponge.pending + length values.now ≤ PF.ABSORB_COUNT * RATE }
         ensures fed { self.new ≡ scalars_observed
             ⟦<PF as HasFieldPair<F>>⟧.field_pair P.permutation RATE self.old values.now }
-        ensures full { length self.old.sponge.pending + length values.now ≡ PF.ABSORB_COUNT * RATE
-            → self.new.sponge.pending ≡ [] }
+        ensures full { length self.old.sponge.pending + length values.now ≡ PF.ABSORB_COUNT * RATE →
+            self.new.sponge.pending ≡ [] }
     {
         let batch_len = self.batch_len();
         let row_len = self.row_len();

@@ -1,14 +1,13 @@
 -- Laws of the first fault of steps.
-use Rattle.std.proofs.{Common.{◌≡◌, ℕ, ◌+◌, ◌<◌, List, [], ◌∷◌, ◌++◌, map, length, take, drop}, Math.Seq.drop-cons}
-use Rattle.std.proofs.Common.{slice_index_or, refl, sym, ap, subst, ◌∙◌, append_assoc, add-one}
+use Rattle.std.proofs.Common.{slice_index_or, append_assoc, add-one, length, subst, List, ◌++◌, take, drop, refl, ◌≡◌}
+use Rattle.std.proofs.{Common.{◌+◌, ◌<◌, ◌∷◌, map, sym, ◌∙◌, [], ap, ℕ}, Math.Seq.drop-cons}
 use Rattle.std.proofs.lemmas.List.{take-append-drop, map-append}
-use Rattle.p3_fs_core.specs.declared.error.{TranscriptError.TranscriptError, TranscriptError.TheVariants.MissingEnd}
-use Rattle.p3_fs_core.specs.declared.error.TranscriptError.TheVariants.{MissingBegin, InvalidKind, MismatchedBeginEnd}
-use Rattle.p3_fs_core.specs.declared.{step.Kind.TheVariants.Protocol, interaction.Interaction.Interaction}
-use Rattle.p3_fs_core.specs.{Steps.Step, Interactions.step_of, Errors.missing_end}
-use Rattle.p3_patterns.specs.PatternGrammar.{IsPattern, IsViable, MayFollow, IsInnermost, StopsAt, IsFirstFault}
-use Rattle.p3_patterns.specs.PatternFaults.{NamesFirstFault}
-use Rattle.p3_patterns.proofs.PatternGrammarLaws.{opens-viable, pattern-none_open}
+use Rattle.p3_fs_core.specs.declared.error.TranscriptError.{TranscriptError, TheVariants.{MissingEnd, MissingBegin}}
+use Rattle.p3_fs_core.specs.declared.error.TranscriptError.TheVariants.{InvalidKind, MismatchedBeginEnd}
+use Rattle.p3_fs_core.specs.{declared.{step.Kind.TheVariants.Protocol, interaction.Interaction.Interaction}, Steps.Step}
+use Rattle.p3_fs_core.specs.{Interactions.step_of, Errors.missing_end}
+use Rattle.p3_patterns.specs.PatternGrammar.{NamesFirstFault, IsFirstFault, IsInnermost, IsPattern, MayFollow, IsViable}
+use Rattle.p3_patterns.{specs.PatternGrammar.StopsAt, proofs.PatternGrammarLaws.{pattern-none_open, opens-viable}}
 
 abbrev pub stops : (before rest : List Step) (s : Step) (position : ℕ) → length before ≡ position → IsViable before
     → (MayFollow s before → ⊥) → StopsAt (before ++ (s ∷ rest)) position s

@@ -1,12 +1,12 @@
 -- What open containers say of whole patterns.
 use Rattle.std.proofs.Common.{◌≡◌, ◌⊎◌, ℕ, ◌≤◌, List, [], ◌∷◌, map, length, take, refl, subst, ⊎_elim}
 use Rattle.std.{proofs.lemmas.List.take_all, specs.Prelude.{Result, Ok, Err, IfErr}}
-use Rattle.p3_fs_core.specs.declared.error.{TranscriptError.TranscriptError, TranscriptError.TheVariants.OutOfMemory}
+use Rattle.p3_fs_core.specs.declared.error.TranscriptError.{TranscriptError, TheVariants.OutOfMemory}
 use Rattle.p3_fs_core.specs.declared.{step.Kind.TheVariants.Protocol, interaction.Interaction.Interaction}
 use Rattle.p3_fs_core.specs.{Interactions.step_of, Steps.Step}
-use Rattle.p3_patterns.specs.{PatternGrammar.IsPattern, OpenContainers.{OpensAt, AreOpen}, Walks.WalksTo}
-use Rattle.p3_patterns.{specs.PatternFaults.NamesFirstFault, proofs.FirstFaults.names-no_pattern}
-use Rattle.p3_patterns.proofs.{PatternGrammarLaws.{innermost-of, pattern-none_open}, OpenPositions.open-pattern}
+use Rattle.p3_patterns.{specs.{Walks.WalksTo, OpenContainers.{OpensAt, AreOpen}}, proofs.FirstFaults.names-no_pattern}
+use Rattle.p3_patterns.{proofs.OpenPositions.open-pattern, specs.PatternGrammar.{IsPattern, NamesFirstFault}}
+use Rattle.p3_patterns.proofs.PatternGrammarLaws.{innermost-of, pattern-none_open}
 
 -- steps that leave none open are a pattern
 pub closed-pattern : (steps : List Step) (positions : List ℕ) → AreOpen steps positions → positions ≡ []

@@ -1,4 +1,3 @@
-pub mod PatternFaults
 pub mod PatternGrammar
 pub mod OpenContainers
 pub mod PatternStepLaws

@@ -13,11 +13,9 @@ kind_of (opener ∷ below) = opener.kind
 -- What follows each is a pattern of its kind, up to the next one.
 abbrev pub OpensAt : List Step → List ℕ → List Step → Type 0
 OpensAt [] positions steps = (positions ≡ []) × IsPattern Protocol steps
-OpensAt (opener ∷ below) positions steps =
-    (before : List Step) × (inside : List Step) × (outer : List ℕ)
-    × (steps ≡ before ++ (opener ∷ inside)) × (positions ≡ outer ++ (length before ∷ []))
-    × (opener.hierarchy ≡ Begin) × Allows (kind_of below) opener × IsPattern opener.kind inside
-    × OpensAt below outer before
+OpensAt (opener ∷ below) positions steps = (before : List Step) × (inside : List Step) × (outer : List ℕ)
+    × (steps ≡ before ++ (opener ∷ inside)) × (positions ≡ outer ++ (length before ∷ [])) × (opener.hierarchy ≡ Begin)
+    × Allows (kind_of below) opener × IsPattern opener.kind inside × OpensAt below outer before
 
 -- the positions are those of the openers that the steps leave open, the outermost first
 abbrev pub AreOpen : List Step → List ℕ → Type 0

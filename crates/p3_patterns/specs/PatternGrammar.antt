@@ -1,8 +1,9 @@
 -- Patterns of steps: which lists of steps they are, and what is first wrong with a list that is none.
 use Rattle.std.specs.Prelude.{◌≡◌, ℕ, ◌⊎◌, List, [], ◌∷◌, ◌++◌, length}
 use Rattle.p3_fs_core.specs.declared.step.{Hierarchy.TheVariants.{Atomic, Begin, End}, Kind.Kind}
-use Rattle.p3_fs_core.specs.{declared.step.Kind.TheVariants.Protocol, Steps.{Step, Closes}}
-use Rattle.p3_fs_core.specs.Errors.{Fault, missing_begin, invalid_kind, mismatched_begin_end, missing_end}
+use Rattle.p3_fs_core.specs.declared.{step.Kind.TheVariants.Protocol, error.TranscriptError.TranscriptError}
+use Rattle.p3_fs_core.specs.{Steps.{Step, Closes}, Errors.{Fault, missing_begin, invalid_kind, mismatched_begin_end}}
+use Rattle.p3_fs_core.specs.Errors.{missing_end, IsFault, refusal_of}
 
 -- the step may stand directly in a container of the kind: a protocol takes any, another kind its own alone
 abbrev pub Allows : Kind → Step → Type 0
@@ -60,3 +61,7 @@ IsFirstFault steps (mismatched_begin_end begin_position opener position closer) 
     (stop : StopsAt steps position closer) × (closer.hierarchy ≡ End) × IsInnermost stop.before begin_position opener
 IsFirstFault steps (missing_end position opener) =
     IsViable steps × (IsPattern Protocol steps → ⊥) × IsInnermost steps position opener
+
+-- the error names the first fault of the steps, with its positions and steps
+abbrev pub NamesFirstFault : List Step → TranscriptError → Type 0
+NamesFirstFault steps e = IsFault (IsFirstFault steps) (refusal_of e)

@@ -1,10 +1,9 @@
 -- Laws of patterns: one is its steps alone.
-use Rattle.std.{specs.Prelude.{◌≡◌, ◌<◌, ◌^◌, List, length}, proofs.Common.subst}
-use Rattle.std.specs.Coded.{Coded, coded_list, le_prop}
-use base.Stored.{coded_via}
-use Rattle.p3_fs_core.specs.{declared.step.Kind.TheVariants.Protocol, StepCodes.step_code, StepFits.AreProgramSteps}
+use Rattle.std.{specs.{Prelude.{◌≡◌, ◌<◌, ◌^◌, List, length}, Coded.{Coded, coded_list, le_prop}}, proofs.Common.subst}
+use Rattle.p3_fs_core.specs.{declared.step.Kind.TheVariants.Protocol, StepCodeLaws.step_code, StepFits.AreProgramSteps}
 use Rattle.p3_fs_core.specs.{StepFitLaws.AreProgramSteps-prop, Steps.Step}
 use Rattle.p3_patterns.specs.{PatternGrammar.IsPattern, PatternSteps.PatternSteps}
+use base.Stored.{coded_via}
 
 -- patterns with the same steps are one
 pub PatternSteps-same : (x y : PatternSteps) → x.steps ≡ y.steps → x ≡ y

@@ -3,7 +3,7 @@ use Rattle.std.specs.Prelude.{◌≡◌, ◌⊎◌, Bool, true, false, List, [],
 use Rattle.p3_fs_core.specs.declared.error.{TranscriptError.TranscriptError, PatternError.TheVariants.Finished}
 use Rattle.p3_fs_core.specs.{declared.error.TranscriptError.TheVariants.{MissingEnd, Pattern, OutOfMemory}, Steps.Step}
 use Rattle.p3_fs_core.specs.{Errors.missing_end, Interactions.step_of}
-use Rattle.p3_patterns.specs.{PatternGrammar.{MayFollow, IsFirstFault}, PatternFaults.NamesFirstFault}
+use Rattle.p3_patterns.specs.PatternGrammar.{MayFollow, IsFirstFault, NamesFirstFault}
 
 -- a recorder: the steps that it took, and whether it refused one since
 pub record Recording : Type 0 where

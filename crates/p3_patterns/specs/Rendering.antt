@@ -31,14 +31,12 @@ line text digits position indented s =
 -- the lines of the steps from a position on, where so many containers are open
 abbrev pub lines : (Step → List ℕ) → ℕ → ℕ → ℕ → List Step → List ℕ
 lines text digits position depth [] = []
-lines text digits position depth (s ∷ rest) =
-    line text digits position (indentation s.hierarchy depth) s
+lines text digits position depth (s ∷ rest) = line text digits position (indentation s.hierarchy depth) s
     ++ lines text digits (position + 1) (depth_after s.hierarchy depth) rest
 
 -- The text of the steps, each printed in the same way. Positions take as many digits as the last one.
 abbrev pub rendering : (Step → List ℕ) → List Step → List ℕ
-rendering text steps =
-    codes "Plonky3 Fiat-Shamir Transcript ("
+rendering text steps = codes "Plonky3 Fiat-Shamir Transcript ("
     ++ (decimal (length steps) ++ (codes " interactions)\n" ++ lines text (length (decimal (length steps - 1))) 0 0 steps))
 
 -- the text of the steps that is hashed

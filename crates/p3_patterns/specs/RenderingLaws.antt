@@ -2,13 +2,12 @@
 use Rattle.std.proofs.Common.{◌≡◌, ◌↔◌, ℕ, zero, suc, ◌+◌, ◌-◌, ◌*◌, ◌≤◌, ◌<◌, ◌^◌, List, [], ◌∷◌, ◌++◌, length, map}
 use Rattle.std.proofs.Common.{replicate, drop, codes, append_assoc, refl, sym, ap, ◌∙◌, lit<, lit≤, arith}
 use Rattle.std.{proofs.lemmas.List.length-map, specs.Fmt.decimal}
-use Rattle.p3_fs_core.specs.{BigEndianLaws.front-prefix_code, StepTexts.hierarchy_text, Steps.{Step, alternate_text}}
-use Rattle.p3_fs_core.specs.{StepFits.{FitsTypes, AreProgramSteps}, declared.step.Hierarchy.Hierarchy}
-use Rattle.p3_fs_core.specs.StepTextLaws.{decimal-prefix_code, hierarchy-prefix_code, kind-prefix_code}
-use Rattle.p3_fs_core.specs.StepTextLaws.{length-prefix_code, type_tag-prefix_code}
-use Rattle.p3_fs_core.specs.declared.step.Hierarchy.TheVariants.{Atomic, Begin, End}
-use Rattle.p3_patterns.specs.Rendering.{depth_after, indentation, padded, line, lines, hashed_text}
-use Rattle.p3_patterns.specs.Rendering.{without_type_name, SameButTypeNames, AllFitTypes}
+use Rattle.p3_fs_core.specs.{BigEndianLaws.front-prefix_code, StepTexts.hierarchy_text, Steps.{alternate_text, Step}}
+use Rattle.p3_fs_core.specs.StepTextLaws.{hierarchy-prefix_code, type_tag-prefix_code, decimal-prefix_code}
+use Rattle.p3_fs_core.specs.{StepTextLaws.{length-prefix_code, kind-prefix_code}, StepFits.{AreProgramSteps, FitsTypes}}
+use Rattle.p3_fs_core.specs.declared.step.Hierarchy.{Hierarchy, TheVariants.{Atomic, Begin, End}}
+use Rattle.p3_patterns.specs.Rendering.{depth_after, indentation, padded, line, lines, hashed_text, without_type_name}
+use Rattle.p3_patterns.specs.Rendering.{SameButTypeNames, AllFitTypes}
 
 -- ---- parts of a text
 

@@ -8,5 +8,5 @@ use Rattle.p3_patterns.specs.{PatternGrammar.MayFollow, OpenContainers.AreOpen}
 pub record WalksTo (steps : List Interaction) (walked : ℕ) (positions : List ℕ) : Type 0 where
   pub within : walked ≤ length steps
   pub opens : AreOpen (map step_of (take walked steps)) positions
-  pub stuck : (next : Interaction) → walked < length steps
-      → MayFollow (step_of (slice_index_or steps walked next)) (map step_of (take walked steps)) → ⊥
+  pub stuck : (next : Interaction) → walked < length steps →
+      MayFollow (step_of (slice_index_or steps walked next)) (map step_of (take walked steps)) → ⊥

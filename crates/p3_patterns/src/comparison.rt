@@ -1,15 +1,14 @@
 //! How patterns compare: as the lists of their steps.
+ghost use Rattle.std.specs.{Cmp.{on_per, on_equiv, on_po, on_total}, Hash.{on_Alike, items_Alike}};
 ghost use Rattle.std.specs.Cmp.Lexicographic.{pointwise, slice_cmp, slice_partial_cmp, lists_per, lists_equiv};
 ghost use Rattle.std.specs.Cmp.Lexicographic.{lists_agrees, lists_total, lists_ties, lists_po};
-ghost use Rattle.std.specs.Cmp.{on_per, on_equiv, on_po, on_total};
+ghost use Rattle.p3_patterns.specs.PatternSteps.{interactions_in};
 ghost use Rattle.std.specs.Hash as fed;
-ghost use Rattle.std.specs.Hash.{on_Alike, items_Alike};
 ghost use Rattle.p3_fs_core.specs.contracts.interaction.InteractionPartialEq.TheImpl.Laws as partial_equality;
 ghost use Rattle.p3_fs_core.specs.contracts.interaction.InteractionEq.TheImpl.Laws as equality;
 ghost use Rattle.p3_fs_core.specs.contracts.interaction.InteractionPartialOrd.TheImpl.Laws as partial_order;
 ghost use Rattle.p3_fs_core.specs.contracts.interaction.InteractionOrd.TheImpl.Laws as order;
 ghost use Rattle.p3_fs_core.specs.contracts.interaction.InteractionHash.TheImpl.Laws as hashes;
-ghost use Rattle.p3_patterns.specs.PatternSteps.{interactions_in};
 
 use crate::InteractionPattern;
 use p3_fs_core::Interaction;

@@ -33,8 +33,8 @@ impl OpenContainers {
     // The innermost opener that the steps leave open, and where it stands.
     pub(crate) fn innermost<'a>(&self, steps: &'a [Interaction]) -> Option<(usize, &'a Interaction)>
         requires { AreOpen (map step_of steps.now) self.now.openers.items }
-        ensures some { IfSome result (λ found.
-            IsInnermost (map step_of steps.now) found.0 (step_of found.1.now)) }
+        ensures some { IfSome result
+            (λ found. IsInnermost (map step_of steps.now) found.0 (step_of found.1.now)) }
         ensures none { IfNone result (IsPattern Kind.Protocol (map step_of steps.now)) }
     {
         let position = *self.openers.last()?;

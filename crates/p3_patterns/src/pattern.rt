@@ -39,8 +39,8 @@ pub trait Pattern {
     ///
     /// The errors are those of [`interact`](Pattern::interact).
     fn begin<T: Named>(&mut self, label: Label, kind: Kind) -> Result<(), TranscriptError>
-        ensures ok { OnOk result (takes self.old
-            (marker_of Hierarchy.Begin kind label.now T.name_bytes) self.new) }
+        ensures ok { OnOk result
+            (takes self.old (marker_of Hierarchy.Begin kind label.now T.name_bytes) self.new) }
         ensures err { IfErr result (λ e. refuses self.old
             (marker_of Hierarchy.Begin kind label.now T.name_bytes) e self.new) }
     {
@@ -51,8 +51,8 @@ pub trait Pattern {
     ///
     /// The errors are those of [`interact`](Pattern::interact).
     fn end<T: Named>(&mut self, label: Label, kind: Kind) -> Result<(), TranscriptError>
-        ensures ok { OnOk result (takes self.old
-            (marker_of Hierarchy.End kind label.now T.name_bytes) self.new) }
+        ensures ok { OnOk result
+            (takes self.old (marker_of Hierarchy.End kind label.now T.name_bytes) self.new) }
         ensures err { IfErr result (λ e. refuses self.old
             (marker_of Hierarchy.End kind label.now T.name_bytes) e self.new) }
     {

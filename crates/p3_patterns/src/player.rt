@@ -105,8 +105,8 @@ impl PatternPlayer {
     /// next step where there is one. The player is spent then too. The Rust crate panics in place of both.
     pub fn finalize(self) -> Result<(), TranscriptError>
         ensures ok { OnOk result (IsPlayed self) }
-        ensures err { IfErr result (IsPatternError (λ m.
-            FaultOfPlayEnd self (pattern_error_of m))) }
+        ensures err { IfErr result
+            (IsPatternError (λ m. FaultOfPlayEnd self (pattern_error_of m))) }
         ensures only { IsPlayed self → IsOk result }
     {
         let checked = self.check_end();

@@ -63,8 +63,8 @@ impl InteractionPattern {
 /// A law: the body is empty, and a caller cites a clause.
 #[tactic(auto, using(crate::specs::RenderingLaws::rendering_injective))]
 pub fn equal_renderings_are_equal_patterns()
-    ensures steps { (x y : List Step) → AllFitTypes x → AllFitTypes y → length x < 2 ^ 64
-        → length y < 2 ^ 64 → (hashed_text x ≡ hashed_text y ↔ SameButTypeNames x y) }
+    ensures steps { (x y : List Step) → AllFitTypes x → AllFitTypes y → length x < 2 ^ 64 →
+        length y < 2 ^ 64 → (hashed_text x ≡ hashed_text y ↔ SameButTypeNames x y) }
     ensures patterns { (x y : InteractionPattern) →
         (hashed_text x.steps ≡ hashed_text y.steps ↔ SameButTypeNames x.steps y.steps) }
 {}

@@ -9,9 +9,9 @@ ghost use Rattle.std.specs.Prelude.{IsTrue};
 ghost use Rattle.p3_field_core.specs.Equality.{IsExact};
 ghost use Rattle.p3_fs_core.specs.{declared.step.Kind.TheVariants.Protocol, Errors.Fault, Interactions.step_of};
 ghost use Rattle.p3_fs_core.specs.Steps.{Step, Closes};
-ghost use Rattle.p3_patterns.specs.{PatternGrammar.{Allows, IsPattern, MayFollow, IsFirstFault}, Walks.WalksTo};
-ghost use Rattle.p3_patterns.specs.{PatternFaults.NamesFirstFault, PatternSteps.{steps_of, IsPatternOf}};
-ghost use Rattle.p3_patterns.specs.{OpenContainers.AreOpen, Recording.NamesMissingEnd};
+ghost use Rattle.p3_patterns.specs.PatternGrammar.{Allows, IsPattern, MayFollow, IsFirstFault, NamesFirstFault};
+ghost use Rattle.p3_patterns.specs.{Walks.WalksTo, PatternSteps.{steps_of, IsPatternOf}, OpenContainers.AreOpen};
+ghost use Rattle.p3_patterns.specs.Recording.{NamesMissingEnd};
 ghost use Rattle.p3_fs_core.specs.declared.error.TranscriptError.TheVariants as error;
 
 use crate::open_containers::OpenContainers;
@@ -63,13 +63,13 @@ impl InteractionPattern {
     /// the positions of the containers that are open. The steps are gone then.
     pub fn new(interactions: Vec<Interaction>) -> Result<Self, TranscriptError>
         ensures ok { IfOk result (λ pattern. IsPatternOf pattern (map step_of interactions.items)) }
-        ensures err { IfErr result (λ e.
-            NamesFirstFault (map step_of interactions.items) e ⊎ (e ≡ error.OutOfMemory)) }
+        ensures err { IfErr result
+            (λ e. NamesFirstFault (map step_of interactions.items) e ⊎ (e ≡ error.OutOfMemory)) }
         ensures only { IsPattern Kind.Protocol (map step_of interactions.items) →
             IfErr result (λ e. e ≡ error.OutOfMemory) }
         // A list of steps has one first fault at most.
-        ensures one_fault { (steps : List Step) (f g : Fault)
-            → IsFirstFault steps f → IsFirstFault steps g → f ≡ g }
+        ensures one_fault { (steps : List Step) (f g : Fault) → IsFirstFault steps f →
+            IsFirstFault steps g → f ≡ g }
     {
         let mut containers = OpenContainers::new(*interactions.allocator());
         let Ok(walked) = walk(&interactions, &mut containers) else {
@@ -186,8 +186,8 @@ fn refuse_next(
     requires walks { IfOk walked (λ n. WalksTo interactions.items n containers.openers.items) }
     requires more { IfOk walked (λ n. n < length interactions.items) }
     ensures ok { OnOk result ⊥ }
-    ensures err { IfErr result (λ e.
-        NamesFirstFault (map step_of interactions.items) e ⊎ (e ≡ error.OutOfMemory)) }
+    ensures err { IfErr result
+        (λ e. NamesFirstFault (map step_of interactions.items) e ⊎ (e ≡ error.OutOfMemory)) }
 {
     let walked = walked?;
     let before = &interactions[..walked];
@@ -246,8 +246,8 @@ pub(crate) fn fault_of_next(
 ) -> TranscriptError
     requires open { AreOpen (map step_of before.now) containers.now.openers.items }
     requires stuck { MayFollow (step_of next.now) (map step_of before.now) → ⊥ }
-    ensures { (rest : List Step)
-        → NamesFirstFault (map step_of before.now ++ (step_of next.now ∷ rest)) result }
+    ensures { (rest : List Step) →
+        NamesFirstFault (map step_of before.now ++ (step_of next.now ∷ rest)) result }
 {
     let position = before.len();
     let Some((begin_position, begin)) = containers.innermost(before) else {

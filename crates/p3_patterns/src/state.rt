@@ -1,11 +1,10 @@
 //! Recording a pattern step by step.
 ghost use Rattle.std.specs.Prelude.{◌≡◌, [], ◌∷◌, ◌++◌, true, false, map, Ok, IfOk, IfErr, OnOk, OnErr, IsOk};
-ghost use Rattle.p3_fs_core.specs.declared.error.PatternError.TheVariants.{Finished};
-ghost use Rattle.p3_fs_core.specs.declared.error.TranscriptError.TheVariants as error;
-ghost use Rattle.p3_fs_core.specs.Interactions.{step_of};
+ghost use Rattle.p3_fs_core.specs.{declared.error.PatternError.TheVariants.Finished, Interactions.step_of};
 ghost use Rattle.p3_patterns.specs.{PatternGrammar.{IsPattern, MayFollow}, OpenContainers.AreOpen};
+ghost use Rattle.p3_patterns.specs.Recording.{RefusesToRecord, FaultOfNext, FaultOfEnd, Recording, Records};
 ghost use Rattle.p3_patterns.specs.PatternSteps.{steps_of};
-ghost use Rattle.p3_patterns.specs.Recording.{Recording, Records, RefusesToRecord, FaultOfNext, FaultOfEnd};
+ghost use Rattle.p3_fs_core.specs.declared.error.TranscriptError.TheVariants as error;
 
 use crate::open_containers::OpenContainers;
 use crate::sequence::{fault_of_next, may_follow};
@@ -141,8 +140,8 @@ fn take(
         × (map step_of steps.new.items ≡ map step_of steps.old.items ++ (step_of next.now ∷ [])) }
     ensures other { (result ≡ Ok true → ⊥) → (steps.new.items ≡ steps.old.items)
         × (containers.new.openers.items ≡ containers.old.openers.items) }
-    ensures stuck { result ≡ Ok false
-        → MayFollow (step_of next.now) (map step_of steps.old.items) → ⊥ }
+    ensures stuck { result ≡ Ok false → MayFollow (step_of next.now) (map step_of steps.old.items) →
+        ⊥ }
     ensures memory { OnErr result (MayFollow (step_of next.now) (map step_of steps.old.items)) }
 {
     if !may_follow(steps, containers, next) {

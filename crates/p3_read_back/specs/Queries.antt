@@ -30,23 +30,20 @@ module _ {T A M S : Type 0} (run : List (Call T) → Run A M S) (pending : S →
 
   -- calls that query the same, and leave the same pending, observed the same values
   abbrev pub ReadsBack : Type 0
-  ReadsBack =
-      (calls others : List (Call T)) → (run calls).queries ≡ (run others).queries → LeaveSamePending calls others
-      → observed_values calls ≡ observed_values others
+  ReadsBack = (calls others : List (Call T)) → (run calls).queries ≡ (run others).queries →
+      LeaveSamePending calls others → observed_values calls ≡ observed_values others
 
   -- Calls that query equally many, and end alike, observed the same values, or at one place of what they query
   -- two collide.
-  abbrev pub ReadsBackOrCollides :
-      (EndAlike : List (Call T) → List (Call T) → Type 0) (Collide : M → M → Type 0) → Type 0
-  ReadsBackOrCollides EndAlike Collide =
-      (calls others : List (Call T)) → length (run calls).queries ≡ length (run others).queries → EndAlike calls others
-      → (observed_values calls ≡ observed_values others)
+  abbrev pub ReadsBackOrCollides : (EndAlike : List (Call T) → List (Call T) → Type 0) (Collide : M → M → Type 0) →
+      Type 0
+  ReadsBackOrCollides EndAlike Collide = (calls others : List (Call T)) → length (run calls).queries
+      ≡ length (run others).queries → EndAlike calls others → (observed_values calls ≡ observed_values others)
       ⊎ CollideAtSomePlace Collide (run calls).queries (run others).queries
 
 -- A challenger that lists of calls run on, and then a digest.
 module _ {T A M D : Type 0} (run_to_digest : List (Call T) → Run A M D) where
   -- calls that end in a digest, and query the same up to it, observed the same values
   abbrev pub ReadsBackToDigest : Type 0
-  ReadsBackToDigest =
-      (calls others : List (Call T)) → (run_to_digest calls).queries ≡ (run_to_digest others).queries
-      → observed_values calls ≡ observed_values others
+  ReadsBackToDigest = (calls others : List (Call T)) → (run_to_digest calls).queries ≡ (run_to_digest others).queries →
+      observed_values calls ≡ observed_values others

@@ -1,7 +1,7 @@
 -- A run has as many carried witnesses as its script has steps that carry one.
 use Rattle.std.proofs.Common.{◌≡◌, ℕ, suc, List, [], ◌∷◌, length, refl, sym, ap, ◌∙◌, arith}
 use Rattle.std.proofs.lemmas.List.{length-append}
-use Rattle.p3_runs.specs.{Fronts.{Run, seeded}, Plays.{Play, Place, Carried}, ProverOutcomes.IsProved, Rules.Rules}
+use Rattle.p3_runs.specs.{Fronts.{Run, seeded}, Plays.{Play, Place, Carried}, Provings.IsProved, Rules.Rules}
 use Rattle.p3_runs.specs.{Runs.{if_carried, carried_count}, RunLaws.{AreMatched, finished-matched}}
 use Rattle.p3_runs.specs.{Stepping.all_witnesses, Values.{Value, Challenge}}
 use Rattle.p3_runs.specs.Runs as runs

@@ -1,16 +1,15 @@
 -- A verifier that follows a script step by step.
-use Rattle.std.proofs.Common.{◌≡◌, ◌≤◌, ◌+◌, ℕ, suc, zero, List, [], ◌∷◌, ◌++◌, Option, Some, None, is_some, refl}
-use Rattle.std.proofs.Common.{sym, ap, ◌∙◌, append_assoc, append-nil, length, drop, take, add-one, arith}
-use Rattle.std.proofs.{Common.{slice_get, map, ◌⊎◌}, lemmas.List.{drop_all, length-append}}
+use Rattle.std.proofs.Common.{◌≡◌, ◌≤◌, ◌+◌, ℕ, suc, zero, List, [], ◌∷◌, ◌++◌, Option, Some, None, is_some, refl, sym}
+use Rattle.std.proofs.Common.{ap, ◌∙◌, append_assoc, append-nil, length, drop, take, add-one, arith, slice_get, map}
+use Rattle.std.proofs.{Common.◌⊎◌, lemmas.List.{drop_all, length-append}}
 use Rattle.p3_fs_core.specs.declared.error.TranscriptError.{TranscriptError}
 use Rattle.p3_patterns.specs.Playing.{Playing}
 use Rattle.p3_driver_core.specs.{Driving.Driving, Transcripts.PlaysStep, Verifying.{EndsReading, RefusesEnd}}
-use Rattle.p3_runs.specs.{Fronts.{Run, IsFinished, pattern, seed, seeded}, Plays.{Play, Place, Carried, meaning}}
-use Rattle.p3_runs.specs.{Rules.Rules, Runs.{interactions, if_in_proof, if_carried, if_drawn}}
-use Rattle.p3_runs.specs.RunLaws.{AreMatched, finished-matched, finishes-more, wires-more, picked-more, after-more, challenges-more}
-use Rattle.p3_runs.specs.Stepping.{TakesStep, Halts, IsCarriedTo, one_of, one_witness, all_witnesses}
-use Rattle.p3_runs.specs.Values.{Value, Challenge}
+use Rattle.p3_runs.specs.{Runs.{if_in_proof, if_carried, if_drawn}, Values.{Value, Challenge}, RunLaws.AreMatched}
+use Rattle.p3_runs.specs.RunLaws.{finished-matched, finishes-more, wires-more, picked-more, after-more, challenges-more}
+use Rattle.p3_runs.specs.{Rules.Rules, Stepping.{TakesStep, Halts, IsCarriedTo, one_of, one_witness, all_witnesses}}
 use Rattle.p3_runs.specs.Verdicts.{with_steps, driving_after, IsProof, IsOutcome, RefusesAtStep, RefusesAtEnd}
+use Rattle.p3_runs.specs.{Plays.{Play, Place, Carried, meaning}, Fronts.{Run, IsFinished, pattern, seed, seeded}}
 use Rattle.p3_runs.specs.Runs as runs
 
 -- ---- lists

@@ -1,6 +1,5 @@
 -- The steps of a finished front of a script are the first ones of its pattern.
-use Rattle.std.proofs.Common.{◌≡◌, ℕ, suc, zero, List, [], ◌∷◌, ◌++◌, Some, None, refl, length}
-use Rattle.std.proofs.Common.{take, slice_get, map}
+use Rattle.std.proofs.Common.{◌≡◌, ℕ, suc, zero, List, [], ◌∷◌, ◌++◌, Some, None, refl, length, take, slice_get, map}
 use Rattle.p3_fs_core.specs.{StepFits.{FitsLength, AreProgramSteps}, Steps.Step}
 use Rattle.p3_domain_separator.specs.SeparatorSeed.{pattern_of}
 use Rattle.p3_runs.specs.{Fronts.{Run, IsFinished, pattern}, Plays.Play, Rules.Rules, Values.Value, Verdicts.with_steps}

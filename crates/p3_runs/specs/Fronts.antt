@@ -29,8 +29,7 @@ module _ {X S Symbol I F EF O Ac U D : Type 0} (rules : Rules S Symbol I F EF O 
   -- what the challenger is fed: the seed's symbols, and then each step's
   abbrev pub symbols : Run X F EF S U D → List Symbol
   symbols run =
-      flat_map rules.alphabet.item.symbols (rules.alphabet.items (seed run))
-      ++ runs.symbols play run.steps run.values
+      flat_map rules.alphabet.item.symbols (rules.alphabet.items (seed run)) ++ runs.symbols play run.steps run.values
 
   -- the bytes of the proof, the challenges, the final challenger, and what is absorbed at each step
   abbrev pub wire : Run X F EF S U D → List ℕ

@@ -8,7 +8,6 @@ pub mod Fronts
 pub mod NoProofLaws
 pub mod Plays
 pub mod ProofFaultLaws
-pub mod ProverOutcomes
 pub mod ProvingFaultLaws
 pub mod ProvingLaws
 pub mod Provings

@@ -3,9 +3,8 @@ use Rattle.std.specs.{Prelude.{◌≡◌, ℕ, ◌≤◌, List, [], length, Opti
 use Rattle.p3_fs_core.specs.{Encoding.Encoding, Steps.Step}
 use Rattle.p3_driver_core.specs.{Effects.{Effect, untouched}, Reads.Reading, Transcripts.{Meaning, without_wire}}
 use Rattle.p3_driver_core.specs.{Verifying.RefusesToRead, Working.{Work, checking}}
-use Rattle.p3_runs.specs.{Absorbed.{Absorbed, Nothing}, Sides.RefusesKept}
-use Rattle.p3_runs.specs.Sides.{Sides, Refusing, holds_some, sides_known, sides_sent, sides_ground, sides_carried}
-use Rattle.p3_runs.specs.Values.{Value, Challenge, IsNothing, witness_in}
+use Rattle.p3_runs.specs.Sides.{sides_carried, sides_ground, RefusesKept, sides_known, holds_some, sides_sent, Refusing}
+use Rattle.p3_runs.specs.{Sides.Sides, Absorbed.{Absorbed, Nothing}, Values.{witness_in, Challenge, IsNothing, Value}}
 
 -- where the value of a step stands: it has none; the prover is handed it and the proof carries it; it is a witness,
 -- which the prover finds, and the proof carries it; or it is a witness, which the prover finds, and the caller carries it
@@ -35,14 +34,13 @@ meaning play v = record { interaction = play.interaction; effect = play.effect v
 
 -- the same effect, and of what it gives this comes
 abbrev pub giving : {S Symbol A T : Type 0} → (A → T) → Effect S Symbol A → Effect S Symbol T
-giving f e =
-    record {
-      symbols = e.symbols;
-      fits = e.fits;
-      gives = λ s. option_map f (e.gives s);
-      after = e.after;
-      refuses = e.refuses;
-    }
+giving f e = record {
+  symbols = e.symbols;
+  fits = e.fits;
+  gives = λ s. option_map f (e.gives s);
+  after = e.after;
+  refuses = e.refuses;
+}
 
 abbrev pub no_challenge : {F EF A : Type 0} → A → Option (Challenge F EF)
 no_challenge x = None
@@ -56,30 +54,27 @@ only_if condition play = record play { admitted = condition }
 -- nothing stands in the proof: the step has this effect
 abbrev pub known_with : {S Symbol F EF O A : Type 0} → Step → (Value F EF → Type 0) → (A → Option (Challenge F EF)) →
     Effect S Symbol A → Absorbed F O → Sides S F EF → Play S Symbol F EF O
-known_with interaction Fits f effect absorbed sides =
-    record {
-      interaction = interaction;
-      admitted = Unit {0};
-      place = Nowhere;
-      Fits = Fits;
-      wire = λ _. [];
-      effect = λ _. giving f effect;
-      absorbed = λ _. absorbed;
-      sides = sides;
-    }
+known_with interaction Fits f effect absorbed sides = record {
+  interaction = interaction;
+  admitted = Unit {0};
+  place = Nowhere;
+  Fits = Fits;
+  wire = λ _. [];
+  effect = λ _. giving f effect;
+  absorbed = λ _. absorbed;
+  sides = sides;
+}
 
 abbrev pub known : {S Symbol F EF O A : Type 0} → Step → (A → Option (Challenge F EF)) → Effect S Symbol A →
     Absorbed F O → Play S Symbol F EF O
-known interaction f effect absorbed =
-    let refuses = RefusesKept (without_wire interaction effect) in
+known interaction f effect absorbed = let refuses = RefusesKept (without_wire interaction effect) in
     known_with interaction IsNothing f effect absorbed (sides_known refuses refuses)
 
 -- the same of a list that may not be so long
 abbrev pub known_within : {S Symbol F EF O A : Type 0} → Step → ℕ → ℕ → Effect S Symbol A → Absorbed F O →
     Refusing S → Refusing S → Play S Symbol F EF O
 known_within interaction len max effect absorbed proving verifying =
-    known_with interaction (λ v. IsNothing v × (len ≤ max)) no_challenge effect absorbed
-    (sides_known proving verifying)
+    known_with interaction (λ v. IsNothing v × (len ≤ max)) no_challenge effect absorbed (sides_known proving verifying)
 
 -- ---- what is sent
 
@@ -95,33 +90,31 @@ effect_some other f (Some x) = f x
 -- A value of the type that `found` finds is sent, where it is fit: the meaning of each, and how it is read.
 abbrev pub sends : {S Symbol F EF O A : Type 0} → Step → (Value F EF → Option A) → (A → Type 0) → (A → Type 0) →
     (A → Meaning S Symbol A) → (A → Absorbed F O) → (A → Refusing S) → Reading S Symbol A → Play S Symbol F EF O
-sends interaction found IsHanded IsFit sent absorbed proving reading =
-    record {
-      interaction = interaction;
-      admitted = Unit {0};
-      place = Sent;
-      Fits = λ v. holds_some IsFit (found v);
-      wire = λ v. when_some [] (λ x. (sent x).wire) (found v);
-      effect = λ v. effect_some None (λ x. giving no_challenge (sent x).effect) (found v);
-      absorbed = λ v. when_some Nothing absorbed (found v);
-      sides = sides_sent found IsHanded proving (RefusesToRead reading);
-    }
+sends interaction found IsHanded IsFit sent absorbed proving reading = record {
+  interaction = interaction;
+  admitted = Unit {0};
+  place = Sent;
+  Fits = λ v. holds_some IsFit (found v);
+  wire = λ v. when_some [] (λ x. (sent x).wire) (found v);
+  effect = λ v. effect_some None (λ x. giving no_challenge (sent x).effect) (found v);
+  absorbed = λ v. when_some Nothing absorbed (found v);
+  sides = sides_sent found IsHanded proving (RefusesToRead reading);
+}
 
 -- ---- proof of work
 
 abbrev pub works : {S Symbol F EF O : Type 0} → Work S Symbol F → Place → Type 0 → (F → List ℕ) →
     (F → Absorbed F O) → Sides S F EF → Play S Symbol F EF O
-works work place condition wire absorbed sides =
-    record {
-      interaction = work.interaction;
-      admitted = condition;
-      place = place;
-      Fits = λ v. holds_some (λ _. condition) (witness_in v);
-      wire = λ v. when_some [] wire (witness_in v);
-      effect = λ v. effect_some None (λ x. giving no_challenge (checking work x)) (witness_in v);
-      absorbed = λ v. when_some Nothing absorbed (witness_in v);
-      sides = sides;
-    }
+works work place condition wire absorbed sides = record {
+  interaction = work.interaction;
+  admitted = condition;
+  place = place;
+  Fits = λ v. holds_some (λ _. condition) (witness_in v);
+  wire = λ v. when_some [] wire (witness_in v);
+  effect = λ v. effect_some None (λ x. giving no_challenge (checking work x)) (witness_in v);
+  absorbed = λ v. when_some Nothing absorbed (witness_in v);
+  sides = sides;
+}
 
 -- a witness that the prover finds, and the proof carries
 abbrev pub sends_witness : {S Symbol F EF O : Type 0} → Work S Symbol F → Type 0 → Encoding F → (S → Type 0) →

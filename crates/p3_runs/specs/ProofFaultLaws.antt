@@ -1,14 +1,13 @@
 -- A verifier refuses a script for one fault.
-use Rattle.std.proofs.Common.{◌≡◌, ℕ, List, [], ◌++◌, Option, Some, None, refl, sym, ap, ◌∙◌, subst}
-use Rattle.std.proofs.Common.{append-nil, length}
+use Rattle.std.proofs.Common.{◌≡◌, ℕ, List, [], ◌++◌, Option, Some, None, refl, sym, ap, ◌∙◌, subst, append-nil, length}
 use Rattle.p3_fs_core.specs.{Errors.refusal_of, StepFits.FitsLength, declared.error.TranscriptError.TranscriptError}
 use Rattle.p3_fs_core.specs.declared.error.TranscriptError.TheVariants.{OutOfMemory}
 use Rattle.p3_driver_core.specs.Driving.{Driving}
-use Rattle.p3_runs.specs.{FaultLaws.{Stops, GoesPast, one-step, one-fault, end-refusal}, FrontLaws.next-admitted}
-use Rattle.p3_runs.specs.{Faults.{TellOneFault, ProofsTellOneFault}, Fronts.{Run, seed}, Plays.{Play, Place, Carried}}
-use Rattle.p3_runs.specs.{ReachLaws.{Reaches, one-front, passed-step}, Rules.Rules, Runs.AreAdmitted, Values.Value}
-use Rattle.p3_runs.specs.Stepping.{IsCarriedTo, OrHalts, one_witness, IsCanonical, IsTakenWherePossible, RefuseForOneReason}
-use Rattle.p3_runs.specs.Verdicts.{with_steps, driving_after, RefusesAtStep, RefusesAtEnd}
+use Rattle.p3_runs.specs.{ReachLaws.{Reaches, one-front, passed-step}, Faults.{TellOneFault, ProofsTellOneFault}}
+use Rattle.p3_runs.specs.{Rules.Rules, FaultLaws.{Stops, GoesPast, one-step, one-fault, end-refusal}, Runs.AreAdmitted}
+use Rattle.p3_runs.specs.{Plays.{Play, Place, Carried}, Values.Value, Stepping.{IsCarriedTo, OrHalts, one_witness}}
+use Rattle.p3_runs.specs.{Stepping.{IsCanonical, IsTakenWherePossible, RefuseForOneReason}, Fronts.{Run, seed}}
+use Rattle.p3_runs.specs.{Verdicts.{with_steps, driving_after, RefusesAtStep, RefusesAtEnd}, FrontLaws.next-admitted}
 use Rattle.p3_runs.specs.Runs as runs
 
 -- the witness that a caller carries to a step

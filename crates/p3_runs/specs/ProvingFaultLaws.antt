@@ -3,12 +3,11 @@ use Rattle.std.proofs.Common.{◌≡◌, ℕ, List, [], ◌++◌, refl, sym, ◌
 use Rattle.p3_fs_core.specs.{Errors.refusal_of, StepFits.FitsLength, declared.error.TranscriptError.TranscriptError}
 use Rattle.p3_fs_core.specs.declared.error.TranscriptError.TheVariants.{OutOfMemory}
 use Rattle.p3_driver_core.specs.Driving.{Driving}
-use Rattle.p3_runs.specs.{FaultLaws.{Stops, GoesPast, one-step, one-fault, end-refusal, end-read}, Fronts.{Run, seed}}
-use Rattle.p3_runs.specs.{Faults.{TellOneFault, ProvingsTellOneFault}, FrontLaws.next-admitted, Plays.Play, Rules.Rules}
-use Rattle.p3_runs.specs.{Provings.{RefusesToProveStep, RefusesToProveEnd}, Runs.{AreAdmitted, if_sent}, Values.Value}
-use Rattle.p3_runs.specs.RefusalLaws.{ReachesSent, one-sent, passed-sent, sent-split}
-use Rattle.p3_runs.specs.Stepping.{OrHalts, IsDetermined, IsSentWherePossible, RefuseForOneReason}
-use Rattle.p3_runs.specs.Verdicts.{with_steps, driving_after}
+use Rattle.p3_runs.specs.{Provings.{RefusesToProveStep, RefusesToProveEnd}, Faults.{ProvingsTellOneFault, TellOneFault}}
+use Rattle.p3_runs.specs.{Values.Value, RefusalLaws.{ReachesSent, passed-sent, sent-split, one-sent}, Runs.AreAdmitted}
+use Rattle.p3_runs.specs.{Runs.if_sent, Rules.Rules, Stepping.{IsSentWherePossible, RefuseForOneReason, IsDetermined}}
+use Rattle.p3_runs.specs.{Stepping.OrHalts, FaultLaws.{end-refusal, one-fault, GoesPast, one-step, end-read, Stops}}
+use Rattle.p3_runs.specs.{Verdicts.{driving_after, with_steps}, Plays.Play, FrontLaws.next-admitted, Fronts.{seed, Run}}
 use Rattle.p3_runs.specs.Runs as runs
 
 module _ {X S Symbol I F EF O Ac U D : Type 0} (rules : Rules S Symbol I F EF O Ac) (play : X → Play S Symbol F EF O)

@@ -1,16 +1,15 @@
 -- A prover that follows a script step by step.
-use Rattle.std.proofs.{Common.{◌≡◌, ◌≤◌, ◌+◌, ℕ, List, [], ◌∷◌, ◌++◌, Option, Some, None, refl}, Common.◌⊎◌}
-use Rattle.std.proofs.{Common.{sym, ap, ◌∙◌, append_assoc, append-nil, length, drop, add-one}, lemmas.List.drop_all}
+use Rattle.std.proofs.Common.{◌≡◌, ◌≤◌, ◌+◌, ℕ, List, [], ◌∷◌, ◌++◌, Option, Some, None, refl, ◌⊎◌, sym, ap, ◌∙◌}
+use Rattle.std.proofs.{Common.{append_assoc, append-nil, length, drop, add-one}, lemmas.List.drop_all}
 use Rattle.p3_fs_core.specs.{Errors.pattern_error_of, declared.error.TranscriptError.TranscriptError}
 use Rattle.p3_patterns.specs.Playing.{FaultOfPlayEnd, IsPatternError, IsPlayed}
 use Rattle.p3_driver_core.specs.Driving.{Driving}
-use Rattle.p3_runs.specs.FollowingLaws.{length-more, take_all, on-finished, on-stands, on-picked, on-wires, on-drawn}
-use Rattle.p3_runs.specs.{Fronts.{Run, IsFinished, AreLeast, pattern, seed, seeded}, Plays.{Play, Place, Sent, Carried}}
-use Rattle.p3_runs.specs.{ProverOutcomes.{IsProverOutcome, where_carried, StartsHanded}, Rules.Rules}
-use Rattle.p3_runs.specs.Provings.{FirstIs, AreHanded, RefusesToProveStep, RefusesToProveEnd}
-use Rattle.p3_runs.specs.{Runs.{if_sent, if_carried, if_witness, if_drawn}, RunLaws.{finished-matched, chosen-more}}
-use Rattle.p3_runs.specs.{Stepping.{SendsStep, Halts, one_of, one_witness, all_witnesses}, Values.{Value, Challenge}}
-use Rattle.p3_runs.specs.Verdicts.{with_steps, driving_after}
+use Rattle.p3_runs.specs.{RunLaws.{finished-matched, chosen-more}, Rules.Rules, Verdicts.{driving_after, with_steps}}
+use Rattle.p3_runs.specs.{Plays.{Carried, Place, Play, Sent}, Runs.{if_carried, if_witness, if_drawn, if_sent}}
+use Rattle.p3_runs.specs.{Stepping.{all_witnesses, one_witness, SendsStep, one_of, Halts}, Provings.RefusesToProveStep}
+use Rattle.p3_runs.specs.Provings.{RefusesToProveEnd, IsProverOutcome, where_carried, StartsHanded, AreHanded, FirstIs}
+use Rattle.p3_runs.specs.FollowingLaws.{length-more, on-finished, on-stands, on-picked, take_all, on-wires, on-drawn}
+use Rattle.p3_runs.specs.{Fronts.{IsFinished, AreLeast, pattern, seeded, seed, Run}, Values.{Challenge, Value}}
 use Rattle.p3_runs.specs.Runs as runs
 
 -- ---- lists

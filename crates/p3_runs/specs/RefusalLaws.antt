@@ -1,18 +1,17 @@
 -- Where a prover refuses a script for another reason than being out of memory, there is no run of it.
-use Rattle.std.proofs.{Common.{◌≡◌, ℕ, List, [], ◌∷◌, ◌++◌, inl, inr, refl}, lemmas.List.length-map}
-use Rattle.std.proofs.Common.{sym, ap, ◌∙◌, subst, append_assoc, append-nil, length, true, false}
+use Rattle.std.proofs.Common.{◌≡◌, ℕ, List, [], ◌∷◌, ◌++◌, inl, inr, refl, sym, ap, ◌∙◌, subst, append_assoc}
+use Rattle.std.proofs.{Common.{append-nil, length, true, false}, lemmas.List.length-map}
 use Rattle.p3_challenger_core.specs.declared.error.ChallengerError.TheVariants.{TooLong}
-use Rattle.p3_fs_core.specs.{Errors.pattern_error_of, StepFits.FitsLength}
-use Rattle.p3_fs_core.specs.declared.error.PatternError.TheVariants.{Finished, Unplayed}
-use Rattle.p3_fs_core.specs.declared.error.TranscriptError.{TranscriptError}
-use Rattle.p3_fs_core.specs.declared.error.TranscriptError.TheVariants.{Pattern, Challenger, OutOfMemory}
+use Rattle.p3_fs_core.specs.{Errors.pattern_error_of, declared.error.PatternError.TheVariants.{Finished, Unplayed}}
+use Rattle.p3_fs_core.specs.declared.error.TranscriptError.{TranscriptError, TheVariants.{Pattern, Challenger}}
+use Rattle.p3_fs_core.specs.{declared.error.TranscriptError.TheVariants.OutOfMemory, StepFits.FitsLength}
 use Rattle.p3_patterns.specs.Playing.{Playing, FaultOfPlayEnd, IsPatternError}
 use Rattle.p3_driver_core.specs.{Driving.{Driving, RefusesStart}, Transcripts.IsNext}
-use Rattle.p3_runs.specs.FrontLaws.{get-past, next-fits, next-admitted, no_values-left, front-fits, front-next}
-use Rattle.p3_runs.specs.{Fronts.{Run, IsFinished, AreLeast, seeded}, Plays.{Play, Place, Sent}, Rules.Rules}
-use Rattle.p3_runs.specs.{Provings.{IsProverRun, RefusesToProve, RefusesToProveStep}, Values.Value}
-use Rattle.p3_runs.specs.{Runs.{Finishes, AreChosen, if_sent}, Stepping.{OrHalts, IsDetermined, IsSentWherePossible}}
-use Rattle.p3_runs.specs.Verdicts.{with_steps, driving_after, playing_after}
+use Rattle.p3_runs.specs.FrontLaws.{no_values-left, next-admitted, front-fits, front-next, next-fits, get-past}
+use Rattle.p3_runs.specs.{Provings.{RefusesToProveStep, RefusesToProve, IsProverRun}, Values.Value}
+use Rattle.p3_runs.specs.{Stepping.{IsSentWherePossible, IsDetermined, OrHalts}, Rules.Rules, Plays.{Place, Play, Sent}}
+use Rattle.p3_runs.specs.{Runs.{AreChosen, Finishes, if_sent}, Fronts.{IsFinished, AreLeast, seeded, Run}}
+use Rattle.p3_runs.specs.Verdicts.{driving_after, playing_after, with_steps}
 use Rattle.p3_runs.specs.Runs as runs
 
 -- ---- the seed and the end

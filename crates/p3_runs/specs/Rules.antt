@@ -2,7 +2,7 @@
 use Rattle.std.specs.Prelude.{ℕ, List}
 use Rattle.p3_field_core.specs.Residues.{Residues}
 use Rattle.p3_challenger_core.specs.{Observation.Observation, Sampling.Sampling}
-use Rattle.p3_fs_core.specs.{Encoding.Encoding, Algebras.NamedAlgebra, Alphabet.Alphabet}
+use Rattle.p3_fs_core.specs.{Encoding.Encoding, Steps.NamedAlgebra, Alphabet.Alphabet}
 use Rattle.p3_driver_core.specs.Rejecting.{Rule}
 
 -- how the values of a type are named in steps, encoded, observed and drawn, and the coefficients of each

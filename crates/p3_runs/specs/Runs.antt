@@ -89,9 +89,8 @@ module _ {X S Symbol F EF O : Type 0} (play : X → Play S Symbol F EF O) where
   -- each witness passes
   abbrev pub Finishes : List X → List (Value F EF) → S → Type 0
   Finishes [] [] s = Unit {0}
-  Finishes (x ∷ steps) (v ∷ values) s =
-      (play x).Fits v × ((play x).effect v).fits × IsSome (((play x).effect v).gives s)
-      × Finishes steps values (((play x).effect v).after s)
+  Finishes (x ∷ steps) (v ∷ values) s = (play x).Fits v × ((play x).effect v).fits
+      × IsSome (((play x).effect v).gives s) × Finishes steps values (((play x).effect v).after s)
   Finishes _ _ s = ⊥
 
   -- each witness that a prover finds is the least one that passes there

@@ -33,15 +33,12 @@ holds_some P (Some x) = P x
 
 -- the step is refused, and the bytes of the proof stay as they are
 abbrev pub RefusesKept : {S Symbol A : Type 0} → Meaning S Symbol A → Refusing S
-RefusesKept m before e after =
-    RefusesStep m before.transcript e after.transcript × (after.bytes ≡ before.bytes)
+RefusesKept m before e after = RefusesStep m before.transcript e after.transcript × (after.bytes ≡ before.bytes)
 
 -- the same of a list that may not be so long, on the prover's side
 abbrev pub RefusesWithin : {S Symbol A : Type 0} → ℕ → ℕ → Meaning S Symbol A → Refusing S
-RefusesWithin len max m before e after =
-    (RefusesLongList len max before e after
-    ⊎ ((len ≤ max) × RefusesStep m before.transcript e after.transcript))
-    × (after.bytes ≡ before.bytes)
+RefusesWithin len max m before e after = (RefusesLongList len max before e after
+    ⊎ ((len ≤ max) × RefusesStep m before.transcript e after.transcript)) × (after.bytes ≡ before.bytes)
 
 -- and on the verifier's
 abbrev pub RefusesCarriedWithin : {S Symbol A : Type 0} → ℕ → ℕ → Meaning S Symbol A → Refusing S
@@ -50,8 +47,7 @@ RefusesCarriedWithin len max m before e after =
 
 -- the same of a list that has as many elements as the next step says
 abbrev pub RefusesAsRecorded : {S Symbol A : Type 0} → ℕ → Meaning S Symbol A → Refusing S
-RefusesAsRecorded len m before e after =
-    RefusesRecordedOrStep len m before e after × (after.bytes ≡ before.bytes)
+RefusesAsRecorded len m before e after = RefusesRecordedOrStep len m before e after × (after.bytes ≡ before.bytes)
 
 -- a prover does not write what is sent, where it may be so long
 abbrev pub RefusesToWriteWithin : {S Symbol A : Type 0} → ℕ → ℕ → Meaning S Symbol A → Refusing S
@@ -92,13 +88,12 @@ sides_known proving verifying =
 -- what the prover is handed and sends, and the verifier reads
 abbrev pub sides_sent : {S F EF A : Type 0} → (Value F EF → Option A) → (A → Type 0) → (A → Refusing S) → Refusing S →
     Sides S F EF
-sides_sent found IsHanded proving verifying =
-    record {
-      IsHanded = λ v. holds_some IsHanded (found v);
-      IsChosen = NoChoice;
-      prover = λ v. refuses_some proving (found v);
-      verifier = λ _. verifying;
-    }
+sides_sent found IsHanded proving verifying = record {
+  IsHanded = λ v. holds_some IsHanded (found v);
+  IsChosen = NoChoice;
+  prover = λ v. refuses_some proving (found v);
+  verifier = λ _. verifying;
+}
 
 -- the least witness that passes
 abbrev pub IsLeastWitness : {S Symbol F EF : Type 0} → Work S Symbol F → S → Value F EF → Type 0

@@ -95,5 +95,4 @@ module _ {X S Symbol I F EF O Ac U D : Type 0} (rules : Rules S Symbol I F EF O 
   abbrev pub RefusesProof : Run X F EF S U D → List ℕ → List F → ℕ → TranscriptError → Type 0
   RefusesProof script bytes carried position e =
       ((position ≡ 0) × RefusesStart (rules.alphabet.is_too_long (length (seed rules play script))) e)
-      ⊎ RefusesAtStep script bytes carried position e
-      ⊎ RefusesAtEnd script bytes carried position e
+      ⊎ RefusesAtStep script bytes carried position e ⊎ RefusesAtEnd script bytes carried position e

@@ -2,11 +2,11 @@
 use Rattle.std.proofs.Common.{◌≡◌, ℕ, ◌<◌, ◌≤◌, ◌^◌, List, [], ◌++◌, length, Option, Some, None, refl, sym, ap, ◌∙◌}
 use Rattle.std.{proofs.Common.{append_assoc, arith}, specs.List.flat_map}
 use Rattle.p3_challenger_core.specs.{Reading.IsPrefixCode, SymbolLaws.{row-prefix_code, as_many-prefix_code}}
-use Rattle.p3_fs_core.specs.{BigEndian.{big_endian, in_bytes}, BigEndianLaws.{big_endian-in_bytes, length-in_bytes}}
-use Rattle.p3_fs_core.specs.{CountLaws.count_width-enough, Counts.{count_width, count_bytes}, StepFits.FitsLength}
+use Rattle.p3_fs_core.specs.{BigEndian.{big_endian, in_bytes, count_width, count_bytes}, CountLaws.count_width-enough}
+use Rattle.p3_fs_core.specs.{BigEndianLaws.{big_endian-in_bytes, length-in_bytes}, StepFits.FitsLength}
 use Rattle.p3_runs.specs.{Plays.{Play, when_some}, Runs.if_carried, Rules.Rules, Sides.holds_some, Stepping.IsCanonical}
-use Rattle.p3_runs.specs.Values.{Value, Bytes, Scalar, Scalars, Extension, Witness, IsNothing}
-use Rattle.p3_runs.specs.Values.{bytes_in, scalar_in, scalars_in, extension_in, witness_in}
+use Rattle.p3_runs.specs.Values.{Value, Bytes, Scalar, Scalars, Extension, Witness, IsNothing, bytes_in, scalar_in}
+use Rattle.p3_runs.specs.Values.{scalars_in, extension_in, witness_in}
 use Rattle.p3_script.specs.Scripts.{play_of}
 use Rattle.p3_script.specs.declared.steps.Step as script
 use Rattle.p3_script.specs.declared.steps.Step.TheVariants as step

@@ -5,15 +5,14 @@ use Rattle.p3_field_core.specs.Residues.{IsResidues}
 use Rattle.p3_grinding.specs.Checks.{IsLeast}
 use Rattle.p3_fs_core.specs.{Encoding.Encoding, Steps.Step, declared.error.TranscriptError.TranscriptError}
 use Rattle.p3_fs_core.specs.declared.error.TranscriptError.TheVariants.{OutOfMemory}
-use Rattle.p3_driver_core.specs.{Driving.Driving, Effects.{Effect, untouched}, Proving.RefusesToWrite, Reads.Reading}
-use Rattle.p3_driver_core.specs.{TranscriptLaws.next-not_refused, Transcripts.{without_wire, step_on}}
-use Rattle.p3_driver_core.specs.Transcripts.{Meaning, Transcript, PlaysStep, RefusesStep, IsNext}
-use Rattle.p3_driver_core.specs.Working.{Work, RefusesToGrind, checking, where_passed}
-use Rattle.p3_step_laws.specs.{Completeness.{CompletesWork, CompletesCarriedWork}, Limits.TellsLimits}
-use Rattle.p3_step_laws.specs.{Memory.OnlyMemoryRefusesToRead, MemoryLaws.next-only_memory}
-use Rattle.p3_runs.specs.{Absorbed.Absorbed, Plays.no_challenge, Values.{Value, Challenge, Witness, IsNothing}}
-use Rattle.p3_runs.specs.Plays.{Play, only_if, known, known_with, known_within, sends, sends_witness, carries_witness}
-use Rattle.p3_runs.specs.{Sides.{Refusing, refuses_some, sides_known, RefusesToWriteWithin}, Values.witness_in}
+use Rattle.p3_driver_core.specs.{Reads.Reading, Working.{Work, RefusesToGrind, checking, where_passed}, Driving.Driving}
+use Rattle.p3_driver_core.specs.{TranscriptLaws.next-not_refused, Proving.RefusesToWrite, Effects.{Effect, untouched}}
+use Rattle.p3_driver_core.specs.Transcripts.{without_wire, step_on, Meaning, Transcript, PlaysStep, RefusesStep, IsNext}
+use Rattle.p3_step_laws.specs.{Completeness.{CompletesWork, CompletesCarriedWork}, MemoryLaws.next-only_memory}
+use Rattle.p3_step_laws.specs.OneReason.{TellsLimits, OnlyMemoryRefusesToRead}
+use Rattle.p3_runs.specs.{Absorbed.Absorbed, Values.{Value, Challenge, Witness, IsNothing, witness_in}}
+use Rattle.p3_runs.specs.Plays.{no_challenge, Play, only_if, known, known_with, known_within, sends, sends_witness}
+use Rattle.p3_runs.specs.{Plays.carries_witness, Sides.{Refusing, refuses_some, sides_known, RefusesToWriteWithin}}
 use Rattle.p3_runs.specs.Sides.{RefusesWithin, RefusesCarriedWithin, RefusesCarriedWork, RefusesToReadWork}
 use Rattle.p3_runs.specs.Stepping.{IsTakenWherePossible, IsSentWherePossible, CanTake, one_witness}
 use Rattle.p3_script.proofs.Canonical.{fitting}

@@ -1,16 +1,15 @@
 -- What the steps of a script mean, and what is sent, received and drawn at them, without the suite's types.
 use Rattle.std.specs.Prelude.{ℕ, ◌≤◌, List, [], ◌∷◌, map, Option, Some, None}
 use Rattle.p3_challenger_core.specs.Sampling.{Sampling}
-use Rattle.p3_fs_core.specs.{Algebras.algebra_step, Steps.{Step, marker_of}, declared.step.Hierarchy.Hierarchy}
+use Rattle.p3_fs_core.specs.{Steps.{algebra_step, Step, marker_of}, declared.step.Hierarchy.Hierarchy}
 use Rattle.p3_fs_core.specs.declared.step.{Hierarchy.TheVariants.{Begin, End}, Kind.Kind}
 use Rattle.p3_driver_core.specs.{Effects.{untouched, observing, drawing, drawing_list}, Proving.RefusesToWrite}
-use Rattle.p3_driver_core.specs.{Rejecting.drawing_rejecting, Working.{Work, work_of}}
 use Rattle.p3_driver_core.specs.Transcripts.{Meaning, bytes_step, opaque_step, bits_step, uniform_bits_step}
+use Rattle.p3_driver_core.specs.{Rejecting.drawing_rejecting, Working.{Work, work_of}}
 use Rattle.p3_runs.specs.{Absorbed.{Absorbed, Nothing, Bytes, Elements, Own, witness_of}, Rules.{Rules, Coding}}
-use Rattle.p3_runs.specs.Plays.{Play, known, known_with, known_within, sends, sends_witness, carries_witness}
-use Rattle.p3_runs.specs.Plays.{only_if, no_challenge, Any, HasLength, HasAtMost}
-use Rattle.p3_runs.specs.Sides.{RefusesKept, RefusesWithin, RefusesCarriedWithin, RefusesAsRecorded}
-use Rattle.p3_runs.specs.Sides.{RefusesToWriteWithin, sides_known}
+use Rattle.p3_runs.specs.Plays.{Play, known, known_with, known_within, sends, sends_witness, carries_witness, only_if}
+use Rattle.p3_runs.specs.{Plays.{no_challenge, Any, HasLength, HasAtMost}, Sides.{RefusesKept, RefusesWithin}}
+use Rattle.p3_runs.specs.Sides.{RefusesCarriedWithin, RefusesAsRecorded, RefusesToWriteWithin, sides_known}
 use Rattle.p3_runs.specs.Values.{Value, Challenge, IsNothing, bytes_in, scalar_in, scalars_in, extension_in}
 use Rattle.p3_script.specs.declared.steps.{Drawn.Drawn, Received.Received, Sent.Sent}
 use Rattle.std.specs.Prelude as list
@@ -57,17 +56,14 @@ module _ {S Symbol I F EF O Ac : Type 0} (rules : Rules S Symbol I F EF O Ac) wh
 
   -- the same of bytes that the challenger takes no part in
   abbrev pub hints : List ℕ → ℕ → Play S Symbol F EF O
-  hints label len =
-      sends (bytes_step kind.Hint label (lengths.Fixed len)) bytes_in (HasLength len) (HasLength len)
+  hints label len = sends (bytes_step kind.Hint label (lengths.Fixed len)) bytes_in (HasLength len) (HasLength len)
       (meaning.hinted label) (λ _. Nothing) (λ bytes. RefusesToWrite {Symbol = Symbol} (meaning.hinted label bytes))
       (reads.hint_received label len)
 
   abbrev pub hints_counted : List ℕ → ℕ → Play S Symbol F EF O
-  hints_counted label max =
-      sends (bytes_step kind.Hint label (lengths.Bounded max)) bytes_in Any (HasAtMost max)
+  hints_counted label max = sends (bytes_step kind.Hint label (lengths.Bounded max)) bytes_in Any (HasAtMost max)
       (meaning.hinted_bounded label max) (λ _. Nothing)
-      (λ bytes. RefusesToWriteWithin {Symbol = Symbol} (list.length bytes) max
-      (meaning.hinted_bounded label max bytes))
+      (λ bytes. RefusesToWriteWithin {Symbol = Symbol} (list.length bytes) max (meaning.hinted_bounded label max bytes))
       (reads.hint_received_bounded label max)
 
   -- ---- elements of an algebra, of which each is absorbed as its coefficients
@@ -80,9 +76,8 @@ module _ {S Symbol I F EF O Ac : Type 0} (rules : Rules S Symbol I F EF O Ac) wh
 
   -- both sides know one, or a list
   abbrev pub knows_one : {A : Type 0} → Coding S Symbol F A → Kind → List ℕ → A → Play S Symbol F EF O
-  knows_one coding kind label x =
-      known (algebra_step kind label coding.algebra lengths.Scalar) no_challenge (observing coding.observation x)
-      (element_absorbed coding x)
+  knows_one coding kind label x = known (algebra_step kind label coding.algebra lengths.Scalar) no_challenge
+      (observing coding.observation x) (element_absorbed coding x)
 
   abbrev pub list_known : {A : Type 0} → Coding S Symbol F A → Kind → List ℕ → List A → Meaning S Symbol (List A)
   list_known coding kind label xs =
@@ -100,11 +95,9 @@ module _ {S Symbol I F EF O Ac : Type 0} (rules : Rules S Symbol I F EF O Ac) wh
       (sides_known (RefusesKept m) (RefusesAsRecorded (list.length xs) m))
 
   -- a list of at most so many, after its count
-  abbrev pub counted_known : {A : Type 0} → Coding S Symbol F A → Kind → List ℕ → List A → ℕ →
-      Meaning S Symbol (List A)
-  counted_known coding kind label xs max =
-      meaning.observed_bounded (algebra_step kind label coding.algebra (lengths.Bounded max)) rules.alphabet max
-      coding.observation xs
+  abbrev pub counted_known : {A : Type 0} → Coding S Symbol F A → Kind → List ℕ → List A → ℕ → Meaning S Symbol (List A)
+  counted_known coding kind label xs max = meaning.observed_bounded
+      (algebra_step kind label coding.algebra (lengths.Bounded max)) rules.alphabet max coding.observation xs
 
   abbrev pub knows_counted : {A : Type 0} → Coding S Symbol F A → Kind → List ℕ → List A → ℕ → Play S Symbol F EF O
   knows_counted coding kind label xs max =
@@ -127,11 +120,9 @@ module _ {S Symbol I F EF O Ac : Type 0} (rules : Rules S Symbol I F EF O Ac) wh
 
   abbrev pub sends_list : {A : Type 0} → Coding S Symbol F A → (Value F EF → Option (List A)) → List ℕ → ℕ →
       Play S Symbol F EF O
-  sends_list coding found label n =
-      let step = algebra_step kind.Message label coding.algebra (lengths.Fixed n) in
+  sends_list coding found label n = let step = algebra_step kind.Message label coding.algebra (lengths.Fixed n) in
       sends step found (HasLength n) (HasLength n) (list_sent coding label) (elements_absorbed coding)
-      (λ xs. RefusesToWrite (list_sent coding label xs))
-      (reads.received_list step coding.observation coding.encoding n)
+      (λ xs. RefusesToWrite (list_sent coding label xs)) (reads.received_list step coding.observation coding.encoding n)
 
   abbrev pub sends_counted : {A : Type 0} → Coding S Symbol F A → (Value F EF → Option (List A)) → List ℕ → ℕ →
       Play S Symbol F EF O
@@ -147,28 +138,26 @@ module _ {S Symbol I F EF O Ac : Type 0} (rules : Rules S Symbol I F EF O Ac) wh
 
   -- through the codec, which has to be secure
   abbrev pub draws_one : {A : Type 0} → Coding S Symbol F A → (List A → Challenge F EF) → List ℕ → Play S Symbol F EF O
-  draws_one coding make label =
-      only_if rules.is_secure (known (algebra_step kind.Challenge label coding.algebra lengths.Scalar)
-      (λ x. Some (make (x ∷ []))) (drawing coding.sampling) Nothing)
+  draws_one coding make label = only_if rules.is_secure
+      (known (algebra_step kind.Challenge label coding.algebra lengths.Scalar) (λ x. Some (make (x ∷ [])))
+      (drawing coding.sampling) Nothing)
 
   abbrev pub draws_list : {A : Type 0} → Coding S Symbol F A → (List A → Challenge F EF) → List ℕ → ℕ →
       Play S Symbol F EF O
-  draws_list coding make label n =
-      only_if rules.is_secure (known (algebra_step kind.Challenge label coding.algebra (lengths.Fixed n))
-      (λ xs. Some (make xs)) (drawing_list coding.sampling n) Nothing)
+  draws_list coding make label n = only_if rules.is_secure
+      (known (algebra_step kind.Challenge label coding.algebra (lengths.Fixed n)) (λ xs. Some (make xs))
+      (drawing_list coding.sampling n) Nothing)
 
   -- elements that a rule takes
   abbrev pub draws_extensions_rejecting : List ℕ → ℕ → Ac → ℕ → Play S Symbol F EF O
-  draws_extensions_rejecting label n accept limit =
-      only_if (rules.is_secure × (1 ≤ limit))
+  draws_extensions_rejecting label n accept limit = only_if (rules.is_secure × (1 ≤ limit))
       (known (algebra_step kind.Challenge label rules.extension.algebra (lengths.Fixed n))
       (λ xs. Some (value.OfExtensions xs))
       (drawing_rejecting rules.extension.sampling (rules.accepts_extension accept) limit n) Nothing)
 
   -- numbers of some bits
   abbrev pub draws_bits : Step → Type 0 → (ℕ → Sampling S ℕ) → ℕ → ℕ → Play S Symbol F EF O
-  draws_bits interaction has d width n =
-      only_if (has × (width ≤ rules.bits.most))
+  draws_bits interaction has d width n = only_if (has × (width ≤ rules.bits.most))
       (known interaction (λ xs. Some (value.OfBits xs)) (drawing_list (d width) n) Nothing)
 
   abbrev pub draws_bits_rejecting : List ℕ → ℕ → ℕ → Ac → ℕ → Play S Symbol F EF O
@@ -180,8 +169,7 @@ module _ {S Symbol I F EF O Ac : Type 0} (rules : Rules S Symbol I F EF O Ac) wh
   -- ---- proof of work
 
   abbrev pub work_in : List ℕ → ℕ → Work S Symbol F
-  work_in label bits =
-      work_of (algebra_step kind.Pow label rules.scalar.algebra (lengths.Fixed bits)) rules.residues
+  work_in label bits = work_of (algebra_step kind.Pow label rules.scalar.algebra (lengths.Fixed bits)) rules.residues
       rules.grinding.before_witness rules.grinding.witness rules.bits.plain bits
 
   abbrev pub is_work : ℕ → Type 0
@@ -189,14 +177,13 @@ module _ {S Symbol I F EF O Ac : Type 0} (rules : Rules S Symbol I F EF O Ac) wh
 
   -- whose witness the proof carries, or the caller
   abbrev pub sends_work : List ℕ → ℕ → Play S Symbol F EF O
-  sends_work label bits =
-      only_if (is_work bits) (sends_witness (work_in label bits) rules.grinding.is_there rules.witness_encoding
-      rules.grinding.may_run_out (witness_of bits))
+  sends_work label bits = only_if (is_work bits)
+      (sends_witness (work_in label bits) rules.grinding.is_there rules.witness_encoding rules.grinding.may_run_out
+      (witness_of bits))
 
   abbrev pub carries_work : List ℕ → ℕ → Play S Symbol F EF O
-  carries_work label bits =
-      only_if (is_work bits) (carries_witness (work_in label bits) rules.grinding.is_there
-      rules.grinding.may_run_out (witness_of bits))
+  carries_work label bits = only_if (is_work bits)
+      (carries_witness (work_in label bits) rules.grinding.is_there rules.grinding.may_run_out (witness_of bits))
 
   -- ---- the steps of a script
 
@@ -224,8 +211,7 @@ module _ {S Symbol I F EF O Ac : Type 0} (rules : Rules S Symbol I F EF O Ac) wh
   play_of (step.ChallengeScalars label n) = draws_list rules.scalar value.OfScalars label.now n
   play_of (step.ChallengeExtension label) = draws_one rules.extension value.OfExtensions label.now
   play_of (step.ChallengeExtensions label n) = draws_list rules.extension value.OfExtensions label.now n
-  play_of (step.ChallengeExtensionsRejecting label n accept limit) =
-      draws_extensions_rejecting label.now n accept limit
+  play_of (step.ChallengeExtensionsRejecting label n accept limit) = draws_extensions_rejecting label.now n accept limit
   play_of (step.ChallengeBits label width n) =
       draws_bits (bits_step label.now width (lengths.Fixed n)) rules.bits.are_there rules.bits.plain width n
   play_of (step.ChallengeUniformBits label width n) =

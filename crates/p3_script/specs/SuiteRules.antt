@@ -1,6 +1,6 @@
 -- What the definitions of a script read of its suite, from the members of the suite's types.
 use Rattle.std.specs.Prelude.{ℕ, ◌≤◌, IsTrue, codes}
-use Rattle.p3_fs_core.specs.{Algebras.algebra_of, Alphabet.alphabet_of}
+use Rattle.p3_fs_core.specs.{Steps.algebra_of, Alphabet.alphabet_of}
 use Rattle.p3_runs.specs.{Absorbed.alone, Rules.{BitDraws, Grinding, Rules}}
 use Rattle.p3_challenger_core.specs.declared.challenger.CanObserve as observers
 use Rattle.p3_codecs.specs.Extension as extension
@@ -37,10 +37,9 @@ module _ {G C F S Symbol : Type 0} (group : groups.Ghosts G C F S Symbol) where
 
 -- the rules by which the steps of a suite's scripts mean something: how its scalars and its extension are coded, its
 -- alphabet, how opaque values are observed, what its rejecting draws take, its bits, its proofs of work, its hash function
-abbrev pub rules_of : {Cdc C S Symbol F EF U I O Ac G D : Type 0} → codecs.Ghosts Cdc C F S Symbol →
-    rings.Ghosts F → fields.Ghosts F → ℕ → identities.Ghosts F F → names.Ghosts F →
-    spaces.Ghosts EF F → identities.Ghosts EF F → names.Ghosts EF →
-    units.Ghosts U I → observers.Ghosts C I S Symbol → observers.Ghosts C O S Symbol → (O → Type 0) →
+abbrev pub rules_of : {Cdc C S Symbol F EF U I O Ac G D : Type 0} → codecs.Ghosts Cdc C F S Symbol → rings.Ghosts F →
+    fields.Ghosts F → ℕ → identities.Ghosts F F → names.Ghosts F → spaces.Ghosts EF F → identities.Ghosts EF F →
+    names.Ghosts EF → units.Ghosts U I → observers.Ghosts C I S Symbol → observers.Ghosts C O S Symbol → (O → Type 0) →
     accepting.Ghosts Ac EF → accepting.Ghosts Ac ℕ → groups.Ghosts G C F S Symbol → hashers.Ghosts D →
     Rules S Symbol I F EF O Ac
 rules_of base ring field degree identity name space extension_identity extension_name unit items opaque is_own

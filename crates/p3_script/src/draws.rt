@@ -1,12 +1,12 @@
 //! The steps that draw, as either side plays them.
 ghost use Rattle.std.specs.Prelude.{◌≡◌, ◌≤◌, [], ◌∷◌, IsTrue, IfErr, IfOk, OnOk};
-ghost use Rattle.p3_driver_core.specs.{Bound.{bound_value, bound_values}, Driving.KeepsOrRefuses};
-ghost use Rattle.p3_driver_core.specs.{Rejecting.drawn_rejecting, Transcripts.{bits_step, uniform_bits_step}};
+ghost use Rattle.p3_driver_core.specs.Bound.{bound_value, bound_values};
+ghost use Rattle.p3_driver_core.specs.{Rejecting.drawn_rejecting, Transcripts.uniform_bits_step};
 ghost use Rattle.p3_fs_core.specs.declared.step.{Kind.TheVariants.Challenge, Length.TheVariants.Fixed};
-ghost use Rattle.p3_drivers.specs.Drivers.{driving_of};
-ghost use Rattle.p3_runs.specs.{Stepping.Halts, Values.{OfScalars, OfExtensions}};
-ghost use Rattle.p3_script.specs.{Draws.DrawsOrRefuses, Scripts.draws_bits_rejecting};
-ghost use Rattle.p3_script.specs.Scripts.{challenge_of, draws_one, draws_list, draws_extensions_rejecting, draws_bits};
+ghost use Rattle.p3_drivers.specs.Drivers.{driving_of, Keeps};
+ghost use Rattle.p3_runs.specs.Stepping.{Halts};
+ghost use Rattle.p3_script.specs.Draws.{DrawsStep};
+ghost use Rattle.p3_script.specs.declared.steps.Step.TheVariants as step;
 
 use crate::accept::AcceptRule;
 use crate::groups::StepGroup;
@@ -27,8 +27,8 @@ pub fn unbound<T: Copy, C: Sponge, U, D: DigestHasher, P: Tape>(
     bounds: Vec<TranscriptBound<T>>,
 ) -> Result<Vec<T>, TranscriptError>
     ensures ok { IfOk result (λ values. values.items ≡ bound_values bounds) }
-    ensures same { OnOk result (driving_of C.state P.bytes driver.new ≡ driving_of C.state P.bytes
-        driver.old) }
+    ensures same { OnOk result
+        (driving_of C.state P.bytes driver.new ≡ driving_of C.state P.bytes driver.old) }
     ensures err { IfErr result (λ e. Halts (driving_of C.state P.bytes driver.old) e
         (driving_of C.state P.bytes driver.new)) }
 {
@@ -63,8 +63,8 @@ fn unbound_one<T: Copy + Drop, C: Sponge, U, D: DigestHasher, P: Tape>(
     bound: TranscriptBound<T>,
 ) -> Result<Vec<T>, TranscriptError>
     ensures ok { IfOk result (λ values. values.items ≡ bound_value bound ∷ []) }
-    ensures same { OnOk result (driving_of C.state P.bytes driver.new ≡ driving_of C.state P.bytes
-        driver.old) }
+    ensures same { OnOk result
+        (driving_of C.state P.bytes driver.new ≡ driving_of C.state P.bytes driver.old) }
     ensures err { IfErr result (λ e. Halts (driving_of C.state P.bytes driver.old) e
         (driving_of C.state P.bytes driver.new)) }
 {
@@ -87,10 +87,8 @@ pub fn draw_scalar<S: Suite, P: Tape>(
     label: Label,
 ) -> Result<Drawn<S>, TranscriptError>
     requires { 128 ≤ S.Codec.SECURITY_BITS }
-    ensures { let rules = ⟦<S as Meaning>⟧.rules S.Field.DIMENSION in
-        DrawsOrRefuses (draws_one rules rules.scalar OfScalars label.now)
-        (driving_of S.Challenger.state P.bytes driver.old) challenge_of result
-        (driving_of S.Challenger.state P.bytes driver.new) }
+    ensures { DrawsStep (⟦<S as Meaning>⟧.rules S.Field.DIMENSION) S.Challenger.state P.bytes
+        (step.ChallengeScalar label.entry) driver.old result driver.new }
 {
     let drawn = driver.challenge_scalar::<S::Field, S::Codec>(label)?;
     let values = unbound_one(alloc, driver, drawn)?;
@@ -105,10 +103,8 @@ pub fn draw_scalars<S: Suite, P: Tape>(
     n: usize,
 ) -> Result<Drawn<S>, TranscriptError>
     requires { 128 ≤ S.Codec.SECURITY_BITS }
-    ensures { let rules = ⟦<S as Meaning>⟧.rules S.Field.DIMENSION in
-        DrawsOrRefuses (draws_list rules rules.scalar OfScalars label.now n)
-        (driving_of S.Challenger.state P.bytes driver.old) challenge_of result
-        (driving_of S.Challenger.state P.bytes driver.new) }
+    ensures { DrawsStep (⟦<S as Meaning>⟧.rules S.Field.DIMENSION) S.Challenger.state P.bytes
+        (step.ChallengeScalars label.entry n) driver.old result driver.new }
 {
     let drawn = driver.challenge_scalars::<S::Field, S::Codec>(label, n)?;
     let values = unbound(alloc, driver, drawn)?;
@@ -122,10 +118,8 @@ pub fn draw_extension<S: Suite, P: Tape>(
     label: Label,
 ) -> Result<Drawn<S>, TranscriptError>
     requires { 128 ≤ S.Codec.SECURITY_BITS }
-    ensures { let rules = ⟦<S as Meaning>⟧.rules S.Field.DIMENSION in
-        DrawsOrRefuses (draws_one rules rules.extension OfExtensions label.now)
-        (driving_of S.Challenger.state P.bytes driver.old) challenge_of result
-        (driving_of S.Challenger.state P.bytes driver.new) }
+    ensures { DrawsStep (⟦<S as Meaning>⟧.rules S.Field.DIMENSION) S.Challenger.state P.bytes
+        (step.ChallengeExtension label.entry) driver.old result driver.new }
 {
     let drawn = driver.challenge_extension::<S::Field, S::Extension, S::Codec>(label)?;
     let values = unbound_one(alloc, driver, drawn)?;
@@ -140,10 +134,8 @@ pub fn draw_extensions<S: Suite, P: Tape>(
     n: usize,
 ) -> Result<Drawn<S>, TranscriptError>
     requires { 128 ≤ S.Codec.SECURITY_BITS }
-    ensures { let rules = ⟦<S as Meaning>⟧.rules S.Field.DIMENSION in
-        DrawsOrRefuses (draws_list rules rules.extension OfExtensions label.now n)
-        (driving_of S.Challenger.state P.bytes driver.old) challenge_of result
-        (driving_of S.Challenger.state P.bytes driver.new) }
+    ensures { DrawsStep (⟦<S as Meaning>⟧.rules S.Field.DIMENSION) S.Challenger.state P.bytes
+        (step.ChallengeExtensions label.entry n) driver.old result driver.new }
 {
     let drawn = driver.challenge_extensions::<S::Field, S::Extension, S::Codec>(label, n)?;
     let values = unbound(alloc, driver, drawn)?;
@@ -160,10 +152,9 @@ pub fn draw_extensions_rejecting<S: Suite, P: Tape>(
     limit: u64,
 ) -> Result<Drawn<S>, TranscriptError>
     requires { 128 ≤ S.Codec.SECURITY_BITS }
-    ensures { let rules = ⟦<S as Meaning>⟧.rules S.Field.DIMENSION in
-        DrawsOrRefuses (draws_extensions_rejecting rules label.now n accept.now limit)
-        (driving_of S.Challenger.state P.bytes driver.old) challenge_of result
-        (driving_of S.Challenger.state P.bytes driver.new) }
+    ensures { DrawsStep (⟦<S as Meaning>⟧.rules S.Field.DIMENSION) S.Challenger.state P.bytes
+        (step.ChallengeExtensionsRejecting label.entry n accept.now limit) driver.old result
+        driver.new }
 {
     let drawn = accepted_extensions::<S, S::Accept, P>(driver, label, n, accept, limit)?;
     let values = unbound(alloc, driver, drawn)?;
@@ -180,11 +171,8 @@ pub fn draw_bits<S: Suite, P: Tape>(
 ) -> Result<Drawn<S>, TranscriptError>
     requires has { IsTrue S.Group.HAS_POW }
     requires within { width ≤ S.Group.most_bits }
-    ensures { let rules = ⟦<S as Meaning>⟧.rules S.Field.DIMENSION in
-        DrawsOrRefuses (draws_bits rules (bits_step label.now width (Fixed n)) rules.bits.are_there
-        rules.bits.plain width n)
-        (driving_of S.Challenger.state P.bytes driver.old) challenge_of result
-        (driving_of S.Challenger.state P.bytes driver.new) }
+    ensures { DrawsStep (⟦<S as Meaning>⟧.rules S.Field.DIMENSION) S.Challenger.state P.bytes
+        (step.ChallengeBits label.entry width n) driver.old result driver.new }
 {
     let drawn = S::Group::challenge_bits(driver, label, width, n)?;
     let values = unbound(alloc, driver, drawn)?;
@@ -201,11 +189,8 @@ pub fn draw_uniform_bits<S: Suite, P: Tape>(
 ) -> Result<Drawn<S>, TranscriptError>
     requires has { IsTrue S.Group.HAS_UNIFORM }
     requires within { width ≤ S.Group.most_bits }
-    ensures { let rules = ⟦<S as Meaning>⟧.rules S.Field.DIMENSION in
-        DrawsOrRefuses (draws_bits rules (uniform_bits_step label.now width (Fixed n))
-        rules.bits.are_uniform rules.bits.uniform width n)
-        (driving_of S.Challenger.state P.bytes driver.old) challenge_of result
-        (driving_of S.Challenger.state P.bytes driver.new) }
+    ensures { DrawsStep (⟦<S as Meaning>⟧.rules S.Field.DIMENSION) S.Challenger.state P.bytes
+        (step.ChallengeUniformBits label.entry width n) driver.old result driver.new }
 {
     let drawn = S::Group::challenge_uniform_bits(driver, label, width, n)?;
     let values = unbound(alloc, driver, drawn)?;
@@ -224,10 +209,9 @@ pub fn draw_uniform_bits_rejecting<S: Suite, P: Tape>(
 ) -> Result<Drawn<S>, TranscriptError>
     requires has { IsTrue S.Group.HAS_UNIFORM }
     requires within { width ≤ S.Group.most_bits }
-    ensures { let rules = ⟦<S as Meaning>⟧.rules S.Field.DIMENSION in
-        DrawsOrRefuses (draws_bits_rejecting rules label.now width n accept.now limit)
-        (driving_of S.Challenger.state P.bytes driver.old) challenge_of result
-        (driving_of S.Challenger.state P.bytes driver.new) }
+    ensures { DrawsStep (⟦<S as Meaning>⟧.rules S.Field.DIMENSION) S.Challenger.state P.bytes
+        (step.ChallengeUniformBitsRejecting label.entry width n accept.now limit) driver.old result
+        driver.new }
 {
     let drawn = accepted_bits::<S, S::Accept, P>(driver, label, width, n, accept, limit)?;
     let values = unbound(alloc, driver, drawn)?;
@@ -244,11 +228,9 @@ fn accepted_extensions<S: Suite, A: AcceptRule<S::Extension>, P: Tape>(
 ) -> Result<Vec<TranscriptBound<S::Extension>>, TranscriptError>
     requires { 128 ≤ S.Codec.SECURITY_BITS }
     ensures { let codec = ⟦<ExtensionFieldCodec<S::Field, S::Extension, S::Codec> as Codec<S::Challenger, S::Extension>>⟧ in
-        KeepsOrRefuses (drawn_rejecting {Symbol = S.Challenger.Symbol}
+        Keeps S.Challenger.state P.bytes (drawn_rejecting {Symbol = S.Challenger.Symbol}
         (⟦<S::Extension as Declared<S::Field, S::Digest>>⟧.step Challenge label.now (Fixed n))
-        codec.sampling (A.rule accept.now) limit n)
-        (driving_of S.Challenger.state P.bytes driver.old) bound_values result
-        (driving_of S.Challenger.state P.bytes driver.new) }
+        codec.sampling (A.rule accept.now) limit n) driver.old bound_values result driver.new }
 {
     let asked = |candidate: &S::Extension, kept: &[S::Extension]| -> bool
         ensures { result ≡ A.rule accept.entry.now candidate.now kept.now }
@@ -269,11 +251,9 @@ fn accepted_bits<S: Suite, A: AcceptRule<usize>, P: Tape>(
 ) -> Result<Vec<TranscriptBound<usize>>, TranscriptError>
     requires has { IsTrue S.Group.HAS_UNIFORM }
     requires within { width ≤ S.Group.most_bits }
-    ensures { KeepsOrRefuses (drawn_rejecting {Symbol = S.Challenger.Symbol}
+    ensures { Keeps S.Challenger.state P.bytes (drawn_rejecting {Symbol = S.Challenger.Symbol}
         (uniform_bits_step label.now width (Fixed n)) (S.Group.uniform_draws width)
-        (A.rule accept.now) limit n)
-        (driving_of S.Challenger.state P.bytes driver.old) bound_values result
-        (driving_of S.Challenger.state P.bytes driver.new) }
+        (A.rule accept.now) limit n) driver.old bound_values result driver.new }
 {
     let asked = |candidate: usize, kept: &[usize]| -> bool
         ensures { result ≡ A.rule accept.entry.now candidate kept.now }

@@ -1,18 +1,17 @@
 //! The groups of steps that a challenger may have beside the plain ones: bits and proofs of work, and uniform bits.
 ghost use Rattle.std.specs.Prelude.{◌≡◌, ◌≤◌, ℕ, Bool, IsTrue, IsErr};
 ghost use Rattle.p3_challenger_core.specs.{Observation.Observation, Reading.IsPrefixFree, Sampling.Sampling};
-ghost use Rattle.p3_driver_core.specs.{Bound.bound_values, Driving.KeepsOrRefuses, Effects.drawing_list};
-ghost use Rattle.p3_driver_core.specs.Meanings as meaning;
+ghost use Rattle.p3_driver_core.specs.{Verifying.{ChecksAndKeeps, ReceivesWork}, Effects.drawing_list};
+ghost use Rattle.p3_driver_core.specs.Working.{RefusesToCheck, RefusesToGrind, sent_work, work_of};
+ghost use Rattle.p3_driver_core.specs.{Bound.bound_values, Transcripts.{uniform_bits_step, PlaysOrRefuses, bits_step}};
+ghost use Rattle.p3_driver_core.specs.Rejecting.{drawing_rejecting, ComputesOfValues, drawn_rejecting, Rule};
 ghost use Rattle.p3_driver_core.specs.{Proving.{GrindsAndWrites, GrindsAndKeeps}, Reads.received_work};
-ghost use Rattle.p3_driver_core.specs.Rejecting.{Rule, ComputesOfValues, drawn_rejecting, drawing_rejecting};
-ghost use Rattle.p3_driver_core.specs.Transcripts.{PlaysOrRefuses, RefusesStep, bits_step, uniform_bits_step};
-ghost use Rattle.p3_driver_core.specs.Verifying.{ReceivesWork, ChecksAndKeeps};
-ghost use Rattle.p3_driver_core.specs.Working.{work_of, sent_work, RefusesToCheck, RefusesToGrind};
-ghost use Rattle.p3_drivers.specs.Drivers.{driving_of, proving_of, verifying_of};
+ghost use Rattle.p3_drivers.specs.Drivers.{driving_of, proving_of, verifying_of, Keeps};
 ghost use Rattle.p3_fs_core.specs.{Scalar.encoding, Steps.Step};
-ghost use Rattle.p3_step_laws.specs.{Completeness.{CompletesWork, CompletesCarriedWork}, Limits.TellsLimits};
-ghost use Rattle.p3_step_laws.specs.{OneReason.TellOneReason, Encoded.{OnlyReads, AnyValue}};
+ghost use Rattle.p3_step_laws.specs.{Completeness.{CompletesWork, CompletesCarriedWork}, ReadBack.OnlyReads};
+ghost use Rattle.p3_step_laws.specs.{ReadBack.AnyValue, OneReason.{TellsLimits, TellOneReason, HasOneReason}};
 ghost use Rattle.p3_runs.specs.Sides.{RefusesToReadWork};
+ghost use Rattle.p3_driver_core.specs.Meanings as meaning;
 
 mod all_steps;
 mod bits_and_work;
@@ -69,10 +68,9 @@ pub trait StepGroup<C: Sponge, F: ScalarField> {
     ) -> Result<Vec<TranscriptBound<usize>>, TranscriptError>
         requires has { IsTrue HAS_POW }
         requires within { width ≤ most_bits }
-        ensures { KeepsOrRefuses (meaning.drawn_list {Symbol = C.Symbol}
+        ensures { Keeps C.state P.bytes (meaning.drawn_list {Symbol = C.Symbol}
             (bits_step label.now width (Length.Fixed n)) (bit_draws width) n)
-            (driving_of C.state P.bytes driver.old) bound_values result (driving_of C.state P.bytes
-            driver.new) };
+            driver.old bound_values result driver.new };
 
     /// Draws `n` numbers of `width` uniform bits, on either side.
     ///
@@ -85,10 +83,9 @@ pub trait StepGroup<C: Sponge, F: ScalarField> {
     ) -> Result<Vec<TranscriptBound<usize>>, TranscriptError>
         requires has { IsTrue HAS_UNIFORM }
         requires within { width ≤ most_bits }
-        ensures { KeepsOrRefuses (meaning.drawn_list {Symbol = C.Symbol}
+        ensures { Keeps C.state P.bytes (meaning.drawn_list {Symbol = C.Symbol}
             (uniform_bits_step label.now width (Length.Fixed n)) (uniform_draws width) n)
-            (driving_of C.state P.bytes driver.old) bound_values result (driving_of C.state P.bytes
-            driver.new) };
+            driver.old bound_values result driver.new };
 
     /// Draws numbers of `width` uniform bits until the rule has taken `n`, on either side.
     ///
@@ -201,19 +198,16 @@ pub trait StepGroup<C: Sponge, F: ScalarField> {
     /// being out of memory, say the same. A law: the body calls laws alone.
     fn steps_are_refused_for_one_reason()
         ensures bits { IsTrue HAS_POW → (step : Step) (width n : ℕ) →
-            TellOneReason (RefusesStep {Symbol = C.Symbol}
-            (meaning.drawn_list step (bit_draws width) n)) }
+            HasOneReason {Symbol = C.Symbol} (meaning.drawn_list step (bit_draws width) n) }
         ensures uniform { IsTrue HAS_UNIFORM → (step : Step) (width n : ℕ) →
-            TellOneReason (RefusesStep {Symbol = C.Symbol}
-            (meaning.drawn_list step (uniform_draws width) n)) }
+            HasOneReason {Symbol = C.Symbol} (meaning.drawn_list step (uniform_draws width) n) }
         ensures rejecting { IsTrue HAS_UNIFORM →
-            (step : Step) (width : ℕ) (rule : Rule ℕ) (limit n : ℕ) →
-            TellOneReason (RefusesStep {Symbol = C.Symbol}
-            (drawn_rejecting step (uniform_draws width) rule limit n)) }
+            (step : Step) (width : ℕ) (rule : Rule ℕ) (limit n : ℕ) → HasOneReason
+            {Symbol = C.Symbol} (drawn_rejecting step (uniform_draws width) rule limit n) }
         ensures ground { IsTrue HAS_POW → (step : Step) (bits : ℕ) → TellOneReason (RefusesToGrind
             (work_of step F.residues before_witness witness bit_draws bits) may_run_out) }
-        ensures read { IsTrue HAS_POW → (step : Step) (bits : ℕ) → TellOneReason (RefusesToReadWork
-            (work_of step F.residues before_witness witness bit_draws bits)
+        ensures read { IsTrue HAS_POW → (step : Step) (bits : ℕ) → TellOneReason
+            (RefusesToReadWork (work_of step F.residues before_witness witness bit_draws bits)
             (encoding F.residues F.bit_length)) }
         ensures carried { IsTrue HAS_POW → (step : Step) (bits : ℕ) (x : F) → TellOneReason
             (RefusesToCheck (work_of step F.residues before_witness witness bit_draws bits) x) };

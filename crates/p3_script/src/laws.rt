@@ -19,18 +19,14 @@ use p3_step_laws::{
 ///
 /// A law: the body calls laws alone, and a caller cites the clauses. Not in the Rust crate.
 pub fn script_steps_are_lawful<S: Suite>()
-    ensures canonical { let rules = ⟦<S as Meaning>⟧.rules S.Field.DIMENSION in
-        AreAllCanonical S S.Unit S.Challenger S.Codec S.Digest S.Group
-        S.Unit.Item S.Challenger.State S.Challenger.Symbol rules }
-    ensures determined { let rules = ⟦<S as Meaning>⟧.rules S.Field.DIMENSION in
-        AreAllDetermined S S.Unit S.Challenger S.Codec S.Digest S.Group
-        S.Unit.Item S.Challenger.State S.Challenger.Symbol rules }
-    ensures taken { let rules = ⟦<S as Meaning>⟧.rules S.Field.DIMENSION in
-        AreTakenWherePossible S S.Unit S.Challenger S.Codec S.Digest S.Group
-        S.Unit.Item S.Challenger.State S.Challenger.Symbol rules }
-    ensures sent { let rules = ⟦<S as Meaning>⟧.rules S.Field.DIMENSION in
-        AreSentWherePossible S S.Unit S.Challenger S.Codec S.Digest S.Group
-        S.Unit.Item S.Challenger.State S.Challenger.Symbol rules }
+    ensures canonical { AreAllCanonical S S.Unit S.Challenger S.Codec S.Digest S.Group S.Unit.Item
+        S.Challenger.State S.Challenger.Symbol (⟦<S as Meaning>⟧.rules S.Field.DIMENSION) }
+    ensures determined { AreAllDetermined S S.Unit S.Challenger S.Codec S.Digest S.Group S.Unit.Item
+        S.Challenger.State S.Challenger.Symbol (⟦<S as Meaning>⟧.rules S.Field.DIMENSION) }
+    ensures taken { AreTakenWherePossible S S.Unit S.Challenger S.Codec S.Digest S.Group S.Unit.Item
+        S.Challenger.State S.Challenger.Symbol (⟦<S as Meaning>⟧.rules S.Field.DIMENSION) }
+    ensures sent { AreSentWherePossible S S.Unit S.Challenger S.Codec S.Digest S.Group S.Unit.Item
+        S.Challenger.State S.Challenger.Symbol (⟦<S as Meaning>⟧.rules S.Field.DIMENSION) }
 {
     values_are_a_code::<
         S::Extension,

@@ -19,9 +19,8 @@ use p3_step_laws::{
 ///
 /// A law: the body calls laws alone, and a caller cites the clause. Not in the Rust crate.
 pub fn script_steps_are_refused_for_one_reason<S: Suite>()
-    ensures { let rules = ⟦<S as Meaning>⟧.rules S.Field.DIMENSION in
-        AreRefusedForOneReason S S.Unit S.Challenger S.Codec S.Digest S.Group
-        S.Unit.Item S.Challenger.State S.Challenger.Symbol rules }
+    ensures { AreRefusedForOneReason S S.Unit S.Challenger S.Codec S.Digest S.Group S.Unit.Item
+        S.Challenger.State S.Challenger.Symbol (⟦<S as Meaning>⟧.rules S.Field.DIMENSION) }
 {
     markers_are_refused_for_one_reason::<S::Challenger>();
     values_are_refused_for_one_reason::<S::Field, S::Unit, S::Challenger, S::Codec>();

@@ -20,8 +20,7 @@ pub enum Standing {
 
 /// Where the value of the step stands. Not in the Rust crate.
 pub fn standing_of<S: Suite>(step: &Step<S>) -> Standing
-    ensures { let rules = ⟦<S as Meaning>⟧.rules S.Field.DIMENSION in
-        StandsSo (play_of rules step.now) result }
+    ensures { StandsSo (play_of (⟦<S as Meaning>⟧.rules S.Field.DIMENSION) step.now) result }
 {
     match step {
         Step::Begin { .. } => Standing::Nowhere,

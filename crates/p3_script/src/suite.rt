@@ -59,9 +59,8 @@ pub trait Meaning: Suite {
 }
 
 impl<S: Suite> Meaning for S {
-    ghost rules = { λ degree. rules_of S.Codec.Codec
-        S.Field.PrimeCharacteristicRing.own S.Field.Field.own degree S.Field.AlgebraIdentity.own
-        S.Field.Named
+    ghost rules = { λ degree. rules_of S.Codec.Codec S.Field.PrimeCharacteristicRing.own
+        S.Field.Field.own degree S.Field.AlgebraIdentity.own S.Field.Named
         S.Extension.BasedVectorSpace.own S.Extension.AlgebraIdentity.own S.Extension.Named
         S.Unit.Unit S.Challenger.CanObserve-1.own S.Challenger.CanObserve-2.own S.is_own
         S.Accept.AcceptRule-1 S.Accept.AcceptRule-2 S.Group.StepGroup S.Digest.DigestHasher };

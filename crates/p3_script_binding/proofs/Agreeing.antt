@@ -1,13 +1,12 @@
 -- Answers of runs that feed the same symbols.
 use Rattle.std.proofs.Common.{◌≡◌, ℕ, List, inl, inr, refl, sym, ◌∙◌, subst}
 use Rattle.p3_challenger_core.specs.Reading.{AreBytes}
-use Rattle.p3_binding.specs.{Binding.{AreHeld, AreBound}, Hints.ReceivedButHints}
-use Rattle.p3_binding.specs.ScriptBinding.{ScriptSymbolsBind, ScriptHintsDoNotInfluence}
+use Rattle.p3_binding.specs.Binding.{AreHeld, AreBound, ScriptSymbolsBind, ScriptHintsDoNotInfluence}
+use Rattle.p3_binding.specs.Hints.{ReceivedButHints}
 use Rattle.p3_runs.specs.{Fronts.{Run, IsFinished, absorbed, seeded}, Rules.Rules, Values.Value, Verdicts.with_steps}
 use Rattle.p3_script.specs.Scripts.{play_of, values_received}
 use Rattle.p3_script_binding.specs.AnswersBound.{EqualSymbolsHaveEqualValues, VerifiedFrontsBind, ProvedFrontsBind}
-use Rattle.p3_script_binding.{specs.RunsBound.HoldsProof, proofs.Fronts.fronts-feed}
-use Rattle.p3_script_binding.proofs.Held.{steps-held, step-held}
+use Rattle.p3_script_binding.{specs.AnswersBound.HoldsProof, proofs.{Fronts.fronts-feed, Held.{steps-held, step-held}}}
 use Rattle.p3_script_binding.proofs.Telling.{AreTold, steps-tell, step-tells, received-same}
 use Rattle.p3_runs.specs.Runs as runs
 use Rattle.p3_script.specs.declared.steps.Step as script

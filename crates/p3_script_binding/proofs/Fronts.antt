@@ -4,7 +4,7 @@ use Rattle.std.proofs.lemmas.List.{length-take-le, take-map}
 use Rattle.p3_binding.specs.Binding.{AreHeld, FeedTheSame}
 use Rattle.p3_runs.specs.{Fronts.{Run, IsFinished, IsWhole, pattern, seeded}, Plays.Play, Rules.Rules, Values.Value}
 use Rattle.p3_runs.specs.Runs.{Finishes, absorbed}
-use Rattle.p3_script_binding.specs.RunsBound.{front_of, FeedTheSameUpTo}
+use Rattle.p3_script_binding.specs.AnswersBound.{front_of, FeedTheSameUpTo}
 use Rattle.p3_runs.specs.Fronts as fronts
 
 module _ {X S Symbol F EF O : Type 0} (play : X → Play S Symbol F EF O) where

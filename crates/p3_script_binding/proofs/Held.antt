@@ -1,11 +1,11 @@
 -- What a run absorbs a program can hold, where it can hold the script and the proof.
-use Rattle.std.proofs.{Common.{ℕ, zero, suc, List, [], ◌∷◌, ◌++◌, lit<}, Common.length}
+use Rattle.std.proofs.Common.{ℕ, zero, suc, List, [], ◌∷◌, ◌++◌, lit<, length}
 use Rattle.p3_challenger_core.specs.Reading.{AreBytes}
-use Rattle.p3_fs_core.specs.Counts.{count_bytes}
+use Rattle.p3_fs_core.specs.BigEndian.{count_bytes}
 use Rattle.p3_binding.specs.Binding.{IsHeld, AreHeld}
 use Rattle.p3_runs.specs.{Plays.Play, Rules.Rules, Runs.{Finishes, wires, absorbed}, Values.Value}
 use Rattle.p3_script.specs.Scripts.{play_of}
-use Rattle.p3_script_binding.specs.RunsBound.{AreOwn}
+use Rattle.p3_script_binding.specs.AnswersBound.{AreOwn}
 use Rattle.p3_runs.specs.Values as value
 use Rattle.p3_script.specs.declared.steps.Step as script
 use Rattle.p3_script.specs.declared.steps.Step.TheVariants as step

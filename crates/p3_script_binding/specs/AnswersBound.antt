@@ -1,12 +1,31 @@
--- What the symbols of two runs say of what a verifier, or a prover, answered for them.
-use Rattle.std.specs.Prelude.{◌≡◌, ℕ, List}
-use Rattle.p3_binding.specs.{Binding.AreBound, Hints.ReceivedButHints}
-use Rattle.p3_runs.specs.{Fronts.{Run, symbols}, Rules.Rules, Values.Value, Verdicts.with_steps}
+-- Fronts of runs that feed the same, and what the symbols of two runs say of what a verifier, or a prover, answered.
+use Rattle.std.specs.{Prelude.{◌≡◌, ℕ, List, ◌≤◌, length, take}, List.AllByRecursion}
+use Rattle.p3_binding.specs.{Binding.{AreBound, IsHeld}, Hints.ReceivedButHints}
+use Rattle.p3_runs.specs.{Fronts.{Run, symbols}, Rules.Rules, Values.{Value, Nothing}, Verdicts.with_steps, Plays.Play}
 use Rattle.p3_script.specs.Scripts.{play_of, values_received, challenges_of}
-use Rattle.p3_script_binding.specs.RunsBound.{HoldsProof, FeedTheSameUpTo, front_of}
 use Rattle.p3_script_prover.specs.{ProverAnswers.IsProvedScript, declared.proving.Proved.Proved}
 use Rattle.p3_script_verifier.specs.{VerifierAnswers.IsVerifiedScript, declared.verifying.Verified.Verified}
+use Rattle.p3_challenger_core.specs.Reading.{AreBytes}
 use Rattle.p3_script.specs.declared.steps.Step as script
+
+-- the front of the first n steps
+abbrev pub front_of : {X F EF S U D : Type 0} → ℕ → Run X F EF S U D → Run X F EF S U D
+front_of n run = record run { steps = take n run.steps; values = take n run.values }
+
+module _ {X S Symbol I F EF O Ac : Type 0} (rules : Rules S Symbol I F EF O Ac) (play : X → Play S Symbol F EF O) where
+  -- what the steps say of themselves a program can hold: so it is where each opaque value is one of its type
+  abbrev pub AreOwn : List X → Type 0
+  AreOwn steps = AllByRecursion (λ x. IsHeld rules.IsOwn ((play x).absorbed Nothing)) steps
+
+  -- a program can hold a script and a proof of it
+  pub record HoldsProof (steps : List X) (bytes : List ℕ) : Type 0 where
+    pub steps_are : AreOwn steps
+    pub bytes_are : AreBytes bytes
+
+  -- both runs have so many steps, and with the first of them feed the same symbols
+  pub record FeedTheSameUpTo {U D : Type 0} (n : ℕ) (x y : Run X F EF S U D) : Type 0 where
+    pub within : (n ≤ length x.steps) × (n ≤ length y.steps)
+    pub same : symbols rules play (front_of n x) ≡ symbols rules play (front_of n y)
 
 module _ {F EF O Ac : Type 0} (Su U C K D G It S Symbol : Type 0) (rules : Rules S Symbol It F EF O Ac) (state : C → S) where
   -- a script under a separator from a state, what a verifier answers for it, and what a prover does
@@ -33,17 +52,14 @@ module _ {F EF O Ac : Type 0} (Su U C K D G It S Symbol : Type 0) (rules : Rules
 
   -- two accepted proofs of one script whose runs feed the same symbols agree
   abbrev pub EqualSymbolsHaveEqualValues : Type 0
-  EqualSymbolsHaveEqualValues =
-      (s : Script) (bytes others : List ℕ) (carried brought : List F) (v w : Accepted)
+  EqualSymbolsHaveEqualValues = (s : Script) (bytes others : List ℕ) (carried brought : List F) (v w : Accepted)
       (a : IsVerifiedScript rules s bytes carried state v) (b : IsVerifiedScript rules s others brought state w) →
-      HoldsProof rules (play_of rules) s.steps bytes → HoldsProof rules (play_of rules) s.steps others →
-      symbols rules (play_of rules) (run_of s a.values) ≡ symbols rules (play_of rules) (run_of s b.values) →
-      AgreeButHints s v w
+      HoldsProof rules (play_of rules) s.steps bytes → HoldsProof rules (play_of rules) s.steps others → symbols rules
+      (play_of rules) (run_of s a.values) ≡ symbols rules (play_of rules) (run_of s b.values) → AgreeButHints s v w
 
   -- the first steps of two accepted proofs that feed the same symbols bind all that came before
   abbrev pub VerifiedFrontsBind : Type 0
-  VerifiedFrontsBind =
-      (s t : Script) (bytes others : List ℕ) (carried brought : List F) (v w : Accepted)
+  VerifiedFrontsBind = (s t : Script) (bytes others : List ℕ) (carried brought : List F) (v w : Accepted)
       (a : IsVerifiedScript rules s bytes carried state v) (b : IsVerifiedScript rules t others brought state w) →
       HoldsProof rules (play_of rules) s.steps bytes → HoldsProof rules (play_of rules) t.steps others → (n : ℕ) →
       FeedTheSameUpTo rules (play_of rules) n (run_of s a.values) (run_of t b.values) →
@@ -51,8 +67,7 @@ module _ {F EF O Ac : Type 0} (Su U C K D G It S Symbol : Type 0) (rules : Rules
 
   -- and so do those of two proofs that provers made
   abbrev pub ProvedFrontsBind : Type 0
-  ProvedFrontsBind =
-      (s t : Script) (sent handed : List (Value F EF)) (v w : Made)
+  ProvedFrontsBind = (s t : Script) (sent handed : List (Value F EF)) (v w : Made)
       (a : IsProvedScript rules s sent state v) (b : IsProvedScript rules t handed state w) →
       HoldsProof rules (play_of rules) s.steps v.narg.items → HoldsProof rules (play_of rules) t.steps w.narg.items →
       (n : ℕ) → FeedTheSameUpTo rules (play_of rules) n (run_of s a.0.values) (run_of t b.0.values) →

@@ -1,2 +1,1 @@
 pub mod AnswersBound
-pub mod RunsBound

@@ -19,8 +19,8 @@ pub fn equal_symbols_have_equal_values<S: Suite>()
     requires values { S.Codec.feeds_prefix_code }
     requires opaque { IsPrefixCodeOn S.is_own S.Challenger.CanObserve-2.observation.symbols }
     ensures { let rules = ⟦<S as Meaning>⟧.rules S.Field.DIMENSION in
-        EqualSymbolsHaveEqualValues S S.Unit S.Challenger S.Codec S.Digest S.Group S.Unit.Item S.Challenger.State
-        S.Challenger.Symbol rules S.Challenger.state }
+        EqualSymbolsHaveEqualValues S S.Unit S.Challenger S.Codec S.Digest S.Group S.Unit.Item
+        S.Challenger.State S.Challenger.Symbol rules S.Challenger.state }
 {
     binding::<S>();
 }
@@ -40,11 +40,11 @@ pub fn challenges_bind_what_came_before<S: Suite>()
     requires values { S.Codec.feeds_prefix_code }
     requires opaque { IsPrefixCodeOn S.is_own S.Challenger.CanObserve-2.observation.symbols }
     ensures verified { let rules = ⟦<S as Meaning>⟧.rules S.Field.DIMENSION in
-        VerifiedFrontsBind S S.Unit S.Challenger S.Codec S.Digest S.Group S.Unit.Item S.Challenger.State
-        S.Challenger.Symbol rules S.Challenger.state }
+        VerifiedFrontsBind S S.Unit S.Challenger S.Codec S.Digest S.Group S.Unit.Item
+        S.Challenger.State S.Challenger.Symbol rules S.Challenger.state }
     ensures proved { let rules = ⟦<S as Meaning>⟧.rules S.Field.DIMENSION in
-        ProvedFrontsBind S S.Unit S.Challenger S.Codec S.Digest S.Group S.Unit.Item S.Challenger.State
-        S.Challenger.Symbol rules S.Challenger.state }
+        ProvedFrontsBind S S.Unit S.Challenger S.Codec S.Digest S.Group S.Unit.Item
+        S.Challenger.State S.Challenger.Symbol rules S.Challenger.state }
 {
     binding::<S>();
 }

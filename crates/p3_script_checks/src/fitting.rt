@@ -1,11 +1,11 @@
 //! Whether the steps of a script are those of a pattern.
 ghost use Rattle.std.specs.Prelude.{◌≡◌, ◌↔◌, IsTrue, length, map};
 ghost use Rattle.p3_driver_core.specs.Transcripts.{bytes_step, bits_step, uniform_bits_step};
-ghost use Rattle.p3_fs_core.specs.{Algebras.{NamedAlgebra, algebra_step}, Interactions.step_of, Steps.marker_of};
+ghost use Rattle.p3_fs_core.specs.{Steps.{NamedAlgebra, algebra_step, marker_of}, Interactions.step_of};
 ghost use Rattle.p3_patterns.specs.PatternSteps.{steps_of};
 ghost use Rattle.p3_runs.specs.Runs.{AreAdmitted, interactions};
 ghost use Rattle.p3_script.specs.{Scripts.play_of, StepFamilies.{SendsNothing, Draws}};
-ghost use Rattle.p3_script_checks.specs.Carriers.{Carries, CarryRules};
+ghost use Rattle.p3_script_checks.specs.Places.{Carries, CarryRules};
 
 use crate::admission::admitted;
 use p3_challenger_core::Sponge;

@@ -1,15 +1,14 @@
 -- What a prover is handed for the next step.
-use Rattle.std.{specs.Borrow.Bor, proofs.Common.{drop, slice_get, add-one, ◌⊎◌}}
-use Rattle.std.proofs.Common.{◌≡◌, ◌+◌, ℕ, suc, zero, List, [], ◌∷◌, ◌++◌, Option, Some, None, refl, sym, ap, ◌∙◌, subst}
+use Rattle.std.{specs.Borrow.Bor, proofs.Common.{drop, slice_get, add-one, ◌⊎◌, ◌≡◌, ◌+◌, ℕ, suc, zero, List, [], ◌∷◌}}
+use Rattle.std.proofs.Common.{◌++◌, Option, Some, None, refl, sym, ap, ◌∙◌, subst}
 use Rattle.p3_driver_core.specs.Driving.{Driving}
-use Rattle.p3_runs.specs.{Plays.Play, ProverOutcomes.{StartsHanded, where_carried}, Runs.{if_sent, if_drawn}}
-use Rattle.p3_runs.specs.{Stepping.{SendsStep, one_of}, Values.{Value, Challenge, Nothing}, Stepping.Halts}
+use Rattle.p3_runs.specs.{Plays.Play, Provings.{StartsHanded, where_carried}, Runs.{if_sent, if_drawn}}
+use Rattle.p3_runs.specs.{Stepping.{SendsStep, one_of, Halts}, Values.{Value, Challenge, Nothing}}
 use Rattle.p3_script.specs.Scripts.{value_sent, values_sent, challenge_of, challenges_of, drawn_of}
-use Rattle.p3_script.specs.{declared.steps.Drawn.Drawn, declared.steps.Sent.Sent, Standings.StandsSo}
-use Rattle.p3_script.specs.declared.standing.Standing.{Standing}
+use Rattle.p3_script.specs.{declared.{steps.{Drawn.Drawn, Sent.Sent}, standing.Standing.Standing}, Standings.StandsSo}
 use Rattle.p3_fs_core.specs.declared.error.TranscriptError.{TranscriptError}
 use Rattle.p3_script_prover.specs.Nexts.{IsGivenAt, lent, next_place, carried_at, PlaysNext, RefusesNext}
-use Rattle.p3_script_prover.specs.Sending.{value_given, value_played, SendsValue}
+use Rattle.p3_script_prover.specs.ProverAnswers.{value_given, value_played, SendsValue}
 use Rattle.p3_runs.specs.Plays as place
 use Rattle.p3_script.specs.declared.standing.Standing.TheVariants as standing
 

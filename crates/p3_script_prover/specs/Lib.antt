@@ -1,3 +1,2 @@
 pub mod Nexts
 pub mod ProverAnswers
-pub mod Sending

@@ -1,9 +1,9 @@
 -- The next step of a script, as a prover plays it with the values that it is handed.
-use Rattle.std.specs.Borrow.{Bor}
-use Rattle.std.specs.Prelude.{◌≡◌, ℕ, ◌+◌, List, [], ◌++◌, ◌⊎◌, drop, slice_get, Option, Some, None, Result, MatchResult}
+use Rattle.std.specs.{Borrow.Bor, Prelude.{◌≡◌, ℕ, ◌+◌, List, [], ◌++◌, ◌⊎◌, drop, slice_get, Option, Some, None}}
+use Rattle.std.specs.Prelude.{Result, MatchResult}
 use Rattle.p3_fs_core.specs.declared.error.TranscriptError.{TranscriptError}
 use Rattle.p3_driver_core.specs.Driving.{Driving}
-use Rattle.p3_runs.specs.{Plays.Play, ProverOutcomes.where_carried, Runs.{if_sent, if_drawn}, Values.{Value, Challenge}}
+use Rattle.p3_runs.specs.{Plays.Play, Provings.where_carried, Runs.{if_sent, if_drawn}, Values.{Value, Challenge}}
 use Rattle.p3_runs.specs.Stepping.{SendsStep, Halts, one_of}
 use Rattle.p3_script.specs.declared.standing.Standing.{Standing}
 use Rattle.p3_script.specs.declared.standing.Standing.TheVariants as standing

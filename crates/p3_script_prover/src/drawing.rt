@@ -1,14 +1,13 @@
 //! The steps that draw, as a prover plays them.
 ghost use Rattle.std.specs.Prelude.{◌≤◌, IsTrue};
-ghost use Rattle.p3_script.specs.declared.steps.Step.TheVariants as step;
-ghost use Rattle.p3_script_prover.specs.Sending.{PlaysUnhanded};
+ghost use Rattle.p3_script_prover.specs.ProverAnswers.{PlaysUnhanded};
 
 use crate::stepping::Played;
 use p3_challenger_core::Sponge;
 use p3_codecs::{Codec, ExtensionFieldCodec};
 use p3_drivers::ProverState;
 use p3_fs_core::{Label, TranscriptError};
-use p3_script::{Meaning, StepGroup, Suite, draws};
+use p3_script::{Meaning, Step, StepGroup, Suite, draws};
 use std::alloc::Global;
 
 // Draws one scalar.
@@ -19,7 +18,7 @@ pub(crate) fn scalar<S: Suite>(
 ) -> Result<Played<S>, TranscriptError>
     requires { 128 ≤ S.Codec.SECURITY_BITS }
     ensures { PlaysUnhanded (⟦<S as Meaning>⟧.rules S.Field.DIMENSION) S.Challenger.state
-        (step.ChallengeScalar label.entry) prover.old result prover.new }
+        (Step.ChallengeScalar label.entry) prover.old result prover.new }
 {
     let drawn = draws::draw_scalar(alloc, prover, label)?;
     Ok((None, Some(drawn)))
@@ -34,7 +33,7 @@ pub(crate) fn scalars<S: Suite>(
 ) -> Result<Played<S>, TranscriptError>
     requires { 128 ≤ S.Codec.SECURITY_BITS }
     ensures { PlaysUnhanded (⟦<S as Meaning>⟧.rules S.Field.DIMENSION) S.Challenger.state
-        (step.ChallengeScalars label.entry n) prover.old result prover.new }
+        (Step.ChallengeScalars label.entry n) prover.old result prover.new }
 {
     let drawn = draws::draw_scalars(alloc, prover, label, n)?;
     Ok((None, Some(drawn)))
@@ -48,7 +47,7 @@ pub(crate) fn extension<S: Suite>(
 ) -> Result<Played<S>, TranscriptError>
     requires { 128 ≤ S.Codec.SECURITY_BITS }
     ensures { PlaysUnhanded (⟦<S as Meaning>⟧.rules S.Field.DIMENSION) S.Challenger.state
-        (step.ChallengeExtension label.entry) prover.old result prover.new }
+        (Step.ChallengeExtension label.entry) prover.old result prover.new }
 {
     let drawn = draws::draw_extension(alloc, prover, label)?;
     Ok((None, Some(drawn)))
@@ -63,7 +62,7 @@ pub(crate) fn extensions<S: Suite>(
 ) -> Result<Played<S>, TranscriptError>
     requires { 128 ≤ S.Codec.SECURITY_BITS }
     ensures { PlaysUnhanded (⟦<S as Meaning>⟧.rules S.Field.DIMENSION) S.Challenger.state
-        (step.ChallengeExtensions label.entry n) prover.old result prover.new }
+        (Step.ChallengeExtensions label.entry n) prover.old result prover.new }
 {
     let drawn = draws::draw_extensions(alloc, prover, label, n)?;
     Ok((None, Some(drawn)))
@@ -80,8 +79,8 @@ pub(crate) fn extensions_rejecting<S: Suite>(
 ) -> Result<Played<S>, TranscriptError>
     requires { 128 ≤ S.Codec.SECURITY_BITS }
     ensures { PlaysUnhanded (⟦<S as Meaning>⟧.rules S.Field.DIMENSION) S.Challenger.state
-        (step.ChallengeExtensionsRejecting label.entry n accept.now limit) prover.old result
-        prover.new }
+        (Step.ChallengeExtensionsRejecting label.entry n accept.now limit)
+        prover.old result prover.new }
 {
     let drawn = draws::draw_extensions_rejecting(alloc, prover, label, n, accept, limit)?;
     Ok((None, Some(drawn)))
@@ -98,7 +97,7 @@ pub(crate) fn bits<S: Suite>(
     requires has { IsTrue S.Group.HAS_POW }
     requires within { width ≤ S.Group.most_bits }
     ensures { PlaysUnhanded (⟦<S as Meaning>⟧.rules S.Field.DIMENSION) S.Challenger.state
-        (step.ChallengeBits label.entry width n) prover.old result prover.new }
+        (Step.ChallengeBits label.entry width n) prover.old result prover.new }
 {
     let drawn = draws::draw_bits(alloc, prover, label, width, n)?;
     Ok((None, Some(drawn)))
@@ -115,7 +114,7 @@ pub(crate) fn uniform_bits<S: Suite>(
     requires has { IsTrue S.Group.HAS_UNIFORM }
     requires within { width ≤ S.Group.most_bits }
     ensures { PlaysUnhanded (⟦<S as Meaning>⟧.rules S.Field.DIMENSION) S.Challenger.state
-        (step.ChallengeUniformBits label.entry width n) prover.old result prover.new }
+        (Step.ChallengeUniformBits label.entry width n) prover.old result prover.new }
 {
     let drawn = draws::draw_uniform_bits(alloc, prover, label, width, n)?;
     Ok((None, Some(drawn)))
@@ -134,8 +133,8 @@ pub(crate) fn uniform_bits_rejecting<S: Suite>(
     requires has { IsTrue S.Group.HAS_UNIFORM }
     requires within { width ≤ S.Group.most_bits }
     ensures { PlaysUnhanded (⟦<S as Meaning>⟧.rules S.Field.DIMENSION) S.Challenger.state
-        (step.ChallengeUniformBitsRejecting label.entry width n accept.now limit) prover.old result
-        prover.new }
+        (Step.ChallengeUniformBitsRejecting label.entry width n accept.now limit)
+        prover.old result prover.new }
 {
     let drawn = draws::draw_uniform_bits_rejecting(alloc, prover, label, width, n, accept, limit)?;
     Ok((None, Some(drawn)))

@@ -1,11 +1,11 @@
 //! Whole scripts, as a prover plays them.
 ghost use Rattle.std.specs.{Option.OnSome, Prelude.{◌≡◌, ◌<◌, ◌++◌, drop, length, IfOk, IfErr, OnOk}};
 ghost use Rattle.p3_drivers.specs.Drivers.{proving_of};
-ghost use Rattle.p3_runs.specs.{ProverOutcomes.StartsHanded, Provings.AreHanded, Runs.AreAdmitted, Stepping.one_of};
+ghost use Rattle.p3_runs.specs.{Provings.{StartsHanded, AreHanded}, Runs.AreAdmitted, Stepping.one_of};
 ghost use Rattle.p3_runs.specs.Verdicts.{script_of};
 ghost use Rattle.p3_script.specs.Scripts.{play_of, values_sent, challenges_of};
-ghost use Rattle.p3_script_prover.specs.ProverAnswers.{IsProvedScript, IsRefusedScript};
 ghost use Rattle.p3_script_prover.specs.Nexts.{IsGivenAt, next_place, carried_at, NextOrRefuses};
+ghost use Rattle.p3_script_prover.specs.ProverAnswers.{IsProvedScript, IsRefusedScript};
 
 use crate::stepping::prover_step;
 use p3_challenger_core::{CanObserve, Sponge};
@@ -101,12 +101,12 @@ fn keep_all<S: Suite>(
     witness: Option<S::Field>,
     drawn: Option<Drawn<S>>,
 ) -> Result<(), AllocError>
-    ensures witnesses { OnOk result (made.new.witnesses.items ≡ made.old.witnesses.items ++ one_of
-        witness) }
-    ensures carried { OnOk result (made.new.carried.items
-        ≡ made.old.carried.items ++ carried_at standing (one_of witness)) }
-    ensures challenges { OnOk result (made.new.challenges.items ≡ made.old.challenges.items ++
-        one_of drawn) }
+    ensures witnesses { OnOk result
+        (made.new.witnesses.items ≡ made.old.witnesses.items ++ one_of witness) }
+    ensures carried { OnOk result
+        (made.new.carried.items ≡ made.old.carried.items ++ carried_at standing (one_of witness)) }
+    ensures challenges { OnOk result
+        (made.new.challenges.items ≡ made.old.challenges.items ++ one_of drawn) }
 {
     keep(&mut made.witnesses, witness)?;
     keep(&mut made.carried, where_carried(standing, witness))?;

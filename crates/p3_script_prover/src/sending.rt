@@ -1,17 +1,16 @@
 //! Each kind of step but those that draw, as a prover plays it.
 ghost use Rattle.std.specs.Prelude.{◌≡◌, ◌≤◌, ◌++◌, List, ℕ, IsTrue};
 ghost use Rattle.p3_fs_core.specs.Scalar.{encoding};
-ghost use Rattle.p3_runs.specs.{Plays.{Any, HasLength}, Sides.holds_some};
-ghost use Rattle.p3_runs.specs.Values.{bytes_in, scalar_in, scalars_in, extension_in};
-ghost use Rattle.p3_script.specs.declared.steps.Step.TheVariants as step;
-ghost use Rattle.p3_script_prover.specs.Sending.{PlaysHanded, PlaysUnhanded, value_given};
+ghost use Rattle.p3_runs.specs.{Plays.{Any, HasLength}, Values.{bytes_in, scalar_in, scalars_in, extension_in}};
+ghost use Rattle.p3_runs.specs.Sides.{holds_some};
+ghost use Rattle.p3_script_prover.specs.ProverAnswers.{PlaysHanded, PlaysUnhanded, value_given};
 
 use crate::stepping::Played;
 use p3_challenger_core::Sponge;
 use p3_codecs::{Codec, ExtensionFieldCodec};
 use p3_drivers::ProverState;
 use p3_fs_core::{Kind, Label, PatternError, TranscriptError, TranscriptField};
-use p3_script::{Meaning, Sent, StepGroup, Suite};
+use p3_script::{Meaning, Sent, Step, StepGroup, Suite};
 
 // Opens a container.
 pub(crate) fn begin<S: Suite>(
@@ -20,7 +19,7 @@ pub(crate) fn begin<S: Suite>(
     kind: Kind,
 ) -> Result<Played<S>, TranscriptError>
     ensures { PlaysUnhanded (⟦<S as Meaning>⟧.rules S.Field.DIMENSION) S.Challenger.state
-        (step.Begin label.entry kind) prover.old result prover.new }
+        (Step.Begin label.entry kind) prover.old result prover.new }
 {
     prover.begin::<()>(label, kind)?;
     Ok((None, None))
@@ -33,7 +32,7 @@ pub(crate) fn end<S: Suite>(
     kind: Kind,
 ) -> Result<Played<S>, TranscriptError>
     ensures { PlaysUnhanded (⟦<S as Meaning>⟧.rules S.Field.DIMENSION) S.Challenger.state
-        (step.End label.entry kind) prover.old result prover.new }
+        (Step.End label.entry kind) prover.old result prover.new }
 {
     prover.end::<()>(label, kind)?;
     Ok((None, None))
@@ -46,7 +45,7 @@ pub(crate) fn add_public_scalar<S: Suite>(
     scalar: &S::Field,
 ) -> Result<Played<S>, TranscriptError>
     ensures { PlaysUnhanded (⟦<S as Meaning>⟧.rules S.Field.DIMENSION) S.Challenger.state
-        (step.PublicScalar label.entry scalar.now) prover.old result prover.new }
+        (Step.PublicScalar label.entry scalar.now) prover.old result prover.new }
 {
     let _bound = prover.add_public_scalar::<S::Field, S::Codec>(label, scalar)?;
     Ok((None, None))
@@ -59,7 +58,7 @@ pub(crate) fn add_public_scalars<S: Suite>(
     scalars: &Vec<S::Field>,
 ) -> Result<Played<S>, TranscriptError>
     ensures { PlaysUnhanded (⟦<S as Meaning>⟧.rules S.Field.DIMENSION) S.Challenger.state
-        (step.PublicScalars label.entry scalars.now) prover.old result prover.new }
+        (Step.PublicScalars label.entry scalars.now) prover.old result prover.new }
 {
     let _bounds = prover.add_public_scalars::<S::Field, S::Codec>(label, scalars)?;
     Ok((None, None))
@@ -73,7 +72,7 @@ pub(crate) fn add_public_scalars_bounded<S: Suite>(
     max: usize,
 ) -> Result<Played<S>, TranscriptError>
     ensures { PlaysUnhanded (⟦<S as Meaning>⟧.rules S.Field.DIMENSION) S.Challenger.state
-        (step.PublicScalarsBounded label.entry scalars.now max) prover.old result prover.new }
+        (Step.PublicScalarsBounded label.entry scalars.now max) prover.old result prover.new }
 {
     let _bounds = prover.add_public_scalars_bounded::<S::Field, S::Codec>(label, scalars, max)?;
     Ok((None, None))
@@ -86,7 +85,7 @@ pub(crate) fn observe_extension<S: Suite>(
     element: &S::Extension,
 ) -> Result<Played<S>, TranscriptError>
     ensures { PlaysUnhanded (⟦<S as Meaning>⟧.rules S.Field.DIMENSION) S.Challenger.state
-        (step.ObserveExtension label.entry element.now) prover.old result prover.new }
+        (Step.ObserveExtension label.entry element.now) prover.old result prover.new }
 {
     let _bound = prover.observe_extension::<S::Field, S::Extension, S::Codec>(label, element)?;
     Ok((None, None))
@@ -99,7 +98,7 @@ pub(crate) fn observe_extensions<S: Suite>(
     elements: &Vec<S::Extension>,
 ) -> Result<Played<S>, TranscriptError>
     ensures { PlaysUnhanded (⟦<S as Meaning>⟧.rules S.Field.DIMENSION) S.Challenger.state
-        (step.ObserveExtensions label.entry elements.now) prover.old result prover.new }
+        (Step.ObserveExtensions label.entry elements.now) prover.old result prover.new }
 {
     let _bounds = prover.observe_extensions::<S::Field, S::Extension, S::Codec>(label, elements)?;
     Ok((None, None))
@@ -113,7 +112,7 @@ pub(crate) fn observe_extensions_bounded<S: Suite>(
     max: usize,
 ) -> Result<Played<S>, TranscriptError>
     ensures { PlaysUnhanded (⟦<S as Meaning>⟧.rules S.Field.DIMENSION) S.Challenger.state
-        (step.ObserveExtensionsBounded label.entry elements.now max) prover.old result prover.new }
+        (Step.ObserveExtensionsBounded label.entry elements.now max) prover.old result prover.new }
 {
     let _bounds = prover.observe_extensions_bounded::<S::Field, S::Extension, S::Codec>(
         label, elements, max,
@@ -128,7 +127,7 @@ pub(crate) fn observe_opaque<S: Suite>(
     value: &S::Opaque,
 ) -> Result<Played<S>, TranscriptError>
     ensures { PlaysUnhanded (⟦<S as Meaning>⟧.rules S.Field.DIMENSION) S.Challenger.state
-        (step.Opaque label.entry value.now) prover.old result prover.new }
+        (Step.Opaque label.entry value.now) prover.old result prover.new }
 {
     let copy = match value.clone() {
         Ok(copy) => copy,
@@ -150,7 +149,7 @@ pub(crate) fn add_salt<S: Suite>(
 ) -> Result<Played<S>, TranscriptError>
     requires { holds_some (HasLength len) (bytes_in (value_given sent)) }
     ensures { PlaysHanded (⟦<S as Meaning>⟧.rules S.Field.DIMENSION) S.Challenger.state
-        (step.Salt label.entry len) sent.entry prover.old result prover.new }
+        (Step.Salt label.entry len) sent.entry prover.old result prover.new }
 {
     let Some(Sent::Bytes(bytes)) = sent else {
         unreachable!();
@@ -168,7 +167,7 @@ pub(crate) fn add_bytes<S: Suite>(
 ) -> Result<Played<S>, TranscriptError>
     requires { holds_some (HasLength len) (bytes_in (value_given sent)) }
     ensures { PlaysHanded (⟦<S as Meaning>⟧.rules S.Field.DIMENSION) S.Challenger.state
-        (step.Bytes label.entry len) sent.entry prover.old result prover.new }
+        (Step.Bytes label.entry len) sent.entry prover.old result prover.new }
 {
     let Some(Sent::Bytes(bytes)) = sent else {
         unreachable!();
@@ -186,7 +185,7 @@ pub(crate) fn add_hint<S: Suite>(
 ) -> Result<Played<S>, TranscriptError>
     requires { holds_some (HasLength len) (bytes_in (value_given sent)) }
     ensures { PlaysHanded (⟦<S as Meaning>⟧.rules S.Field.DIMENSION) S.Challenger.state
-        (step.Hint label.entry len) sent.entry prover.old result prover.new }
+        (Step.Hint label.entry len) sent.entry prover.old result prover.new }
 {
     let Some(Sent::Bytes(bytes)) = sent else {
         unreachable!();
@@ -204,7 +203,7 @@ pub(crate) fn add_bytes_bounded<S: Suite>(
 ) -> Result<Played<S>, TranscriptError>
     requires { holds_some Any (bytes_in (value_given sent)) }
     ensures { PlaysHanded (⟦<S as Meaning>⟧.rules S.Field.DIMENSION) S.Challenger.state
-        (step.BytesBounded label.entry max) sent.entry prover.old result prover.new }
+        (Step.BytesBounded label.entry max) sent.entry prover.old result prover.new }
 {
     let Some(Sent::Bytes(bytes)) = sent else {
         unreachable!();
@@ -222,7 +221,7 @@ pub(crate) fn add_hint_bounded<S: Suite>(
 ) -> Result<Played<S>, TranscriptError>
     requires { holds_some Any (bytes_in (value_given sent)) }
     ensures { PlaysHanded (⟦<S as Meaning>⟧.rules S.Field.DIMENSION) S.Challenger.state
-        (step.HintBounded label.entry max) sent.entry prover.old result prover.new }
+        (Step.HintBounded label.entry max) sent.entry prover.old result prover.new }
 {
     let Some(Sent::Bytes(bytes)) = sent else {
         unreachable!();
@@ -239,7 +238,7 @@ pub(crate) fn add_scalar<S: Suite>(
 ) -> Result<Played<S>, TranscriptError>
     requires { holds_some Any (scalar_in (value_given sent)) }
     ensures { PlaysHanded (⟦<S as Meaning>⟧.rules S.Field.DIMENSION) S.Challenger.state
-        (step.Scalar label.entry) sent.entry prover.old result prover.new }
+        (Step.Scalar label.entry) sent.entry prover.old result prover.new }
 {
     let Some(Sent::Scalar(scalar)) = sent else {
         unreachable!();
@@ -257,7 +256,7 @@ pub(crate) fn add_scalars<S: Suite>(
 ) -> Result<Played<S>, TranscriptError>
     requires { holds_some (HasLength n) (scalars_in (value_given sent)) }
     ensures { PlaysHanded (⟦<S as Meaning>⟧.rules S.Field.DIMENSION) S.Challenger.state
-        (step.Scalars label.entry n) sent.entry prover.old result prover.new }
+        (Step.Scalars label.entry n) sent.entry prover.old result prover.new }
 {
     let Some(Sent::Scalars(scalars)) = sent else {
         unreachable!();
@@ -275,7 +274,7 @@ pub(crate) fn add_scalars_bounded<S: Suite>(
 ) -> Result<Played<S>, TranscriptError>
     requires { holds_some Any (scalars_in (value_given sent)) }
     ensures { PlaysHanded (⟦<S as Meaning>⟧.rules S.Field.DIMENSION) S.Challenger.state
-        (step.ScalarsBounded label.entry max) sent.entry prover.old result prover.new }
+        (Step.ScalarsBounded label.entry max) sent.entry prover.old result prover.new }
 {
     let Some(Sent::Scalars(scalars)) = sent else {
         unreachable!();
@@ -292,7 +291,7 @@ pub(crate) fn add_extension<S: Suite>(
 ) -> Result<Played<S>, TranscriptError>
     requires { holds_some Any (extension_in (value_given sent)) }
     ensures { PlaysHanded (⟦<S as Meaning>⟧.rules S.Field.DIMENSION) S.Challenger.state
-        (step.Extension label.entry) sent.entry prover.old result prover.new }
+        (Step.Extension label.entry) sent.entry prover.old result prover.new }
 {
     let Some(Sent::Extension(element)) = sent else {
         unreachable!();
@@ -310,7 +309,7 @@ pub(crate) fn pow<S: Suite>(
     requires has { IsTrue S.Group.HAS_POW }
     requires within { bits ≤ S.Group.most_bits }
     ensures { PlaysUnhanded (⟦<S as Meaning>⟧.rules S.Field.DIMENSION) S.Challenger.state
-        (step.Pow label.entry bits) prover.old result prover.new }
+        (Step.Pow label.entry bits) prover.old result prover.new }
 {
     S::Group::pow(prover, label, bits)?;
     match element_at_end::<S::Field>(prover.narg()) {
@@ -328,7 +327,7 @@ pub(crate) fn observe_pow<S: Suite>(
     requires has { IsTrue S.Group.HAS_POW }
     requires within { bits ≤ S.Group.most_bits }
     ensures { PlaysUnhanded (⟦<S as Meaning>⟧.rules S.Field.DIMENSION) S.Challenger.state
-        (step.ObservePow label.entry bits) prover.old result prover.new }
+        (Step.ObservePow label.entry bits) prover.old result prover.new }
 {
     let witness = S::Group::observe_pow(prover, label, bits)?;
     Ok((Some(witness), None))

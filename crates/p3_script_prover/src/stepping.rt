@@ -1,6 +1,6 @@
 //! One step of a script, as a prover plays it.
 ghost use Rattle.p3_script.specs.{Scripts.play_of, StepFamilies.{SendsNothing, Draws}};
-ghost use Rattle.p3_script_prover.specs.Sending.{PlaysHanded, PlaysUnhanded, value_given};
+ghost use Rattle.p3_script_prover.specs.ProverAnswers.{PlaysHanded, PlaysUnhanded, value_given};
 
 use crate::{drawing, sending};
 use p3_challenger_core::Sponge;

@@ -1,10 +1,9 @@
 -- What a prover answers is a proof.
 use Rattle.std.proofs.Common.{◌≡◌, ℕ, List, refl, sym, subst, ◌⊎◌, inl, inr, Result, Ok, Err, IfOk, IfErr}
-use Rattle.p3_fs_core.specs.declared.error.TranscriptError.{TranscriptError}
-use Rattle.p3_fs_core.specs.declared.error.TranscriptError.TheVariants.{MissingBegin, InvalidKind, MismatchedBeginEnd}
-use Rattle.p3_fs_core.specs.declared.error.TranscriptError.TheVariants.{MissingEnd, BadProofShape, Pattern}
-use Rattle.p3_fs_core.specs.declared.error.TranscriptError.TheVariants.{Challenger, LabelTooLong, OutOfMemory}
-use Rattle.p3_runs.specs.{Fronts.Run, Plays.Play, ProverOutcomes.IsProved, Rules.Rules, Values.{Value, Challenge}}
+use Rattle.p3_fs_core.specs.declared.error.TranscriptError.{TranscriptError, TheVariants.{MissingBegin, InvalidKind}}
+use Rattle.p3_fs_core.specs.declared.error.TranscriptError.TheVariants.{MismatchedBeginEnd, MissingEnd, BadProofShape}
+use Rattle.p3_fs_core.specs.declared.error.TranscriptError.TheVariants.{Pattern, Challenger, LabelTooLong, OutOfMemory}
+use Rattle.p3_runs.specs.{Fronts.Run, Plays.Play, Provings.IsProved, Rules.Rules, Values.{Value, Challenge}}
 use Rattle.p3_runs.specs.Verdicts.{with_steps, IsProof, IsOutcome, Accepts, HasNoProof}
 use Rattle.p3_script_round_trip.specs.RoundTrips.{PlaysOneRun}
 

@@ -1,7 +1,7 @@
 -- A verifier that plays the run of a prover.
 use Rattle.std.specs.Prelude.{ℕ, List}
-use Rattle.p3_runs.specs.{Fronts.Run, Plays.Play, ProverOutcomes.IsProverOutcome, Rules.Rules}
-use Rattle.p3_runs.specs.{Values.{Value, Challenge}, Verdicts.{with_steps, IsOutcome}}
+use Rattle.p3_runs.specs.{Fronts.Run, Plays.Play, Provings.IsProverOutcome, Rules.Rules, Values.{Value, Challenge}}
+use Rattle.p3_runs.specs.Verdicts.{with_steps, IsOutcome}
 use Rattle.p3_script.specs.Scripts.{play_of, values_received, challenges_of}
 use Rattle.p3_script_prover.specs.declared.proving.Proved.{Proved}
 use Rattle.p3_script_verifier.specs.declared.verifying.Verified.{Verified}
@@ -21,7 +21,6 @@ pub record PlaysOneRun {X S Symbol I F EF O Ac U D : Type 0} (rules : Rules S Sy
 abbrev pub AreOfOneRun : {Su F EF U O C K Ac D G It St Sy S Symbol : Type 0} (rules : Rules S Symbol It F EF O Ac)
     (script : Run (script.Step Su F EF U O C K Ac D G It St Sy) F EF S U D) (sent : List (Value F EF)) → (C → S) →
     Proved Su F EF U O C K Ac D G It St Sy → Verified Su F EF U O C K Ac D G It St Sy → Type 0
-AreOfOneRun rules script sent state proved verified =
-    PlaysOneRun rules (play_of rules) script sent proved.narg.items proved.witnesses.items proved.carried.items
-    (challenges_of proved.challenges.items) (state proved.challenger) (values_received verified.received.items)
-    (challenges_of verified.challenges.items) (state verified.challenger)
+AreOfOneRun rules script sent state proved verified = PlaysOneRun rules (play_of rules) script sent proved.narg.items
+    proved.witnesses.items proved.carried.items (challenges_of proved.challenges.items) (state proved.challenger)
+    (values_received verified.received.items) (challenges_of verified.challenges.items) (state verified.challenger)

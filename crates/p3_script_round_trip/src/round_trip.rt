@@ -32,10 +32,9 @@ pub fn verify_proved<'a, S: Suite>(
     requires proved { let rules = ⟦<S as Meaning>⟧.rules S.Field.DIMENSION in
         let script = script_of (S.Challenger.state challenger) separator.now steps.now in
         IsProvedScript rules script (values_sent sent.now) S.Challenger.state proved.now }
-    ensures same { let rules = ⟦<S as Meaning>⟧.rules S.Field.DIMENSION in
-        let script = script_of (S.Challenger.state challenger) separator.now steps.now in
-        IfOk result (AreOfOneRun rules script (values_sent sent.now) S.Challenger.state
-        proved.now) }
+    ensures same { let script = script_of (S.Challenger.state challenger) separator.now steps.now in
+        IfOk result (AreOfOneRun (⟦<S as Meaning>⟧.rules S.Field.DIMENSION) script
+        (values_sent sent.now) S.Challenger.state proved.now) }
     ensures only_memory { IfErr result (λ f. f.error ≡ OutOfMemory) }
 {
     let _sent = sent;
@@ -66,14 +65,13 @@ pub fn prove_and_verify<S: Suite>(
     requires admitted { AreAdmitted (play_of (⟦<S as Meaning>⟧.rules S.Field.DIMENSION)) steps.now }
     requires handed { let rules = ⟦<S as Meaning>⟧.rules S.Field.DIMENSION in
         AreHanded (play_of rules) steps.now (values_sent sent.now) }
-    ensures challenges { IfOk result (λ r. challenges_of r.1.items ≡ challenges_of
-        r.0.challenges.items) }
-    ensures challengers { IfOk result (λ r. S.Challenger.state r.2 ≡ S.Challenger.state
-        r.0.challenger) }
-    ensures refused { let rules = ⟦<S as Meaning>⟧.rules S.Field.DIMENSION in
-        let script = script_of (S.Challenger.state first) separator.now steps.now in
-        IfErr result (λ f. IsRefusedScript rules script (values_sent sent.now) f ⊎ (f.error ≡
-        OutOfMemory)) }
+    ensures challenges { IfOk result
+        (λ r. challenges_of r.1.items ≡ challenges_of r.0.challenges.items) }
+    ensures challengers { IfOk result
+        (λ r. S.Challenger.state r.2 ≡ S.Challenger.state r.0.challenger) }
+    ensures refused { let script = script_of (S.Challenger.state first) separator.now steps.now in
+        IfErr result (λ f. IsRefusedScript (⟦<S as Meaning>⟧.rules S.Field.DIMENSION) script
+        (values_sent sent.now) f ⊎ (f.error ≡ OutOfMemory)) }
 {
     let proved = prove(alloc, first, separator, steps, sent)?;
     let Verified {

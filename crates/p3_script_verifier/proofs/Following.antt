@@ -7,7 +7,7 @@ use Rattle.p3_runs.specs.{Fronts.Run, FollowingLaws.{Follows, follows-on, follow
 use Rattle.p3_runs.specs.{NoProofLaws.one-run, Rules.Rules, Runs.{AreAdmitted, carried_count, if_carried}}
 use Rattle.p3_runs.specs.{Stepping.{IsCarriedTo, one_of, IsCanonical, IsTakenWherePossible}, Values.{Value, Challenge}}
 use Rattle.p3_runs.specs.Verdicts.{Accepts}
-use Rattle.p3_script_verifier.specs.Taking.{KeepsOne}
+use Rattle.p3_script_verifier.specs.VerifierAnswers.{KeepsOne}
 
 -- the part from i on begins with the element there
 pub part-on : {X : Type 0} (xs : List X) (i : ℕ) (x : X) → i < length xs → x ≡ get_or xs i x →

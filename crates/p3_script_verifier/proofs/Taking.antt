@@ -2,12 +2,11 @@
 use Rattle.std.proofs.Common.{◌≡◌, [], ◌∷◌, Option, Some, None, refl, sym, ap, ◌∙◌, subst, inr}
 use Rattle.std.specs.Option.{option_map}
 use Rattle.p3_challenger_core.specs.Reading.{AreBytes}
-use Rattle.p3_fs_core.specs.{Steps.Step, declared.error.TranscriptError.TranscriptError}
-use Rattle.p3_fs_core.specs.declared.error.TranscriptError.TheVariants.{OutOfMemory}
+use Rattle.p3_fs_core.specs.{Steps.Step, declared.error.TranscriptError.{TranscriptError, TheVariants.OutOfMemory}}
 use Rattle.p3_driver_core.specs.{Driving.Driving, Effects.Effect, Reads.Reading, Transcripts.{Meaning, halted}}
 use Rattle.p3_driver_core.specs.Verifying.{Receives}
-use Rattle.p3_script_verifier.specs.Taking.{IsRefused}
-use Rattle.p3_step_laws.specs.Encoded.{OnlyReads}
+use Rattle.p3_script_verifier.specs.VerifierAnswers.{IsRefused}
+use Rattle.p3_step_laws.specs.ReadBack.{OnlyReads}
 use Rattle.p3_runs.specs.{Absorbed.Absorbed, Plays.{Play, sends}, Sides.Refusing, Stepping.TakesStep, Values.Value}
 
 -- a value that the step sends is received

@@ -1,13 +1,12 @@
 //! The steps whose value both sides know, and those that draw.
 ghost use Rattle.std.specs.Prelude.{◌≤◌, None, IsTrue};
-ghost use Rattle.p3_script.specs.declared.steps.Step.TheVariants as step;
-ghost use Rattle.p3_script_verifier.specs.Taking.{AnswersStep};
+ghost use Rattle.p3_script_verifier.specs.VerifierAnswers.{AnswersStep};
 
 use crate::answer::Answer;
 use p3_challenger_core::Sponge;
 use p3_drivers::VerifierState;
 use p3_fs_core::{Kind, Label, TranscriptError};
-use p3_script::{Meaning, StepGroup, Suite, draws};
+use p3_script::{Meaning, Step, StepGroup, Suite, draws};
 use std::alloc::Global;
 
 // Opens a container.
@@ -17,7 +16,7 @@ pub(crate) fn begin<'a, S: Suite>(
     kind: Kind,
 ) -> Result<Answer<'a, S>, TranscriptError>
     ensures { AnswersStep (⟦<S as Meaning>⟧.rules S.Field.DIMENSION) S.Challenger.state
-        (step.Begin label.entry kind) None verifier.old result verifier.new }
+        (Step.Begin label.entry kind) None verifier.old result verifier.new }
 {
     verifier.begin::<()>(label, kind)?;
     Ok((None, None))
@@ -30,7 +29,7 @@ pub(crate) fn end<'a, S: Suite>(
     kind: Kind,
 ) -> Result<Answer<'a, S>, TranscriptError>
     ensures { AnswersStep (⟦<S as Meaning>⟧.rules S.Field.DIMENSION) S.Challenger.state
-        (step.End label.entry kind) None verifier.old result verifier.new }
+        (Step.End label.entry kind) None verifier.old result verifier.new }
 {
     verifier.end::<()>(label, kind)?;
     Ok((None, None))
@@ -43,7 +42,7 @@ pub(crate) fn public_scalar<'a, S: Suite>(
     value: &S::Field,
 ) -> Result<Answer<'a, S>, TranscriptError>
     ensures { AnswersStep (⟦<S as Meaning>⟧.rules S.Field.DIMENSION) S.Challenger.state
-        (step.PublicScalar label.entry value.now) None verifier.old result verifier.new }
+        (Step.PublicScalar label.entry value.now) None verifier.old result verifier.new }
 {
     verifier.observe_public_scalar::<S::Field, S::Codec>(label, value)?;
     Ok((None, None))
@@ -56,7 +55,7 @@ pub(crate) fn public_scalars<'a, S: Suite>(
     values: &Vec<S::Field>,
 ) -> Result<Answer<'a, S>, TranscriptError>
     ensures { AnswersStep (⟦<S as Meaning>⟧.rules S.Field.DIMENSION) S.Challenger.state
-        (step.PublicScalars label.entry values.now) None verifier.old result verifier.new }
+        (Step.PublicScalars label.entry values.now) None verifier.old result verifier.new }
 {
     verifier.observe_public_scalars::<S::Field, S::Codec>(label, values)?;
     Ok((None, None))
@@ -70,7 +69,7 @@ pub(crate) fn counted_public_scalars<'a, S: Suite>(
     max: usize,
 ) -> Result<Answer<'a, S>, TranscriptError>
     ensures { AnswersStep (⟦<S as Meaning>⟧.rules S.Field.DIMENSION) S.Challenger.state
-        (step.PublicScalarsBounded label.entry values.now max) None verifier.old result
+        (Step.PublicScalarsBounded label.entry values.now max) None verifier.old result
         verifier.new }
 {
     verifier.observe_public_scalars_bounded::<S::Field, S::Codec>(label, values, max)?;
@@ -84,7 +83,7 @@ pub(crate) fn extension<'a, S: Suite>(
     value: &S::Extension,
 ) -> Result<Answer<'a, S>, TranscriptError>
     ensures { AnswersStep (⟦<S as Meaning>⟧.rules S.Field.DIMENSION) S.Challenger.state
-        (step.ObserveExtension label.entry value.now) None verifier.old result verifier.new }
+        (Step.ObserveExtension label.entry value.now) None verifier.old result verifier.new }
 {
     verifier.observe_extension::<S::Field, S::Extension, S::Codec>(label, value)?;
     Ok((None, None))
@@ -97,7 +96,7 @@ pub(crate) fn extensions<'a, S: Suite>(
     values: &Vec<S::Extension>,
 ) -> Result<Answer<'a, S>, TranscriptError>
     ensures { AnswersStep (⟦<S as Meaning>⟧.rules S.Field.DIMENSION) S.Challenger.state
-        (step.ObserveExtensions label.entry values.now) None verifier.old result verifier.new }
+        (Step.ObserveExtensions label.entry values.now) None verifier.old result verifier.new }
 {
     verifier.observe_extensions::<S::Field, S::Extension, S::Codec>(label, values)?;
     Ok((None, None))
@@ -111,7 +110,7 @@ pub(crate) fn counted_extensions<'a, S: Suite>(
     max: usize,
 ) -> Result<Answer<'a, S>, TranscriptError>
     ensures { AnswersStep (⟦<S as Meaning>⟧.rules S.Field.DIMENSION) S.Challenger.state
-        (step.ObserveExtensionsBounded label.entry values.now max) None verifier.old result
+        (Step.ObserveExtensionsBounded label.entry values.now max) None verifier.old result
         verifier.new }
 {
     verifier.observe_extensions_bounded::<S::Field, S::Extension, S::Codec>(label, values, max)?;
@@ -125,7 +124,7 @@ pub(crate) fn opaque<'a, S: Suite>(
     value: &S::Opaque,
 ) -> Result<Answer<'a, S>, TranscriptError>
     ensures { AnswersStep (⟦<S as Meaning>⟧.rules S.Field.DIMENSION) S.Challenger.state
-        (step.Opaque label.entry value.now) None verifier.old result verifier.new }
+        (Step.Opaque label.entry value.now) None verifier.old result verifier.new }
 {
     let copy = match value.clone() {
         Ok(copy) => copy,
@@ -146,7 +145,7 @@ pub(crate) fn draw_scalar<'a, S: Suite>(
 ) -> Result<Answer<'a, S>, TranscriptError>
     requires { 128 ≤ S.Codec.SECURITY_BITS }
     ensures { AnswersStep (⟦<S as Meaning>⟧.rules S.Field.DIMENSION) S.Challenger.state
-        (step.ChallengeScalar label.entry) None verifier.old result verifier.new }
+        (Step.ChallengeScalar label.entry) None verifier.old result verifier.new }
 {
     let drawn = draws::draw_scalar(alloc, verifier, label)?;
     Ok((None, Some(drawn)))
@@ -161,7 +160,7 @@ pub(crate) fn draw_scalars<'a, S: Suite>(
 ) -> Result<Answer<'a, S>, TranscriptError>
     requires { 128 ≤ S.Codec.SECURITY_BITS }
     ensures { AnswersStep (⟦<S as Meaning>⟧.rules S.Field.DIMENSION) S.Challenger.state
-        (step.ChallengeScalars label.entry n) None verifier.old result verifier.new }
+        (Step.ChallengeScalars label.entry n) None verifier.old result verifier.new }
 {
     let drawn = draws::draw_scalars(alloc, verifier, label, n)?;
     Ok((None, Some(drawn)))
@@ -175,7 +174,7 @@ pub(crate) fn draw_extension<'a, S: Suite>(
 ) -> Result<Answer<'a, S>, TranscriptError>
     requires { 128 ≤ S.Codec.SECURITY_BITS }
     ensures { AnswersStep (⟦<S as Meaning>⟧.rules S.Field.DIMENSION) S.Challenger.state
-        (step.ChallengeExtension label.entry) None verifier.old result verifier.new }
+        (Step.ChallengeExtension label.entry) None verifier.old result verifier.new }
 {
     let drawn = draws::draw_extension(alloc, verifier, label)?;
     Ok((None, Some(drawn)))
@@ -190,7 +189,7 @@ pub(crate) fn draw_extensions<'a, S: Suite>(
 ) -> Result<Answer<'a, S>, TranscriptError>
     requires { 128 ≤ S.Codec.SECURITY_BITS }
     ensures { AnswersStep (⟦<S as Meaning>⟧.rules S.Field.DIMENSION) S.Challenger.state
-        (step.ChallengeExtensions label.entry n) None verifier.old result verifier.new }
+        (Step.ChallengeExtensions label.entry n) None verifier.old result verifier.new }
 {
     let drawn = draws::draw_extensions(alloc, verifier, label, n)?;
     Ok((None, Some(drawn)))
@@ -207,7 +206,7 @@ pub(crate) fn draw_extensions_rejecting<'a, S: Suite>(
 ) -> Result<Answer<'a, S>, TranscriptError>
     requires { 128 ≤ S.Codec.SECURITY_BITS }
     ensures { AnswersStep (⟦<S as Meaning>⟧.rules S.Field.DIMENSION) S.Challenger.state
-        (step.ChallengeExtensionsRejecting label.entry n accept.now limit) None verifier.old result
+        (Step.ChallengeExtensionsRejecting label.entry n accept.now limit) None verifier.old result
         verifier.new }
 {
     let drawn = draws::draw_extensions_rejecting(alloc, verifier, label, n, accept, limit)?;
@@ -225,7 +224,7 @@ pub(crate) fn draw_bits<'a, S: Suite>(
     requires has { IsTrue S.Group.HAS_POW }
     requires within { width ≤ S.Group.most_bits }
     ensures { AnswersStep (⟦<S as Meaning>⟧.rules S.Field.DIMENSION) S.Challenger.state
-        (step.ChallengeBits label.entry width n) None verifier.old result verifier.new }
+        (Step.ChallengeBits label.entry width n) None verifier.old result verifier.new }
 {
     let drawn = draws::draw_bits(alloc, verifier, label, width, n)?;
     Ok((None, Some(drawn)))
@@ -242,7 +241,7 @@ pub(crate) fn draw_uniform_bits<'a, S: Suite>(
     requires has { IsTrue S.Group.HAS_UNIFORM }
     requires within { width ≤ S.Group.most_bits }
     ensures { AnswersStep (⟦<S as Meaning>⟧.rules S.Field.DIMENSION) S.Challenger.state
-        (step.ChallengeUniformBits label.entry width n) None verifier.old result verifier.new }
+        (Step.ChallengeUniformBits label.entry width n) None verifier.old result verifier.new }
 {
     let drawn = draws::draw_uniform_bits(alloc, verifier, label, width, n)?;
     Ok((None, Some(drawn)))
@@ -261,8 +260,8 @@ pub(crate) fn draw_uniform_bits_rejecting<'a, S: Suite>(
     requires has { IsTrue S.Group.HAS_UNIFORM }
     requires within { width ≤ S.Group.most_bits }
     ensures { AnswersStep (⟦<S as Meaning>⟧.rules S.Field.DIMENSION) S.Challenger.state
-        (step.ChallengeUniformBitsRejecting label.entry width n accept.now limit) None verifier.old result
-        verifier.new }
+        (Step.ChallengeUniformBitsRejecting label.entry width n accept.now limit) None verifier.old
+        result verifier.new }
 {
     let drawn = draws::draw_uniform_bits_rejecting(
         alloc, verifier, label, width, n, accept, limit,

@@ -1,7 +1,6 @@
 //! The steps that a verifier reads.
 ghost use Rattle.std.specs.Prelude.{None};
-ghost use Rattle.p3_script.specs.declared.steps.Step.TheVariants as step;
-ghost use Rattle.p3_script_verifier.specs.Taking.{AnswersStep};
+ghost use Rattle.p3_script_verifier.specs.VerifierAnswers.{AnswersStep};
 
 use crate::answer::Answer;
 use p3_challenger_core::{CanObserve, Sponge};
@@ -9,7 +8,7 @@ use p3_codecs::{Codec, ExtensionFieldCodec, Unit};
 use p3_drivers::VerifierState;
 use p3_fs_core::{Label, TranscriptError};
 use p3_script::draws::unbound;
-use p3_script::{Meaning, Received, Suite};
+use p3_script::{Meaning, Received, Step, Suite};
 use p3_step_laws::{read_bytes_are_encoded, read_hints_are_encoded, read_values_are_encoded};
 use std::alloc::Global;
 
@@ -20,7 +19,7 @@ pub(crate) fn receive_salt<'a, S: Suite>(
     len: usize,
 ) -> Result<Answer<'a, S>, TranscriptError>
     ensures { AnswersStep (⟦<S as Meaning>⟧.rules S.Field.DIMENSION) S.Challenger.state
-        (step.Salt label.entry len) None verifier.old result verifier.new }
+        (Step.Salt label.entry len) None verifier.old result verifier.new }
 {
     read_bytes_are_encoded::<S::Unit, S::Challenger>();
     let _unread = verifier.unread();
@@ -35,7 +34,7 @@ pub(crate) fn receive_bytes<'a, S: Suite>(
     len: usize,
 ) -> Result<Answer<'a, S>, TranscriptError>
     ensures { AnswersStep (⟦<S as Meaning>⟧.rules S.Field.DIMENSION) S.Challenger.state
-        (step.Bytes label.entry len) None verifier.old result verifier.new }
+        (Step.Bytes label.entry len) None verifier.old result verifier.new }
 {
     read_bytes_are_encoded::<S::Unit, S::Challenger>();
     let _unread = verifier.unread();
@@ -50,7 +49,7 @@ pub(crate) fn receive_counted_bytes<'a, S: Suite>(
     max: usize,
 ) -> Result<Answer<'a, S>, TranscriptError>
     ensures { AnswersStep (⟦<S as Meaning>⟧.rules S.Field.DIMENSION) S.Challenger.state
-        (step.BytesBounded label.entry max) None verifier.old result verifier.new }
+        (Step.BytesBounded label.entry max) None verifier.old result verifier.new }
 {
     read_bytes_are_encoded::<S::Unit, S::Challenger>();
     let _unread = verifier.unread();
@@ -65,7 +64,7 @@ pub(crate) fn receive_hint<'a, S: Suite>(
     len: usize,
 ) -> Result<Answer<'a, S>, TranscriptError>
     ensures { AnswersStep (⟦<S as Meaning>⟧.rules S.Field.DIMENSION) S.Challenger.state
-        (step.Hint label.entry len) None verifier.old result verifier.new }
+        (Step.Hint label.entry len) None verifier.old result verifier.new }
 {
     read_hints_are_encoded::<S::Challenger>();
     let _unread = verifier.unread();
@@ -80,7 +79,7 @@ pub(crate) fn receive_counted_hint<'a, S: Suite>(
     max: usize,
 ) -> Result<Answer<'a, S>, TranscriptError>
     ensures { AnswersStep (⟦<S as Meaning>⟧.rules S.Field.DIMENSION) S.Challenger.state
-        (step.HintBounded label.entry max) None verifier.old result verifier.new }
+        (Step.HintBounded label.entry max) None verifier.old result verifier.new }
 {
     read_hints_are_encoded::<S::Challenger>();
     let _unread = verifier.unread();
@@ -94,7 +93,7 @@ pub(crate) fn receive_scalar<'a, S: Suite>(
     label: Label,
 ) -> Result<Answer<'a, S>, TranscriptError>
     ensures { AnswersStep (⟦<S as Meaning>⟧.rules S.Field.DIMENSION) S.Challenger.state
-        (step.Scalar label.entry) None verifier.old result verifier.new }
+        (Step.Scalar label.entry) None verifier.old result verifier.new }
 {
     read_values_are_encoded::<S::Field, S::Unit, S::Challenger, S::Codec>();
     let _unread = verifier.unread();
@@ -108,7 +107,7 @@ pub(crate) fn receive_extension<'a, S: Suite>(
     label: Label,
 ) -> Result<Answer<'a, S>, TranscriptError>
     ensures { AnswersStep (⟦<S as Meaning>⟧.rules S.Field.DIMENSION) S.Challenger.state
-        (step.Extension label.entry) None verifier.old result verifier.new }
+        (Step.Extension label.entry) None verifier.old result verifier.new }
 {
     read_values_are_encoded::<
         S::Extension,
@@ -129,7 +128,7 @@ pub(crate) fn receive_scalars<'a, S: Suite>(
     n: usize,
 ) -> Result<Answer<'a, S>, TranscriptError>
     ensures { AnswersStep (⟦<S as Meaning>⟧.rules S.Field.DIMENSION) S.Challenger.state
-        (step.Scalars label.entry n) None verifier.old result verifier.new }
+        (Step.Scalars label.entry n) None verifier.old result verifier.new }
 {
     read_values_are_encoded::<S::Field, S::Unit, S::Challenger, S::Codec>();
     let _unread = verifier.unread();
@@ -146,7 +145,7 @@ pub(crate) fn receive_counted_scalars<'a, S: Suite>(
     max: usize,
 ) -> Result<Answer<'a, S>, TranscriptError>
     ensures { AnswersStep (⟦<S as Meaning>⟧.rules S.Field.DIMENSION) S.Challenger.state
-        (step.ScalarsBounded label.entry max) None verifier.old result verifier.new }
+        (Step.ScalarsBounded label.entry max) None verifier.old result verifier.new }
 {
     read_values_are_encoded::<S::Field, S::Unit, S::Challenger, S::Codec>();
     let _unread = verifier.unread();

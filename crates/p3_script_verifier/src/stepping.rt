@@ -2,7 +2,7 @@
 ghost use Rattle.std.specs.Prelude.{None};
 ghost use Rattle.p3_runs.specs.Stepping.{IsCarriedTo};
 ghost use Rattle.p3_script.specs.{Scripts.play_of, StepFamilies.{SendsNothing, Draws}};
-ghost use Rattle.p3_script_verifier.specs.Taking.{AnswersStep};
+ghost use Rattle.p3_script_verifier.specs.VerifierAnswers.{AnswersStep};
 
 use crate::answer::Answer;
 use crate::{known, receives, work};

@@ -5,8 +5,7 @@ ghost use Rattle.p3_drivers.specs.Drivers.{verifying_of};
 ghost use Rattle.p3_runs.specs.{Runs.{AreAdmitted, carried_count, if_carried, if_drawn}, Verdicts.script_of};
 ghost use Rattle.p3_runs.specs.Stepping.{one_of, IsCarriedTo};
 ghost use Rattle.p3_script.specs.Scripts.{play_of, received_of, drawn_of, values_received, challenges_of};
-ghost use Rattle.p3_script_verifier.specs.Taking.{IsRefused, KeepsOne};
-ghost use Rattle.p3_script_verifier.specs.VerifierAnswers.{IsVerifiedScript, IsRefusedProof};
+ghost use Rattle.p3_script_verifier.specs.VerifierAnswers.{IsRefused, KeepsOne, IsVerifiedScript, IsRefusedProof};
 
 use crate::stepping::verifier_step;
 use p3_challenger_core::Sponge;
@@ -86,9 +85,8 @@ fn take_step<'a, S: Suite>(
     requires admitted { (play_of (⟦<S as Meaning>⟧.rules S.Field.DIMENSION) step.now).admitted }
     requires carried { let rules = ⟦<S as Meaning>⟧.rules S.Field.DIMENSION in
         IsCarriedTo (play_of rules step.now).place witness }
-    ensures ok { let rules = ⟦<S as Meaning>⟧.rules S.Field.DIMENSION in
-        OnOk result (KeepsOne (play_of rules step.now) witness
-        (verifying_of S.Challenger.state verifier.old) (values_received received.old.items)
+    ensures ok { OnOk result (KeepsOne (play_of (⟦<S as Meaning>⟧.rules S.Field.DIMENSION) step.now)
+        witness (verifying_of S.Challenger.state verifier.old) (values_received received.old.items)
         (challenges_of challenges.old.items) (verifying_of S.Challenger.state verifier.new)
         (values_received received.new.items) (challenges_of challenges.new.items)) }
     ensures err { IfErr result (IsRefused (play_of (⟦<S as Meaning>⟧.rules S.Field.DIMENSION)

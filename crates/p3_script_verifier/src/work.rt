@@ -1,13 +1,12 @@
 //! Proof of work, on the verifier's side.
 ghost use Rattle.std.specs.Prelude.{◌≤◌, None, Some, IsTrue};
-ghost use Rattle.p3_script.specs.declared.steps.Step.TheVariants as step;
-ghost use Rattle.p3_script_verifier.specs.Taking.{AnswersStep};
+ghost use Rattle.p3_script_verifier.specs.VerifierAnswers.{AnswersStep};
 
 use crate::answer::Answer;
 use p3_challenger_core::Sponge;
 use p3_drivers::VerifierState;
 use p3_fs_core::{Label, TranscriptError, TranscriptField};
-use p3_script::{Meaning, Received, StepGroup, Suite};
+use p3_script::{Meaning, Received, Step, StepGroup, Suite};
 
 // Reads a witness, and checks it.
 pub(crate) fn receive_witness<'a, S: Suite>(
@@ -18,7 +17,7 @@ pub(crate) fn receive_witness<'a, S: Suite>(
     requires has { IsTrue S.Group.HAS_POW }
     requires within { bits ≤ S.Group.most_bits }
     ensures { AnswersStep (⟦<S as Meaning>⟧.rules S.Field.DIMENSION) S.Challenger.state
-        (step.Pow label.entry bits) None verifier.old result verifier.new }
+        (Step.Pow label.entry bits) None verifier.old result verifier.new }
 {
     S::Group::steps_are_lawful();
     let unread = verifier.unread();
@@ -37,7 +36,7 @@ pub(crate) fn check_carried<'a, S: Suite>(
     requires has { IsTrue S.Group.HAS_POW }
     requires within { bits ≤ S.Group.most_bits }
     ensures { AnswersStep (⟦<S as Meaning>⟧.rules S.Field.DIMENSION) S.Challenger.state
-        (step.ObservePow label.entry bits) (Some witness) verifier.old result verifier.new }
+        (Step.ObservePow label.entry bits) (Some witness) verifier.old result verifier.new }
 {
     S::Group::check_carried_pow(verifier, label, bits, witness)?;
     Ok((None, None))

@@ -3,10 +3,9 @@ use Rattle.std.proofs.Common.{◌≡◌, ℕ, ◌+◌, ◌%◌, Bool, true, fals
 use Rattle.std.specs.List.{range_with_len}
 use Rattle.p3_hash_challenger.specs.{HashCalls.HashFunction, HashState.HashState}
 use Rattle.p3_grinding.specs.{Candidates.first_accepted, Checks.NonePasses}
-use Rattle.p3_serializing.specs.SerializingGrinding.{serializing_check}
-use Rattle.p3_serializing.proofs.WorkedRows.{State, over, numbers, observed, drawn}
-use Rattle.p3_challenger_core.specs.{Bits.greatest_below, Sampling.{Sampling, unrefused_draw, draws, after_draws}}
-use Rattle.p3_serializing.specs.{Bytes.{bytes_of, number_of}, SerializingState.element_drawn}
+use Rattle.p3_serializing.specs.{SerializingGrinding.serializing_check, SerializingState.element_drawn}
+use Rattle.p3_serializing.{proofs.WorkedRows.{State, over, numbers, observed, drawn}, specs.Bytes.{bytes_of, number_of}}
+use Rattle.p3_challenger_core.specs.Sampling.{greatest_below, Sampling, unrefused_draw, draws, after_draws}
 use Rattle.p3_hash_challenger.specs.HashState as hash_state
 
 -- ---- digests of the length

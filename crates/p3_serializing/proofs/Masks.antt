@@ -1,10 +1,9 @@
 -- Words cut to some bits.
-use Rattle.std.proofs.Common.{◌≡◌, ℕ, zero, suc, ◌<◌, ◌≤◌, ◌+◌, ◌-◌, ◌*◌, ◌/◌, ◌%◌, ◌^◌, true, false, nat_lt}
-use Rattle.std.specs.Option.{option_map}
-use Rattle.p3_challenger_core.specs.{Bits.greatest_below, BitLaws.greatest-log}
+use Rattle.std.proofs.Common.{◌≡◌, ℕ, zero, suc, ◌<◌, ◌≤◌, ◌+◌, ◌-◌, ◌*◌, ◌/◌, ◌%◌, ◌^◌, true, false, nat_lt, Option}
+use Rattle.std.{proofs.Common.{Some, sym, ap, ◌∙◌, arith, bit_and}, specs.Option.option_map}
+use Rattle.std.proofs.{lemmas.{Bool.Decides.nat_tests, Nat.{and_mask, pow-add, pow_pos, shr_high}}, Math.Nat.suc-mul}
+use Rattle.p3_challenger_core.specs.{Sampling.greatest_below, BitLaws.greatest-log}
 use Rattle.p3_serializing.specs.SerializingState.{bits_of_order}
-use Rattle.std.proofs.{Common.{Option, Some, sym, ap, ◌∙◌, arith, bit_and}, lemmas.Bool.Decides.nat_tests}
-use Rattle.std.proofs.{lemmas.Nat.{and_mask, pow-add, pow_pos, shr_high}, Math.Nat.suc-mul}
 
 -- so many bits are set, where all bits above them are shifted out
 set_bits : (p q b : ℕ) → 0 < b → p ≡ suc q → p * b ≡ 2 ^ 64 → q * b + (b - 1) ≡ 2 ^ 64 - 1

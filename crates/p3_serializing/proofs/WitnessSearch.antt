@@ -1,16 +1,15 @@
 -- A search for the least witness, by one for the first candidate of bytes.
 use Rattle.std.proofs.Common.{◌≡◌, ℕ, ◌==◌, ◌%◌, ◌^◌, ◌<◌, Bool, true, List, Option, Some, None, refl, sym, subst, ◌∙◌}
+use Rattle.std.{proofs.Common.{inl, inr, arith, rules}, specs.Option.option_map}
 use Rattle.p3_challenger_core.specs.Observation.{Observation, RefusesObserve, in_slice, observed_all}
 use Rattle.p3_challenger_core.specs.Sampling.{Sampling, IsSampling, RefusesDraw, draws, in_row}
-use Rattle.p3_challenger_core.specs.declared.error.ChallengerError.{ChallengerError}
-use Rattle.p3_challenger_core.specs.declared.error.ChallengerError.TheVariants.{OutOfMemory, DrawLimit}
+use Rattle.p3_challenger_core.specs.declared.error.ChallengerError.{ChallengerError, TheVariants.OutOfMemory}
+use Rattle.p3_challenger_core.specs.declared.error.ChallengerError.TheVariants.{DrawLimit}
 use Rattle.p3_grinding.specs.Checks.{all_zero, draws_nothing, checked, byte_check, IsFirst, NoneOf, IsLeast, NonePasses}
-use Rattle.p3_serializing.specs.SerializingState.{SerializingState, element_observed, bits_drawn}
-use Rattle.p3_serializing.specs.SerializingStateLaws.{bits-drawn}
-use Rattle.std.{proofs.Common.{inl, inr, arith, rules}, specs.Option.option_map}
-use Rattle.p3_field_core.specs.{Residues.{Residues, IsResidues}, ResidueLaws.number_of-below}
 use Rattle.p3_grinding.specs.{Checks.{MayRunOut, RefusesSearch}, CheckLaws.{checked-limit, all_zero-limit}}
-use Rattle.p3_serializing.specs.{Bytes.number_of, SerializingGrinding.{witness_bytes, low_bits_zero}}
+use Rattle.p3_serializing.specs.{SerializingState.{SerializingState, element_observed, bits_drawn}, Bytes.number_of}
+use Rattle.p3_serializing.specs.{SerializingStateLaws.bits-drawn, SerializingGrinding.{witness_bytes, low_bits_zero}}
+use Rattle.p3_field_core.specs.{Residues.{Residues, IsResidues}, ResidueLaws.number_of-below}
 
 none_not_some : None ≡ Some true → ⊥
 none_not_some e = search (rules, e)

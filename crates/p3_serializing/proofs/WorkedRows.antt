@@ -3,14 +3,14 @@
 use Rattle.std.proofs.Common.{◌≡◌, ℕ, ◌%◌, List, [], ◌∷◌, length, replicate, Some, None, refl}
 use Rattle.std.specs.List.{range_with_len}
 use Rattle.p3_field_core.specs.Residues.{Residues}
-use Rattle.p3_challenger_core.specs.{Bits.greatest_below, Observation.Observation}
-use Rattle.p3_challenger_core.specs.Sampling.{Sampling, unrefused_draw, draws, after_draws}
+use Rattle.p3_challenger_core.specs.Sampling.{greatest_below, Sampling, unrefused_draw, draws, after_draws}
+use Rattle.p3_challenger_core.specs.Observation.{Observation}
 use Rattle.p3_grinding.specs.Candidates.{first_accepted, after_first_accepted}
 use Rattle.p3_serializing.specs.SerializingGroups.{observe, draw, draw_bits, drop_byte, feed, read, skip, bits}
-use Rattle.p3_serializing.specs.SerializingState.{SerializingState, element_observed, words_observed, element_drawn}
-use Rattle.p3_serializing.specs.SerializingState.{bits_drawn}
+use Rattle.p3_serializing.specs.{SerializingGroups.{answers_off, byte_calls, taken}, SerializingState.SerializingState}
+use Rattle.p3_serializing.specs.SerializingState.{element_observed, words_observed, element_drawn, bits_drawn}
+use Rattle.p3_serializing.specs.Bytes.{bytes_of, number_of}
 use Rattle.p3_hash_challenger.specs.{HashCalls.{HashFunction, with_pending}, HashState.HashState}
-use Rattle.p3_serializing.specs.{Bytes.{bytes_of, number_of}, SerializingGroups.{answers_off, byte_calls, taken}}
 use Rattle.p3_hash_challenger.specs.HashState as hash_state
 
 abbrev pub by_length : HashFunction ℕ

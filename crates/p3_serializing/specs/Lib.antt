@@ -1,7 +1,7 @@
 pub mod Bytes
 pub mod BytesLaws
-pub mod SerializingGrinding
 pub mod SerializingGrindingLaws
+pub mod SerializingGrinding
 pub mod SerializingGroups
 pub mod SerializingState
 pub mod SerializingStateLaws

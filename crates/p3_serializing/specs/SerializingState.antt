@@ -1,9 +1,8 @@
 -- A serializing challenger as contracts see it: what reaches the inner challenger, and what is drawn from it.
 use Rattle.std.specs.Prelude.{◌≡◌, ℕ, ◌+◌, ◌%◌, ◌^◌, List, IsSome, nat_lt}
 use Rattle.p3_field_core.specs.Residues.{Residues}
-use Rattle.p3_challenger_core.specs.{Bits.most_bits_of, declared.error.ChallengerError.ChallengerError}
-use Rattle.p3_challenger_core.specs.Observation.{Observation, RefusesObserve, observed_as, in_slice}
-use Rattle.p3_challenger_core.specs.Sampling.{Sampling, made_of}
+use Rattle.p3_challenger_core.specs.{Sampling.{most_bits_of, Sampling, made_of}, Observation.{Observation, observed_as}}
+use Rattle.p3_challenger_core.specs.Observation.{in_slice}
 use Rattle.p3_serializing.specs.Bytes.{bytes_of, number_of}
 use Rattle.p3_grinding.specs.Candidates.{accepted_of}
 use Rattle.p3_challenger_core.specs.Observation as observation
@@ -30,30 +29,21 @@ fed inner_fed s symbols = stepped (λ i. inner_fed i symbols) s
 
 -- what the inner challenger observes
 abbrev pub passed_on : {I Symbol T : Type 0} → Observation I Symbol T → Observation (SerializingState I) Symbol T
-passed_on o =
-    record {
-      symbols = o.symbols;
-      observed = λ s x. stepped (λ i. o.observed i x) s;
-      may_leave = λ s x t. o.may_leave s.inner x t.inner × (t.draw_limit ≡ s.draw_limit);
-    }
+passed_on o = record {
+  symbols = o.symbols;
+  observed = λ s x. stepped (λ i. o.observed i x) s;
+  may_leave = λ s x t. o.may_leave s.inner x t.inner × (t.draw_limit ≡ s.draw_limit);
+}
 
 -- where the inner challenger observes bytes, one after another
 abbrev pub after_bytes : {I : Type 0} → (I → ℕ → I) → SerializingState I → List ℕ → SerializingState I
 after_bytes inner_observed s bytes = stepped (λ i. observation.observed_all inner_observed i bytes) s
 
--- where an observation is refused with this error, what it leaves
-abbrev pub RefusesValue : {S Symbol T : Type 0} → Observation S Symbol T → T → ChallengerError → S → S → Type 0
-RefusesValue o x e s t = RefusesObserve (o.may_leave s x) e t
-
 -- what is observed of a value is its bytes, which the inner challenger observes one after another
-abbrev pub FeedsBytes : {I Symbol T : Type 0} → Observation I Symbol ℕ → Observation (SerializingState I) Symbol T
-    → (T → List ℕ) → Type 0
+abbrev pub FeedsBytes : {I Symbol T : Type 0} → Observation I Symbol ℕ → Observation (SerializingState I) Symbol T →
+    (T → List ℕ) → Type 0
 FeedsBytes {I} {Symbol} {T} inner o bytes =
     (s : SerializingState I) (x : T) → o.observed s x ≡ after_bytes inner.observed s (bytes x)
-
--- values in order, each observed as another value
-abbrev pub each_as : {S Symbol T U : Type 0} → (U → T) → Observation S Symbol T → Observation S Symbol (List U)
-each_as f o = observation.in_row (observed_as f o)
 
 module _ {I Symbol : Type 0} (o : Observation I Symbol ℕ) (slice_may_leave : I → List ℕ → I → Type 0) where
   -- bytes, which reach the inner challenger as one slice
@@ -84,13 +74,12 @@ MeetsNoLimit {S} d = (s : S) → IsSome (d.sampled s) × ¬ (d.meets_limit s)
 
 -- a draw from the inner challenger, under the draw limit
 abbrev pub under_limit : {I T : Type 0} → (ℕ → Sampling I T) → Sampling (SerializingState I) T
-under_limit d =
-    record {
-      sampled = λ s. (d s.draw_limit).sampled s.inner;
-      after = λ s. stepped (d s.draw_limit).after s;
-      meets_limit = λ s. (d s.draw_limit).meets_limit s.inner;
-      may_leave = λ s t. (d s.draw_limit).may_leave s.inner t.inner × (t.draw_limit ≡ s.draw_limit);
-    }
+under_limit d = record {
+  sampled = λ s. (d s.draw_limit).sampled s.inner;
+  after = λ s. stepped (d s.draw_limit).after s;
+  meets_limit = λ s. (d s.draw_limit).meets_limit s.inner;
+  may_leave = λ s t. (d s.draw_limit).may_leave s.inner t.inner × (t.draw_limit ≡ s.draw_limit);
+}
 
 -- a byte that is drawn and dropped
 abbrev pub byte_dropped : {I : Type 0} → Sampling I ℕ → Sampling (SerializingState I) (Unit {0})

@@ -1,20 +1,20 @@
 -- Laws of a serializing challenger: what it does is what its inner challenger does.
 use Rattle.std.proofs.Common.{◌≡◌, ℕ, zero, suc, ◌<◌, ◌%◌, ◌^◌, List, [], ◌++◌, take, nat_lt, refl, sym, ap, ◌∙◌}
+use Rattle.std.{proofs.Common.{Option, Some, None}, specs.{Prelude.{Result, Ok, Err}, Option.option_map}}
 use Rattle.p3_field_core.specs.Residues.{Residues}
+use Rattle.p3_challenger_core.specs.Sampling.{Sampling, IsSampling, RefusesDraw, DrawsOrRefuses, RefusesDraws, made_of}
 use Rattle.p3_challenger_core.specs.Observation.{Observation, IsObservation, LeavesInCalls, in_slice, observed_as}
-use Rattle.p3_challenger_core.specs.ObservationLaws.{in_slice-is_observation, in_row-is_observation}
-use Rattle.p3_challenger_core.specs.{BitLaws.low_bits-below, declared.error.ChallengerError.ChallengerError}
-use Rattle.p3_challenger_core.specs.Sampling.{Sampling, IsSampling, RefusesDraw, RefusesDraws, made_of}
-use Rattle.p3_challenger_core.specs.declared.error.ChallengerError.TheVariants.{OutOfMemory, DrawLimit}
+use Rattle.p3_challenger_core.specs.{Sponge.{IsFed, IsStepsOn, after_steps}, ObservationLaws.in_slice-is_observation}
+use Rattle.p3_challenger_core.specs.ObservationLaws.{in_row-is_observation, observed_as-is_observation}
 use Rattle.p3_challenger_core.specs.SamplingLaws.{in_row-is_sampling, made_of-is_sampling, refused-in_row}
-use Rattle.p3_serializing.specs.Bytes.{bytes_of, number_of}
-use Rattle.p3_serializing.specs.SerializingState.{SerializingState, stepped, fed, passed_on, bytes_observed}
-use Rattle.p3_serializing.specs.SerializingState.{number_observed, element_observed, words_observed, under_limit, group}
-use Rattle.p3_serializing.specs.SerializingState.{low_bits_of_group, element_of_groups, element_drawn, bits_drawn}
-use Rattle.p3_serializing.specs.SerializingState.{space_element_drawn, bits_of_order, byte_dropped}
+use Rattle.p3_challenger_core.specs.{BitLaws.low_bits-below, declared.error.ChallengerError.ChallengerError}
+use Rattle.p3_challenger_core.specs.declared.error.ChallengerError.TheVariants.{OutOfMemory, DrawLimit}
+use Rattle.p3_serializing.specs.SerializingState.{space_element_drawn, low_bits_of_group, element_of_groups}
+use Rattle.p3_serializing.specs.SerializingState.{SerializingState, element_observed, number_observed, bytes_observed}
+use Rattle.p3_serializing.specs.SerializingState.{words_observed, element_drawn, bits_of_order, byte_dropped}
+use Rattle.p3_serializing.specs.SerializingState.{under_limit, bits_drawn, passed_on, stepped, group, fed}
+use Rattle.p3_serializing.specs.Bytes.{number_of, bytes_of}
 use Rattle.p3_grinding.specs.{Candidates.accepted_of, CandidateLaws.accepted_of-is_sampling}
-use Rattle.std.{proofs.Common.{Option, Some, None}, specs.Option.option_map}
-use Rattle.p3_challenger_core.specs.{Sponge.{IsFed, IsStepsOn, after_steps}, ObservationLaws.observed_as-is_observation}
 use Rattle.p3_challenger_core.specs.Observation as observation
 use Rattle.p3_challenger_core.specs.Sampling as sampling
 
@@ -104,6 +104,12 @@ pub refused-under_limit : {I T : Type 0} (d : ℕ → Sampling I T) (e : Challen
 refused-under_limit d OutOfMemory s t same h = (h, same)
 refused-under_limit d DrawLimit s t same h = (h.0, λ i. record { inner = h.1 i; draw_limit = same i })
 refused-under_limit d _ s t same h = h
+
+pub drawn-under_limit : {I T : Type 0} (d : ℕ → Sampling I T) (result : Result T ChallengerError)
+    (s t : SerializingState I) → t.draw_limit ≡ s.draw_limit → DrawsOrRefuses (d s.draw_limit) s.inner result t.inner
+    → DrawsOrRefuses (under_limit d) s result t
+drawn-under_limit d (Ok x) s t same h = (h.0, λ i. record { inner = h.1 i; draw_limit = same i })
+drawn-under_limit d (Err e) s t same h = refused-under_limit d e s t same h
 
 -- the low bits of a number that may be drawn
 low_bits-below_all : (word : Option ℕ) (bits x : ℕ) → option_map (λ n. n % 2 ^ bits) word ≡ Some x → x < 2 ^ bits

@@ -6,10 +6,12 @@
 //! ```
 //!
 //! It keeps nothing of its own: its state is the inner challenger's.
-ghost use Rattle.std.specs.Prelude.{◌≡◌, ◌≤◌, OnOk, IfErr};
-ghost use Rattle.p3_challenger_core.specs.Observation.{in_row};
-ghost use Rattle.p3_serializing.specs.SerializingState.{RefusesValue};
+ghost use Rattle.std.specs.Prelude.{◌≡◌, ◌≤◌};
+ghost use Rattle.p3_challenger_core.specs.Observation.{in_row, each_as, ObservesOrRefuses};
 ghost use Rattle.p3_hash_challenger.specs.HashCalls.{with_pending};
+ghost use Rattle.p3_serializing.specs.SerializingState.{state_of, stepped, bytes_observed, element_observed};
+ghost use Rattle.p3_serializing.specs.SerializingStateLaws.{nothing-fed, more-fed, element-observed, elements-observed};
+ghost use Rattle.p3_serializing.specs.SerializingState as serializing_state;
 
 mod calls;
 mod digests;
@@ -127,10 +129,6 @@ impl<F, H: CryptographicHasher<u8, [u8; 32]>, const BYTES: usize> SerializingCha
 }
 
 impl<F, Inner: Sponge, const BYTES: usize> Sponge for SerializingChallenger<F, Inner, BYTES> {
-    ghost use Rattle.p3_serializing.specs.SerializingState.{state_of, stepped};
-    ghost use Rattle.p3_serializing.specs.SerializingState as serializing_state;
-    ghost use Rattle.p3_serializing.specs.SerializingStateLaws.{nothing-fed, more-fed};
-
     type State = SerializingState<Inner::State>;
 
     type Symbol = Inner::Symbol;
@@ -147,16 +145,10 @@ impl<F, Inner: Sponge, const BYTES: usize> Sponge for SerializingChallenger<F, I
 }
 
 impl<F, Inner: CanObserve<u8>, const BYTES: usize> SerializingChallenger<F, Inner, BYTES> {
-    ghost use Rattle.p3_serializing.specs.SerializingState.{state_of, bytes_observed};
-
     // Passes bytes on to the inner challenger, as one slice.
     fn feed(&mut self, bytes: &[u8]) -> Result<(), ChallengerError>
-        ensures ok { OnOk result (state_of Inner.state self.new
-            ≡ (bytes_observed Inner.observation Inner.slice_may_leave).observed
-            (state_of Inner.state self.old) bytes.now) }
-        ensures err { IfErr result (λ e. RefusesValue
-            (bytes_observed Inner.observation Inner.slice_may_leave) bytes.now e
-            (state_of Inner.state self.old) (state_of Inner.state self.new)) }
+        ensures { ObservesOrRefuses (bytes_observed Inner.observation Inner.slice_may_leave)
+            bytes.now (state_of Inner.state self.old) result (state_of Inner.state self.new) }
     {
         self.inner.observe_slice(bytes)
     }
@@ -167,26 +159,18 @@ impl<F: SerializedIn<BYTES>, Inner: CanObserve<u8>, const BYTES: usize> Serializ
     Inner,
     BYTES,
 > {
-    ghost use Rattle.p3_serializing.specs.SerializingState.{state_of, each_as};
-
     // Passes an element on as its bytes.
     fn feed_element(&mut self, value: F) -> Result<(), ChallengerError>
-        ensures ok { OnOk result (state_of Inner.state self.new
-            ≡ ⟦<Self as CanObserve<F>>⟧.observation.observed
-            (state_of Inner.state self.old) value) }
-        ensures err { IfErr result (λ e. RefusesValue ⟦<Self as CanObserve<F>>⟧.observation value e
-            (state_of Inner.state self.old) (state_of Inner.state self.new)) }
+        ensures { ObservesOrRefuses ⟦<Self as CanObserve<F>>⟧.observation value
+            (state_of Inner.state self.old) result (state_of Inner.state self.new) }
     {
         self.feed(&value.to_unique_bytes())
     }
 
     // Passes elements on in order, each by one call.
     fn feed_elements(&mut self, values: &[F]) -> Result<(), ChallengerError>
-        ensures ok { OnOk result (state_of Inner.state self.new
-            ≡ (in_row ⟦<Self as CanObserve<F>>⟧.observation).observed
-            (state_of Inner.state self.old) values.now) }
-        ensures err { IfErr result (λ e. RefusesValue (in_row ⟦<Self as CanObserve<F>>⟧.observation)
-            values.now e (state_of Inner.state self.old) (state_of Inner.state self.new)) }
+        ensures { ObservesOrRefuses (in_row ⟦<Self as CanObserve<F>>⟧.observation) values.now
+            (state_of Inner.state self.old) result (state_of Inner.state self.new) }
     {
         for i in 0..values.len() {
             self.feed_element(values[i])?;
@@ -199,12 +183,9 @@ impl<F: SerializedIn<BYTES>, Inner: CanObserve<u8>, const BYTES: usize> Serializ
         &mut self,
         lists: &[Part],
     ) -> Result<(), ChallengerError>
-        ensures ok { OnOk result (state_of Inner.state self.new
-            ≡ (each_as Part.items (in_row ⟦<Self as CanObserve<F>>⟧.observation)).observed
-            (state_of Inner.state self.old) lists.now) }
-        ensures err { IfErr result (λ e. RefusesValue
-            (each_as Part.items (in_row ⟦<Self as CanObserve<F>>⟧.observation)) lists.now e
-            (state_of Inner.state self.old) (state_of Inner.state self.new)) }
+        ensures { ObservesOrRefuses
+            (each_as Part.items (in_row ⟦<Self as CanObserve<F>>⟧.observation)) lists.now
+            (state_of Inner.state self.old) result (state_of Inner.state self.new) }
     {
         for i in 0..lists.len() {
             self.feed_elements(lists[i].as_slice())?;
@@ -215,15 +196,12 @@ impl<F: SerializedIn<BYTES>, Inner: CanObserve<u8>, const BYTES: usize> Serializ
 
 impl<F: SerializedIn<BYTES>, Inner: CanObserve<u8>, const BYTES: usize> CanObserve<F>
     for SerializingChallenger<F, Inner, BYTES> {
-    ghost use Rattle.p3_challenger_core.specs.Observation.{in_row};
-    ghost use Rattle.p3_serializing.specs.{SerializingState.element_observed, SerializingStateLaws.element-observed};
-
     ghost observation = { element_observed
         Inner.observation Inner.slice_may_leave F.residues BYTES };
 
     // A refused slice has fed the elements before the refused one, and of that one what the inner challenger leaves.
-    ghost slice_may_leave = { (in_row (element_observed Inner.observation Inner.slice_may_leave
-        F.residues BYTES)).may_leave };
+    ghost slice_may_leave = { (in_row
+        (element_observed Inner.observation Inner.slice_may_leave F.residues BYTES)).may_leave };
 
     ghost observes = { element-observed Inner.fed Inner.fed_nothing Inner.fed_more Inner.observation
         Inner.slice_may_leave Inner.observes Inner.slice_leaves F.residues BYTES };
@@ -242,9 +220,6 @@ impl<F: SerializedIn<BYTES>, Inner: CanObserve<u8>, const BYTES: usize> CanObser
 impl<F: SerializedIn<BYTES>, Inner: CanObserve<u8>, const BYTES: usize, const N: usize> CanObserve<
     [F; N],
 > for SerializingChallenger<F, Inner, BYTES> {
-    ghost use Rattle.p3_challenger_core.specs.Observation.{in_row};
-    ghost use Rattle.p3_serializing.specs.SerializingStateLaws.{elements-observed};
-
     // Its elements in order, each by one call. An array of no places feeds nothing.
     ghost observation = { in_row ⟦<Self as CanObserve<F>>⟧.observation };
 

@@ -24,9 +24,9 @@ impl<
     ///
     /// A law: the body is empty, and a caller cites the clause.
     pub fn follows_groups()
-        ensures { AlwaysGives Inner.CanSample.sampling → (calls : List (SerializingCall F))
-            (s : SerializingState Inner.State) → (words : List ℕ) × AreRead
-            Inner.CanObserve.observation Inner.CanSample.sampling F.residues BYTES
+        ensures { AlwaysGives Inner.CanSample.sampling →
+            (calls : List (SerializingCall F)) (s : SerializingState Inner.State) → (words : List ℕ)
+            × AreRead Inner.CanObserve.observation Inner.CanSample.sampling F.residues BYTES
             (by_calls ⟦<Self as CanObserve<F>>⟧.observation ⟦<Self as CanSample<F>>⟧.sampling
             ⟦<Self as CanSampleBits<usize>>⟧.bits_sampling
             ⟦<Self as CanSampleUniformBits<F>>⟧.uniform ⟦<Self as BeforeWitness>⟧.before_witness)

@@ -2,7 +2,7 @@
 //! the laws on symbols.
 ghost use Rattle.std.specs.Prelude.{◌≡◌, length};
 ghost use Rattle.p3_challenger_core.specs.Reading.{IsPrefixCode, IsPrefixCodeOn, IsByte, AreBytes, IsPrefixFree};
-ghost use Rattle.p3_symmetric.specs.HashValues.{values_of};
+ghost use Rattle.p3_symmetric.specs.Digests.{values_of};
 ghost use Rattle.p3_serializing.specs.Bytes.{AreWords};
 
 use crate::{SerializedIn, SerializingChallenger};
@@ -21,8 +21,8 @@ pub fn serialized_elements_are_prefix_code<
 >()
     ensures elements { IsPrefixCodeOn IsByte Inner.observation.symbols → IsPrefixFree
         ⟦<SerializingChallenger<F, Inner, BYTES> as CanObserve<F>>⟧.observation.symbols }
-    ensures arrays { IsPrefixCodeOn IsByte Inner.observation.symbols
-        → IsPrefixCodeOn (λ values. length values ≡ N)
+    ensures arrays { IsPrefixCodeOn IsByte Inner.observation.symbols →
+        IsPrefixCodeOn (λ values. length values ≡ N)
         ⟦<SerializingChallenger<F, Inner, BYTES> as CanObserve<[F; N]>>⟧.observation.symbols }
 {}
 

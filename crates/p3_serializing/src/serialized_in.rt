@@ -1,6 +1,6 @@
 //! The prime fields whose elements are numbers of so many bytes.
-ghost use Rattle.std.specs.Prelude.{◌≡◌, ◌≤◌, ◌^◌};
-ghost use Rattle.p3_serializing.specs.Bytes.{bytes_of, number_of};
+ghost use Rattle.std.{specs.Prelude.{◌≡◌, ◌≤◌, ◌^◌}, proofs.Common.lit≤};
+ghost use Rattle.p3_serializing.specs.{Bytes.{bytes_of, number_of}, BytesLaws.{fits_4, fits_8}};
 
 use p3_field_core::{PrimeField32, PrimeField64};
 
@@ -25,9 +25,6 @@ pub trait SerializedIn<const BYTES: usize>: PrimeField64 {
 }
 
 impl<F: PrimeField32> SerializedIn<4> for F {
-    ghost use Rattle.std.proofs.Common.{lit≤};
-    ghost use Rattle.p3_serializing.specs.BytesLaws.{fits_4};
-
     ghost at_most_8 = { lit≤ tt };
 
     ghost order_fits = { fits_4 F.residues.order F.fits_u32 };
@@ -42,9 +39,6 @@ impl<F: PrimeField32> SerializedIn<4> for F {
 }
 
 impl<F: PrimeField64> SerializedIn<8> for F {
-    ghost use Rattle.std.proofs.Common.{lit≤};
-    ghost use Rattle.p3_serializing.specs.BytesLaws.{fits_8};
-
     ghost at_most_8 = { lit≤ tt };
 
     ghost order_fits = { fits_8 F.residues.order F.fits_u64 };

@@ -1,4 +1,6 @@
 //! The field of order 15 * 2^27 + 1.
+ghost use Rattle.std.{specs.Prelude.codes, proofs.Common.{lit<, lit≤}};
+
 use crate::{SmallOrder, SmallPrime};
 use p3_field_core::BinomiallyExtendable;
 
@@ -8,8 +10,6 @@ use p3_field_core::BinomiallyExtendable;
 pub type BabyBear = SmallPrime<2013265921>;
 
 impl SmallOrder<2013265921> for BabyBear {
-    ghost use Rattle.std.{specs.Prelude.codes, proofs.Common.{lit<, lit≤}};
-
     ghost above_one = { lit< tt };
 
     ghost fits_u32 = { lit< tt };
@@ -46,8 +46,6 @@ impl SmallOrder<2013265921> for BabyBear {
 }
 
 impl BinomiallyExtendable<4> for BabyBear {
-    ghost use Rattle.std.specs.Prelude.{codes};
-
     ghost extension_identity = { codes "binomial:2013265921:4:11" };
 
     fn extension_id() -> &'static [u8] {

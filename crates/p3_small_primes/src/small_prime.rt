@@ -1,5 +1,8 @@
 //! The prime fields whose order is below 2^32: one type of elements, each the number itself.
-ghost use Rattle.std.specs.Prelude.{◌<◌};
+ghost use Rattle.std.specs.{Prelude.{◌<◌, ℕ, List, ◌≡◌, ◌*◌, ◌^◌, ◌≤◌, Some, ◌-◌, refl}, Ordering.nat_cmp};
+ghost use Rattle.std.proofs.Common.{lit≤};
+ghost use Rattle.p3_field_core.specs.Residues.{sum_of, difference_of, product_of};
+ghost use Rattle.std.specs.Hash as fed;
 
 use p3_field_core::{
     AlgebraIdentity, Field, Named, PrimeCharacteristicRing, PrimeField, PrimeField32, PrimeField64,
@@ -29,7 +32,6 @@ const LARGEST_OF_SHORT_SUMS: u32 = 1 << 31;
 ///
 /// Not in the Rust crate.
 pub trait SmallOrder<const ORDER: u32> {
-    ghost use Rattle.std.specs.Prelude.{ℕ, List, ◌≡◌, ◌*◌, ◌^◌, ◌≤◌};
     ghost use Rattle.p3_small_primes.specs.PrimeIdentities.{prime_identity};
 
     // There are a 0 and a 1.
@@ -78,7 +80,6 @@ impl<const ORDER: u32> SmallPrime<ORDER>
 where
     Self: SmallOrder<ORDER>,
 {
-    ghost use Rattle.std.specs.Prelude.{◌≡◌, ◌*◌};
     ghost use Rattle.p3_small_primes.specs.SmallPrimes.{element};
 
     // The element that a number is modulo the order.
@@ -112,8 +113,6 @@ where
 }
 
 impl<const ORDER: u32> SmallPrime<ORDER> {
-    ghost use Rattle.std.specs.{Prelude.{◌≡◌, Some}, Ordering.nat_cmp};
-    ghost use Rattle.std.specs.Hash as fed;
     ghost use Rattle.p3_small_primes.specs.SmallPrimes.{number};
 
     /// Elements are ordered as their canonical numbers are, and hashed as those.
@@ -123,8 +122,10 @@ impl<const ORDER: u32> SmallPrime<ORDER> {
         ensures order { (x y : SmallPrime ORDER) →
             ⟦<SmallPrime<ORDER> as Ord>⟧.cmp x y ≡ nat_cmp (number x) (number y) }
         ensures partial { (x y : SmallPrime ORDER) →
-            ⟦<SmallPrime<ORDER> as PartialOrd>⟧.partial_cmp x y ≡ Some (nat_cmp (number x) (number y)) }
-        ensures hash { (x : SmallPrime ORDER) → ⟦<SmallPrime<ORDER> as Hash>⟧.hash_input x ≡ fed.u32 (number x) }
+            ⟦<SmallPrime<ORDER> as PartialOrd>⟧.partial_cmp x y
+            ≡ Some (nat_cmp (number x) (number y)) }
+        ensures hash { (x : SmallPrime ORDER) →
+            ⟦<SmallPrime<ORDER> as Hash>⟧.hash_input x ≡ fed.u32 (number x) }
     {}
 }
 
@@ -143,7 +144,6 @@ impl<const ORDER: u32> Default for SmallPrime<ORDER>
 where
     Self: SmallOrder<ORDER>,
 {
-    ghost use Rattle.std.specs.Prelude.{◌≡◌};
     ghost use Rattle.p3_small_primes.specs.SmallPrimes.{element};
 
     ghost is_default = { λ x. x ≡ element ORDER ⟦<Self as SmallOrder<ORDER>>⟧.above_one 0 };
@@ -157,8 +157,6 @@ impl<const ORDER: u32> Add for SmallPrime<ORDER>
 where
     Self: SmallOrder<ORDER>,
 {
-    ghost use Rattle.std.specs.Prelude.{◌≡◌};
-    ghost use Rattle.p3_field_core.specs.Residues.{sum_of};
     ghost use Rattle.p3_small_primes.specs.SmallPrimes.{residues_below};
 
     type Output = Self;
@@ -179,8 +177,6 @@ impl<const ORDER: u32> Sub for SmallPrime<ORDER>
 where
     Self: SmallOrder<ORDER>,
 {
-    ghost use Rattle.std.specs.Prelude.{◌≡◌};
-    ghost use Rattle.p3_field_core.specs.Residues.{difference_of};
     ghost use Rattle.p3_small_primes.specs.SmallPrimes.{residues_below};
 
     type Output = Self;
@@ -201,8 +197,6 @@ impl<const ORDER: u32> Mul for SmallPrime<ORDER>
 where
     Self: SmallOrder<ORDER>,
 {
-    ghost use Rattle.std.specs.Prelude.{◌≡◌};
-    ghost use Rattle.p3_field_core.specs.Residues.{product_of};
     ghost use Rattle.p3_small_primes.specs.SmallPrimes.{residues_below};
 
     type Output = Self;
@@ -218,7 +212,6 @@ impl<const ORDER: u32> PrimeCharacteristicRing for SmallPrime<ORDER>
 where
     Self: SmallOrder<ORDER>,
 {
-    ghost use Rattle.std.specs.Prelude.{◌-◌, refl};
     ghost use Rattle.p3_small_primes.specs.SmallPrimes as small;
     ghost use Rattle.p3_small_primes.specs.SmallPrimeLaws as laws;
 
@@ -285,8 +278,6 @@ impl<const ORDER: u32> Field for SmallPrime<ORDER>
 where
     Self: SmallOrder<ORDER>,
 {
-    ghost use Rattle.std.proofs.Common.{lit≤};
-
     ghost bit_length = { ⟦<Self as SmallOrder<ORDER>>⟧.bit_length };
 
     ghost bits_below = { ⟦<Self as SmallOrder<ORDER>>⟧.bits_below };
@@ -315,7 +306,6 @@ impl<const ORDER: u32> PrimeField64 for SmallPrime<ORDER>
 where
     Self: SmallOrder<ORDER>,
 {
-    ghost use Rattle.std.specs.Prelude.{refl};
     ghost use Rattle.p3_small_primes.specs.SmallPrimeLaws as laws;
 
     const ORDER_U64: u64 = ORDER as u64;
@@ -341,8 +331,6 @@ impl<const ORDER: u32> PrimeField32 for SmallPrime<ORDER>
 where
     Self: SmallOrder<ORDER>,
 {
-    ghost use Rattle.std.specs.Prelude.{refl};
-
     const ORDER_U32: u32 = ORDER;
 
     ghost ORDER_U32 = { ORDER };
@@ -395,8 +383,6 @@ impl<const ORDER: u32> ScalarField for SmallPrime<ORDER>
 where
     Self: SmallOrder<ORDER>,
 {
-    ghost use Rattle.std.specs.Prelude.{refl};
-
     ghost one_coefficient = { refl };
 
     ghost own_coefficient = { λ _. refl };

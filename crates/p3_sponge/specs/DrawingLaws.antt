@@ -1,10 +1,9 @@
 -- Lemmas on values drawn one after another.
-use Rattle.std.proofs.Common.{◌≡◌, ℕ, suc, ◌+◌, ◌-◌, ◌<◌, ◌≤◌, List, [], ◌∷◌, ◌++◌, length, take, Some, refl, sym}
-use Rattle.std.proofs.lemmas.List.{take_more_set, take_all}
-use Rattle.p3_challenger_core.specs.SamplingLaws.{one_step, unrefused_draw-is_sampling}
-use Rattle.p3_sponge.specs.Drawing.{drawn}
-use Rattle.std.proofs.{Common.{◌∙◌, append_assoc, append-nil, arith}, Math.ListN.set}
-use Rattle.p3_challenger_core.specs.{Sponge.after_steps, Sampling.{IsSampling, unrefused_draw}}
+use Rattle.std.proofs.Common.{◌≡◌, ℕ, suc, ◌+◌, ◌-◌, ◌<◌, ◌≤◌, List, [], ◌∷◌, ◌++◌, length, take, Some, refl, sym, ◌∙◌}
+use Rattle.std.proofs.{Common.{append_assoc, append-nil, arith}, lemmas.List.{take_more_set, take_all}, Math.ListN.set}
+use Rattle.p3_challenger_core.specs.{SamplingLaws.{one_step, unrefused_draw-is_sampling}, Sponge.after_steps}
+use Rattle.p3_challenger_core.specs.Sampling.{IsSampling, unrefused_draw}
+use Rattle.p3_sponge.specs.Outputs.{drawn}
 
 module _ {S T : Type 0} (sampled : S → T) (next : S → S) where
   -- what is made of values drawn in order is drawn

@@ -1,7 +1,6 @@
 pub mod CallPromises
 pub mod Cells
 pub mod CellsLaws
-pub mod Drawing
 pub mod DrawingLaws
 pub mod Outputs
 pub mod OutputsLaws

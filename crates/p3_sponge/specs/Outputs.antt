@@ -1,6 +1,12 @@
--- Outputs in a row: those that one state gives, then those of the next state, and so on without end.
+-- Values drawn one after another; and outputs in a row: those that one state gives, then those of the next state, and so
+-- on without end.
 use Rattle.std.specs.Prelude.{ℕ, zero, suc, ◌+◌, ◌-◌, ◌/◌, ◌%◌, List, [], ◌∷◌}
 use Rattle.p3_challenger_core.specs.Segments.{Run, stays}
+
+-- what n draws give, in order: what a draw gives, and the state after it
+abbrev pub drawn : {S T : Type 0} → (S → T) → (S → S) → ℕ → S → List T
+drawn sampled next zero s = []
+drawn sampled next (suc n) s = sampled s ∷ drawn sampled next n (next s)
 
 -- What gives outputs: the step from a state to the next, a permutation or a hash function; how many outputs a state has;
 -- and its output at a place.
@@ -38,12 +44,11 @@ module _ {C T : Type 0} (o : Outputs C T) where
 
     -- a draw and n more, from a place on: as many steps are taken as the last of them asks
     abbrev pub draws_from : C → ℕ → ℕ → Run T C S
-    draws_from state place n =
-        record {
-          answers = outputs_from state place (suc n);
-          queries = step_queries ((place + n) / o.row_len) state;
-          after = left_after state (place + n);
-        }
+    draws_from state place n = record {
+      answers = outputs_from state place (suc n);
+      queries = step_queries ((place + n) / o.row_len) state;
+      after = left_after state (place + n);
+    }
 
     -- with outputs left draws begin at the last of them, and with none at the last output of the next state
     abbrev pub run_draws : C → ℕ → ℕ → Run T C S

@@ -1,9 +1,8 @@
 -- Values that a sponge observes many at a time.
-use Rattle.std.proofs.Common.{◌≡◌, ◌<◌, ◌+◌, List, [], ◌∷◌, ◌++◌, length, true, false, ◌==◌, if◌then◌else◌}
-use Rattle.std.proofs.lemmas.List.{length-append}
+use Rattle.std.proofs.Common.{◌≡◌, ◌<◌, ◌+◌, List, [], ◌∷◌, ◌++◌, length, true, false, ◌==◌, if◌then◌else◌, refl, ap}
+use Rattle.std.proofs.{Common.{◌∙◌, append_assoc, arith}, lemmas.{List.length-append, Bool.Decides.nat_tests}}
 use Rattle.p3_challenger_core.specs.Observation.{observed_all}
 use Rattle.p3_sponge.specs.SpongeCalls.{SpongeRule, CellSponge, appended, duplexed, observed}
-use Rattle.std.proofs.{Common.{refl, ap, ◌∙◌, append_assoc, arith}, lemmas.Bool.Decides.nat_tests}
 
 -- observing a list and then another is observing both
 pub observed_all-append : {S T : Type 0} (step : S → T → S) (s : S) (xs ys : List T)

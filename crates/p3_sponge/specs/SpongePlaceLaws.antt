@@ -1,12 +1,11 @@
 -- What place a draw has among the outputs, where all that is pending is absorbed first.
 use Rattle.std.proofs.Common.{◌≡◌, ℕ, zero, suc, ◌<◌, ◌-◌, List, [], ◌∷◌, ◌++◌, map, replicate, refl, sym, ap, ◌∙◌}
-use Rattle.p3_challenger_core.specs.Segments.{Segment, observe, draw, run_calls, run_segments}
-use Rattle.p3_challenger_core.specs.SegmentLaws.{cut-only, run_calls-segments}
-use Rattle.p3_sponge.specs.SpongeSegments.{outputs_after, outputs_of, run_values, run_draws, opened_cells}
-use Rattle.p3_sponge.specs.SpongeStepLaws.{Fits, sponge_steps}
 use Rattle.std.{proofs.Common.{append-nil, arith}, specs.List.range_with_len}
-use Rattle.p3_sponge.specs.{Outputs.{output_at, outputs_from}, OutputsLaws.outputs-places}
-use Rattle.p3_sponge.specs.{SpongeCalls.{SpongeRule, CellSponge, sponge_by_calls}, SpongeSegments.sponge_by_segments}
+use Rattle.p3_challenger_core.specs.Segments.{run_segments, run_calls, Segment, observe, draw}
+use Rattle.p3_challenger_core.specs.SegmentLaws.{run_calls-segments, cut-only}
+use Rattle.p3_sponge.specs.SpongeSegments.{sponge_by_segments, outputs_after, opened_cells, outputs_of, run_values}
+use Rattle.p3_sponge.specs.{SpongeSegments.run_draws, SpongeStepLaws.{sponge_steps, Fits}, OutputsLaws.outputs-places}
+use Rattle.p3_sponge.specs.{Outputs.{outputs_from, output_at}, SpongeCalls.{sponge_by_calls, SpongeRule, CellSponge}}
 
 module _ {C T : Type 0} (rule : SpongeRule C T) where
   -- the outputs of cells, from the first of them on

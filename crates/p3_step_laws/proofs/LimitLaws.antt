@@ -1,12 +1,11 @@
 -- A refusal tells which limit is met, where values are drawn one after another.
 use Rattle.std.proofs.Common.{◌≡◌, ℕ, zero, suc, None, List, [], ◌∷◌, ◌++◌, refl, inl, inr}
-use Rattle.p3_challenger_core.specs.Sampling.{Sampling, IsSampling, RefusesDraw}
-use Rattle.p3_challenger_core.specs.SamplingLaws.{in_row-is_sampling, refused-in_row}
-use Rattle.p3_challenger_core.specs.declared.error.ChallengerError.{ChallengerError}
+use Rattle.p3_challenger_core.specs.{Sampling.{Sampling, IsSampling, RefusesDraw}, SamplingLaws.in_row-is_sampling}
+use Rattle.p3_challenger_core.specs.{SamplingLaws.refused-in_row, declared.error.ChallengerError.ChallengerError}
 use Rattle.p3_challenger_core.specs.declared.error.ChallengerError.TheVariants.{DrawLimit, NoWitness, TooLong}
-use Rattle.p3_driver_core.specs.Effects.{drawing_list}
 use Rattle.p3_driver_core.specs.Rejecting.{Rule, taken, RefusesTaken, keeps, RefusesKeeps, drawing_rejecting}
-use Rattle.p3_step_laws.specs.Limits.{TellsLimits}
+use Rattle.p3_driver_core.specs.Effects.{drawing_list}
+use Rattle.p3_step_laws.specs.OneReason.{TellsLimits}
 
 -- where no draw is refused for an error, which is not that it meets its limit, draws until a rule has taken so many are
 -- not either

@@ -1,11 +1,11 @@
 -- From one state, a step is refused for one reason.
 use Rattle.std.proofs.Common.{ℕ, List, length, arith}
-use Rattle.p3_challenger_core.specs.Observation.{Observation}
 use Rattle.p3_challenger_core.specs.declared.error.ChallengerError.TheVariants.{DrawLimit, NoWitness}
+use Rattle.p3_challenger_core.specs.Observation.{Observation}
 use Rattle.p3_fs_core.specs.{Alphabet.Alphabet, Steps.Step}
 use Rattle.p3_driver_core.specs.{Meanings.{observed, observed_bounded}, Reads.Reading, Verifying.RefusesToRead}
 use Rattle.p3_driver_core.specs.Transcripts.{Meaning, RefusesStep}
-use Rattle.p3_step_laws.specs.{Limits.TellsLimits, OneReason.{TellOneReason, RefusesStepWithin}}
+use Rattle.p3_step_laws.specs.OneReason.{TellsLimits, TellOneReason, RefusesStepWithin}
 
 -- a step of which nothing is too long
 pub short-one_reason : {S Symbol A : Type 0} (m : Meaning S Symbol A) → TellsLimits m.effect → m.effect.fits →

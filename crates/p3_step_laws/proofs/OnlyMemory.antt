@@ -1,13 +1,12 @@
 -- A step that a prover has played is refused only when out of memory.
 use Rattle.std.proofs.Common.{◌≡◌, ℕ, List, ◌++◌, Ok, is_some, refl, ap}
-use Rattle.p3_challenger_core.specs.declared.error.ChallengerError.{ChallengerError}
-use Rattle.p3_challenger_core.specs.declared.error.ChallengerError.TheVariants.{DrawLimit, NoWitness, TooLong}
-use Rattle.p3_fs_core.specs.declared.error.{TranscriptError.TranscriptError, TranscriptError.TheVariants.Challenger}
-use Rattle.p3_fs_core.specs.declared.error.TranscriptError.TheVariants.{OutOfMemory}
+use Rattle.p3_challenger_core.specs.declared.error.ChallengerError.{ChallengerError, TheVariants.{DrawLimit, NoWitness}}
+use Rattle.p3_challenger_core.specs.declared.error.ChallengerError.TheVariants.{TooLong}
+use Rattle.p3_fs_core.specs.declared.error.TranscriptError.{TranscriptError, TheVariants.{Challenger, OutOfMemory}}
 use Rattle.p3_driver_core.specs.{Transcripts.{Meaning, Transcript, PlaysStep}, Reads.Reading, Driving.Driving}
 use Rattle.p3_driver_core.specs.Verifying.{RefusesToRead}
-use Rattle.p3_step_laws.specs.{CompletenessLaws.read_back-completes, ReadBack.ReadsBack, Limits.TellsLimits}
-use Rattle.p3_step_laws.specs.{MemoryLaws.next-only_memory, Memory.{OnlyMemoryRefuses, OnlyMemoryRefusesToRead}}
+use Rattle.p3_step_laws.specs.{CompletenessLaws.read_back-completes, ReadBack.ReadsBack, MemoryLaws.next-only_memory}
+use Rattle.p3_step_laws.specs.OneReason.{TellsLimits, OnlyMemoryRefuses, OnlyMemoryRefusesToRead}
 use Rattle.p3_challenger_core.specs.declared.error.ChallengerError.TheVariants as challenger
 
 -- ---- a step that both play alike

@@ -1,10 +1,9 @@
 -- What is written is read back, whatever follows.
-use Rattle.std.proofs.Common.{◌≡◌, ℕ, ◌*◌, ◌^◌, ◌<◌, ◌≤◌, List, [], ◌∷◌, ◌++◌, length, Ok, refl, arith}
-use Rattle.std.proofs.{Common.{append_assoc, append-nil, length-append}, lemmas.Grind.common_steps}
-use Rattle.std.specs.List.{flat_map}
+use Rattle.std.proofs.Common.{◌≡◌, ℕ, ◌*◌, ◌^◌, ◌<◌, ◌≤◌, List, [], ◌∷◌, ◌++◌, length, Ok, refl, arith, append_assoc}
+use Rattle.std.{proofs.{Common.{append-nil, length-append}, lemmas.Grind.common_steps}, specs.List.flat_map}
 use Rattle.p3_fs_core.specs.BigEndianLaws.{big_endian-in_bytes, length-in_bytes, take-front, drop-front}
 use Rattle.p3_fs_core.specs.{Encoding.{Encoding, IsEncoding}, CountLaws.count_width-enough, ScalarLaws.not_below}
-use Rattle.p3_fs_core.specs.Counts.{count_width, count_bytes}
+use Rattle.p3_fs_core.specs.BigEndian.{count_width, count_bytes}
 use Rattle.p3_driver_core.specs.Reads.{read_bytes, read_value, read_count, read_counted_bytes, read_each, read_values}
 use Rattle.p3_driver_core.specs.Reads.{read_counted_values, message_too_long}
 

@@ -1,16 +1,15 @@
 -- What is read is encoded so: the bytes are the encoding, and then those that are left.
-use Rattle.std.proofs.Common.{◌≡◌, ℕ, zero, suc, ◌≤◌, List, ◌∷◌, ◌++◌, length, take, drop, Result, Ok, Err, refl}
-use Rattle.std.proofs.{Common.{ap, arith, append_assoc, append-nil}, lemmas.Grind.common_steps}
+use Rattle.std.proofs.Common.{◌≡◌, ℕ, zero, suc, ◌≤◌, List, ◌∷◌, ◌++◌, length, take, drop, Result, Ok, Err, refl, ap}
+use Rattle.std.{proofs.{Common.{arith, append_assoc, append-nil}, lemmas.Grind.common_steps}, specs.List.flat_map}
 use Rattle.std.proofs.lemmas.List.{take-append-drop, length-take-le, length-append, nil_from_length}
-use Rattle.std.specs.List.{flat_map}
 use Rattle.p3_challenger_core.specs.Reading.{AreBytes}
-use Rattle.p3_fs_core.specs.BigEndianLaws.{in_bytes-big_endian, AreBytes-take, AreBytes-drop, drop-front}
 use Rattle.p3_fs_core.specs.{Encoding.{Encoding, IsEncoding}, ScalarLaws.{chosen, at_least}}
-use Rattle.p3_fs_core.specs.Counts.{count_width, count_bytes}
-use Rattle.p3_driver_core.specs.{Transcripts.Meaning, Reads.{read_counted_values, message_too_long}}
-use Rattle.p3_driver_core.specs.Reads.{Read, Reading, read_bytes, read_value, value_in, read_count, then_read}
-use Rattle.p3_driver_core.specs.Reads.{read_counted_bytes, absorbed_first, in_front, read_each, read_values}
-use Rattle.p3_step_laws.specs.Encoded.{OnlyReads}
+use Rattle.p3_fs_core.specs.BigEndianLaws.{in_bytes-big_endian, AreBytes-take, AreBytes-drop, drop-front}
+use Rattle.p3_fs_core.specs.BigEndian.{count_width, count_bytes}
+use Rattle.p3_driver_core.specs.{Transcripts.Meaning, Reads.{read_counted_values, message_too_long, Read, Reading}}
+use Rattle.p3_driver_core.specs.Reads.{read_bytes, read_value, value_in, read_count, then_read, read_counted_bytes}
+use Rattle.p3_driver_core.specs.Reads.{absorbed_first, in_front, read_each, read_values}
+use Rattle.p3_step_laws.specs.ReadBack.{OnlyReads}
 
 -- after a front of bytes, what is left is bytes too
 pub are_left : (bytes front rest : List ℕ) → AreBytes bytes → bytes ≡ front ++ rest → AreBytes rest

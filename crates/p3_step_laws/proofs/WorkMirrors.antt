@@ -1,10 +1,9 @@
 -- A witness that a prover has found passes the verifier's check.
 use Rattle.std.proofs.Common.{◌≡◌, List, ◌++◌, ℕ, refl, ap, inl, inr, rules}
 use Rattle.p3_fs_core.specs.{Encoding.{Encoding, IsEncoding}, declared.error.TranscriptError.TranscriptError}
-use Rattle.p3_driver_core.specs.{Transcripts.{Transcript, PlaysStep}, Working.{Work, checking, sent_work}}
-use Rattle.p3_driver_core.specs.{WorkingLaws.where_passed-true, Reads.received_work, Driving.Driving}
-use Rattle.p3_driver_core.specs.Verifying.{FailsWork}
-use Rattle.p3_step_laws.{proofs.OnlyMemory.only_memory_to_read, proofs.ReadBack.value-back, specs.Limits.TellsLimits}
+use Rattle.p3_driver_core.specs.{Driving.Driving, Transcripts.{Transcript, PlaysStep}, WorkingLaws.where_passed-true}
+use Rattle.p3_driver_core.specs.{Reads.received_work, Verifying.FailsWork, Working.{Work, checking, sent_work}}
+use Rattle.p3_step_laws.{proofs.{OnlyMemory.only_memory_to_read, ReadBack.value-back}, specs.OneReason.TellsLimits}
 use Rattle.p3_step_laws.specs.{Completeness.CompletesWork, CompletenessLaws.read_back-completes, ReadBack.ReadsBack}
 
 module _ {S Symbol W : Type 0} (work : Work S Symbol W) (x : W) (enc : Encoding W) (encodes : IsEncoding enc) where

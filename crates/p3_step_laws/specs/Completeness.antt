@@ -17,13 +17,11 @@ IsOwnRefusal _ = ⊥
 -- challenger or of memory alone.
 pub record Completes {S Symbol A : Type 0} (m : Meaning S Symbol A) (r : Reading S Symbol A) (x : A) : Type 0 where
   pub receives : (before after : Transcript S) (rest : List ℕ) (start end : Driving S) (y : A) →
-      PlaysStep m before x after →
-      start ≡ record { transcript = before; bytes = m.wire ++ rest } → Receives r start y end →
-      (y ≡ x) × (end ≡ record { transcript = after; bytes = rest })
+      PlaysStep m before x after → start ≡ record { transcript = before; bytes = m.wire ++ rest } →
+      Receives r start y end → (y ≡ x) × (end ≡ record { transcript = after; bytes = rest })
   pub refuses : (before after : Transcript S) (rest : List ℕ) (start end : Driving S) (e : TranscriptError) →
       PlaysStep m before x after → start ≡ record { transcript = before; bytes = m.wire ++ rest } →
-      RefusesToRead r start e end →
-      IsOwnRefusal e
+      RefusesToRead r start e end → IsOwnRefusal e
 
 -- The same of a step that both play alike, from one state: what comes of it is the same, and so is the state after it;
 -- or the second one is refused for the sake of the challenger or of memory alone.
@@ -48,5 +46,5 @@ pub record CompletesWork {S Symbol W : Type 0} (work : Work S Symbol W) (enc : E
 pub record CompletesCarriedWork {S Symbol W : Type 0} (work : Work S Symbol W) (x : W) : Type 0 where
   pub completes : CompletesAlike (observed_work work x)
   pub refuses : (before after start end : Transcript S) (e : TranscriptError) →
-      PlaysStep (observed_work work x) before x after →
-      start ≡ before → RefusesToCheck work x start e end → e ≡ OutOfMemory
+      PlaysStep (observed_work work x) before x after → start ≡ before → RefusesToCheck work x start e end →
+      e ≡ OutOfMemory

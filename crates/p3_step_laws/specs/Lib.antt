@@ -1,11 +1,8 @@
 pub mod Completeness
 pub mod CompletenessLaws
-pub mod Limits
-pub mod Memory
 pub mod MemoryLaws
 pub mod Mirrored
 pub mod OneReason
 pub mod ReadBack
 pub mod RoundLaws
 pub mod Rounds
-pub mod Encoded

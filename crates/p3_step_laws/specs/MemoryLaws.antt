@@ -1,10 +1,9 @@
 -- A step that is next and meets no limit is refused only when out of memory.
 use Rattle.std.proofs.Common.{◌≡◌, IsSome, refl}
 use Rattle.p3_challenger_core.specs.declared.error.ChallengerError.TheVariants.{DrawLimit, NoWitness, TooLong}
-use Rattle.p3_fs_core.specs.declared.error.TranscriptError.{TranscriptError}
-use Rattle.p3_fs_core.specs.declared.error.TranscriptError.TheVariants.{Challenger, OutOfMemory}
+use Rattle.p3_fs_core.specs.declared.error.TranscriptError.{TranscriptError, TheVariants.{Challenger, OutOfMemory}}
 use Rattle.p3_driver_core.specs.Transcripts.{Meaning, Transcript, RefusesStep, IsNext}
-use Rattle.p3_step_laws.specs.{CompletenessLaws.next-own_refusal, Limits.TellsLimits}
+use Rattle.p3_step_laws.specs.{CompletenessLaws.next-own_refusal, OneReason.TellsLimits}
 use Rattle.p3_challenger_core.specs.declared.error.ChallengerError.TheVariants as challenger
 
 pub next-only_memory : {S Symbol A : Type 0} (m : Meaning S Symbol A) → TellsLimits m.effect →

@@ -17,26 +17,22 @@ Mirroring S Symbol A = Meaning S Symbol A → Reading S Symbol A → A → Type 
 abbrev pub EachValue : {S Symbol A : Type 0} → Mirroring S Symbol A → Observation S Symbol A → Encoding A → Type 0
 EachValue {A = A} Holds o e = (step : Step) (x : A) → Holds (sent step o e x) (received step o e) x
 
-abbrev pub EachList : {S Symbol A : Type 0} → Mirroring S Symbol (List A) → Observation S Symbol A → Encoding A →
-    Type 0
+abbrev pub EachList : {S Symbol A : Type 0} → Mirroring S Symbol (List A) → Observation S Symbol A → Encoding A → Type 0
 EachList {A = A} Holds o e =
     (step : Step) (xs : List A) → Holds (sent_list step o e xs) (received_list step o e (length xs)) xs
 
 abbrev pub EachCountedList : {S Symbol I A : Type 0} → Mirroring S Symbol (List A) → Alphabet S Symbol I →
     Observation S Symbol A → Encoding A → Type 0
-EachCountedList {A = A} Holds alphabet o e =
-    (step : Step) (max : ℕ) (xs : List A) → length xs ≤ max → max < 2 ^ 64 →
+EachCountedList {A = A} Holds alphabet o e = (step : Step) (max : ℕ) (xs : List A) → length xs ≤ max → max < 2 ^ 64 →
     Holds (sent_bounded step alphabet max o e xs) (received_bounded step alphabet max o e) xs
 
 -- bytes, as they are, and after their count
 abbrev pub EachBytes : {S Symbol I : Type 0} → Mirroring S Symbol (List ℕ) → Alphabet S Symbol I → Type 0
-EachBytes Holds alphabet =
-    (kind : Kind) (label bytes : List ℕ) →
+EachBytes Holds alphabet = (kind : Kind) (label bytes : List ℕ) →
     Holds (sent_bytes kind label alphabet bytes) (received_bytes kind label alphabet (length bytes)) bytes
 
 abbrev pub EachCountedBytes : {S Symbol I : Type 0} → Mirroring S Symbol (List ℕ) → Alphabet S Symbol I → Type 0
-EachCountedBytes Holds alphabet =
-    (label : List ℕ) (max : ℕ) (bytes : List ℕ) → length bytes ≤ max → max < 2 ^ 64 →
+EachCountedBytes Holds alphabet = (label : List ℕ) (max : ℕ) (bytes : List ℕ) → length bytes ≤ max → max < 2 ^ 64 →
     Holds (sent_bytes_bounded Message label alphabet max bytes) (received_bytes_bounded label alphabet max) bytes
 
 -- and of a hint
@@ -44,8 +40,7 @@ abbrev pub EachHint : {S Symbol : Type 0} → Mirroring S Symbol (List ℕ) → 
 EachHint Holds = (label bytes : List ℕ) → Holds (hinted label bytes) (hint_received label (length bytes)) bytes
 
 abbrev pub EachCountedHint : {S Symbol : Type 0} → Mirroring S Symbol (List ℕ) → Type 0
-EachCountedHint Holds =
-    (label : List ℕ) (max : ℕ) (bytes : List ℕ) → length bytes ≤ max → max < 2 ^ 64 →
+EachCountedHint Holds = (label : List ℕ) (max : ℕ) (bytes : List ℕ) → length bytes ≤ max → max < 2 ^ 64 →
     Holds (hinted_bounded label max bytes) (hint_received_bounded label max) bytes
 
 -- proof of work, of so many bits, with the encoding of its witnesses

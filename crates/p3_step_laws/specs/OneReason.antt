@@ -1,18 +1,30 @@
--- A step is refused for one reason.
-use Rattle.std.specs.Prelude.{◌≡◌, ◌<◌, ◌≤◌, ◌⊎◌, ℕ}
+-- For what a step is refused: for one reason; where a limit is met, for that one; and where the other side has played it,
+-- for memory alone.
+use Rattle.std.specs.Prelude.{◌≡◌, ◌<◌, ◌≤◌, ◌⊎◌, ℕ, None, List, ◌++◌}
 use Rattle.p3_fs_core.specs.{Errors.refusal_of, declared.error.TranscriptError.TranscriptError}
 use Rattle.p3_fs_core.specs.declared.error.TranscriptError.TheVariants.{OutOfMemory}
 use Rattle.p3_patterns.specs.Playing.{next_step}
-use Rattle.p3_driver_core.specs.{Driving.Driving, Transcripts.{longer_list, another_length}}
-use Rattle.p3_driver_core.specs.Transcripts.{Meaning, Transcript, RefusesStep, RefusesLength, IsOtherLength}
-use Rattle.p3_driver_core.specs.Verifying.{RefusesCarriedList}
+use Rattle.p3_driver_core.specs.{Driving.Driving, Transcripts.{longer_list, another_length, Meaning, Transcript}}
+use Rattle.p3_driver_core.specs.Transcripts.{RefusesStep, RefusesLength, IsOtherLength, PlaysStep}
+use Rattle.p3_driver_core.specs.{Verifying.{RefusesCarriedList, RefusesToRead}, Effects.Effect, Reads.Reading}
+use Rattle.p3_challenger_core.specs.declared.error.ChallengerError.TheVariants.{DrawLimit, NoWitness, TooLong}
+
+-- A refusal that is not for memory tells which limit is met: it is the draw limit only where nothing is given from this
+-- state, and too long only where what is fed does not fit the alphabet. That there is no witness, it never is.
+pub record TellsLimits {S Symbol A : Type 0} (effect : Effect S Symbol A) : Type 0 where
+  pub limit : (s t : S) → effect.refuses DrawLimit s t → effect.gives s ≡ None
+  pub too_long : (s t : S) → effect.refuses TooLong s t → effect.fits → ⊥
+  pub witness : (s t : S) → effect.refuses NoWitness s t → ⊥
 
 -- Of what a state, an error and the state after it have to be where a step is refused: any two errors from one state,
 -- neither of them when out of memory, say the same.
 abbrev pub TellOneReason : {V : Type 0} → (V → TranscriptError → V → Type 0) → Type 0
-TellOneReason {V} RefusesStep =
-    (start one other : V) (e f : TranscriptError) → RefusesStep start e one → RefusesStep start f other →
-    (e ≡ OutOfMemory → ⊥) → (f ≡ OutOfMemory → ⊥) → refusal_of e ≡ refusal_of f
+TellOneReason {V} RefusesStep = (start one other : V) (e f : TranscriptError) → RefusesStep start e one →
+    RefusesStep start f other → (e ≡ OutOfMemory → ⊥) → (f ≡ OutOfMemory → ⊥) → refusal_of e ≡ refusal_of f
+
+-- a step that leaves the proof as it is, or that a prover writes, is refused for one reason, from one state
+abbrev pub HasOneReason : {S Symbol A : Type 0} → Meaning S Symbol A → Type 0
+HasOneReason m = TellOneReason (RefusesStep m)
 
 -- a list is refused for being longer than its step lets it be, or its step is refused
 abbrev pub RefusesStepWithin : {S Symbol A : Type 0} → ℕ → ℕ → Meaning S Symbol A → Transcript S → TranscriptError →
@@ -23,14 +35,25 @@ RefusesStepWithin len max m = λ before e after.
 -- the same of a list that a verifier's caller carries
 abbrev pub RefusesCarriedOrStep : {S Symbol A : Type 0} → ℕ → ℕ → Meaning S Symbol A → Driving S → TranscriptError →
     Driving S → Type 0
-RefusesCarriedOrStep len max m = λ before e after.
-    RefusesCarriedList (max < len) longer_list before e after
+RefusesCarriedOrStep len max m = λ before e after. RefusesCarriedList (max < len) longer_list before e after
     ⊎ ((len ≤ max) × RefusesStep m before.transcript e after.transcript)
 
 -- and of one that is to have as many elements as the next step says
 abbrev pub RefusesRecordedOrStep : {S Symbol A : Type 0} → ℕ → Meaning S Symbol A → Driving S → TranscriptError →
     Driving S → Type 0
 RefusesRecordedOrStep len m = λ before e after.
-    RefusesCarriedList (IsOtherLength len (next_step before.transcript.playing)) another_length before e after
-    ⊎ ((IsOtherLength len (next_step before.transcript.playing) → ⊥)
-    × RefusesStep m before.transcript e after.transcript)
+    RefusesCarriedList (IsOtherLength len (next_step before.transcript.playing)) another_length before e after ⊎
+    ((IsOtherLength len (next_step before.transcript.playing) → ⊥) × RefusesStep m before.transcript e after.transcript)
+
+-- A prover has played the step, and a verifier stands at the same state, with the step's bytes next. Then the
+-- verifier's step is refused only when out of memory.
+abbrev pub OnlyMemoryRefusesToRead : {S Symbol A : Type 0} → Meaning S Symbol A → Reading S Symbol A → A → Type 0
+OnlyMemoryRefusesToRead {S} m r x = (before after : Transcript S) (rest : List ℕ) (start end : Driving S)
+    (e : TranscriptError) → PlaysStep m before x after →
+    start ≡ record { transcript = before; bytes = m.wire ++ rest } → RefusesToRead r start e end → e ≡ OutOfMemory
+
+-- The same of a step that both play alike, from one state: where one has played it, the other is refused only
+-- when out of memory.
+abbrev pub OnlyMemoryRefuses : {S Symbol A : Type 0} → Meaning S Symbol A → Type 0
+OnlyMemoryRefuses {S} {Symbol} {A} m = (before after start end : Transcript S) (x : A) (e : TranscriptError) →
+    PlaysStep m before x after → start ≡ before → RefusesStep m start e end → e ≡ OutOfMemory

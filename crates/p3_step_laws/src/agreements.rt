@@ -73,9 +73,8 @@ pub fn drawn_bits_agree<C: CanSampleBits<usize>>()
 pub fn drawn_uniform_bits_agree<F, C: CanSampleUniformBits<F>>()
     ensures list { (step : Step) (width n : ℕ) →
         CompletesAlike {Symbol = C.Symbol} (drawn_list step (C.uniform true width).draw n) }
-    ensures rejecting { (step : Step) (width : ℕ) (rule : Rule ℕ) (limit n : ℕ) →
-        CompletesAlike {Symbol = C.Symbol}
-        (drawn_rejecting step (C.uniform true width).draw rule limit n) }
+    ensures rejecting { (step : Step) (width : ℕ) (rule : Rule ℕ) (limit n : ℕ) → CompletesAlike
+        {Symbol = C.Symbol} (drawn_rejecting step (C.uniform true width).draw rule limit n) }
 {}
 
 /// A witness that a prover has answered passes the check of a verifier whose caller carries it, which is refused for
@@ -96,9 +95,8 @@ pub fn carried_lists_are_let_through<C: Sponge>()
         start.transcript.playing.finished ≡ false → len ≤ max →
         RefusesCarriedList (max < len) longer_list start e end → ⊥ }
     ensures recorded { (len : ℕ) (step : Step) (start end : Driving C.State) (e : TranscriptError) →
-        IsNext start.transcript.playing step → step.length ≡ Length.Fixed len →
-        RefusesCarriedList (IsOtherLength len (next_step start.transcript.playing)) another_length
-        start e end → ⊥ }
+        IsNext start.transcript.playing step → step.length ≡ Length.Fixed len → RefusesCarriedList
+        (IsOtherLength len (next_step start.transcript.playing)) another_length start e end → ⊥ }
 {}
 
 /// A verifier that has played all steps and has read all bytes is not refused the end.

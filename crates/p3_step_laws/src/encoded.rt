@@ -6,11 +6,11 @@
 //! values that were read.
 ghost use Rattle.std.specs.Prelude.{◌≡◌, ◌≤◌, ℕ, List, length};
 ghost use Rattle.p3_fs_core.specs.Steps.{Step};
-ghost use Rattle.p3_driver_core.specs.Meanings.{sent, sent_list, sent_bounded, sent_bytes, sent_bytes_bounded, hinted};
-ghost use Rattle.p3_driver_core.specs.{Meanings.hinted_bounded, Working.sent_work, Reads.received_work};
-ghost use Rattle.p3_driver_core.specs.Reads.{received, received_list, received_bounded, received_bytes};
-ghost use Rattle.p3_driver_core.specs.Reads.{received_bytes_bounded, hint_received, hint_received_bounded};
-ghost use Rattle.p3_step_laws.specs.{Encoded.{OnlyReads, AnyValue}, Mirrored.EachWork};
+ghost use Rattle.p3_driver_core.specs.Meanings.{sent_bytes_bounded, hinted_bounded, sent_bounded, sent_bytes};
+ghost use Rattle.p3_driver_core.specs.{Meanings.{sent_list, hinted, sent}, Working.sent_work};
+ghost use Rattle.p3_driver_core.specs.Reads.{received_bytes_bounded, hint_received_bounded, received_bounded};
+ghost use Rattle.p3_driver_core.specs.Reads.{received_bytes, received_work, received_list, hint_received, received};
+ghost use Rattle.p3_step_laws.specs.{ReadBack.{OnlyReads, AnyValue}, Mirrored.EachWork};
 
 use p3_challenger_core::{CanObserve, Sponge};
 use p3_codecs::{AlphabetOf, Codec, Unit};
@@ -25,9 +25,8 @@ use p3_grinding::GrindingChallenger;
 pub fn read_values_are_encoded<A, U: Unit, C: CanObserve<U::Item>, Cdc: Codec<C, A>>()
     ensures value { (step : Step) → OnlyReads (received step Cdc.observation Cdc.encoding) AnyValue
         (sent step Cdc.observation Cdc.encoding) }
-    ensures list { (step : Step) (n : ℕ) →
-        OnlyReads (received_list step Cdc.observation Cdc.encoding n) (λ xs. length xs ≡ n)
-        (sent_list step Cdc.observation Cdc.encoding) }
+    ensures list { (step : Step) (n : ℕ) → OnlyReads (received_list step Cdc.observation
+        Cdc.encoding n) (λ xs. length xs ≡ n) (sent_list step Cdc.observation Cdc.encoding) }
     ensures counted { let alphabet = ⟦<U as AlphabetOf<C>>⟧.alphabet in (step : Step) (max : ℕ) →
         OnlyReads (received_bounded step alphabet max Cdc.observation Cdc.encoding)
         (λ xs. length xs ≤ max) (sent_bounded step alphabet max Cdc.observation Cdc.encoding) }

@@ -1,11 +1,11 @@
 //! A challenger or an alphabet refuses a step only where a limit is met, and the error says which: a draw that meets
 //! its limit, or bytes that are too long for the alphabet. Laws, of every challenger, codec and alphabet.
 ghost use Rattle.std.specs.Prelude.{ℕ, List, length, true};
-ghost use Rattle.p3_fs_core.specs.{Counts.count_bytes, Steps.Step};
+ghost use Rattle.p3_fs_core.specs.{BigEndian.count_bytes, Steps.Step};
 ghost use Rattle.p3_driver_core.specs.Effects.{untouched, observing, observing_list, observing_bytes, drawing};
 ghost use Rattle.p3_driver_core.specs.{Effects.{drawing_list, in_sequence}, Rejecting.{Rule, drawing_rejecting}};
 ghost use Rattle.p3_driver_core.specs.Working.{work_of, checking};
-ghost use Rattle.p3_step_laws.specs.Limits.{TellsLimits};
+ghost use Rattle.p3_step_laws.specs.OneReason.{TellsLimits};
 
 use p3_challenger_core::{CanObserve, CanSampleBits, Sponge};
 use p3_codecs::{AlphabetOf, Codec, Unit};
@@ -18,8 +18,8 @@ use p3_grinding::{CanSampleUniformBits, GrindingChallenger};
 pub fn values_tell_limits<A, U: Unit, C: CanObserve<U::Item>, Cdc: Codec<C, A>>()
     ensures value { (x : A) → TellsLimits (observing Cdc.observation x) }
     ensures list { (xs : List A) → TellsLimits (observing_list Cdc.observation xs) }
-    ensures counted { (max : ℕ) (xs : List A) → TellsLimits (in_sequence
-        (observing_bytes ⟦<U as AlphabetOf<C>>⟧.alphabet (count_bytes max (length xs)))
+    ensures counted { (max : ℕ) (xs : List A) → TellsLimits
+        (in_sequence (observing_bytes ⟦<U as AlphabetOf<C>>⟧.alphabet (count_bytes max (length xs)))
         (observing_list Cdc.observation xs)) }
 {}
 
@@ -75,8 +75,7 @@ pub fn bit_draws_tell_limits<C: CanSampleBits<usize>>()
 pub fn uniform_draws_tell_limits<F, C: CanSampleUniformBits<F>>()
     ensures list { (width n : ℕ) → TellsLimits {Symbol = C.Symbol}
         (drawing_list (C.uniform true width).draw n) }
-    ensures rejecting { (width : ℕ) (rule : Rule ℕ) (limit n : ℕ) →
-        TellsLimits {Symbol = C.Symbol}
+    ensures rejecting { (width : ℕ) (rule : Rule ℕ) (limit n : ℕ) → TellsLimits {Symbol = C.Symbol}
         (drawing_rejecting (C.uniform true width).draw rule limit n) }
 {}
 
@@ -84,7 +83,6 @@ pub fn uniform_draws_tell_limits<F, C: CanSampleUniformBits<F>>()
 ///
 /// A law: the body is empty, and a caller cites the clause.
 pub fn work_tells_limits<C: GrindingChallenger>()
-    ensures { (step : Step) (bits : ℕ) (x : C.Witness) → TellsLimits
-        (checking (work_of step C.Witness.residues C.before_witness C.observation C.bits_sampling
-        bits) x) }
+    ensures { (step : Step) (bits : ℕ) (x : C.Witness) → TellsLimits (checking
+        (work_of step C.Witness.residues C.before_witness C.observation C.bits_sampling bits) x) }
 {}

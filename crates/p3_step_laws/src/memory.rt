@@ -8,9 +8,9 @@ ghost use Rattle.std.specs.Prelude.{ℕ, List, true};
 ghost use Rattle.p3_fs_core.specs.Steps.{Step};
 ghost use Rattle.p3_driver_core.specs.Meanings.{marked, observed, observed_list, observed_bounded, drawn, drawn_list};
 ghost use Rattle.p3_driver_core.specs.Rejecting.{Rule, drawn_rejecting};
-ghost use Rattle.p3_step_laws.specs.Memory.{OnlyMemoryRefuses, OnlyMemoryRefusesToRead};
-ghost use Rattle.p3_step_laws.specs.Mirrored.{EachValue, EachList, EachCountedList, EachBytes, EachCountedBytes};
-ghost use Rattle.p3_step_laws.specs.Mirrored.{EachHint, EachCountedHint};
+ghost use Rattle.p3_step_laws.specs.{OneReason.{OnlyMemoryRefuses, OnlyMemoryRefusesToRead}, Mirrored.EachValue};
+ghost use Rattle.p3_step_laws.specs.Mirrored.{EachList, EachCountedList, EachBytes, EachCountedBytes, EachHint};
+ghost use Rattle.p3_step_laws.specs.Mirrored.{EachCountedHint};
 
 use crate::mirrors::{
     counted_hint_is_received, hint_is_received, sent_bytes_are_received,
@@ -112,7 +112,6 @@ pub fn only_memory_refuses_drawn_bits<C: CanSampleBits<usize>>()
 pub fn only_memory_refuses_drawn_uniform_bits<F, C: CanSampleUniformBits<F>>()
     ensures list { (step : Step) (width n : ℕ) →
         OnlyMemoryRefuses {Symbol = C.Symbol} (drawn_list step (C.uniform true width).draw n) }
-    ensures rejecting { (step : Step) (width : ℕ) (rule : Rule ℕ) (limit n : ℕ) →
-        OnlyMemoryRefuses {Symbol = C.Symbol}
-        (drawn_rejecting step (C.uniform true width).draw rule limit n) }
+    ensures rejecting { (step : Step) (width : ℕ) (rule : Rule ℕ) (limit n : ℕ) → OnlyMemoryRefuses
+        {Symbol = C.Symbol} (drawn_rejecting step (C.uniform true width).draw rule limit n) }
 {}

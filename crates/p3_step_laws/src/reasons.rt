@@ -5,8 +5,7 @@ ghost use Rattle.p3_fs_core.specs.Steps.{Step};
 ghost use Rattle.p3_driver_core.specs.Meanings.{marked, observed, observed_list, observed_bounded, sent, sent_list};
 ghost use Rattle.p3_driver_core.specs.Meanings.{sent_bounded, sent_bytes, sent_bytes_bounded, hinted, hinted_bounded};
 ghost use Rattle.p3_driver_core.specs.{Meanings.{drawn, drawn_list}, Rejecting.{Rule, drawn_rejecting}};
-ghost use Rattle.p3_driver_core.specs.Transcripts.{RefusesStep};
-ghost use Rattle.p3_step_laws.specs.OneReason.{TellOneReason, RefusesStepWithin};
+ghost use Rattle.p3_step_laws.specs.OneReason.{TellOneReason, HasOneReason, RefusesStepWithin};
 
 use p3_challenger_core::{CanObserve, CanSampleBits, Sponge};
 use p3_codecs::{AlphabetOf, Codec, Unit};
@@ -17,8 +16,7 @@ use p3_grinding::CanSampleUniformBits;
 ///
 /// A law: the body is empty, and a caller cites the clause.
 pub fn markers_are_refused_for_one_reason<C: Sponge>()
-    ensures { (step : Step) →
-        TellOneReason (RefusesStep {S = C.State} {Symbol = C.Symbol} (marked step)) }
+    ensures { (step : Step) → HasOneReason {S = C.State} {Symbol = C.Symbol} (marked step) }
 {}
 
 /// A step is refused for one reason that observes values which do not stand in the proof, or that a prover sends. So it
@@ -26,18 +24,16 @@ pub fn markers_are_refused_for_one_reason<C: Sponge>()
 ///
 /// A law: the body is empty, and a caller cites the clauses.
 pub fn values_are_refused_for_one_reason<A, U: Unit, C: CanObserve<U::Item>, Cdc: Codec<C, A>>()
-    ensures observed { (step : Step) (x : A) →
-        TellOneReason (RefusesStep (observed step Cdc.observation x)) }
+    ensures observed { (step : Step) (x : A) → HasOneReason (observed step Cdc.observation x) }
     ensures observed_list { (step : Step) (xs : List A) →
-        TellOneReason (RefusesStep (observed_list step Cdc.observation xs)) }
-    ensures observed_counted { (step : Step) (max : ℕ) (xs : List A) → TellOneReason (RefusesStep
-        (observed_bounded step ⟦<U as AlphabetOf<C>>⟧.alphabet max Cdc.observation xs)) }
-    ensures sent { (step : Step) (x : A) →
-        TellOneReason (RefusesStep (sent step Cdc.observation Cdc.encoding x)) }
+        HasOneReason (observed_list step Cdc.observation xs) }
+    ensures observed_counted { (step : Step) (max : ℕ) (xs : List A) → HasOneReason
+        (observed_bounded step ⟦<U as AlphabetOf<C>>⟧.alphabet max Cdc.observation xs) }
+    ensures sent { (step : Step) (x : A) → HasOneReason (sent step Cdc.observation Cdc.encoding x) }
     ensures sent_list { (step : Step) (xs : List A) →
-        TellOneReason (RefusesStep (sent_list step Cdc.observation Cdc.encoding xs)) }
-    ensures sent_counted { (step : Step) (max : ℕ) (xs : List A) → TellOneReason (RefusesStep
-        (sent_bounded step ⟦<U as AlphabetOf<C>>⟧.alphabet max Cdc.observation Cdc.encoding xs)) }
+        HasOneReason (sent_list step Cdc.observation Cdc.encoding xs) }
+    ensures sent_counted { (step : Step) (max : ℕ) (xs : List A) → HasOneReason
+        (sent_bounded step ⟦<U as AlphabetOf<C>>⟧.alphabet max Cdc.observation Cdc.encoding xs) }
     ensures observed_within { (step : Step) (max : ℕ) (xs : List A) →
         TellOneReason (RefusesStepWithin (length xs) max
         (observed_bounded step ⟦<U as AlphabetOf<C>>⟧.alphabet max Cdc.observation xs)) }
@@ -51,9 +47,9 @@ pub fn values_are_refused_for_one_reason<A, U: Unit, C: CanObserve<U::Item>, Cdc
 /// A law: the body is empty, and a caller cites the clauses.
 pub fn bytes_are_refused_for_one_reason<U: Unit, C: CanObserve<U::Item>>()
     ensures fixed { (kind : Kind) (label bytes : List ℕ) →
-        TellOneReason (RefusesStep (sent_bytes kind label ⟦<U as AlphabetOf<C>>⟧.alphabet bytes)) }
-    ensures counted { (kind : Kind) (label : List ℕ) (max : ℕ) (bytes : List ℕ) → TellOneReason
-        (RefusesStep (sent_bytes_bounded kind label ⟦<U as AlphabetOf<C>>⟧.alphabet max bytes)) }
+        HasOneReason (sent_bytes kind label ⟦<U as AlphabetOf<C>>⟧.alphabet bytes) }
+    ensures counted { (kind : Kind) (label : List ℕ) (max : ℕ) (bytes : List ℕ) →
+        HasOneReason (sent_bytes_bounded kind label ⟦<U as AlphabetOf<C>>⟧.alphabet max bytes) }
     ensures within { (kind : Kind) (label : List ℕ) (max : ℕ) (bytes : List ℕ) →
         TellOneReason (RefusesStepWithin (length bytes) max
         (sent_bytes_bounded kind label ⟦<U as AlphabetOf<C>>⟧.alphabet max bytes)) }
@@ -64,49 +60,45 @@ pub fn bytes_are_refused_for_one_reason<U: Unit, C: CanObserve<U::Item>>()
 /// A law: the body is empty, and a caller cites the clauses.
 pub fn hints_are_refused_for_one_reason<C: Sponge>()
     ensures fixed { (label bytes : List ℕ) →
-        TellOneReason (RefusesStep {S = C.State} {Symbol = C.Symbol} (hinted label bytes)) }
-    ensures counted { (label : List ℕ) (max : ℕ) (bytes : List ℕ) → TellOneReason
-        (RefusesStep {S = C.State} {Symbol = C.Symbol} (hinted_bounded label max bytes)) }
-    ensures within { (label : List ℕ) (max : ℕ) (bytes : List ℕ) →
-        TellOneReason (RefusesStepWithin {S = C.State} {Symbol = C.Symbol} (length bytes) max
-        (hinted_bounded label max bytes)) }
+        HasOneReason {S = C.State} {Symbol = C.Symbol} (hinted label bytes) }
+    ensures counted { (label : List ℕ) (max : ℕ) (bytes : List ℕ) →
+        HasOneReason {S = C.State} {Symbol = C.Symbol} (hinted_bounded label max bytes) }
+    ensures within { (label : List ℕ) (max : ℕ) (bytes : List ℕ) → TellOneReason (RefusesStepWithin
+        {S = C.State} {Symbol = C.Symbol} (length bytes) max (hinted_bounded label max bytes)) }
 {}
 
 /// A step is refused for one reason that observes a value as the challenger itself knows how.
 ///
 /// A law: the body is empty, and a caller cites the clause.
 pub fn opaque_values_are_refused_for_one_reason<T, C: CanObserve<T>>()
-    ensures { (step : Step) (x : T) →
-        TellOneReason (RefusesStep (observed step C.observation x)) }
+    ensures { (step : Step) (x : T) → HasOneReason (observed step C.observation x) }
 {}
 
 /// A step that draws is refused for one reason: a step of one value, of so many, and of so many that a rule takes.
 ///
 /// A law: the body is empty, and a caller cites the clauses.
 pub fn draws_are_refused_for_one_reason<A, C: Sponge, Cdc: Codec<C, A>>()
-    ensures value { (step : Step) →
-        TellOneReason (RefusesStep {Symbol = C.Symbol} (drawn step Cdc.sampling)) }
+    ensures value { (step : Step) → HasOneReason {Symbol = C.Symbol} (drawn step Cdc.sampling) }
     ensures list { (step : Step) (n : ℕ) →
-        TellOneReason (RefusesStep {Symbol = C.Symbol} (drawn_list step Cdc.sampling n)) }
-    ensures rejecting { (step : Step) (rule : Rule A) (limit n : ℕ) → TellOneReason
-        (RefusesStep {Symbol = C.Symbol} (drawn_rejecting step Cdc.sampling rule limit n)) }
+        HasOneReason {Symbol = C.Symbol} (drawn_list step Cdc.sampling n) }
+    ensures rejecting { (step : Step) (rule : Rule A) (limit n : ℕ) →
+        HasOneReason {Symbol = C.Symbol} (drawn_rejecting step Cdc.sampling rule limit n) }
 {}
 
 /// The same of a step that draws numbers of so many bits.
 ///
 /// A law: the body is empty, and a caller cites the clause.
 pub fn bit_draws_are_refused_for_one_reason<C: CanSampleBits<usize>>()
-    ensures { (step : Step) (width n : ℕ) → TellOneReason
-        (RefusesStep {Symbol = C.Symbol} (drawn_list step (C.bits_sampling width) n)) }
+    ensures { (step : Step) (width n : ℕ) →
+        HasOneReason {Symbol = C.Symbol} (drawn_list step (C.bits_sampling width) n) }
 {}
 
 /// The same of a step that draws numbers of so many uniform bits.
 ///
 /// A law: the body is empty, and a caller cites the clauses.
 pub fn uniform_draws_are_refused_for_one_reason<F, C: CanSampleUniformBits<F>>()
-    ensures list { (step : Step) (width n : ℕ) → TellOneReason
-        (RefusesStep {Symbol = C.Symbol} (drawn_list step (C.uniform true width).draw n)) }
-    ensures rejecting { (step : Step) (width : ℕ) (rule : Rule ℕ) (limit n : ℕ) →
-        TellOneReason (RefusesStep {Symbol = C.Symbol}
-        (drawn_rejecting step (C.uniform true width).draw rule limit n)) }
+    ensures list { (step : Step) (width n : ℕ) →
+        HasOneReason {Symbol = C.Symbol} (drawn_list step (C.uniform true width).draw n) }
+    ensures rejecting { (step : Step) (width : ℕ) (rule : Rule ℕ) (limit n : ℕ) → HasOneReason
+        {Symbol = C.Symbol} (drawn_rejecting step (C.uniform true width).draw rule limit n) }
 {}

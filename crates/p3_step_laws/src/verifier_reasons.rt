@@ -3,11 +3,10 @@
 //! Only being out of memory may come in its place.
 ghost use Rattle.std.specs.Prelude.{◌⊎◌, ℕ, List, length};
 ghost use Rattle.p3_fs_core.specs.Steps.{Step};
-ghost use Rattle.p3_driver_core.specs.{Meanings.{observed_list, observed_bounded}, Reads.received_work};
-ghost use Rattle.p3_driver_core.specs.Working.{work_of, RefusesToCheck, RefusesToGrind};
-ghost use Rattle.p3_driver_core.specs.Reads.{received, received_list, received_bounded, received_bytes};
+ghost use Rattle.p3_driver_core.specs.{Meanings.{observed_list, observed_bounded}, Working.{work_of, RefusesToCheck}};
+ghost use Rattle.p3_driver_core.specs.{Working.RefusesToGrind, Verifying.{RefusesToRead, FailsWork}};
+ghost use Rattle.p3_driver_core.specs.Reads.{received_work, received, received_list, received_bounded, received_bytes};
 ghost use Rattle.p3_driver_core.specs.Reads.{received_bytes_bounded, hint_received, hint_received_bounded};
-ghost use Rattle.p3_driver_core.specs.Verifying.{RefusesToRead, FailsWork};
 ghost use Rattle.p3_step_laws.specs.OneReason.{TellOneReason, RefusesCarriedOrStep, RefusesRecordedOrStep};
 ghost use Rattle.p3_step_laws.specs.Mirrored.{EachWork};
 
@@ -72,9 +71,8 @@ pub fn carried_lists_are_refused_for_one_reason<
 ///
 /// A law: the body is empty, and a caller cites the clauses.
 pub fn work_is_refused_for_one_reason<C: GrindingChallenger>()
-    ensures ground { (step : Step) (bits : ℕ) → TellOneReason (RefusesToGrind
-        (work_of step C.Witness.residues C.before_witness C.observation C.bits_sampling bits)
-        C.may_run_out) }
+    ensures ground { (step : Step) (bits : ℕ) → TellOneReason (RefusesToGrind (work_of step
+        C.Witness.residues C.before_witness C.observation C.bits_sampling bits) C.may_run_out) }
     ensures read { EachWork (λ work wire. TellOneReason (λ start e end.
         RefusesToRead (received_work work wire) start e end ⊎ FailsWork work wire start e end))
         C.Witness.residues C.Witness.bit_length C.before_witness C.observation C.bits_sampling }

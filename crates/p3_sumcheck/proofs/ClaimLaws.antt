@@ -1,10 +1,11 @@
 -- True rounds bring the table's sum to its value at the point, and a false claim takes a lucky round.
-use Rattle.std.proofs.{Common.{◌≡◌, ℕ, suc, ◌/◌, ◌^◌, ◌⊎◌, inl, inr, refl, sym, ap, ◌∙◌, arith}, Math.Nat.pow-suc}
-use Rattle.std.proofs.{Common.{List, [], ◌∷◌, ◌++◌, length, length-take-le, length-drop}, lemmas.Bool.cases_order}
-use Rattle.p3_challenger.specs.{Residues.{Residues, IsResidues, sum_of}, ResidueLaws.number-injective, Rounds.AreRounds}
-use Rattle.p3_sumcheck.specs.{declared.round.Round.Round, Tables.{low_half, high_half, total, folded, folded_at}}
-use Rattle.p3_sumcheck.specs.Claims.{HasLuckyRound, Reduces, claim_after, true_round, true_rounds}
-use Rattle.p3_sumcheck.{specs.Sumchecks.challenges_of, proofs.Folding.{folded-half, total-folded}}
+use Rattle.std.proofs.Common.{◌≡◌, ℕ, suc, ◌/◌, ◌^◌, ◌⊎◌, inl, inr, refl, sym, ap, ◌∙◌, arith, List, [], ◌∷◌, ◌++◌}
+use Rattle.std.proofs.{Common.{length, length-take-le, length-drop}, Math.Nat.pow-suc, lemmas.Bool.cases_order}
+use Rattle.p3_challenger.specs.Rounds.{AreRounds}
+use Rattle.p3_field.specs.{Residues.{Residues, IsResidues, sum_of}, ResidueLaws.number-injective}
+use Rattle.p3_sumcheck.{proofs.Folding.{total-folded, folded-half}, specs.declared.round.Round.Round}
+use Rattle.p3_sumcheck.specs.{Tables.{high_half, folded_at, low_half, folded, total}, Sumchecks.challenges_of}
+use Rattle.p3_sumcheck.specs.Claims.{HasLuckyRound, claim_after, true_rounds, true_round, Reduces}
 use Rattle.p3_sumcheck.proofs.Sums.{total-halves, total-one}
 
 -- ---- sizes

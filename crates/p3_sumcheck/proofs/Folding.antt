@@ -1,12 +1,12 @@
 -- A table that is folded where it lies, place by place.
-use Rattle.std.proofs.Common.{◌≡◌, ℕ, zero, suc, ◌+◌, ◌/◌, ◌<◌, ◌≤◌, List, [], ◌∷◌, ◌++◌, length, take, drop, get_or, set}
-use Rattle.std.{proofs.Common.{refl, sym, ap, ◌∙◌, arith, add-zero, length-take-le, length-drop}, specs.List.zip}
-use Rattle.std.proofs.{Math.Seq.{take-append_seam, drop-append_seam}, lemmas.Slice.Zip.length-zip}
+use Rattle.std.proofs.Common.{◌≡◌, ℕ, zero, suc, ◌+◌, ◌/◌, ◌<◌, ◌≤◌, List, [], ◌∷◌, ◌++◌, length, take, drop, get_or}
+use Rattle.std.{proofs.Common.{set, refl, sym, ap, ◌∙◌, arith, add-zero, length-take-le, length-drop}, specs.List.zip}
 use Rattle.std.proofs.lemmas.List.{take_all, take_more_set, drop-set-lt, drop-drop, get_or-drop, length-set, length-map}
-use Rattle.p3_challenger.specs.{Residues.{Residues, IsResidues, sum_of, difference_of, product_of}, Rings.IsRing}
-use Rattle.p3_challenger.specs.RingLaws.{residues-ring}
-use Rattle.p3_sumcheck.specs.Tables.{low_half, high_half, value_at, total, fold_pairs, folded}
-use Rattle.p3_sumcheck.proofs.Sums.{total-cons, total-push}
+use Rattle.std.proofs.{Math.Seq.{take-append_seam, drop-append_seam}, lemmas.Slice.Zip.length-zip}
+use Rattle.p3_field.specs.{Residues.{Residues, IsResidues, sum_of, difference_of, product_of}, Rings.IsRing}
+use Rattle.p3_field.specs.RingLaws.{residues-ring}
+use Rattle.p3_sumcheck.{specs.Tables.{low_half, high_half, value_at, total, fold_pairs, folded}, proofs.Sums.total-cons}
+use Rattle.p3_sumcheck.proofs.Sums.{total-push}
 
 -- what is the same from a place on is the same from the next one on
 drop-one-more : {F : Type 0} (xs ys : List F) (i : ℕ) → drop i xs ≡ drop i ys → drop (i + 1) xs ≡ drop (i + 1) ys

@@ -1,19 +1,18 @@
 -- What comes of a verifier, where rounds are ahead of it that it may accept.
-use Rattle.std.proofs.Common.{◌≡◌, ℕ, ◌+◌, ◌^◌, ◌<◌, ◌≤◌, ◌⊎◌, inl, inr, List, [], ◌∷◌, ◌++◌, length, refl, sym, ap, ◌∙◌}
-use Rattle.std.{proofs.Common.{arith, Result, Ok, Err}, proofs.lemmas.Bool.cases_order, specs.List.flat_map}
-use Rattle.std.proofs.lemmas.List.{append_cancel_left, length-append, map-append}
-use Rattle.std.specs.Result.{IfErr, IfOk, MatchResult, OnOk}
-use Rattle.p3_challenger.specs.{Driving.Driving, Encoding.IsEncoding, Residues.{IsResidues, sum_of}, Rounds.AreRounds}
-use Rattle.p3_challenger.specs.{Memory.{OnlyMemoryRefuses, OnlyMemoryRefusesToRead}, TranscriptError.TranscriptError}
-use Rattle.p3_challenger.specs.{RoundLaws.{rounds-more, rounds-written}, Transcripts.steps_on, Verifying.RefusesToRead}
-use Rattle.p3_sumcheck.specs.declared.{error.SumcheckError.SumcheckError, round.Round.Round}
+use Rattle.std.proofs.Common.{length, Result, arith, List, ◌++◌, refl, ◌≡◌, ◌+◌, ◌^◌, ◌<◌, ◌≤◌, ◌⊎◌, inl, inr, ◌∷◌, sym}
+use Rattle.std.{proofs.Common.{◌∙◌, Err, [], ap, Ok, ℕ}, specs.{List.flat_map, Result.{MatchResult, IfErr, IfOk, OnOk}}}
+use Rattle.std.proofs.lemmas.{Bool.cases_order, List.{append_cancel_left, length-append, map-append}}
+use Rattle.p3_challenger.specs.{Driving.Driving, TranscriptError.TranscriptError, Encoding.IsEncoding}
+use Rattle.p3_challenger.specs.{Verifying.RefusesToRead, Transcripts.steps_on, RoundLaws.{rounds-more, rounds-written}}
+use Rattle.p3_challenger.specs.{Rounds.AreRounds, OneReason.{OnlyMemoryRefuses, OnlyMemoryRefusesToRead}}
+use Rattle.p3_field.specs.Residues.{IsResidues, sum_of}
+use Rattle.p3_sumcheck.proofs.ClaimLaws.{false-is_lucky, true-reduces, true_rounds-challenges, true_rounds-length}
 use Rattle.p3_sumcheck.specs.{Claims.{HasLuckyRound, Reduces, claim_after, true_rounds}, Tables.{folded_at, total}}
 use Rattle.p3_sumcheck.specs.Sumchecks.{Accepts, AcceptsAt, Disagrees, IsMemory, Proves, ReadsPair, ReadsRound, Refuses}
-use Rattle.p3_sumcheck.specs.Sumchecks.{RefusesRound, Sumcheck, WritesRound, challenges_of, drawn_challenge}
-use Rattle.p3_sumcheck.{specs.Sumchecks.{read_pair, sent_pair}, proofs.Declaring.{rounds-pass, steps_of}}
-use Rattle.p3_sumcheck.proofs.ClaimLaws.{false-is_lucky, true-reduces, true_rounds-challenges, true_rounds-length}
-use Rattle.p3_sumcheck.proofs.Sending.{one-power, writes-plays}
+use Rattle.p3_sumcheck.specs.Sumchecks.{RefusesRound, Sumcheck, WritesRound, challenges_of, drawn_challenge, read_pair}
+use Rattle.p3_sumcheck.specs.{Sumchecks.sent_pair, declared.{error.SumcheckError.SumcheckError, round.Round.Round}}
 use Rattle.p3_sumcheck.proofs.Reading.{at, pair-of_round, pair-same, plays-reads, reads-plays, round-same, wire}
+use Rattle.p3_sumcheck.proofs.{Sending.{one-power, writes-plays}, Declaring.{rounds-pass, steps_of}}
 use Rattle.p3_sumcheck.specs.declared.error.SumcheckError.TheVariants as fault
 
 module _ {S Symbol F : Type 0} (m : Sumcheck S Symbol F) where

@@ -1,7 +1,7 @@
 -- What a sumcheck is played over, in proofs of generic code.
 use Rattle.std.proofs.Common.{ℕ, List}
-use Rattle.p3_challenger.specs.{Algebras.algebra_of, Encoding.Encoding, Observation.Observation, Residues.Residues}
-use Rattle.p3_challenger.specs.Sampling.{Sampling}
+use Rattle.p3_challenger.specs.{Steps.algebra_of, Encoding.Encoding, Observation.Observation, Sampling.Sampling}
+use Rattle.p3_field.specs.Residues.{Residues}
 use Rattle.p3_sumcheck.specs.Sumchecks.{Sumcheck, sumcheck_of}
 
 -- with the degree of the field over itself, the digest of its identity, and its name

@@ -2,10 +2,10 @@
 use Rattle.std.proofs.Common.{◌≡◌, ℕ, List, [], ◌∷◌, ◌++◌, length, refl, ap, sym, ◌∙◌, append_assoc}
 use Rattle.std.specs.List.{flat_map}
 use Rattle.p3_challenger.specs.{CompletenessLaws.step-completes, Driving.Driving, Encoding.IsEncoding, Reading.AreBytes}
-use Rattle.p3_challenger.specs.{Rounds.AreRounds, RoundLaws.rounds-seen, Encoded.OnlyReads, Verifying.Receives}
+use Rattle.p3_challenger.specs.{Rounds.AreRounds, RoundLaws.rounds-seen, ReadBack.OnlyReads, Verifying.Receives}
 use Rattle.p3_challenger.specs.Transcripts.{PlaysStep, Transcript}
-use Rattle.p3_sumcheck.specs.{declared.round.Round.Round, Sumchecks.{read_pair, sent_pair}}
-use Rattle.p3_sumcheck.specs.Sumchecks.{PlaysRound, ReadsPair, ReadsRound, Sumcheck, drawn_challenge, pair_of}
+use Rattle.p3_sumcheck.specs.{declared.round.Round.Round, Sumchecks.{read_pair, sent_pair, PlaysRound, ReadsPair}}
+use Rattle.p3_sumcheck.specs.Sumchecks.{ReadsRound, Sumcheck, drawn_challenge, pair_of}
 
 -- a driver at a transcript, with these bytes
 abbrev pub at : {S : Type 0} → Transcript S → List ℕ → Driving S

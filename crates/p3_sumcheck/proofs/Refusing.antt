@@ -2,10 +2,9 @@
 use Rattle.std.{proofs.Common.{◌≡◌, ℕ, ◌+◌, ◌-◌, inl, inr, suc, length, arith, Result, Err}, specs.Result.IfErr}
 use Rattle.p3_challenger.specs.{CompletenessLaws.next-own_refusal, Driving.Driving, TranscriptError.TranscriptError}
 use Rattle.p3_challenger.specs.{TranscriptLaws.next-first, Transcripts.AreNext}
-use Rattle.p3_sumcheck.specs.{Faults.IsNoPatternFault, declared.error.SumcheckError.SumcheckError}
-use Rattle.p3_sumcheck.specs.{ReadingLaws.next-reading_fault, Sumchecks.{read_pair, round_steps}}
-use Rattle.p3_sumcheck.{specs.Sumchecks.{Refuses, RefusesRound, Sumcheck, drawn_challenge}, proofs.Reading.reads-plays}
-use Rattle.p3_sumcheck.proofs.Declaring.{rounds-left, steps_of}
+use Rattle.p3_sumcheck.specs.Sumchecks.{IsNoPatternFault, read_pair, round_steps, Refuses, RefusesRound, Sumcheck}
+use Rattle.p3_sumcheck.{specs.{Sumchecks.drawn_challenge, ReadingLaws.next-reading_fault}, proofs.Reading.reads-plays}
+use Rattle.p3_sumcheck.{specs.declared.error.SumcheckError.SumcheckError, proofs.Declaring.{rounds-left, steps_of}}
 use Rattle.p3_sumcheck.specs.declared.error.SumcheckError.TheVariants as fault
 
 -- a step of it that was refused is refused so

@@ -1,7 +1,7 @@
 -- Sums of tables in parts, and of what is folded.
 use Rattle.std.proofs.Common.{◌≡◌, ℕ, ◌+◌, ◌/◌, ◌<◌, List, [], ◌∷◌, ◌++◌, length, take, drop, sum_by, get_or, ap, ◌∙◌}
 use Rattle.std.proofs.lemmas.List.Sums.{sum_by-cons, sum_by-take-drop, sum_by_more, sum_by_push}
-use Rattle.p3_challenger.specs.{Residues.{Residues, IsResidues, sum_of}, Rings.IsRing, RingLaws.residues-ring}
+use Rattle.p3_field.specs.{Residues.{Residues, IsResidues, sum_of}, Rings.IsRing, RingLaws.residues-ring}
 use Rattle.p3_sumcheck.specs.Tables.{low_half, high_half, total}
 
 module _ {F : Type 0} (r : Residues F) (laws : IsResidues r) where

@@ -1,8 +1,9 @@
 -- Worked rows, computed on the definitions: the table 1, 2, 3, 4 over the field of order 257, whose challenges are drawn
 -- of three cells, of which two are the rate, under a turn by two places.
 use Rattle.std.{proofs.Common.{◌≡◌, ℕ, List, [], ◌∷◌, inl, map, refl, ap}, specs.List.flat_map}
-use Rattle.p3_challenger.specs.{DuplexCalls.{DuplexSponge, duplex_by_calls}, F257Residues.{F257, residues}, Turn.turned}
-use Rattle.p3_challenger.specs.{Rounds.AreRounds, Segments.{Call, draw, observe, run_calls}}
+use Rattle.p3_challenger.specs.{DuplexCalls.{DuplexSponge, duplex_by_calls}, Turn.turned, Rounds.AreRounds}
+use Rattle.p3_challenger.specs.Segments.{Call, draw, observe, run_calls}
+use Rattle.p3_field.specs.F257Residues.{F257, residues}
 use Rattle.p3_sumcheck.specs.{Claims.{HasLuckyRound, Reduces, claim_after, true_rounds}, Sumchecks.pair_of}
 use Rattle.p3_sumcheck.specs.{Tables.{folded_at, total}, declared.round.Round.Round}
 use Rattle.p3_challenger.specs.Scalar as scalar

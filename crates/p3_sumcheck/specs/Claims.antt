@@ -1,6 +1,6 @@
 -- What the rounds of a sumcheck say of a claim, and the rounds that a table has.
 use Rattle.std.specs.Prelude.{◌≡◌, List, [], ◌∷◌, ◌⊎◌}
-use Rattle.p3_challenger.specs.Residues.{Residues, sum_of}
+use Rattle.p3_field.specs.Residues.{Residues, sum_of}
 use Rattle.p3_sumcheck.specs.{declared.round.Round.Round, Tables.{folded, high_half, low_half, total, value_at}}
 
 -- the claim after a round: the value at its challenge of the line that has its pair at 0 and 1
@@ -29,7 +29,5 @@ true_rounds r table (x ∷ point) = true_round r table x ∷ true_rounds r (fold
 -- round's challenge makes one claim of both.
 abbrev pub HasLuckyRound : {F : Type 0} → Residues F → List F → List (Round F) → Type 0
 HasLuckyRound r table [] = ⊥
-HasLuckyRound r table (round ∷ rounds) =
-    let truth = true_round r table round.challenge in
-    ((round ≡ truth → ⊥) × (claim_after r round ≡ claim_after r truth))
-    ⊎ HasLuckyRound r (folded r round.challenge table) rounds
+HasLuckyRound r table (round ∷ rounds) = let truth = true_round r table round.challenge in ((round ≡ truth → ⊥)
+    × (claim_after r round ≡ claim_after r truth)) ⊎ HasLuckyRound r (folded r round.challenge table) rounds

@@ -1,12 +1,11 @@
 -- What a step that reads, and is next, is refused for: the proof has another shape there, or the challenger or memory is
 -- refused.
 use Rattle.std.{specs.Prelude.refl, proofs.Common.{inl, inr}}
-use Rattle.p3_challenger.specs.{Driving.Driving, Reads.Reading, TranscriptError.TranscriptError, Transcripts.IsNext}
-use Rattle.p3_challenger.specs.TranscriptError.TheVariants.{BadProofShape, Challenger, InvalidKind, LabelTooLong}
-use Rattle.p3_challenger.specs.TranscriptError.TheVariants.{MismatchedBeginEnd, MissingBegin, MissingEnd, OutOfMemory}
-use Rattle.p3_challenger.specs.{TranscriptError.TheVariants.Pattern, TranscriptLaws.next-not_refused}
-use Rattle.p3_challenger.specs.Verifying.{RefusesToRead}
-use Rattle.p3_sumcheck.specs.Faults.{IsNoPatternFault}
+use Rattle.p3_challenger.specs.{Transcripts.IsNext, Driving.Driving, Reads.Reading, TranscriptLaws.next-not_refused}
+use Rattle.p3_challenger.specs.TranscriptError.{TranscriptError, TheVariants.{BadProofShape, Challenger, InvalidKind}}
+use Rattle.p3_challenger.specs.TranscriptError.TheVariants.{LabelTooLong, MismatchedBeginEnd, MissingBegin, MissingEnd}
+use Rattle.p3_challenger.specs.{TranscriptError.TheVariants.{OutOfMemory, Pattern}, Verifying.RefusesToRead}
+use Rattle.p3_sumcheck.specs.Sumchecks.{IsNoPatternFault}
 
 pub next-reading_fault : {S Symbol A : Type 0} (r : Reading S Symbol A) (before after : Driving S)
     (e : TranscriptError) → IsNext before.transcript.playing r.interaction → RefusesToRead r before e after →

@@ -1,16 +1,21 @@
 -- A sumcheck in a transcript: its rounds, as both sides play them, and what each side makes of
 -- them.
 use Rattle.std.specs.Prelude.{◌≡◌, ℕ, ◌^◌, ◌<◌, ◌≤◌, ◌⊎◌, List, [], ◌∷◌, ◌++◌, codes, length, map}
-use Rattle.p3_challenger.specs.{Algebras.{NamedAlgebra, algebra_step}, Driving.Driving, Encoding.Encoding, Steps.Step}
-use Rattle.p3_challenger.specs.{Kind.TheVariants.{Challenge, Message}, Length.TheVariants.{Fixed, Scalar}}
-use Rattle.p3_challenger.specs.{Meanings.{drawn, sent_list}, Observation.Observation, Proving.{RefusesToWrite, Writes}}
-use Rattle.p3_challenger.specs.{Reads.{Reading, received_list}, Recording.{Recording, RefusesToRecord}}
-use Rattle.p3_challenger.specs.{Residues.{Residues, sum_of}, Rounds.{AreRounds, steps_of_rounds}, Sampling.Sampling}
-use Rattle.p3_challenger.specs.{TranscriptError.TranscriptError, TranscriptError.TheVariants.OutOfMemory}
-use Rattle.p3_challenger.specs.{Transcripts.{Meaning, PlaysStep, RefusesStep, Transcript}, Verifying.RefusesToRead}
-use Rattle.p3_sumcheck.specs.{declared.error.SumcheckError.SumcheckError, declared.round.Round.Round, Tables.folded_at}
+use Rattle.p3_challenger.specs.{Observation.Observation, Proving.{RefusesToWrite, Writes}, Rounds.steps_of_rounds}
+use Rattle.p3_challenger.specs.{Rounds.AreRounds, Errors.IsBadShape, TranscriptError.TranscriptError, Sampling.Sampling}
+use Rattle.p3_challenger.specs.{TranscriptError.TheVariants.OutOfMemory, Verifying.RefusesToRead, Encoding.Encoding}
+use Rattle.p3_challenger.specs.{Transcripts.{RefusesStep, Transcript, PlaysStep, Meaning}, Meanings.{sent_list, drawn}}
+use Rattle.p3_challenger.specs.{Steps.{NamedAlgebra, algebra_step, Step}, Recording.{RefusesToRecord, Recording}}
+use Rattle.p3_challenger.specs.{Driving.Driving, Completeness.IsOwnRefusal, Length.TheVariants.{Scalar, Fixed}}
+use Rattle.p3_challenger.specs.{Codec.Ghosts, Reads.{received_list, Reading}, Kind.TheVariants.{Challenge, Message}}
+use Rattle.p3_field.specs.Residues.{Residues, sum_of}
+use Rattle.p3_sumcheck.specs.{declared.{error.SumcheckError.SumcheckError, round.Round.Round}, Tables.folded_at}
 use Rattle.p3_sumcheck.specs.Claims.{Reduces, true_pair, true_rounds}
 use Rattle.p3_sumcheck.specs.declared.error.SumcheckError.TheVariants as fault
+
+-- a step is refused where it is the pattern's: the proof has another shape there, or the challenger or memory is refused
+abbrev pub IsNoPatternFault : TranscriptError → Type 0
+IsNoPatternFault e = ((reason : List ℕ) × IsBadShape reason e) ⊎ IsOwnRefusal e
 
 -- ---- what is played
 
@@ -37,6 +42,10 @@ pub record Sumcheck (S Symbol F : Type 0) : Type 1 where
 abbrev pub sumcheck_of : {S Symbol F : Type 0} → Residues F → NamedAlgebra → Observation S Symbol F → Sampling S F →
     Encoding F → Sumcheck S Symbol F
 sumcheck_of r field o d e = record { residues = r; field = field; observation = o; sampling = d; encoding = e }
+
+-- the same by a codec
+abbrev pub sumcheck_by : {K C S Symbol F : Type 0} → Residues F → NamedAlgebra → Ghosts K C F S Symbol → Sumcheck S Symbol F
+sumcheck_by r field codec = sumcheck_of r field codec.observation codec.sampling codec.encoding
 
 abbrev pub pair_of : {F : Type 0} → Round F → List F
 pair_of round = round.first ∷ round.second ∷ []
@@ -88,8 +97,7 @@ module _ {S Symbol F : Type 0} (m : Sumcheck S Symbol F) where
   -- a round is given up: its pair is refused, or it is written and the challenge is refused
   abbrev pub RefusesToSend : List F → Driving S → TranscriptError → Driving S → Type 0
   RefusesToSend pair before e after =
-      RefusesToWrite (sent_pair pair) before e after
-      ⊎ ((here : Driving S) × Writes (sent_pair pair) before pair here
+      RefusesToWrite (sent_pair pair) before e after ⊎ ((here : Driving S) × Writes (sent_pair pair) before pair here
       × RefusesStep drawn_challenge here.transcript e after.transcript × (after.bytes ≡ here.bytes))
 
   -- the true rounds at a point are written, and then the next one is given up, or there is no room
@@ -99,9 +107,8 @@ module _ {S Symbol F : Type 0} (m : Sumcheck S Symbol F) where
     pub point : List F
     pub here : Driving S
     pub writes : AreRounds WritesRound before (true_rounds m.residues table point) here
-    pub refuses : (let left = folded_at m.residues point table in
-        (1 < length left) × RefusesToSend (true_pair m.residues left) here e after)
-        ⊎ ((e ≡ OutOfMemory) × (after ≡ here))
+    pub refuses : (let left = folded_at m.residues point table in (1 < length left)
+        × RefusesToSend (true_pair m.residues left) here e after) ⊎ ((e ≡ OutOfMemory) × (after ≡ here))
 
   -- ---- the verifier's side
 
@@ -119,16 +126,14 @@ module _ {S Symbol F : Type 0} (m : Sumcheck S Symbol F) where
 
   -- a pair is read, and does not add to the claim
   abbrev pub Disagrees : F → Driving S → Driving S → Type 0
-  Disagrees claim before after =
-      (first : F) × (second : F) × ReadsPair before (first ∷ second ∷ []) after
+  Disagrees claim before after = (first : F) × (second : F) × ReadsPair before (first ∷ second ∷ []) after
       × (sum_of m.residues first second ≡ claim → ⊥)
 
   -- a round is given up: its pair is read and does not add to the claim; or the pair is refused, or
   -- it is read and adds to the claim, and the challenge is refused
   abbrev pub RefusesRound : F → ℕ → Driving S → SumcheckError → Driving S → Type 0
   RefusesRound claim i before (fault.Round j) after = (j ≡ i) × Disagrees claim before after
-  RefusesRound claim i before (fault.Transcript e) after =
-      RefusesToRead read_pair before e after
+  RefusesRound claim i before (fault.Transcript e) after = RefusesToRead read_pair before e after
       ⊎ ((first : F) × (second : F) × (here : Driving S) × ReadsPair before (first ∷ second ∷ []) here
       × (sum_of m.residues first second ≡ claim) × RefusesStep drawn_challenge here.transcript e after.transcript
       × (after.bytes ≡ here.bytes))
@@ -150,6 +155,5 @@ IsMemory e = e ≡ fault.Transcript OutOfMemory
 
 -- some of these steps are recorded, and the next one is refused
 abbrev pub RefusesToDeclare : List Step → Recording → TranscriptError → Recording → Type 0
-RefusesToDeclare steps before e after =
-    (done : List Step) × (next : Step) × (others : List Step) × (here : Recording) × (steps ≡ done ++ (next ∷ others))
-    × (here.steps ≡ before.steps ++ done) × RefusesToRecord here next e after
+RefusesToDeclare steps before e after = (done : List Step) × (next : Step) × (others : List Step) × (here : Recording)
+    × (steps ≡ done ++ (next ∷ others)) × (here.steps ≡ before.steps ++ done) × RefusesToRecord here next e after

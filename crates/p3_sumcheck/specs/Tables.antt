@@ -1,6 +1,6 @@
 -- Tables of values: their sums, and what is left of them when they are folded.
 use Rattle.std.specs.{Prelude.{◌/◌, List, [], ◌∷◌, length, take, drop, map, sum_by}, List.zip}
-use Rattle.p3_challenger.specs.Residues.{Residues, sum_of, difference_of, product_of}
+use Rattle.p3_field.specs.Residues.{Residues, sum_of, difference_of, product_of}
 
 abbrev pub low_half : {F : Type 0} → List F → List F
 low_half table = take (length table / 2) table

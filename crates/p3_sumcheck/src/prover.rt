@@ -1,7 +1,7 @@
 //! The prover's side.
 ghost use Rattle.std.specs.Prelude.{◌≡◌, ◌≤◌, ◌^◌, ℕ, ◌∷◌, [], length, IfErr, IfOk, MatchResult};
 ghost use Rattle.p3_challenger.specs.{Completeness.IsOwnRefusal, Drivers.proving_of, Transcripts.{AreNext, steps_on}};
-ghost use Rattle.p3_sumcheck.specs.Sumchecks.{Proves, RefusesToProve, RefusesToSend, WritesRound, sumcheck_of};
+ghost use Rattle.p3_sumcheck.specs.Sumchecks.{Proves, RefusesToProve, RefusesToSend, WritesRound, sumcheck_by};
 ghost use Rattle.p3_sumcheck.specs.Sumchecks.{sumcheck_steps};
 
 use crate::table::{fold, sums_of_halves};
@@ -34,12 +34,10 @@ pub fn prove<
     requires size { (n : ℕ) × (length table.items ≡ 2 ^ n) }
     requires secure { 128 ≤ Cdc.SECURITY_BITS }
     // The true pairs are written, and the table's value at the point is answered.
-    ensures ok { let m = sumcheck_of F.residues ⟦<F as Declared<F, D>>⟧.algebra
-        Cdc.observation Cdc.sampling Cdc.encoding in
+    ensures ok { let m = sumcheck_by F.residues ⟦<F as Declared<F, D>>⟧.algebra Cdc.Codec in
         IfOk result (λ sent. Proves m table.items sent.0.items sent.1
         (proving_of C.state prover.old) (proving_of C.state prover.new)) }
-    ensures err { let m = sumcheck_of F.residues ⟦<F as Declared<F, D>>⟧.algebra
-        Cdc.observation Cdc.sampling Cdc.encoding in
+    ensures err { let m = sumcheck_by F.residues ⟦<F as Declared<F, D>>⟧.algebra Cdc.Codec in
         IfErr result (λ e. RefusesToProve m table.items (proving_of C.state prover.old) e
         (proving_of C.state prover.new)) }
     // Where the rounds are next they are played, and the prover then stands after them; or the
@@ -69,15 +67,11 @@ fn send_round<
     Cdc: Codec<C, F>,
 >(prover: &mut ProverState<C, U, D>, pair: (F, F)) -> Result<F, TranscriptError>
     requires { 128 ≤ Cdc.SECURITY_BITS }
-    ensures ok { let m = sumcheck_of F.residues ⟦<F as Declared<F, D>>⟧.algebra
-        Cdc.observation Cdc.sampling Cdc.encoding in
-        IfOk result (λ x. WritesRound m (proving_of C.state prover.old) (record {
-          first = pair.0;
-          second = pair.1;
-          challenge = x;
-        }) (proving_of C.state prover.new)) }
-    ensures err { let m = sumcheck_of F.residues ⟦<F as Declared<F, D>>⟧.algebra
-        Cdc.observation Cdc.sampling Cdc.encoding in
+    ensures ok { let m = sumcheck_by F.residues ⟦<F as Declared<F, D>>⟧.algebra Cdc.Codec in
+        IfOk result (λ x. WritesRound m (proving_of C.state prover.old)
+        (record { first = pair.0; second = pair.1; challenge = x })
+        (proving_of C.state prover.new)) }
+    ensures err { let m = sumcheck_by F.residues ⟦<F as Declared<F, D>>⟧.algebra Cdc.Codec in
         IfErr result (λ e. RefusesToSend m (pair.0 ∷ pair.1 ∷ []) (proving_of C.state prover.old) e
         (proving_of C.state prover.new)) }
 {

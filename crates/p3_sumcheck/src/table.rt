@@ -1,6 +1,6 @@
 //! Tables of values: their sums, and how they are folded where they lie.
 ghost use Rattle.std.specs.Prelude.{◌≡◌, ◌≤◌, ◌/◌, ◌↔◌, IsTrue, length, take};
-ghost use Rattle.p3_challenger.specs.Residues.{sum_of};
+ghost use Rattle.p3_field.specs.Residues.{sum_of};
 ghost use Rattle.p3_sumcheck.specs.Tables as tables;
 
 use p3_field::PrimeField64;

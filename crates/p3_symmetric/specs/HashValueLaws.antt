@@ -1,9 +1,9 @@
 -- What holds of the values of a digest.
-use Rattle.std.{specs.Prelude.{◌≡◌, ℕ, Bool, length}, proofs.Math.Nat.ℕ_set}
-use Rattle.std.specs.Cmp.Lexicographic.{pointwise, pointwise_decides}
-use mathlib.Core.HLevel.{is_prop→PathP}
+use Rattle.std.specs.{Prelude.{◌≡◌, ℕ, Bool, length}, Cmp.Lexicographic.{pointwise, pointwise_decides}}
+use Rattle.std.proofs.Math.Nat.{ℕ_set}
 use Rattle.p3_field_core.specs.Equality.{IsExact, exact-by}
-use Rattle.p3_symmetric.specs.{HashValues.values_of, declared.hash.Hash.Hash}
+use Rattle.p3_symmetric.specs.{Digests.values_of, declared.hash.Hash.Hash}
+use mathlib.Core.HLevel.{is_prop→PathP}
 
 -- digests of the same values are one
 pub values-injective : {F T : Type 0} {N : ℕ} (x y : Hash F T N) → values_of x ≡ values_of y → x ≡ y

@@ -1,5 +1,4 @@
 pub mod Turn
 pub mod Digests
 pub mod DigestLaws
-pub mod HashValues
 pub mod HashValueLaws

@@ -1,5 +1,6 @@
 //! A digest, of so many words of a hash function over a field.
 ghost use Rattle.std.specs.Prelude.{◌≡◌, length};
+ghost use Rattle.p3_field_core.specs.Equality.{IsExact};
 
 use std::alloc::AllocError;
 use std::convert::AsSlice;
@@ -17,7 +18,7 @@ pub struct Hash<F, T, const N: usize> {
 }
 
 impl<F, T: Clone, const N: usize> Clone for Hash<F, T, N> {
-    ghost use Rattle.p3_symmetric.specs.HashValues.{values_of};
+    ghost use Rattle.p3_symmetric.specs.Digests.{values_of};
 
     // As the array of the values is cloned.
     ghost is_clone = { λ x y. ⟦<[T; N] as Clone>⟧.is_clone (values_of x) (values_of y) };
@@ -36,8 +37,7 @@ impl<F, T: Clone, const N: usize> Clone for Hash<F, T, N> {
 impl<F, T: Copy, const N: usize> Copy for Hash<F, T, N> {}
 
 impl<F, T, const N: usize> Hash<F, T, N> {
-    ghost use Rattle.std.specs.Prelude.{◌≡◌, length};
-    ghost use Rattle.p3_symmetric.specs.HashValues.{values_of};
+    ghost use Rattle.p3_symmetric.specs.Digests.{values_of};
 
     /// The values of the digest, in order.
     pub fn as_ref(&self) -> &[T; N]
@@ -56,8 +56,6 @@ impl<F, T, const N: usize> Hash<F, T, N> {
 }
 
 impl<F, T: PartialEq, const N: usize> Hash<F, T, N> {
-    ghost use Rattle.p3_field_core.specs.Equality.{IsExact};
-
     /// Two digests compare equal exactly where their values are the same, if values compare so.
     ///
     /// A law: the body is empty, and a caller cites the clause.
@@ -67,7 +65,7 @@ impl<F, T: PartialEq, const N: usize> Hash<F, T, N> {
 }
 
 impl<F, T, const N: usize> AsSlice<T> for Hash<F, T, N> {
-    ghost use Rattle.p3_symmetric.specs.HashValues.{values_of};
+    ghost use Rattle.p3_symmetric.specs.Digests.{values_of};
 
     ghost items = { values_of };
 
@@ -77,8 +75,7 @@ impl<F, T, const N: usize> AsSlice<T> for Hash<F, T, N> {
 }
 
 impl<F, T, const N: usize> From<[T; N]> for Hash<F, T, N> {
-    ghost use Rattle.std.specs.Prelude.{◌≡◌};
-    ghost use Rattle.p3_symmetric.specs.HashValues.{values_of};
+    ghost use Rattle.p3_symmetric.specs.Digests.{values_of};
 
     ghost from_gives = { λ values digest. values_of digest ≡ values };
 

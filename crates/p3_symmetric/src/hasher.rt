@@ -10,8 +10,6 @@ pub trait HashOutput: Copy {
 }
 
 impl<T: Copy, const N: usize> HashOutput for [T; N] {
-    ghost use Rattle.std.specs.Prelude.{◌≡◌, length};
-
     ghost is_whole = { λ values. length values ≡ N };
 }
 

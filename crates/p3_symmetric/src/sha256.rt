@@ -1,6 +1,7 @@
 //! SHA-256, by the kit's `sha2`.
-ghost use Rattle.std.specs.Prelude.{◌≡◌};
+ghost use Rattle.std.{specs.Prelude.◌≡◌, proofs.Common.lit<};
 ghost use Rattle.sha2.specs.Sha256.{sha256};
+ghost use Rattle.p3_symmetric.specs.DigestLaws.{sha256-is_digest};
 
 use crate::{CryptographicHasher, DigestHasher};
 use sha2::{Digest, Sha256};
@@ -11,9 +12,6 @@ use sha2::{Digest, Sha256};
 pub struct Sha256Hasher;
 
 impl CryptographicHasher<u8, [u8; 32]> for Sha256Hasher {
-    ghost use Rattle.std.proofs.Common.{lit<};
-    ghost use Rattle.p3_symmetric.specs.DigestLaws.{sha256-is_digest};
-
     const LANES: usize = 8;
 
     ghost LANES = { 8 };
@@ -34,8 +32,6 @@ impl CryptographicHasher<u8, [u8; 32]> for Sha256Hasher {
 }
 
 impl DigestHasher for Sha256Hasher {
-    ghost use Rattle.p3_symmetric.specs.DigestLaws.{sha256-is_digest};
-
     ghost digest_of = { sha256 };
 
     ghost digests = { sha256-is_digest };

@@ -1,20 +1,19 @@
 -- Worked rows of steps over a duplex challenger, computed on the definitions: three cells of the field of order 257, of
 -- which two are the rate, under a turn by two places, which makes (c + 1, a + 2, b + 3) of the cells (a, b, c). The
 -- cells are (6, 2, 131), and both outputs are left: so a separator with no chunk leaves them, of any name and pattern.
-use Rattle.std.proofs.Common.{◌≡◌, ◌≤◌, ◌==◌, ◌||◌, ℕ, Bool, false, not, List, [], ◌∷◌, map, replicate, codes}
-use Rattle.std.{proofs.Common.{Option, Some, None, refl}, specs.Option.option_map}
+use Rattle.std.proofs.Common.{◌≡◌, ◌≤◌, ◌==◌, ◌||◌, ℕ, Bool, false, not, List, [], ◌∷◌, map, replicate, codes, Option}
+use Rattle.std.{proofs.Common.{Some, None, refl}, specs.Option.option_map}
 use Rattle.p3_small_primes.specs.F257Residues.{F257, residues}
 use Rattle.p3_symmetric.specs.Turn.{turned}
-use Rattle.p3_challenger_core.specs.Observation.{Observation, unrefused_observe}
-use Rattle.p3_challenger_core.specs.Sampling.{Sampling, unrefused_draw, draws, after_draws}
-use Rattle.p3_fs_core.specs.{Encoding.Encoding, Packing.{packed, first_chunks}, Steps.Step, declared.step.Kind.Kind}
-use Rattle.p3_fs_core.specs.declared.step.{Kind.TheVariants.{Message, Salt, Challenge}, Length.Length}
-use Rattle.p3_fs_core.specs.{declared.step.Length.TheVariants.{Scalar, Fixed, Bounded}, Counts.count_width}
-use Rattle.p3_fs_core.specs.{Alphabet.{Alphabet, alphabet_of}, Algebras.{algebra_of, algebra_step}}
+use Rattle.p3_challenger_core.specs.Sampling.{unrefused_draw, after_draws, Sampling, draws}
+use Rattle.p3_challenger_core.specs.Observation.{unrefused_observe, Observation}
+use Rattle.p3_fs_core.specs.{Encoding.Encoding, Packing.{packed, first_chunks}, Steps.{Step, algebra_of, algebra_step}}
+use Rattle.p3_fs_core.specs.declared.step.{Kind.{Kind, TheVariants.{Message, Salt, Challenge}}, Length.Length}
+use Rattle.p3_fs_core.specs.{declared.step.Length.TheVariants.{Scalar, Fixed, Bounded}, BigEndian.count_width}
+use Rattle.p3_fs_core.specs.Alphabet.{Alphabet, alphabet_of}
 use Rattle.p3_duplex.specs.DuplexCalls.{DuplexSponge, duplex}
-use Rattle.p3_driver_core.specs.Meanings.{observed_list, observed_bounded, sent, sent_bounded, sent_bytes, hinted}
-use Rattle.p3_driver_core.specs.{Meanings.drawn_list, Rejecting.{Rule, taken, keeps, drawn_rejecting}}
-use Rattle.p3_driver_core.specs.Transcripts.{Meaning}
+use Rattle.p3_driver_core.specs.Meanings.{observed_bounded, observed_list, sent_bounded, sent_bytes, drawn_list, hinted}
+use Rattle.p3_driver_core.specs.{Meanings.sent, Rejecting.{drawn_rejecting, taken, keeps, Rule}, Transcripts.Meaning}
 use Rattle.p3_fs_core.specs.Scalar as scalar
 use Rattle.p3_sponge.specs.SpongeCalls as sponge
 

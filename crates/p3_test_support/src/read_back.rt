@@ -18,8 +18,8 @@ use p3_symmetric::Turn;
 ///
 /// A law: a caller cites the clause.
 pub fn length_hasher_collides(initial_state: Vec<u8>)
-    ensures { CollideAtSomePlace (hash_read_back.Collide by_length) ((initial_state.items ++ 5 ∷ []) ∷ [])
-        ((initial_state.items ++ 6 ∷ []) ∷ []) }
+    ensures { CollideAtSomePlace (hash_read_back.Collide by_length)
+        ((initial_state.items ++ 5 ∷ []) ∷ []) ((initial_state.items ++ 6 ∷ []) ∷ []) }
 {
     let _ = HashChallenger::new(initial_state, LengthHasher);
 }

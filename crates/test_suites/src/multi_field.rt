@@ -13,7 +13,7 @@ pub struct MultiFieldSuite;
 
 impl Suite for MultiFieldSuite {
     ghost use Rattle.std.{proofs.Common.lit<, specs.List.each_same};
-    ghost use Rattle.p3_challenger.specs.{HashValueLaws.values-injective, HashValues.values_of};
+    ghost use Rattle.p3_challenger.specs.{HashValueLaws.values-injective, Digests.values_of};
 
     type Field = F257;
 

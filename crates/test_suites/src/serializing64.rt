@@ -13,7 +13,7 @@ pub struct Serializing64Suite;
 
 impl Suite for Serializing64Suite {
     ghost use Rattle.std.{proofs.Common.lit<, specs.List.each_same};
-    ghost use Rattle.p3_challenger.specs.{Bytes.AreWords, HashValueLaws.values-injective, HashValues.values_of};
+    ghost use Rattle.p3_challenger.specs.{Bytes.AreWords, HashValueLaws.values-injective, Digests.values_of};
 
     type Field = Goldilocks;
 

@@ -1,5 +1,5 @@
 ghost use Rattle.std.specs.Prelude.{◌≡◌, ◌↔◌, IsTrue};
-ghost use Rattle.p3_symmetric.specs.HashValues.{values_of};
+ghost use Rattle.p3_symmetric.specs.Digests.{values_of};
 
 use p3_field::{BabyBear, F257, PrimeCharacteristicRing, PrimeField64};
 use p3_symmetric::{CryptographicPermutation, Hash, MerkleCap, Turn};

@@ -1,9 +1,10 @@
 -- Lemmas on the arguments of a command line.
-use Rattle.std.proofs.Common.{◌≡◌, ℕ, zero, suc, ◌<◌, ◌≤◌, List, [], ◌∷◌, length, map, get_or, Bor, false, nat_eq, Option, Some, None, IfNone, refl, sym, ◌∙◌, arith}
-use Rattle.std.specs.Cmp.Lexicographic.{pointwise, bytes_decides}
-use mathlib.Core.Bool.{true≢false}
-use Rattle.p3_challenger.specs.BabyBearResidues.{BabyBear}
+use Rattle.std.proofs.Common.{◌≡◌, ℕ, zero, suc, ◌<◌, ◌≤◌, List, [], ◌∷◌, length, map, get_or, Bor, false, nat_eq}
+use Rattle.std.{proofs.Common.{Option, Some, None, IfNone, refl, sym, ◌∙◌, arith}, specs.Cmp.Lexicographic.pointwise}
+use Rattle.std.specs.Cmp.Lexicographic.{bytes_decides}
+use Rattle.p3_field.specs.BabyBearResidues.{BabyBear}
 use Rattle.transcript_program.specs.Arguments.{IsScalarText, IsOneScalar, AreScalarTexts, IsListText, IsOneList}
+use mathlib.Core.Bool.{true≢false}
 
 -- what holds of an answer that there is none
 pub none_there : {T A : Type 0} (found : Option T) → found ≡ None → A → IfNone found A

@@ -1,17 +1,18 @@
 -- What a run of the demo script says.
-use Rattle.std.specs.{declared.alloc.Global.Global, Borrow.Bor, Option.option_map, Prelude.Vec}
 use Rattle.std.proofs.Common.{◌≡◌, ℕ, List, [], ◌∷◌, ◌++◌, Option, Some, None, IsSome, refl, ap, sym, ◌∙◌, subst}
-use mathlib.Core.Bool.{true≢false}
-use Rattle.p3_challenger.specs.{BabyBearResidues.BabyBear, Coeffs.Coeffs, Hash.Hash, Effects.{drawing, drawing_list}}
-use Rattle.p3_challenger.specs.{Plays.{Play, no_challenge, HasLength, HasAtMost}, Scripts.{play_of, work_in}}
-use Rattle.p3_challenger.specs.{Runs.{Finishes, in_proof, challenges, if_drawn}, Working.checking, Sides.holds_some}
-use Rattle.p3_challenger.specs.{Values.{Value, bytes_in, scalars_in, witness_in}, Verdicts.Accepts}
+use Rattle.std.specs.{declared.alloc.Global.Global, Borrow.Bor, Option.option_map, Prelude.Vec}
+use Rattle.p3_challenger.specs.{Values.{scalars_in, witness_in, bytes_in, Value}, Working.checking}
+use Rattle.p3_challenger.specs.{Effects.{drawing_list, drawing}, Verdicts.Accepts, Sides.holds_some, Hash.Hash}
+use Rattle.p3_challenger.specs.{Plays.{no_challenge, HasLength, HasAtMost, Play}, Scripts.{play_of, work_in}}
+use Rattle.p3_challenger.specs.Runs.{challenges, Finishes, in_proof, if_drawn}
+use Rattle.p3_field.specs.{Coeffs.Coeffs, BabyBearResidues.BabyBear}
 use Rattle.transcript_program.specs.DemoTypes.{DemoChallenger, DemoStep, DemoRules, DemoRun, DemoValue, DemoDrawn}
 use Rattle.transcript_program.specs.DemoScript.{DemoLabels, demo_script, DemoContent, Says}
 use Rattle.p3_challenger.specs.Kind.TheVariants as kind
 use Rattle.p3_challenger.specs.Fronts as fronts
 use Rattle.p3_challenger.specs.Step.TheVariants as step
 use Rattle.p3_challenger.specs.Values as value
+use mathlib.Core.Bool.{true≢false}
 
 -- ---- values by the type that their step wants
 

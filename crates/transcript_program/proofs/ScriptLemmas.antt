@@ -1,6 +1,8 @@
 -- Lemmas on the demo script.
-use Rattle.std.proofs.Common.{◌≡◌, ◌≤◌, ℕ, zero, suc, ◌<◌, List, [], ◌∷◌, length, map, get_or, lit<, lit≤, subst, sym, arith}
-use Rattle.p3_challenger.specs.{BitLaws.greatest-is, Bits.most_bits_of, BabyBearResidues.BabyBear}
+use Rattle.std.proofs.Common.{◌≡◌, ◌≤◌, ℕ, zero, suc, ◌<◌, List, [], ◌∷◌, length, map, get_or, lit<, lit≤, subst, sym}
+use Rattle.std.proofs.Common.{arith}
+use Rattle.p3_challenger.specs.{BitLaws.greatest-is, Sampling.most_bits_of}
+use Rattle.p3_field.specs.BabyBearResidues.{BabyBear}
 use Rattle.transcript_program.specs.{DemoTypes.{DemoValue, DemoDrawn}, Report.report}
 use Rattle.p3_challenger.specs.Values as value
 

@@ -2,9 +2,9 @@
 use Rattle.std.specs.{Prelude.{◌≡◌, ℕ, ◌≤◌, ◌==◌, ◌⊎◌, List, [], ◌∷◌, length, codes, Ok}, List.slice_split}
 use Rattle.std.specs.Str.Parse.{IsNumeral, digits_value}
 use Rattle.hex.specs.Hex.{decode_sized}
-use Rattle.p3_challenger.specs.BabyBearResidues.{BabyBear, residues}
-use Rattle.transcript_program.specs.declared.arguments.{Request.Request, ToProve.ToProve}
-use Rattle.transcript_program.specs.declared.arguments.Request.TheVariants.{First, DemoPattern, Prove, Verify}
+use Rattle.p3_field.specs.BabyBearResidues.{BabyBear, residues}
+use Rattle.transcript_program.specs.declared.arguments.{Request.{Request, TheVariants.First}, ToProve.ToProve}
+use Rattle.transcript_program.specs.declared.arguments.Request.TheVariants.{DemoPattern, Prove, Verify}
 
 -- a text writes a scalar: decimal digits, with any number of zeros in front
 pub record IsScalarText (text : List ℕ) (x : BabyBear) : Type 0 where

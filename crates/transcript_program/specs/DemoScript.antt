@@ -1,10 +1,10 @@
 -- The demo protocol as a script, and what its two sides answer.
 use Rattle.std.specs.{declared.alloc.Global.Global, Borrow.Bor, Prelude.{◌≡◌, ℕ, List, [], ◌∷◌, Vec, codes}}
-use Rattle.p3_challenger.specs.{BabyBearResidues.BabyBear, HashCalls.with_pending, PatternSteps.steps_of}
-use Rattle.p3_challenger.specs.{ProverOutcomes.IsProved, Provings.{RefusesToProve, IsProverRun}, Scripts.play_of}
-use Rattle.p3_challenger.specs.{SeparatorParts.separator_of, DomainSeparator.DomainSeparator}
-use Rattle.p3_challenger.specs.{TranscriptError.TranscriptError, TranscriptError.TheVariants.OutOfMemory}
-use Rattle.p3_challenger.specs.Verdicts.{Accepts, RefusesProof, HasNoProof, with_steps}
+use Rattle.p3_challenger.specs.{TranscriptError.{TheVariants.OutOfMemory, TranscriptError}, SeparatorSeed.separator_of}
+use Rattle.p3_challenger.specs.{Scripts.play_of, Verdicts.{Accepts, RefusesProof, HasNoProof, with_steps}}
+use Rattle.p3_challenger.specs.{PatternSteps.steps_of, DomainSeparator.DomainSeparator, HashCalls.with_pending}
+use Rattle.p3_challenger.specs.Provings.{IsProved, RefusesToProve, IsProverRun}
+use Rattle.p3_field.specs.BabyBearResidues.{BabyBear}
 use Rattle.transcript_program.specs.{Demo.demo_steps, Report.report, declared.arguments.ToProve.ToProve}
 use Rattle.transcript_program.specs.DemoTypes.{DemoChallenger, DemoStep, DemoRules, DemoRun, DemoValue, DemoDrawn}
 use Rattle.p3_challenger.specs.Kind.TheVariants as kind

@@ -1,9 +1,9 @@
 -- The types of the demo protocol.
 use Rattle.std.specs.Prelude.{ℕ}
-use Rattle.p3_challenger.specs.{BabyBearResidues.BabyBear, Coeffs.Coeffs, Sha256Hasher.Sha256Hasher, Both.Both}
-use Rattle.p3_challenger.specs.{FieldUnit.FieldUnit, FieldToFieldCodec.FieldToFieldCodec, AcceptAll.AcceptAll}
-use Rattle.p3_challenger.specs.{Hash.Hash, HashState.HashState, SerializingState.SerializingState, Fronts.Run}
-use Rattle.p3_challenger.specs.{Rules.Rules, Values.{Value, Challenge}}
+use Rattle.p3_challenger.specs.{AcceptAll.AcceptAll, Both.Both, Hash.Hash, Sha256Hasher.Sha256Hasher, Fronts.Run}
+use Rattle.p3_challenger.specs.{FieldToFieldCodec.FieldToFieldCodec, SerializingState.SerializingState, Rules.Rules}
+use Rattle.p3_challenger.specs.{FieldUnit.FieldUnit, Values.{Value, Challenge}, HashState.HashState}
+use Rattle.p3_field.specs.{Coeffs.Coeffs, BabyBearResidues.BabyBear}
 use Rattle.transcript_program.specs.declared.script.Demo.{Demo}
 use Rattle.p3_challenger.specs.Step as script
 

@@ -1,8 +1,8 @@
 -- The first path: one scalar is sent and one is drawn.
 use Rattle.std.specs.Prelude.{◌≡◌, ℕ, ◌==◌, List, length, codes, nat_lt, Option, Some, Result, Ok, Err, if◌then◌else◌}
 use Rattle.p3_challenger.specs.{HashCalls.HashFunction, HashState.{HashState, observed, sampled, after_sampled}}
-use Rattle.p3_challenger.specs.{Errors.IsBadShape, BabyBearResidues.BabyBear, TranscriptError.TranscriptError}
-use Rattle.p3_challenger.specs.TranscriptError.TheVariants.{OutOfMemory}
+use Rattle.p3_challenger.specs.{Errors.IsBadShape, TranscriptError.{TranscriptError, TheVariants.OutOfMemory}}
+use Rattle.p3_field.specs.BabyBearResidues.{BabyBear}
 use Rattle.transcript_program.specs.Scalar.{width, read}
 use Rattle.transcript_program.specs.Scalar as scalar
 

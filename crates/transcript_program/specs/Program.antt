@@ -4,15 +4,14 @@ use Rattle.std.specs.{Io.KnownBytes.{Appends, Consumes, IsAtEnd}, declared.io.Er
 use Rattle.std.specs.declared.io.ErrorKind.TheVariants.{InvalidData}
 use Rattle.hex.specs.Hex.{encode_lower}
 use Rattle.sha2.specs.Sha256.{sha256}
-use Rattle.p3_challenger.specs.{HashState.{HashState, function_of}, HashCalls.with_pending, BabyBearResidues.BabyBear}
-use Rattle.p3_challenger.specs.{Sha256Hasher.Sha256Hasher, TranscriptError.TranscriptError}
-use Rattle.p3_challenger.specs.TranscriptError.TheVariants.{BadProofShape, Challenger, OutOfMemory}
-use Rattle.transcript_program.specs.{Scalar.{number, wire}, declared.arguments.Request.Request, First.IsRun}
+use Rattle.p3_challenger.specs.{HashState.{HashState, function_of}, HashCalls.with_pending, Sha256Hasher.Sha256Hasher}
+use Rattle.p3_challenger.specs.TranscriptError.{TranscriptError, TheVariants.{BadProofShape, Challenger, OutOfMemory}}
+use Rattle.p3_field.specs.BabyBearResidues.{BabyBear}
+use Rattle.transcript_program.specs.{Demo.demo_text, Scalar.{number, wire}, declared.arguments.Request.Request}
 use Rattle.transcript_program.specs.declared.arguments.Request.TheVariants.{First, DemoPattern, Prove, Verify}
-use Rattle.transcript_program.specs.{declared.program.Answer.Answer, Demo.demo_text, DemoTypes.DemoRules}
-use Rattle.transcript_program.specs.declared.program.Answer.TheVariants.{Done, Proof, Refused, NoInput, Usage}
+use Rattle.transcript_program.specs.declared.program.Answer.{Answer, TheVariants.{Done, Proof, Refused, NoInput, Usage}}
 use Rattle.transcript_program.specs.DemoScript.{IsDemoProof, RefusesDemoProof, IsDemoReport, RefusesDemoReport}
-use Rattle.transcript_program.specs.Arguments.{Asks}
+use Rattle.transcript_program.specs.{First.IsRun, DemoTypes.DemoRules, Arguments.Asks}
 use Rattle.p3_challenger.specs.ChallengerError.TheVariants as challenger
 
 abbrev pub usage_line : List ℕ

@@ -1,7 +1,7 @@
 -- What is printed of a proof that was accepted.
 use Rattle.std.specs.{Prelude.{ℕ, List, [], ◌∷◌, ◌++◌, codes, flat_map}, Fmt.decimal}
 use Rattle.hex.specs.Hex.{encode_lower}
-use Rattle.p3_challenger.specs.BabyBearResidues.{BabyBear, residues}
+use Rattle.p3_field.specs.BabyBearResidues.{BabyBear, residues}
 
 -- each item after a space: a number, a scalar's number; and all bytes in hexadecimal, which are no item if there are none
 abbrev pub number_items : List ℕ → List ℕ

@@ -1,6 +1,6 @@
 //! What the arguments of a command line ask for.
 ghost use Rattle.std.specs.Prelude.{◌≤◌, List, ◌∷◌, length, map, IfSome, IfNone};
-ghost use Rattle.p3_challenger.specs.BabyBearResidues.{BabyBear};
+ghost use Rattle.p3_field.specs.BabyBearResidues.{BabyBear};
 ghost use Rattle.transcript_program.specs.Arguments.{IsScalarText, IsOneScalar, AreScalarTexts, IsCommaText};
 ghost use Rattle.transcript_program.specs.Arguments.{IsListText, IsOneList, IsToProve, AreToProve, Asks};
 

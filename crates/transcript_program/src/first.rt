@@ -1,8 +1,9 @@
 //! A transcript in two functions, without a driver: a scalar is sent, and one is drawn.
 ghost use Rattle.std.specs.Prelude.{◌≡◌, Some, IfOk, IfErr, MatchResult};
-ghost use Rattle.p3_challenger.specs.{HashState.{HashState, function_of}, BabyBearResidues.BabyBear, Errors.IsBadShape};
-ghost use Rattle.transcript_program.specs.Scalar.{wire};
+ghost use Rattle.p3_challenger.specs.{HashState.{HashState, function_of}, Errors.IsBadShape};
+ghost use Rattle.p3_field.specs.BabyBearResidues.{BabyBear};
 ghost use Rattle.transcript_program.specs.First.{IsRun, drawn_scalar, after_scalar, read_whole, Verifies};
+ghost use Rattle.transcript_program.specs.Scalar.{wire};
 
 use p3_challenger::HashChallenger;
 use p3_challenger::fs::{BytesToFieldCodec, Codec, TranscriptError};

@@ -1,8 +1,8 @@
 //! What the program answers to its arguments.
 ghost use Rattle.std.specs.{Prelude.{◌≡◌, map, IfOk, IfErr, string_bytes}, IoError.error_kind};
-ghost use Rattle.p3_challenger.specs.BabyBearResidues.{BabyBear};
-ghost use Rattle.transcript_program.specs.{Demo.demo_text, Program.{status_of, reason_of, unread}, Arguments.Asks};
-ghost use Rattle.transcript_program.specs.Program.{IsAnswer, IsAnswerTo, ReadsInput, Tells, IsFirstText, lines};
+ghost use Rattle.p3_field.specs.BabyBearResidues.{BabyBear};
+ghost use Rattle.transcript_program.specs.{Demo.demo_text, Program.{status_of, reason_of, unread, IsAnswer}};
+ghost use Rattle.transcript_program.specs.{Program.{IsAnswerTo, ReadsInput, Tells, IsFirstText, lines}, Arguments.Asks};
 
 use crate::arguments::{Request, Scalars, parse};
 use crate::input::Unread;

@@ -1,12 +1,12 @@
 //! The demo protocol as a script, on both sides.
 ghost use Rattle.std.specs.Prelude.{◌≡◌, ◌⊎◌, IfOk, IfErr, string_bytes, List, ℕ};
-ghost use Rattle.p3_challenger.specs.{Runs.{AreAdmitted, carried_count}, Scripts.challenge_of};
-ghost use Rattle.p3_challenger.specs.Scripts.{play_of, values_sent, values_received, challenges_of, value_received};
-ghost use Rattle.p3_challenger.specs.Values as value;
-ghost use Rattle.p3_challenger.specs.BabyBearResidues.{BabyBear};
+ghost use Rattle.p3_challenger.specs.{Runs.{AreAdmitted, carried_count}, Scripts.{challenge_of, play_of, values_sent}};
+ghost use Rattle.p3_challenger.specs.Scripts.{values_received, challenges_of, value_received};
+ghost use Rattle.p3_field.specs.BabyBearResidues.{BabyBear};
 ghost use Rattle.transcript_program.specs.DemoScript.{DemoLabels, demo_script, demo_challenger, IsDemoSeparator};
 ghost use Rattle.transcript_program.specs.DemoScript.{IsDemoProof, RefusesDemoProof, IsDemoReport, RefusesDemoReport};
 ghost use Rattle.transcript_program.specs.DemoScript.{DemoContent, Says, IsReport, sent_by};
+ghost use Rattle.p3_challenger.specs.Values as value;
 
 use crate::arguments::{MAX_NOTE_LEN, MAX_SCALARS, SALT_LEN, ToProve};
 use crate::{demo, report};
@@ -25,7 +25,7 @@ pub struct Demo;
 
 impl Suite for Demo {
     ghost use Rattle.std.{proofs.Common.lit<, specs.List.each_same};
-    ghost use Rattle.p3_challenger.specs.{Reading.AreBytes, HashValueLaws.values-injective, HashValues.values_of};
+    ghost use Rattle.p3_challenger.specs.{Reading.AreBytes, HashValueLaws.values-injective, Digests.values_of};
 
     type Field = BabyBear;
 

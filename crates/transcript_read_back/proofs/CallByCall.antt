@@ -1,8 +1,8 @@
 -- A duplex challenger and a hash challenger are call by call.
 use Rattle.std.proofs.Common.{◌≡◌, ℕ, List, ◌++◌, ap}
-use Rattle.p3_challenger.specs.{Residues.Residues, Segments.Call, CallRowLaws.run_calls-append, DuplexState.DuplexState}
-use Rattle.p3_challenger.specs.{DuplexCalls.duplex_by_calls, HashCalls.{HashFunction, hash_by_calls}}
-use Rattle.p3_challenger.specs.HashState.{HashState}
+use Rattle.p3_challenger.specs.{DuplexState.DuplexState, CallRowLaws.run_calls-append, DuplexCalls.duplex_by_calls}
+use Rattle.p3_challenger.specs.{HashState.HashState, Segments.Call, HashCalls.{HashFunction, hash_by_calls}}
+use Rattle.p3_field.specs.Residues.{Residues}
 use Rattle.transcript_read_back.specs.CallByCall.{after_calls, duplex_run, hash_run}
 
 pub duplex-more : {F P : Type 0} (r : Residues F) (permute : P → List F → List F) (rate : ℕ) (c : DuplexState F P)

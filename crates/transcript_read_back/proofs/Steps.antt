@@ -1,9 +1,9 @@
 -- What each kind of step does to the challenger: it draws, feeds its symbols, and draws.
-use Rattle.std.proofs.Common.{◌≡◌, ℕ, zero, suc, List, [], ◌∷◌, ◌++◌, Bool, Option, Some, None, IsSome}
-use Rattle.std.{proofs.Common.{length, flat_map, refl, ap, ◌∙◌}, specs.Option.option_map}
+use Rattle.std.proofs.Common.{◌≡◌, ℕ, zero, suc, List, [], ◌∷◌, ◌++◌, Bool, Option, Some, None, IsSome, length}
+use Rattle.std.{proofs.Common.{flat_map, refl, ap, ◌∙◌}, specs.Option.option_map}
 use Rattle.p3_challenger.specs.{Reading.AreBytes, Sponge.IsNonEmpty, Sampling.{Sampling, IsSampling, after_draws}}
 use Rattle.p3_challenger.specs.{Observation.{Observation, IsObservation, observed_all}, SamplingLaws.in_row-is_sampling}
-use Rattle.p3_challenger.specs.{Algebras.algebra_step, Alphabet.AreItems, Counts.count_bytes, Kind.TheVariants.Pow}
+use Rattle.p3_challenger.specs.{Steps.algebra_step, Alphabet.AreItems, BigEndian.count_bytes, Kind.TheVariants.Pow}
 use Rattle.p3_challenger.specs.{Length.TheVariants.Fixed, FeedingLaws.drawing_rejecting-draws, WorkingLaws.work-feeds}
 use Rattle.p3_challenger.specs.{Working.{work_of, checking, where_passed}, Binding.IsHeld, Plays.{giving, no_challenge}}
 use Rattle.p3_challenger.specs.{Rules.Rules, Values.Value, Scripts.play_of}

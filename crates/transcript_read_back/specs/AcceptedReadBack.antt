@@ -1,8 +1,8 @@
 -- What two accepted proofs of one script queried tells of them.
 use Rattle.std.specs.Prelude.{◌≡◌, ◌⊎◌, ℕ, List, length}
-use Rattle.p3_challenger.specs.{Segments.Call, Queries.CollideAtSomePlace, AnswersBound.AgreeButHints, Fronts.Run}
-use Rattle.p3_challenger.specs.{Rules.Rules, RunsBound.HoldsProof, Scripts.play_of, Verdicts.with_steps}
-use Rattle.p3_challenger.specs.{Verified.Verified, VerifierAnswers.IsVerifiedScript}
+use Rattle.p3_challenger.specs.{Segments.Call, Queries.CollideAtSomePlace, AnswersBound.{AgreeButHints, HoldsProof}}
+use Rattle.p3_challenger.specs.{Fronts.Run, Rules.Rules, Scripts.play_of, Verdicts.with_steps, Verified.Verified}
+use Rattle.p3_challenger.specs.VerifierAnswers.{IsVerifiedScript}
 use Rattle.transcript_read_back.specs.TranscriptReadBack.{MakesQueries}
 use Rattle.p3_challenger.specs.Segments as segments
 use Rattle.p3_challenger.specs.Step as script

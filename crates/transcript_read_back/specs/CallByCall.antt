@@ -1,7 +1,8 @@
 -- A challenger call by call, with its whole state.
 use Rattle.std.specs.Prelude.{◌≡◌, ℕ, ◌-◌, List, [], ◌++◌, length, map, replicate, slice_get}
-use Rattle.p3_challenger.specs.{Residues.Residues, Sponge.after_steps, Segments.{Call, observe, draw, Run}}
-use Rattle.p3_challenger.specs.{DuplexState.DuplexState, HashCalls.HashFunction, HashState.HashState}
+use Rattle.p3_challenger.specs.{Sponge.after_steps, Segments.{Call, observe, draw, Run}, DuplexState.DuplexState}
+use Rattle.p3_challenger.specs.{HashCalls.HashFunction, HashState.HashState}
+use Rattle.p3_field.specs.Residues.{Residues}
 use Rattle.p3_challenger.specs.DuplexState as duplex
 use Rattle.p3_challenger.specs.HashState as hash
 

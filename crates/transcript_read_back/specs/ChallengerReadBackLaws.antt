@@ -1,7 +1,8 @@
 -- What `new` of a challenger says, of the challenger with its whole state.
 use Rattle.std.proofs.Common.{◌≡◌, ℕ, suc, List, [], ◌∷◌, length, sym, subst}
-use Rattle.p3_challenger.specs.{Residues.Residues, Segments.Call, Sponge.IsNonEmpty, Queries.LeaveSamePending}
-use Rattle.p3_challenger.specs.{DuplexState.DuplexState, HashCalls.HashFunction, HashState.HashState}
+use Rattle.p3_challenger.specs.{Segments.Call, Sponge.IsNonEmpty, Queries.LeaveSamePending, DuplexState.DuplexState}
+use Rattle.p3_challenger.specs.{HashCalls.HashFunction, HashState.HashState}
+use Rattle.p3_field.specs.Residues.{Residues}
 use Rattle.transcript_read_back.specs.CallByCall.{duplex_run, duplex_pending, hash_run, hash_pending, EndInSame}
 use Rattle.p3_challenger.specs.Queries as queries
 use Rattle.p3_challenger.specs.DuplexReadBack as duplex

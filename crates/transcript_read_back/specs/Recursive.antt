@@ -1,15 +1,14 @@
 -- Whole transcripts over a duplex challenger of BabyBear, and over a hash challenger of bytes.
 use Rattle.std.specs.Prelude.{ℕ, List}
-use Rattle.p3_challenger.specs.{AcceptAll.AcceptAll, BabyBearResidues.{BabyBear, residues}, Both.Both, Coeffs.Coeffs}
-use Rattle.p3_challenger.specs.{DuplexState.DuplexState, FieldToFieldCodec.FieldToFieldCodec, FieldUnit.FieldUnit}
-use Rattle.p3_challenger.specs.{Hash.Hash, HashCalls.HashFunction, HashState.HashState, Rules.Rules}
-use Rattle.p3_challenger.specs.Sha256Hasher.{Sha256Hasher}
+use Rattle.p3_challenger.specs.{AcceptAll.AcceptAll, Both.Both, DuplexState.DuplexState}
+use Rattle.p3_challenger.specs.{FieldToFieldCodec.FieldToFieldCodec, FieldUnit.FieldUnit, Hash.Hash}
+use Rattle.p3_challenger.specs.{HashCalls.HashFunction, HashState.HashState, Rules.Rules, Sha256Hasher.Sha256Hasher}
+use Rattle.p3_field.specs.{Coeffs.Coeffs, BabyBearResidues.{BabyBear, residues}}
 use Rattle.p3_codecs.specs.declared.bytes_to_field.BytesToFieldCodec.{BytesToFieldCodec}
 use Rattle.p3_script.specs.declared.groups.Plain.{Plain}
 use Rattle.transcript_read_back.specs.AcceptedReadBack.{AcceptedReadBack, AcceptedReadBackOrCollide}
-use Rattle.transcript_read_back.specs.CallByCall.{duplex_run, duplex_pending, EndInSame}
-use Rattle.transcript_read_back.specs.{CallByCall.{hash_run, hash_pending}, ScriptReadBack.ScriptsReadBackOrCollide}
-use Rattle.transcript_read_back.specs.ScriptReadBack.{EachScriptMakesQueries, ScriptsReadBack}
+use Rattle.transcript_read_back.specs.CallByCall.{duplex_run, duplex_pending, EndInSame, hash_run, hash_pending}
+use Rattle.transcript_read_back.specs.ScriptReadBack.{ScriptsReadBackOrCollide, EachScriptMakesQueries, ScriptsReadBack}
 use Rattle.transcript_read_back.specs.declared.recursive.{OverDuplex.OverDuplex, OverHash.OverHash}
 use Rattle.p3_challenger.specs.DuplexReadBack as duplex
 use Rattle.p3_challenger.specs.HashReadBack as hash

@@ -12,12 +12,12 @@
 //!
 //! Each function here cites the law that symbols bind and the contract of the `new` that it calls.
 ghost use Rattle.std.specs.Prelude.{◌≡◌, ◌<◌, ◌≤◌};
-ghost use Rattle.p3_challenger.specs.BabyBearResidues as baby_bear;
 ghost use Rattle.p3_challenger.specs.{DuplexCalls.fresh, HashCalls.with_pending, HashState.function_of};
 ghost use Rattle.transcript_read_back.specs.Recursive.{EachQueriesStates, StatesTell, StatesTellOrCollide};
 ghost use Rattle.transcript_read_back.specs.Recursive.{StatesTellValues, StatesTellValuesOrCollide, EachQueriesStrings};
 ghost use Rattle.transcript_read_back.specs.Recursive.{StringsTell, StringsTellOrCollide, StringsTellValues};
 ghost use Rattle.transcript_read_back.specs.Recursive.{StringsTellValuesOrCollide};
+ghost use Rattle.p3_field.specs.BabyBearResidues as baby_bear;
 
 use crate::call_by_call::{duplex_is_call_by_call, hash_is_call_by_call};
 use crate::groups::{all_steps_draw_and_feed, plain_steps_draw_and_feed};
@@ -43,7 +43,7 @@ pub struct OverDuplex<P, const WIDTH: usize, const RATE: usize>(PhantomData<P>);
 impl<P: LanePermutation<BabyBear, WIDTH>, const WIDTH: usize, const RATE: usize> Suite
     for OverDuplex<P, WIDTH, RATE> {
     ghost use Rattle.std.{proofs.Common.lit<, specs.List.each_same};
-    ghost use Rattle.p3_challenger.specs.{HashValueLaws.values-injective, HashValues.values_of};
+    ghost use Rattle.p3_challenger.specs.{HashValueLaws.values-injective, Digests.values_of};
 
     type Field = BabyBear;
 

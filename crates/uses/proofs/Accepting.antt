@@ -1,18 +1,18 @@
 -- A verifier that stands before the small protocol, with the bytes of a run next.
-use Rattle.std.proofs.Common.{◌≡◌, ℕ, ◌+◌, false, List, [], ◌∷◌, ◌++◌, Option, Some, slice_get, codes}
-use Rattle.std.proofs.Common.{append_assoc}
+use Rattle.std.proofs.Common.{◌≡◌, ℕ, ◌+◌, false, List, [], ◌∷◌, ◌++◌, Option, Some, slice_get, codes, append_assoc}
 use Rattle.std.proofs.Common.{append-nil, length, Result, Ok, Err, OnOk, refl, ap, sym, subst, ◌∙◌}
-use Rattle.p3_challenger.specs.{BabyBearResidues.BabyBear, Encoding.Encoding, Completeness.Completes, Playing.Playing}
-use Rattle.p3_challenger.specs.{CompletenessLaws.step-completes, Kind.TheVariants.{Challenge, Hint, Message}}
-use Rattle.p3_challenger.specs.{Length.TheVariants.{Fixed, Scalar}, Meanings.{sent, drawn, hinted}, Sampling.Sampling}
-use Rattle.p3_challenger.specs.{Memory.{OnlyMemoryRefuses, OnlyMemoryRefusesToRead}, Observation.Observation}
-use Rattle.p3_challenger.specs.{PatternSteps.PatternSteps, Reads.{Reading, hint_received}, Steps.Step, Driving.Driving}
-use Rattle.p3_challenger.specs.{Recording.{Recording, Records}, Rejecting.{Rule, drawn_rejecting, taken, keeps, go_on}}
-use Rattle.p3_challenger.specs.{TranscriptError.TranscriptError, TranscriptError.TheVariants.OutOfMemory}
-use Rattle.p3_challenger.specs.Transcripts.{IsNext, Meaning, PlaysStep, RefusesStep, Transcript}
-use Rattle.p3_challenger.specs.{Transcripts.{bytes_step, step_on}, Verifying.{EndsReading, Receives, RefusesToRead}}
-use Rattle.uses.specs.Protocol.{IsAhead, IsDivisor, IsPast, IsRun, after_line, bytes_of, element_step}
-use Rattle.uses.specs.{Protocol.steps_of_line, declared.protocol.Claim.Claim}
+use Rattle.p3_challenger.specs.{Playing.Playing, TranscriptError.TheVariants.OutOfMemory}
+use Rattle.p3_challenger.specs.{CompletenessLaws.step-completes, Verifying.{EndsReading, Receives, RefusesToRead}}
+use Rattle.p3_challenger.specs.{PatternSteps.PatternSteps, OneReason.{OnlyMemoryRefuses, OnlyMemoryRefusesToRead}}
+use Rattle.p3_challenger.specs.Transcripts.{IsNext, Meaning, PlaysStep, RefusesStep, Transcript, bytes_step, step_on}
+use Rattle.p3_challenger.specs.{Encoding.Encoding, Rejecting.{Rule, drawn_rejecting, taken, keeps, go_on}}
+use Rattle.p3_challenger.specs.{Driving.Driving, Length.TheVariants.{Fixed, Scalar}, Completeness.Completes}
+use Rattle.p3_challenger.specs.{TranscriptError.TranscriptError, Sampling.Sampling, Meanings.{sent, drawn, hinted}}
+use Rattle.p3_challenger.specs.{Observation.Observation, Recording.{Recording, Records}, Steps.Step}
+use Rattle.p3_challenger.specs.{Kind.TheVariants.{Challenge, Hint, Message}, Reads.{Reading, hint_received}}
+use Rattle.p3_field.specs.BabyBearResidues.{BabyBear}
+use Rattle.uses.specs.Protocol.{IsAhead, IsDivisor, IsPast, IsRun, after_line, bytes_of, element_step, steps_of_line}
+use Rattle.uses.specs.declared.protocol.Claim.{Claim}
 
 -- ---- one step
 

@@ -1,6 +1,6 @@
 -- How many bits a draw of the demo protocol has at most.
 use Rattle.std.proofs.Common.{◌≡◌, ◌≤◌, lit<, lit≤, subst, sym}
-use Rattle.p3_challenger.specs.{BitLaws.greatest-is, Bits.most_bits_of}
+use Rattle.p3_challenger.specs.{BitLaws.greatest-is, Sampling.most_bits_of}
 
 -- from the field of order 2 ^ 64 - 2 ^ 32 + 1
 most : most_bits_of 18446744069414584321 ≡ 63

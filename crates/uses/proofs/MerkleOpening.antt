@@ -1,12 +1,13 @@
 -- What a verifier of an opening has read, and a sibling more on the way to a root.
-use Rattle.std.proofs.{Common.{◌≡◌, ℕ, ◌+◌, ◌*◌, ◌/◌, ◌≤◌, ◌<◌, nat_lt, if◌then◌else◌}, lemmas.Bool.Decides.nat_tests}
-use Rattle.std.{proofs.Common.{List, [], ◌∷◌, ◌++◌, take, drop, length, length-append}, specs.List.concat}
-use Rattle.std.proofs.Common.{append_assoc, append-nil, mod-eq_of_lt, Ok, Err, inl, inr, arith, refl, ap, sym, subst, ◌∙◌}
-use Rattle.p3_challenger.specs.{BabyBearResidues.BabyBear, BigEndian.{big_endian, in_bytes}, Observation.observed_all}
-use Rattle.p3_challenger.specs.{Counts.{count_width, count_bytes}, Reads.{then_read, unreadable}, Sampling.Sampling}
-use Rattle.p3_challenger.specs.Reads.{Read, ended_early, message_too_long, read_bytes, read_count, read_counted_bytes}
-use Rattle.uses.proofs.ReadBytes.{one_of, not_read, bytes-read}
+use Rattle.std.proofs.Common.{◌≡◌, ℕ, ◌+◌, ◌*◌, ◌/◌, ◌≤◌, ◌<◌, nat_lt, if◌then◌else◌, List, [], ◌∷◌, ◌++◌, take, drop}
+use Rattle.std.proofs.Common.{length, length-append, append_assoc, append-nil, mod-eq_of_lt, Ok, Err, inl, inr, arith}
+use Rattle.std.{proofs.{Common.{refl, ap, sym, subst, ◌∙◌}, lemmas.Bool.Decides.nat_tests}, specs.List.concat}
+use Rattle.p3_challenger.specs.{BigEndian.{big_endian, in_bytes, count_width, count_bytes}, Observation.observed_all}
+use Rattle.p3_challenger.specs.Reads.{then_read, unreadable, Read, ended_early, message_too_long, read_bytes}
+use Rattle.p3_challenger.specs.{Reads.{read_count, read_counted_bytes}, Sampling.Sampling}
+use Rattle.p3_field.specs.BabyBearResidues.{BabyBear}
 use Rattle.uses.specs.MerkleOpening.{AreNodes, IsClimb, IsDrawnPlace, IsOpened, above, climbed, leaf_node_of}
+use Rattle.uses.proofs.ReadBytes.{one_of, not_read, bytes-read}
 
 -- ---- what was read
 

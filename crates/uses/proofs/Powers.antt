@@ -1,7 +1,7 @@
 -- Powers of an element multiply as numbers do.
-use Rattle.std.proofs.{Common.{◌≡◌, ℕ, ◌+◌, ◌*◌, ◌^◌, ◌∙◌, sym, ap, ap₂}, lemmas.Nat.pow-add}
-use Rattle.std.proofs.Math.Nat.{one-mul, pow-suc, pow-zero}
-use Rattle.p3_challenger.specs.{Residues.{Residues, IsResidues, power_of, product_of}, RingLaws.residues-ring}
+use Rattle.std.proofs.{Common.{◌≡◌, ℕ, ◌+◌, ◌*◌, ◌^◌, ◌∙◌, sym, ap, ap₂}, Math.Nat.{one-mul, pow-suc, pow-zero}}
+use Rattle.std.proofs.lemmas.Nat.{pow-add}
+use Rattle.p3_field.specs.{Residues.{Residues, IsResidues, power_of, product_of}, RingLaws.residues-ring}
 
 module _ {F : Type 0} (r : Residues F) (laws : IsResidues r) (x : F) where
   first-power : power_of r x 1 ≡ x

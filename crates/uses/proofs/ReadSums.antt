@@ -1,18 +1,16 @@
 -- Two sums in one transcript, as a verifier reads them of any bytes.
 use Rattle.std.proofs.Common.{◌≡◌, ℕ, ◌<◌, List, [], inl, inr, refl, sym, ap, subst, ◌∙◌, rules}
-use Rattle.p3_challenger.specs.{Driving.Driving, PatternSteps.PatternSteps, Playing.IsPlayed, Reading.AreBytes}
-use Rattle.p3_challenger.specs.{Reads.{Reading, received}, RoundLaws.listed-played, Rounds.steps_of_rounds, Steps.Step}
-use Rattle.p3_challenger.specs.{Encoded.{AnyValue, OnlyReads}, TranscriptError.TranscriptError}
+use Rattle.p3_challenger.specs.{Driving.Driving, Reading.AreBytes, Verifying.{EndsReading, Receives, RefusesEnd}}
+use Rattle.p3_challenger.specs.{ReadBack.{AnyValue, OnlyReads}, Playing.IsPlayed, Reads.{Reading, received}}
+use Rattle.p3_challenger.specs.{Rounds.steps_of_rounds, PatternSteps.PatternSteps}
 use Rattle.p3_challenger.specs.TranscriptError.TheVariants.{BadProofShape, Challenger, InvalidKind, LabelTooLong}
 use Rattle.p3_challenger.specs.TranscriptError.TheVariants.{MismatchedBeginEnd, MissingBegin, MissingEnd, OutOfMemory}
-use Rattle.p3_challenger.specs.{TranscriptError.TheVariants.Pattern, TranscriptLaws.played-ends}
-use Rattle.p3_challenger.specs.{Transcripts.{AreNext, steps_on}, Verifying.{EndsReading, Receives, RefusesEnd}}
-use Rattle.p3_sumcheck.specs.{Faults.IsNoPatternFault, declared.error.SumcheckError.SumcheckError}
-use Rattle.p3_sumcheck.specs.declared.round.Round.{Round}
-use Rattle.p3_sumcheck.specs.Sumchecks.{Accepts, Refuses, Sumcheck, challenges_of, round_steps}
-use Rattle.uses.specs.{declared.two_sums.Reduced.Reduced, TwoSums.{IsSumcheckFault, with_bytes}}
-use Rattle.uses.specs.TwoSums.{AcceptsTwo, ReadsSum, ReadsTwo, ReadsValue, begun, sent_sum, steps_of_sum, sum_step}
-use Rattle.uses.proofs.TwoSums.{all-next}
+use Rattle.p3_challenger.specs.{TranscriptError.{TheVariants.Pattern, TranscriptError}, TranscriptLaws.played-ends}
+use Rattle.p3_challenger.specs.{Transcripts.{AreNext, steps_on}, RoundLaws.listed-played, Steps.Step}
+use Rattle.p3_sumcheck.specs.Sumchecks.{IsNoPatternFault, Accepts, Refuses, Sumcheck, challenges_of, round_steps}
+use Rattle.p3_sumcheck.specs.declared.{error.SumcheckError.SumcheckError, round.Round.Round}
+use Rattle.uses.specs.{declared.two_sums.Reduced.Reduced, TwoSums.{IsSumcheckFault, with_bytes, AcceptsTwo, ReadsSum}}
+use Rattle.uses.{specs.TwoSums.{ReadsTwo, ReadsValue, begun, sent_sum, steps_of_sum, sum_step}, proofs.TwoSums.all-next}
 use Rattle.p3_sumcheck.specs.declared.error.SumcheckError.TheVariants as fault
 
 -- ---- the pattern

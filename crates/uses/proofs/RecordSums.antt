@@ -1,10 +1,10 @@
 -- The pattern of two sums: memory alone is refused to who records it.
 use Rattle.std.proofs.Common.{◌≡◌, ℕ, zero, suc, inl, false, List, [], ◌∷◌, ◌++◌, refl, sym, ap, subst, ◌∙◌}
-use Rattle.std.proofs.Common.{append_assoc, append-nil, Result, Ok, Err}
-use Rattle.std.specs.Result.{IfErr, IsOk, MatchResult, OnOk, result_and}
-use Rattle.p3_challenger.specs.{Algebras.NamedAlgebra, Kind.TheVariants.Protocol, Recording.{Recording, Records}}
-use Rattle.p3_challenger.specs.{PatternGrammar.{IsPattern, IsViable, leaf, nothing}, Rounds.steps_of_rounds, Steps.Step}
-use Rattle.p3_challenger.specs.{TranscriptError.TranscriptError, TranscriptError.TheVariants.OutOfMemory}
+use Rattle.std.{proofs.Common.{append_assoc, append-nil, Result, Ok, Err}, specs.Result.{IfErr, IsOk, MatchResult}}
+use Rattle.std.specs.Result.{OnOk, result_and}
+use Rattle.p3_challenger.specs.{Steps.{NamedAlgebra, Step}, Kind.TheVariants.Protocol, Recording.{Recording, Records}}
+use Rattle.p3_challenger.specs.{PatternGrammar.{IsPattern, IsViable, leaf, nothing}, Rounds.steps_of_rounds}
+use Rattle.p3_challenger.specs.TranscriptError.{TranscriptError, TheVariants.OutOfMemory}
 use Rattle.p3_sumcheck.specs.Sumchecks.{round_steps}
 use Rattle.uses.specs.TwoSums.{steps_of_sum, steps_of_two}
 

@@ -2,9 +2,9 @@
 use Rattle.std.proofs.Common.{◌≡◌, ◌+◌, List, ℕ, [], ◌++◌, length, Some, Result, Ok, Err, IfOk, OnOk, append_assoc}
 use Rattle.std.proofs.Common.{append-nil, arith, refl, ap, sym, subst, ◌∙◌, ◌↔◌, Bool, true, false, Option}
 use Rattle.std.specs.{Bool.then_some, Result.result_and}
-use Rattle.p3_challenger.specs.{BabyBearResidues.BabyBear, Encoding.Encoding, Observation.Observation, Driving.Driving}
-use Rattle.p3_challenger.specs.{Proving.{Writes, WritesOrRefuses}, Sampling.Sampling, TranscriptError.TranscriptError}
-use Rattle.p3_challenger.specs.Transcripts.{Meaning}
+use Rattle.p3_challenger.specs.{Sampling.Sampling, Encoding.Encoding, Transcripts.Meaning, Observation.Observation}
+use Rattle.p3_challenger.specs.{TranscriptError.TranscriptError, Driving.Driving, Proving.{Writes, WritesOrRefuses}}
+use Rattle.p3_field.specs.BabyBearResidues.{BabyBear}
 use Rattle.uses.specs.Protocol.{IsAnswer, IsDivisor, IsQuotient, IsRun, IsSent, after_line, bytes_of, quotient_of}
 use Rattle.uses.specs.declared.protocol.Claim.{Claim}
 

@@ -1,19 +1,18 @@
 -- Two sumchecks in one transcript: who sends them is not refused by the pattern, and what is sent is received.
-use Rattle.std.proofs.Common.{◌≡◌, ℕ, false, List, [], ◌∷◌, ◌++◌, Option, Some, refl, sym, ap, subst, ◌∙◌}
-use Rattle.std.proofs.{Common.{append_assoc, append-nil, Result, Ok, Err}, lemmas.List.append_cancel_left}
-use Rattle.std.specs.{List.flat_map, Result.{IfErr, IfOk, IsOk, MatchResult, OnOk, result_and}}
-use Rattle.p3_challenger.specs.{Completeness.{Completes, IsOwnRefusal}, CompletenessLaws.next-own_refusal, Steps.Step}
-use Rattle.p3_challenger.specs.{Driving.{Driving, RefusesStart}, Memory.OnlyMemoryRefusesToRead, Reads.received}
-use Rattle.p3_challenger.specs.{PatternSteps.PatternSteps, Playing.{IsPlayed, Playing}, Rounds.steps_of_rounds}
-use Rattle.p3_challenger.specs.{Proving.{RefusesToWrite, Writes}, RoundLaws.{listed-played, rounds-written}}
-use Rattle.p3_challenger.specs.{TranscriptError.TranscriptError, TranscriptError.TheVariants.Pattern}
-use Rattle.p3_challenger.specs.TranscriptError.TheVariants.{BadProofShape, Challenger, InvalidKind, LabelTooLong}
-use Rattle.p3_challenger.specs.TranscriptError.TheVariants.{MismatchedBeginEnd, MissingBegin, MissingEnd, OutOfMemory}
-use Rattle.p3_challenger.specs.TranscriptLaws.{listed-next, next-first, next-then}
-use Rattle.p3_challenger.specs.Transcripts.{AreNext, step_on, steps_on}
-use Rattle.p3_challenger.specs.Verifying.{EndsReading, Receives, RefusesToRead}
-use Rattle.p3_sumcheck.specs.{Claims.true_rounds, declared.round.Round.Round, Tables.total}
-use Rattle.p3_sumcheck.specs.Sumchecks.{Proves, Sumcheck, WritesRound, pair_of, round_steps, sent_pair}
+use Rattle.std.proofs.Common.{◌≡◌, ℕ, false, List, [], ◌∷◌, ◌++◌, Option, Some, refl, sym, ap, subst, ◌∙◌, append_assoc}
+use Rattle.std.{proofs.{Common.{append-nil, Result, Ok, Err}, lemmas.List.append_cancel_left}, specs.List.flat_map}
+use Rattle.std.specs.Result.{IfErr, IfOk, IsOk, MatchResult, OnOk, result_and}
+use Rattle.p3_challenger.specs.{Playing.{IsPlayed, Playing}, TranscriptError.TheVariants.MismatchedBeginEnd}
+use Rattle.p3_challenger.specs.TranscriptError.TheVariants.{BadProofShape, LabelTooLong, MissingBegin, InvalidKind}
+use Rattle.p3_challenger.specs.TranscriptError.TheVariants.{OutOfMemory, Challenger, MissingEnd, Pattern}
+use Rattle.p3_challenger.specs.{Proving.{RefusesToWrite, Writes}, Reads.received, OneReason.OnlyMemoryRefusesToRead}
+use Rattle.p3_challenger.specs.{Rounds.steps_of_rounds, PatternSteps.PatternSteps, Steps.Step}
+use Rattle.p3_challenger.specs.{Completeness.{IsOwnRefusal, Completes}, Transcripts.{steps_on, AreNext, step_on}}
+use Rattle.p3_challenger.specs.{RoundLaws.{rounds-written, listed-played}, Driving.{RefusesStart, Driving}}
+use Rattle.p3_challenger.specs.{TranscriptError.TranscriptError, TranscriptLaws.{listed-next, next-first, next-then}}
+use Rattle.p3_challenger.specs.{Verifying.{RefusesToRead, EndsReading, Receives}, CompletenessLaws.next-own_refusal}
+use Rattle.p3_sumcheck.specs.{Tables.total, Sumchecks.{Proves, Sumcheck, WritesRound, pair_of, round_steps, sent_pair}}
+use Rattle.p3_sumcheck.specs.{Claims.true_rounds, declared.round.Round.Round}
 use Rattle.uses.specs.TwoSums.{ProvesTwo, SendsSum, SendsTwo, begun, sent_sum, steps_of_sum, sum_step, with_bytes}
 use Rattle.p3_challenger.specs.ChallengerError.TheVariants as challenger
 

@@ -1,8 +1,9 @@
 -- The demo protocol as a script.
 use Rattle.std.specs.{declared.alloc.Global.Global, Borrow.Bor, Prelude.{◌≡◌, ℕ, List, [], ◌∷◌, Vec, codes}}
-use Rattle.p3_challenger.specs.{Goldilocks.Goldilocks, Sha256Hasher.Sha256Hasher, FieldUnit.FieldUnit, Both.Both}
+use Rattle.p3_challenger.specs.{Sha256Hasher.Sha256Hasher, FieldUnit.FieldUnit, Both.Both}
 use Rattle.p3_challenger.specs.{FieldToFieldCodec.FieldToFieldCodec, AcceptAll.AcceptAll, Hash.Hash}
 use Rattle.p3_challenger.specs.{HashCalls.with_pending, HashState.HashState, SerializingState.SerializingState}
+use Rattle.p3_field.specs.Goldilocks.{Goldilocks}
 use Rattle.uses.specs.declared.demo_script.Demo.{Demo}
 use Rattle.p3_challenger.specs.Kind.TheVariants as kind
 use Rattle.p3_challenger.specs.Step as script

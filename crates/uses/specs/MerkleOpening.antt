@@ -1,7 +1,8 @@
 -- A Merkle opening: a leaf with its salt, and the siblings on the way to the root.
 use Rattle.std.specs.Prelude.{◌≡◌, ℕ, ◌==◌, ◌/◌, ◌%◌, ◌≤◌, List, [], ◌∷◌, ◌++◌, Some, length, if◌then◌else◌}
 use Rattle.std.specs.List.{concat}
-use Rattle.p3_challenger.specs.{BabyBearResidues.{BabyBear, residues}, Sampling.Sampling}
+use Rattle.p3_challenger.specs.Sampling.{Sampling}
+use Rattle.p3_field.specs.BabyBearResidues.{BabyBear, residues}
 
 module _ (digest : List ℕ → List ℕ) where
   -- what is hashed begins with a byte that tells a leaf from a node with two below it

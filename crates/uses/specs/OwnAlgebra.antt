@@ -1,8 +1,8 @@
 -- An algebra of one's own: its elements by their coefficients.
 use Rattle.std.specs.Prelude.{List}
-use Rattle.p3_challenger.specs.BabyBearResidues.{BabyBear, residues}
+use Rattle.p3_field.specs.BabyBearResidues.{BabyBear, residues}
 use Rattle.uses.specs.declared.own_algebra.Quartic.{Quartic}
-use Rattle.p3_challenger.specs.CoeffsCoefficients as coeffs
+use Rattle.p3_field.specs.CoeffsCoefficients as coeffs
 
 abbrev pub coefficients_of : Quartic → List BabyBear
 coefficients_of x = coeffs.coefficients_of x.coefficients

@@ -1,8 +1,8 @@
 -- What holds of the coefficients of an algebra of one's own.
 use Rattle.std.specs.{Prelude.{◌≡◌, Bool}, Cmp.Lexicographic.{pointwise, pointwise_decides}}
-use Rattle.p3_challenger.specs.{BabyBearResidues.BabyBear, Equality.{IsExact, exact-by}}
+use Rattle.p3_field.specs.{BabyBearResidues.BabyBear, Equality.{IsExact, exact-by}}
 use Rattle.uses.specs.{OwnAlgebra.coefficients_of, declared.own_algebra.Quartic.Quartic}
-use Rattle.p3_challenger.specs.CoefficientLaws as laws
+use Rattle.p3_field.specs.CoefficientLaws as laws
 
 -- elements of the same coefficients are one
 pub coefficients-injective : (x y : Quartic) → coefficients_of x ≡ coefficients_of y → x ≡ y

@@ -1,6 +1,6 @@
 -- A permutation of four cells, as an example.
 use Rattle.std.specs.Prelude.{ℕ, ◌+◌, List, [], ◌∷◌, slice_index_or}
-use Rattle.p3_challenger.specs.{BabyBearResidues.{BabyBear, residues}, Residues.{plus, power_of, sum_of}}
+use Rattle.p3_field.specs.{BabyBearResidues.{BabyBear, residues}, Residues.{plus, power_of, sum_of}}
 
 -- a cell with its place and one added, to the seventh power
 abbrev pub stirred_cell : List BabyBear → ℕ → BabyBear

@@ -1,6 +1,6 @@
 -- A permutation of rounds over two cells, as an example.
 use Rattle.std.specs.Prelude.{List, [], ◌∷◌, slice_index_or}
-use Rattle.p3_challenger.specs.{BabyBearResidues.{BabyBear, residues}, Residues.{sum_of, power_of}}
+use Rattle.p3_field.specs.{BabyBearResidues.{BabyBear, residues}, Residues.{sum_of, power_of}}
 
 -- the cells after the round that has this constant
 abbrev pub after_round : List BabyBear → BabyBear → List BabyBear

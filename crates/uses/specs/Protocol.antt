@@ -1,12 +1,11 @@
 -- What a run of the small protocol says.
 use Rattle.std.specs.Prelude.{◌≡◌, ◌==◌, ◌-◌, ℕ, List, [], ◌∷◌, ◌++◌, Bool, true, false, Option, Some, None, not, codes}
 use Rattle.std.specs.Prelude.{Result, MatchResult}
-use Rattle.p3_challenger.specs.{BabyBearResidues.{BabyBear, residues}, Encoding.Encoding, Kind.Kind, Length.Length}
-use Rattle.p3_challenger.specs.{Kind.TheVariants.{Challenge, Hint, Message}, Length.TheVariants.{Fixed, Scalar}}
-use Rattle.p3_challenger.specs.{Observation.Observation, Rejecting.taken, Residues.{sum_of, product_of, power_of}}
-use Rattle.p3_challenger.specs.{Sampling.Sampling, Steps.Step, Algebras.{algebra_of, algebra_step}, Driving.Driving}
-use Rattle.p3_challenger.specs.{Transcripts.bytes_step, TranscriptError.TranscriptError}
-use Rattle.p3_challenger.specs.TranscriptError.TheVariants.{OutOfMemory}
+use Rattle.p3_challenger.specs.{Encoding.Encoding, Kind.{Kind, TheVariants.{Challenge, Hint, Message}}, Length.Length}
+use Rattle.p3_challenger.specs.{Length.TheVariants.{Fixed, Scalar}, Observation.Observation, Rejecting.taken}
+use Rattle.p3_challenger.specs.{Sampling.Sampling, Steps.{Step, algebra_of, algebra_step}, Driving.Driving}
+use Rattle.p3_challenger.specs.{Transcripts.bytes_step, TranscriptError.{TranscriptError, TheVariants.OutOfMemory}}
+use Rattle.p3_field.specs.{BabyBearResidues.{BabyBear, residues}, Residues.{sum_of, product_of, power_of}}
 use Rattle.uses.specs.declared.protocol.Claim.{Claim}
 
 -- the step of an element of the field, or of a list of some, where the field's identity has this digest

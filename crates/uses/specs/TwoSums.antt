@@ -1,12 +1,11 @@
 -- Two sumchecks in one transcript, each after the sum that it is of.
 use Rattle.std.specs.Prelude.{◌≡◌, ◌<◌, ℕ, List, [], ◌∷◌, ◌++◌, false, codes}
-use Rattle.p3_challenger.specs.{Algebras.{NamedAlgebra, algebra_step}, Driving.Driving, Kind.TheVariants.Message}
+use Rattle.p3_challenger.specs.{Steps.{NamedAlgebra, algebra_step, Step}, Driving.Driving, Kind.TheVariants.Message}
 use Rattle.p3_challenger.specs.{Length.TheVariants.Scalar, Meanings.sent, PatternSteps.PatternSteps, Playing.IsPlayed}
-use Rattle.p3_challenger.specs.{Proving.Writes, Rounds.steps_of_rounds, Steps.Step, Transcripts.{Meaning, PlaysStep}}
+use Rattle.p3_challenger.specs.{Proving.Writes, Rounds.steps_of_rounds, Transcripts.{Meaning, PlaysStep}}
 use Rattle.p3_challenger.specs.Verifying.{EndsReading}
-use Rattle.p3_sumcheck.specs.{Faults.IsNoPatternFault, declared.error.SumcheckError.SumcheckError, Tables.total}
-use Rattle.p3_sumcheck.specs.declared.round.Round.{Round}
-use Rattle.p3_sumcheck.specs.Sumchecks.{Accepts, Proves, Sumcheck, challenges_of, round_steps}
+use Rattle.p3_sumcheck.specs.Sumchecks.{IsNoPatternFault, Accepts, Proves, Sumcheck, challenges_of, round_steps}
+use Rattle.p3_sumcheck.specs.{declared.{error.SumcheckError.SumcheckError, round.Round.Round}, Tables.total}
 use Rattle.uses.specs.declared.two_sums.Reduced.{Reduced}
 use Rattle.p3_sumcheck.specs.declared.error.SumcheckError.TheVariants as fault
 

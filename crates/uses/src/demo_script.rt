@@ -27,7 +27,7 @@ pub struct Demo;
 
 impl Suite for Demo {
     ghost use Rattle.std.{proofs.Common.lit<, specs.List.each_same};
-    ghost use Rattle.p3_challenger.specs.{HashValueLaws.values-injective, HashValues.values_of, Reading.AreBytes};
+    ghost use Rattle.p3_challenger.specs.{HashValueLaws.values-injective, Digests.values_of, Reading.AreBytes};
 
     type Field = Goldilocks;
 

@@ -28,9 +28,9 @@ impl Quartic {
 
 impl BasedVectorSpace<BabyBear> for Quartic {
     ghost use Rattle.std.proofs.Common.{lit<, lit≤};
-    ghost use Rattle.p3_challenger.specs.BabyBearResidues.{residues};
-    ghost use Rattle.p3_challenger.specs.CoefficientLaws as laws;
-    ghost use Rattle.p3_challenger.specs.SmallPrimeLaws.{compared-by-numbers};
+    ghost use Rattle.p3_field.specs.BabyBearResidues.{residues};
+    ghost use Rattle.p3_field.specs.CoefficientLaws as laws;
+    ghost use Rattle.p3_field.specs.SmallPrimeLaws.{compared-by-numbers};
     ghost use Rattle.uses.specs.OwnAlgebra.{coefficients_of, element_of};
     ghost use Rattle.uses.specs.OwnAlgebraLaws.{coefficients-injective, compared-by-coefficients};
 
@@ -73,7 +73,7 @@ impl BasedVectorSpace<BabyBear> for Quartic {
 
 impl From<BabyBear> for Quartic {
     ghost use Rattle.std.specs.Prelude.{◌≡◌, ◌∷◌, replicate};
-    ghost use Rattle.p3_challenger.specs.BabyBearResidues.{residues};
+    ghost use Rattle.p3_field.specs.BabyBearResidues.{residues};
     ghost use Rattle.uses.specs.OwnAlgebra.{coefficients_of};
 
     ghost from_gives = { λ value x. coefficients_of x ≡ value ∷ replicate 3 (residues.of 0) };

@@ -5,7 +5,7 @@
 //! searched for, it works on states side by side in lanes too, and is proved to make of each what it makes of one alone.
 //! [`Stir`] shows the form and is of no strength.
 ghost use Rattle.std.specs.Prelude.{◌≡◌, ◌+◌, ◌<◌, ℕ};
-ghost use Rattle.p3_challenger.specs.{BabyBearResidues.residues, Residues.{power_of, plus}};
+ghost use Rattle.p3_field.specs.{BabyBearResidues.residues, Residues.{power_of, plus}};
 
 use p3_challenger::DuplexChallenger;
 use p3_field::{BabyBear, PrimeCharacteristicRing};

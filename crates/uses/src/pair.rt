@@ -3,9 +3,9 @@
 //! Nothing is known here of the field but what [`ScalarField`] says: that it has one coefficient over itself, and that
 //! an array of two elements fits in memory.
 ghost use Rattle.std.specs.Prelude.{[], ◌∷◌};
-ghost use Rattle.p3_challenger.specs.Bound.{bound_values};
+ghost use Rattle.p3_challenger.specs.{Bound.bound_values, Drivers.proving_of, Proving.WritesOrRefuses};
+ghost use Rattle.p3_challenger.specs.Steps.{algebra_of, algebra_step};
 ghost use Rattle.p3_challenger.specs.Meanings as meaning;
-ghost use Rattle.p3_challenger.specs.{Drivers.proving_of, Proving.WritesOrRefuses, Algebras.{algebra_of, algebra_step}};
 
 use p3_challenger::Sponge;
 use p3_challenger::fs::{

@@ -5,13 +5,13 @@
 //! it, and the verifier checks it by itself. The place and the divisor have to depend on the line. The contract of
 //! [`verify`] says that they do, and which bytes the proof is.
 ghost use Rattle.std.specs.Prelude.{◌≡◌, ◌+◌, ◌++◌, ℕ, List, [], Some, codes, length, IfOk, OnOk, MatchResult};
-ghost use Rattle.p3_challenger.specs.BabyBearResidues as baby_bear;
 ghost use Rattle.p3_challenger.specs.{HashCalls.with_pending, Drivers.{proving_of, verifying_of}, Reading.AreBytes};
 ghost use Rattle.p3_challenger.specs.{SeparatorSeed.{pattern_of, seed_of_separator}, Transcripts.{IsNext, step_on}};
 ghost use Rattle.p3_challenger.specs.{DomainSeparator.DomainSeparator, Steps.Step};
-ghost use Rattle.uses.specs.declared.protocol.Claim.{Claim};
 ghost use Rattle.uses.specs.Protocol.{AcceptsRuns, AnswersRun, IsAhead, IsDivisor, IsPast, IsRun, IsSent, after_line};
 ghost use Rattle.uses.specs.Protocol.{bytes_of, element_step, may_divide, steps_of_line};
+ghost use Rattle.uses.specs.declared.protocol.Claim.{Claim};
+ghost use Rattle.p3_field.specs.BabyBearResidues as baby_bear;
 
 use p3_challenger::fs::{
     BytesToFieldCodec, Codec, DomainSeparator, ExtensionFieldCodec, Hierarchy, Interaction,

@@ -15,12 +15,12 @@
 //! draw 9                        draw 9
 //! ```
 ghost use Rattle.std.specs.Prelude.{◌≡◌, ◌<◌, ◌≤◌, ◌++◌, List};
-ghost use Rattle.p3_challenger.specs.BabyBearResidues as baby_bear;
 ghost use Rattle.p3_challenger.specs.{Segments.run_calls, HashCalls.with_pending, HashState.function_of};
-ghost use Rattle.p3_challenger.specs.HashReadBack as hash;
 ghost use Rattle.p3_challenger.specs.DuplexCalls.{duplex_by_calls, fresh};
-ghost use Rattle.p3_challenger.specs.DuplexReadBack as duplex;
 ghost use Rattle.uses.specs.TwoRounds.{two_rounds};
+ghost use Rattle.p3_field.specs.BabyBearResidues as baby_bear;
+ghost use Rattle.p3_challenger.specs.HashReadBack as hash;
+ghost use Rattle.p3_challenger.specs.DuplexReadBack as duplex;
 
 use p3_challenger::{DuplexChallenger, HashChallenger};
 use p3_field::{BabyBear, PrimeField64};

@@ -49,9 +49,9 @@ impl<C: Sponge, U, D: DigestHasher, P: Tape> DriverState<C, U, D, P> {
         n: usize,
     ) -> Result<Vec<TranscriptBound<F>>, TranscriptError>
         requires { 128 ≤ Cdc.SECURITY_BITS }
-        ensures exact { Keeps C.state P.bytes (meaning.drawn_list
-            {Symbol = C.Symbol} (⟦<F as Declared<F, D>>⟧.step Challenge label.now (Fixed n))
-            Cdc.sampling n) self.old bound_values result self.new }
+        ensures exact { Keeps C.state P.bytes (meaning.drawn_list {Symbol = C.Symbol}
+            (⟦<F as Declared<F, D>>⟧.step Challenge label.now (Fixed n)) Cdc.sampling n)
+            self.old bound_values result self.new }
         ensures count { IfOk result (λ bounds. vec_len bounds ≡ n) }
     {
         self.draw_list::<F, F, Cdc>(label, n)
@@ -67,8 +67,8 @@ impl<C: Sponge, U, D: DigestHasher, P: Tape> DriverState<C, U, D, P> {
         Cdc: ScalarCodec<C, F>,
     >(&mut self, label: Label) -> Result<TranscriptBound<EF>, TranscriptError>
         requires { 128 ≤ Cdc.SECURITY_BITS }
-        ensures { Keeps C.state P.bytes (meaning.drawn
-            {Symbol = C.Symbol} (⟦<EF as Declared<F, D>>⟧.step Challenge label.now Scalar)
+        ensures { Keeps C.state P.bytes (meaning.drawn {Symbol = C.Symbol}
+            (⟦<EF as Declared<F, D>>⟧.step Challenge label.now Scalar)
             ⟦<ExtensionFieldCodec<F, EF, Cdc> as Codec<C, EF>>⟧.sampling)
             self.old bound_value result self.new }
     {
@@ -85,8 +85,8 @@ impl<C: Sponge, U, D: DigestHasher, P: Tape> DriverState<C, U, D, P> {
         Cdc: ScalarCodec<C, F>,
     >(&mut self, label: Label, n: usize) -> Result<Vec<TranscriptBound<EF>>, TranscriptError>
         requires { 128 ≤ Cdc.SECURITY_BITS }
-        ensures exact { Keeps C.state P.bytes (meaning.drawn_list
-            {Symbol = C.Symbol} (⟦<EF as Declared<F, D>>⟧.step Challenge label.now (Fixed n))
+        ensures exact { Keeps C.state P.bytes (meaning.drawn_list {Symbol = C.Symbol}
+            (⟦<EF as Declared<F, D>>⟧.step Challenge label.now (Fixed n))
             ⟦<ExtensionFieldCodec<F, EF, Cdc> as Codec<C, EF>>⟧.sampling n)
             self.old bound_values result self.new }
         ensures count { IfOk result (λ bounds. vec_len bounds ≡ n) }
@@ -149,8 +149,8 @@ impl<C: Sponge, U, D: DigestHasher, P: Tape> DriverState<C, U, D, P> {
     where
         C: CanSampleBits<usize>,
         requires { width ≤ C.most_bits }
-        ensures exact { Keeps C.state P.bytes (meaning.drawn_list
-            {Symbol = C.Symbol} (bits_step label.now width (Fixed n)) (C.bits_sampling width) n)
+        ensures exact { Keeps C.state P.bytes (meaning.drawn_list {Symbol = C.Symbol}
+            (bits_step label.now width (Fixed n)) (C.bits_sampling width) n)
             self.old bound_values result self.new }
         ensures count { IfOk result (λ bounds. vec_len bounds ≡ n) }
     {
@@ -178,9 +178,9 @@ impl<C: Sponge, U, D: DigestHasher, P: Tape> DriverState<C, U, D, P> {
     where
         C: CanSampleUniformBits<F>,
         requires { width ≤ C.most_bits }
-        ensures exact { Keeps C.state P.bytes (meaning.drawn_list
-            {Symbol = C.Symbol} (uniform_bits_step label.now width (Fixed n))
-            (C.uniform true width).draw n) self.old bound_values result self.new }
+        ensures exact { Keeps C.state P.bytes (meaning.drawn_list {Symbol = C.Symbol}
+            (uniform_bits_step label.now width (Fixed n)) (C.uniform true width).draw n)
+            self.old bound_values result self.new }
         ensures count { IfOk result (λ bounds. vec_len bounds ≡ n) }
     {
         self.steps
@@ -219,8 +219,8 @@ impl<C: Sponge, U, D: DigestHasher, P: Tape> DriverState<C, U, D, P> {
         requires within { width ≤ C.most_bits }
         requires callable { R.IsAlwaysCallable accept.now }
         ensures played { (rule : Rule ℕ) → ComputesOfValues R.Fn accept.now rule →
-            PlaysOrRefuses (drawn_rejecting {Symbol = C.Symbol} (uniform_bits_step
-            label.now width (Fixed n)) (C.uniform true width).draw rule limit n)
+            PlaysOrRefuses (drawn_rejecting {Symbol = C.Symbol}
+            (uniform_bits_step label.now width (Fixed n)) (C.uniform true width).draw rule limit n)
             (played_by C.state self.old) bound_values result (played_by C.state self.new) }
         ensures bytes { (driving_of C.state P.bytes self.new).bytes
             ≡ (driving_of C.state P.bytes self.old).bytes }
@@ -272,9 +272,9 @@ impl<C: Sponge, U, D: DigestHasher, P: Tape> DriverState<C, U, D, P> {
         n: usize,
     ) -> Result<Vec<TranscriptBound<A>>, TranscriptError>
         requires { 128 ≤ Cdc.SECURITY_BITS }
-        ensures exact { Keeps C.state P.bytes (meaning.drawn_list
-            {Symbol = C.Symbol} (⟦<A as Declared<F, D>>⟧.step Challenge label.now (Fixed n))
-            Cdc.sampling n) self.old bound_values result self.new }
+        ensures exact { Keeps C.state P.bytes (meaning.drawn_list {Symbol = C.Symbol}
+            (⟦<A as Declared<F, D>>⟧.step Challenge label.now (Fixed n)) Cdc.sampling n)
+            self.old bound_values result self.new }
         ensures count { IfOk result (λ bounds. vec_len bounds ≡ n) }
     {
         self.steps
@@ -300,8 +300,8 @@ impl<C: Sponge, U, D: DigestHasher, P: Tape> DriverState<C, U, D, P> {
         requires secure { 128 ≤ Cdc.SECURITY_BITS }
         requires callable { R.IsAlwaysCallable accept.now }
         ensures played { (rule : Rule A) → Computes R.Fn accept.now rule →
-            PlaysOrRefuses (drawn_rejecting {Symbol = C.Symbol} (⟦<A as Declared<F, D>>⟧.step
-            Challenge label.now (Fixed n)) Cdc.sampling rule limit n)
+            PlaysOrRefuses (drawn_rejecting {Symbol = C.Symbol}
+            (⟦<A as Declared<F, D>>⟧.step Challenge label.now (Fixed n)) Cdc.sampling rule limit n)
             (played_by C.state self.old) bound_values result (played_by C.state self.new) }
         ensures bytes { (driving_of C.state P.bytes self.new).bytes
             ≡ (driving_of C.state P.bytes self.old).bytes }

@@ -1,10 +1,9 @@
 //! The steps that open and close containers. They take no part in the challenger and in the proof.
 ghost use Rattle.std.specs.Prelude.{IsOk};
-ghost use Rattle.p3_fs_core.specs.Steps.{marker_of};
-ghost use Rattle.p3_driver_core.specs.Meanings as meaning;
+ghost use Rattle.p3_fs_core.specs.{Steps.marker_of, declared.step.Kind.TheVariants.Protocol};
 ghost use Rattle.p3_driver_core.specs.Transcripts.{IsNext};
 ghost use Rattle.p3_drivers.specs.Drivers.{played_by, Keeps};
-ghost use Rattle.p3_fs_core.specs.declared.step.Kind.TheVariants.{Protocol};
+ghost use Rattle.p3_driver_core.specs.Meanings as meaning;
 
 use crate::DriverState;
 use crate::tape::Tape;
@@ -36,8 +35,8 @@ impl<C: Sponge, U, D: DigestHasher, P: Tape> DriverState<C, U, D, P> {
 
     /// Opens a container that may hold steps of any kind. It takes no memory.
     pub fn begin_protocol<T: Named>(&mut self, label: Label) -> Result<(), TranscriptError>
-        ensures exact { Keeps C.state P.bytes (meaning.marked
-            {Symbol = C.Symbol} (marker_of Hierarchy.Begin Protocol label.now T.name_bytes))
+        ensures exact { Keeps C.state P.bytes (meaning.marked {Symbol = C.Symbol}
+            (marker_of Hierarchy.Begin Protocol label.now T.name_bytes))
             self.old (λ _. tt {0}) result self.new }
         ensures only { IsNext (played_by C.state self.old).playing
             (marker_of Hierarchy.Begin Protocol label.now T.name_bytes) → IsOk result }
@@ -62,8 +61,9 @@ impl<C: Sponge, U, D: DigestHasher, P: Tape> DriverState<C, U, D, P> {
         kind: Kind,
         label: Label,
     ) -> Result<(), TranscriptError>
-        ensures exact { Keeps C.state P.bytes (meaning.marked {Symbol = C.Symbol} (marker_of
-            hierarchy kind label.now T.name_bytes)) self.old (λ _. tt {0}) result self.new }
+        ensures exact { Keeps C.state P.bytes
+            (meaning.marked {Symbol = C.Symbol} (marker_of hierarchy kind label.now T.name_bytes))
+            self.old (λ _. tt {0}) result self.new }
         ensures only { IsNext (played_by C.state self.old).playing
             (marker_of hierarchy kind label.now T.name_bytes) → IsOk result }
     {

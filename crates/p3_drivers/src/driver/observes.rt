@@ -1,10 +1,9 @@
 //! The steps that observe values which the proof does not carry, as both sides play them.
 ghost use Rattle.std.specs.Prelude.{◌≡◌, ◌≤◌, length, IfOk, vec_len};
-ghost use Rattle.p3_driver_core.specs.Bound.{bound_value, bound_values};
-ghost use Rattle.p3_driver_core.specs.Meanings as meaning;
-ghost use Rattle.p3_driver_core.specs.Transcripts.{opaque_step};
+ghost use Rattle.p3_driver_core.specs.{Bound.{bound_value, bound_values}, Transcripts.opaque_step};
 ghost use Rattle.p3_drivers.specs.Drivers.{Keeps};
 ghost use Rattle.p3_fs_core.specs.declared.step.{Kind.TheVariants.Message, Length.TheVariants.{Bounded, Fixed, Scalar}};
+ghost use Rattle.p3_driver_core.specs.Meanings as meaning;
 
 use crate::DriverState;
 use crate::tape::Tape;
@@ -24,9 +23,10 @@ impl<C: Sponge, U, D: DigestHasher, P: Tape> DriverState<C, U, D, P> {
         EF: AlgebraIdentity<F> + Named,
         Cdc: ScalarCodec<C, F>,
     >(&mut self, label: Label, value: &EF) -> Result<TranscriptBound<EF>, TranscriptError>
-        ensures { Keeps C.state P.bytes (meaning.observed (⟦<EF as Declared<F, D>>⟧.step Message
-            label.now Scalar) ⟦<ExtensionFieldCodec<F, EF, Cdc> as Codec<C, EF>>⟧.observation
-            value.now) self.old bound_value result self.new }
+        ensures { Keeps C.state P.bytes
+            (meaning.observed (⟦<EF as Declared<F, D>>⟧.step Message label.now Scalar)
+            ⟦<ExtensionFieldCodec<F, EF, Cdc> as Codec<C, EF>>⟧.observation value.now)
+            self.old bound_value result self.new }
     {
         self.observe_element::<F, EF, ExtensionFieldCodec<F, EF, Cdc>>(Kind::Message, label, value)
     }
@@ -109,8 +109,8 @@ impl<U: Unit, C: CanObserve<U::Item>, D: DigestHasher, P: Tape> DriverState<C, U
     ) -> Result<Vec<TranscriptBound<A>>, TranscriptError>
         requires alphabet { U.is_alphabet }
         requires within { length values.now ≤ max }
-        ensures exact { Keeps C.state P.bytes (meaning.observed_bounded
-            (⟦<A as Declared<F, D>>⟧.step kind label.now (Bounded max))
+        ensures exact { Keeps C.state P.bytes
+            (meaning.observed_bounded (⟦<A as Declared<F, D>>⟧.step kind label.now (Bounded max))
             ⟦<U as AlphabetOf<C>>⟧.alphabet max Cdc.observation values.now)
             self.old bound_values result self.new }
         ensures count { IfOk result (λ bounds. vec_len bounds ≡ length values.now) }

@@ -1,14 +1,13 @@
 //! The steps of a verifier that read the proof, and those that observe what both sides know.
 ghost use Rattle.std.specs.Prelude.{◌≡◌, ◌≤◌, ◌↔◌, ◌*◌, IsTrue, length, IfOk, IfErr, vec_len};
 ghost use Rattle.p3_challenger_core.specs.Observation.{observed_all};
-ghost use Rattle.p3_driver_core.specs.Bound.{bound_value, bound_values};
+ghost use Rattle.p3_driver_core.specs.{Bound.{bound_value, bound_values}, Reads.{AnswersRead, AnswersList}};
+ghost use Rattle.p3_driver_core.specs.{Driving.KeepsOrRefuses, Verifying.{CarriesAsRecorded, CarriesWithin}};
+ghost use Rattle.p3_drivers.specs.Drivers.{verifying_of, ReadsOrRefuses};
+ghost use Rattle.p3_fs_core.specs.declared.step.{Kind.TheVariants.{Message, Public, Salt}, Length.TheVariants.Bounded};
+ghost use Rattle.p3_fs_core.specs.declared.step.Length.TheVariants.{Fixed, Scalar};
 ghost use Rattle.p3_driver_core.specs.Reads as reads;
-ghost use Rattle.p3_driver_core.specs.{Reads.{AnswersRead, AnswersList}, Driving.KeepsOrRefuses};
 ghost use Rattle.p3_driver_core.specs.Meanings as meaning;
-ghost use Rattle.p3_driver_core.specs.Verifying.{CarriesAsRecorded, CarriesWithin, ReceivesOrRefuses};
-ghost use Rattle.p3_drivers.specs.Drivers.{verifying_of};
-ghost use Rattle.p3_fs_core.specs.declared.step.Kind.TheVariants.{Message, Public, Salt};
-ghost use Rattle.p3_fs_core.specs.declared.step.Length.TheVariants.{Bounded, Fixed, Scalar};
 
 use crate::VerifierState;
 use p3_challenger_core::{CanObserve, Sponge};
@@ -39,9 +38,9 @@ impl<'a, U: Unit, C: CanObserve<U::Item>, D: DigestHasher> VerifierState<'a, C, 
     ) -> Result<Vec<TranscriptBound<EF>>, TranscriptError>
         requires { U.is_alphabet }
         ensures exact { CarriesWithin (length values.now) max
-            (meaning.observed_bounded (⟦<EF as Declared<F, D>>⟧.step
-            Message label.now (Bounded max)) ⟦<U as AlphabetOf<C>>⟧.alphabet
-            max ⟦<ExtensionFieldCodec<F, EF, Cdc> as Codec<C, EF>>⟧.observation values.now)
+            (meaning.observed_bounded (⟦<EF as Declared<F, D>>⟧.step Message label.now
+            (Bounded max)) ⟦<U as AlphabetOf<C>>⟧.alphabet max
+            ⟦<ExtensionFieldCodec<F, EF, Cdc> as Codec<C, EF>>⟧.observation values.now)
             (verifying_of C.state self.old) bound_values result (verifying_of C.state self.new) }
         ensures count { IfOk result (λ bounds. vec_len bounds ≡ length values.now) }
     {
@@ -83,9 +82,8 @@ impl<'a, U: Unit, C: CanObserve<U::Item>, D: DigestHasher> VerifierState<'a, C, 
     /// [`ChallengerError::TooLong`](p3_challenger_core::ChallengerError::TooLong), and nothing of them is absorbed.
     pub fn next_salt(&mut self, label: Label, len: usize) -> Result<&'a [u8], TranscriptError>
         requires { U.is_alphabet }
-        ensures exact { ReceivesOrRefuses
-            (reads.received_bytes Salt label.now ⟦<U as AlphabetOf<C>>⟧.alphabet len)
-            (verifying_of C.state self.old) (λ b. b.now) result (verifying_of C.state self.new) }
+        ensures exact { ReadsOrRefuses C.state (reads.received_bytes Salt label.now
+            ⟦<U as AlphabetOf<C>>⟧.alphabet len) self.old (λ b. b.now) result self.new }
         ensures count { IfOk result (λ bytes. length bytes.now ≡ len) }
     {
         self.receive_bytes(Kind::Salt, label, len)
@@ -97,9 +95,8 @@ impl<'a, U: Unit, C: CanObserve<U::Item>, D: DigestHasher> VerifierState<'a, C, 
     /// [`ChallengerError::TooLong`](p3_challenger_core::ChallengerError::TooLong), and nothing of them is absorbed.
     pub fn next_bytes(&mut self, label: Label, len: usize) -> Result<&'a [u8], TranscriptError>
         requires { U.is_alphabet }
-        ensures exact { ReceivesOrRefuses
-            (reads.received_bytes Message label.now ⟦<U as AlphabetOf<C>>⟧.alphabet len)
-            (verifying_of C.state self.old) (λ b. b.now) result (verifying_of C.state self.new) }
+        ensures exact { ReadsOrRefuses C.state (reads.received_bytes Message label.now
+            ⟦<U as AlphabetOf<C>>⟧.alphabet len) self.old (λ b. b.now) result self.new }
         ensures count { IfOk result (λ bytes. length bytes.now ≡ len) }
     {
         self.receive_bytes(Kind::Message, label, len)
@@ -118,9 +115,8 @@ impl<'a, U: Unit, C: CanObserve<U::Item>, D: DigestHasher> VerifierState<'a, C, 
         max: usize,
     ) -> Result<&'a [u8], TranscriptError>
         requires { U.is_alphabet }
-        ensures exact { ReceivesOrRefuses
-            (reads.received_bytes_bounded label.now ⟦<U as AlphabetOf<C>>⟧.alphabet max)
-            (verifying_of C.state self.old) (λ b. b.now) result (verifying_of C.state self.new) }
+        ensures exact { ReadsOrRefuses C.state (reads.received_bytes_bounded label.now
+            ⟦<U as AlphabetOf<C>>⟧.alphabet max) self.old (λ b. b.now) result self.new }
         ensures count { IfOk result (λ bytes. length bytes.now ≤ max) }
     {
         self.steps
@@ -145,10 +141,10 @@ impl<'a, U: Unit, C: CanObserve<U::Item>, D: DigestHasher> VerifierState<'a, C, 
         max: usize,
     ) -> Result<Vec<TranscriptBound<F>>, TranscriptError>
         requires { U.is_alphabet }
-        ensures exact { ReceivesOrRefuses (reads.received_bounded
-            (⟦<F as Declared<F, D>>⟧.step Message label.now (Bounded max))
+        ensures exact { ReadsOrRefuses C.state
+            (reads.received_bounded (⟦<F as Declared<F, D>>⟧.step Message label.now (Bounded max))
             ⟦<U as AlphabetOf<C>>⟧.alphabet max Cdc.observation Cdc.encoding)
-            (verifying_of C.state self.old) bound_values result (verifying_of C.state self.new) }
+            self.old bound_values result self.new }
         ensures count { IfOk result (λ bounds. vec_len bounds ≤ max) }
     {
         self.steps
@@ -168,9 +164,8 @@ impl<'a, U: Unit, C: CanObserve<U::Item>, D: DigestHasher> VerifierState<'a, C, 
         len: usize,
     ) -> Result<&'a [u8], TranscriptError>
         requires { U.is_alphabet }
-        ensures exact { ReceivesOrRefuses
-            (reads.received_bytes kind label.now ⟦<U as AlphabetOf<C>>⟧.alphabet len)
-            (verifying_of C.state self.old) (λ b. b.now) result (verifying_of C.state self.new) }
+        ensures exact { ReadsOrRefuses C.state (reads.received_bytes kind label.now
+            ⟦<U as AlphabetOf<C>>⟧.alphabet len) self.old (λ b. b.now) result self.new }
         ensures count { IfOk result (λ bytes. length bytes.now ≡ len) }
     {
         self.steps.take_bytes(kind, label, Length::Fixed(len))?;
@@ -234,9 +229,8 @@ impl<'a, C: Sponge, U, D: DigestHasher> VerifierState<'a, C, U, D> {
         &mut self,
         label: Label,
     ) -> Result<TranscriptBound<F>, TranscriptError>
-        ensures { ReceivesOrRefuses (reads.received
-            (⟦<F as Declared<F, D>>⟧.step Message label.now Scalar) Cdc.observation Cdc.encoding)
-            (verifying_of C.state self.old) bound_value result (verifying_of C.state self.new) }
+        ensures { ReadsOrRefuses C.state (reads.received (⟦<F as Declared<F, D>>⟧.step Message
+            label.now Scalar) Cdc.observation Cdc.encoding) self.old bound_value result self.new }
     {
         self.receive::<F, F, Cdc>(label)
     }
@@ -250,9 +244,9 @@ impl<'a, C: Sponge, U, D: DigestHasher> VerifierState<'a, C, U, D> {
         label: Label,
         n: usize,
     ) -> Result<Vec<TranscriptBound<F>>, TranscriptError>
-        ensures exact { ReceivesOrRefuses (reads.received_list
-            (⟦<F as Declared<F, D>>⟧.step Message label.now (Fixed n)) Cdc.observation Cdc.encoding
-            n) (verifying_of C.state self.old) bound_values result (verifying_of C.state self.new) }
+        ensures exact { ReadsOrRefuses C.state
+            (reads.received_list (⟦<F as Declared<F, D>>⟧.step Message label.now (Fixed n))
+            Cdc.observation Cdc.encoding n) self.old bound_values result self.new }
         ensures count { IfOk result (λ bounds. vec_len bounds ≡ n) }
     {
         self.steps
@@ -268,18 +262,17 @@ impl<'a, C: Sponge, U, D: DigestHasher> VerifierState<'a, C, U, D> {
         EF: AlgebraIdentity<F> + Named,
         Cdc: ScalarCodec<C, F>,
     >(&mut self, label: Label) -> Result<TranscriptBound<EF>, TranscriptError>
-        ensures { let codec = ⟦<ExtensionFieldCodec<F, EF, Cdc> as Codec<C, EF>>⟧ in
-            ReceivesOrRefuses (reads.received (⟦<EF as Declared<F, D>>⟧.step
-            Message label.now Scalar) codec.observation codec.encoding)
-            (verifying_of C.state self.old) bound_value result (verifying_of C.state self.new) }
+        ensures { let codec = ⟦<ExtensionFieldCodec<F, EF, Cdc> as Codec<C, EF>>⟧ in ReadsOrRefuses
+            C.state (reads.received (⟦<EF as Declared<F, D>>⟧.step Message label.now Scalar)
+            codec.observation codec.encoding) self.old bound_value result self.new }
     {
         self.receive::<F, EF, ExtensionFieldCodec<F, EF, Cdc>>(label)
     }
 
     /// Reads `len` bytes in which the challenger takes no part, and lends them. It takes no memory.
     pub fn next_hint(&mut self, label: Label, len: usize) -> Result<&'a [u8], TranscriptError>
-        ensures exact { ReceivesOrRefuses (reads.hint_received {Symbol = C.Symbol} label.now len)
-            (verifying_of C.state self.old) (λ b. b.now) result (verifying_of C.state self.new) }
+        ensures exact { ReadsOrRefuses C.state (reads.hint_received {Symbol = C.Symbol} label.now
+            len) self.old (λ b. b.now) result self.new }
         ensures no_memory { IfErr result (λ e. e ≡ TranscriptError.OutOfMemory → ⊥) }
         ensures count { IfOk result (λ bytes. length bytes.now ≡ len) }
     {
@@ -299,9 +292,8 @@ impl<'a, C: Sponge, U, D: DigestHasher> VerifierState<'a, C, U, D> {
         label: Label,
         max: usize,
     ) -> Result<&'a [u8], TranscriptError>
-        ensures exact { ReceivesOrRefuses
-            (reads.hint_received_bounded {Symbol = C.Symbol} label.now max)
-            (verifying_of C.state self.old) (λ b. b.now) result (verifying_of C.state self.new) }
+        ensures exact { ReadsOrRefuses C.state (reads.hint_received_bounded {Symbol = C.Symbol}
+            label.now max) self.old (λ b. b.now) result self.new }
         ensures no_memory { IfErr result (λ e. e ≡ TranscriptError.OutOfMemory → ⊥) }
         ensures count { IfOk result (λ bytes. length bytes.now ≤ max) }
     {
@@ -317,9 +309,8 @@ impl<'a, C: Sponge, U, D: DigestHasher> VerifierState<'a, C, U, D> {
         &mut self,
         label: Label,
     ) -> Result<TranscriptBound<A>, TranscriptError>
-        ensures { ReceivesOrRefuses (reads.received
-            (⟦<A as Declared<F, D>>⟧.step Message label.now Scalar) Cdc.observation Cdc.encoding)
-            (verifying_of C.state self.old) bound_value result (verifying_of C.state self.new) }
+        ensures { ReadsOrRefuses C.state (reads.received (⟦<A as Declared<F, D>>⟧.step Message
+            label.now Scalar) Cdc.observation Cdc.encoding) self.old bound_value result self.new }
     {
         self.steps
             .take_algebra::<F, A>(Kind::Message, label, Length::Scalar)?;
@@ -334,10 +325,11 @@ impl<'a, C: Sponge, U, D: DigestHasher> VerifierState<'a, C, U, D> {
         &mut self,
         n: usize,
     ) -> Result<Vec<TranscriptBound<A>>, TranscriptError>
-        ensures read { AnswersList (reads.read_values Cdc.encoding Cdc.observation.observed
-            n self.old.tape.bytes.now) (observed_all Cdc.observation.observed) (reads.LeavesValues
-            Cdc.encoding Cdc.observation n self.old.tape.bytes.now) bound_values (C.state
-            self.old.challenger) result self.new.tape.bytes.now (C.state self.new.challenger) }
+        ensures read { AnswersList (reads.read_values Cdc.encoding Cdc.observation.observed n
+            self.old.tape.bytes.now) (observed_all Cdc.observation.observed)
+            (reads.LeavesValues Cdc.encoding Cdc.observation n self.old.tape.bytes.now) bound_values
+            (C.state self.old.challenger) result self.new.tape.bytes.now
+            (C.state self.new.challenger) }
         ensures steps { self.new.steps ≡ self.old.steps }
         ensures count { IfOk result (λ bounds. vec_len bounds ≡ n) }
     {

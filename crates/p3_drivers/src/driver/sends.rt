@@ -2,8 +2,8 @@
 ghost use Rattle.std.specs.Prelude.{◌≡◌, ◌≤◌, length, IfOk, vec_len};
 ghost use Rattle.p3_driver_core.specs.Bound.{bound_value, bound_values};
 ghost use Rattle.p3_driver_core.specs.Meanings as meaning;
-ghost use Rattle.p3_driver_core.specs.{Driving.KeepsOrRefuses, Proving.{WritesOrRefuses, WritesWithin, KeepsWithin}};
-ghost use Rattle.p3_drivers.specs.Drivers.{proving_of};
+ghost use Rattle.p3_driver_core.specs.{Driving.KeepsOrRefuses, Proving.{WritesWithin, KeepsWithin}};
+ghost use Rattle.p3_drivers.specs.Drivers.{proving_of, AddsOrRefuses};
 ghost use Rattle.p3_fs_core.specs.declared.step.Kind.TheVariants.{Message, Public, Salt};
 ghost use Rattle.p3_fs_core.specs.declared.step.Length.TheVariants.{Bounded, Fixed, Scalar};
 
@@ -33,9 +33,9 @@ impl<U: Unit, C: CanObserve<U::Item>, D: DigestHasher> ProverState<C, U, D> {
     ) -> Result<Vec<TranscriptBound<EF>>, TranscriptError>
         requires { U.is_alphabet }
         ensures exact { KeepsWithin (length values.now) max
-            (meaning.observed_bounded (⟦<EF as Declared<F, D>>⟧.step
-            Message label.now (Bounded max)) ⟦<U as AlphabetOf<C>>⟧.alphabet
-            max ⟦<ExtensionFieldCodec<F, EF, Cdc> as Codec<C, EF>>⟧.observation values.now)
+            (meaning.observed_bounded (⟦<EF as Declared<F, D>>⟧.step Message label.now
+            (Bounded max)) ⟦<U as AlphabetOf<C>>⟧.alphabet max
+            ⟦<ExtensionFieldCodec<F, EF, Cdc> as Codec<C, EF>>⟧.observation values.now)
             (proving_of C.state self.old) bound_values result (proving_of C.state self.new) }
         ensures count { IfOk result (λ bounds. vec_len bounds ≡ length values.now) }
     {
@@ -76,9 +76,8 @@ impl<U: Unit, C: CanObserve<U::Item>, D: DigestHasher> ProverState<C, U, D> {
     /// [`ChallengerError::TooLong`](p3_challenger_core::ChallengerError::TooLong), and nothing of them is absorbed.
     pub fn add_salt(&mut self, label: Label, bytes: &[u8]) -> Result<(), TranscriptError>
         requires { U.is_alphabet }
-        ensures { WritesOrRefuses
-            (meaning.sent_bytes Salt label.now ⟦<U as AlphabetOf<C>>⟧.alphabet bytes.now)
-            (proving_of C.state self.old) (λ _. bytes.now) result (proving_of C.state self.new) }
+        ensures { AddsOrRefuses C.state (meaning.sent_bytes Salt label.now
+            ⟦<U as AlphabetOf<C>>⟧.alphabet bytes.now) self.old (λ _. bytes.now) result self.new }
     {
         self.send_bytes(Kind::Salt, label, bytes)
     }
@@ -89,9 +88,8 @@ impl<U: Unit, C: CanObserve<U::Item>, D: DigestHasher> ProverState<C, U, D> {
     /// [`ChallengerError::TooLong`](p3_challenger_core::ChallengerError::TooLong), and nothing of them is absorbed.
     pub fn add_bytes(&mut self, label: Label, bytes: &[u8]) -> Result<(), TranscriptError>
         requires { U.is_alphabet }
-        ensures { WritesOrRefuses
-            (meaning.sent_bytes Message label.now ⟦<U as AlphabetOf<C>>⟧.alphabet bytes.now)
-            (proving_of C.state self.old) (λ _. bytes.now) result (proving_of C.state self.new) }
+        ensures { AddsOrRefuses C.state (meaning.sent_bytes Message label.now
+            ⟦<U as AlphabetOf<C>>⟧.alphabet bytes.now) self.old (λ _. bytes.now) result self.new }
     {
         self.send_bytes(Kind::Message, label, bytes)
     }
@@ -141,9 +139,8 @@ impl<U: Unit, C: CanObserve<U::Item>, D: DigestHasher> ProverState<C, U, D> {
     #[tactic(auto, using(crate::proofs::Pieces::unwritten))]
     fn send_bytes(&mut self, kind: Kind, label: Label, bytes: &[u8]) -> Result<(), TranscriptError>
         requires { U.is_alphabet }
-        ensures { WritesOrRefuses
-            (meaning.sent_bytes kind label.now ⟦<U as AlphabetOf<C>>⟧.alphabet bytes.now)
-            (proving_of C.state self.old) (λ _. bytes.now) result (proving_of C.state self.new) }
+        ensures { AddsOrRefuses C.state (meaning.sent_bytes kind label.now
+            ⟦<U as AlphabetOf<C>>⟧.alphabet bytes.now) self.old (λ _. bytes.now) result self.new }
     {
         self.steps
             .take_bytes(kind, label, Length::Fixed(bytes.len()))?;
@@ -163,9 +160,9 @@ impl<U: Unit, C: CanObserve<U::Item>, D: DigestHasher> ProverState<C, U, D> {
     ) -> Result<(), TranscriptError>
         requires alphabet { U.is_alphabet }
         requires within { length bytes.now ≤ max }
-        ensures { WritesOrRefuses (meaning.sent_bytes_bounded
-            Message label.now ⟦<U as AlphabetOf<C>>⟧.alphabet max bytes.now)
-            (proving_of C.state self.old) (λ _. bytes.now) result (proving_of C.state self.new) }
+        ensures { AddsOrRefuses C.state (meaning.sent_bytes_bounded Message label.now
+            ⟦<U as AlphabetOf<C>>⟧.alphabet max bytes.now)
+            self.old (λ _. bytes.now) result self.new }
     {
         self.steps
             .take_bytes(Kind::Message, label, Length::Bounded(max))?;
@@ -187,10 +184,10 @@ impl<U: Unit, C: CanObserve<U::Item>, D: DigestHasher> ProverState<C, U, D> {
     ) -> Result<Vec<TranscriptBound<F>>, TranscriptError>
         requires alphabet { U.is_alphabet }
         requires within { length values.now ≤ max }
-        ensures exact { WritesOrRefuses (meaning.sent_bounded
-            (⟦<F as Declared<F, D>>⟧.step Message label.now (Bounded max))
+        ensures exact { AddsOrRefuses C.state
+            (meaning.sent_bounded (⟦<F as Declared<F, D>>⟧.step Message label.now (Bounded max))
             ⟦<U as AlphabetOf<C>>⟧.alphabet max Cdc.observation Cdc.encoding values.now)
-            (proving_of C.state self.old) bound_values result (proving_of C.state self.new) }
+            self.old bound_values result self.new }
         ensures count { IfOk result (λ bounds. vec_len bounds ≡ length values.now) }
     {
         self.steps
@@ -254,9 +251,9 @@ impl<C: Sponge, U, D: DigestHasher> ProverState<C, U, D> {
         label: Label,
         value: &F,
     ) -> Result<TranscriptBound<F>, TranscriptError>
-        ensures { WritesOrRefuses (meaning.sent (⟦<F as Declared<F, D>>⟧.step
-            Message label.now Scalar) Cdc.observation Cdc.encoding value.now)
-            (proving_of C.state self.old) bound_value result (proving_of C.state self.new) }
+        ensures { AddsOrRefuses C.state
+            (meaning.sent (⟦<F as Declared<F, D>>⟧.step Message label.now Scalar) Cdc.observation
+            Cdc.encoding value.now) self.old bound_value result self.new }
     {
         self.send::<F, F, Cdc>(label, value)
     }
@@ -268,9 +265,9 @@ impl<C: Sponge, U, D: DigestHasher> ProverState<C, U, D> {
         label: Label,
         values: &[F],
     ) -> Result<Vec<TranscriptBound<F>>, TranscriptError>
-        ensures exact { WritesOrRefuses (meaning.sent_list (⟦<F as Declared<F, D>>⟧.step
+        ensures exact { AddsOrRefuses C.state (meaning.sent_list (⟦<F as Declared<F, D>>⟧.step
             Message label.now (Fixed (length values.now))) Cdc.observation Cdc.encoding values.now)
-            (proving_of C.state self.old) bound_values result (proving_of C.state self.new) }
+            self.old bound_values result self.new }
         ensures count { IfOk result (λ bounds. vec_len bounds ≡ length values.now) }
     {
         self.steps
@@ -288,18 +285,17 @@ impl<C: Sponge, U, D: DigestHasher> ProverState<C, U, D> {
         EF: AlgebraIdentity<F> + Named,
         Cdc: ScalarCodec<C, F>,
     >(&mut self, label: Label, value: &EF) -> Result<TranscriptBound<EF>, TranscriptError>
-        ensures { let codec = ⟦<ExtensionFieldCodec<F, EF, Cdc> as Codec<C, EF>>⟧ in
-            WritesOrRefuses (meaning.sent (⟦<EF as Declared<F, D>>⟧.step Message label.now Scalar)
-            codec.observation codec.encoding value.now)
-            (proving_of C.state self.old) bound_value result (proving_of C.state self.new) }
+        ensures { let codec = ⟦<ExtensionFieldCodec<F, EF, Cdc> as Codec<C, EF>>⟧ in AddsOrRefuses
+            C.state (meaning.sent (⟦<EF as Declared<F, D>>⟧.step Message label.now Scalar)
+            codec.observation codec.encoding value.now) self.old bound_value result self.new }
     {
         self.send::<F, EF, ExtensionFieldCodec<F, EF, Cdc>>(label, value)
     }
 
     /// Sends so many bytes as the step says, in which the challenger takes no part.
     pub fn add_hint(&mut self, label: Label, bytes: &[u8]) -> Result<(), TranscriptError>
-        ensures { WritesOrRefuses (meaning.hinted {Symbol = C.Symbol} label.now bytes.now)
-            (proving_of C.state self.old) (λ _. bytes.now) result (proving_of C.state self.new) }
+        ensures { AddsOrRefuses C.state (meaning.hinted {Symbol = C.Symbol} label.now bytes.now)
+            self.old (λ _. bytes.now) result self.new }
     {
         self.steps
             .take_bytes(Kind::Hint, label, Length::Fixed(bytes.len()))?;
@@ -337,9 +333,9 @@ impl<C: Sponge, U, D: DigestHasher> ProverState<C, U, D> {
         label: Label,
         value: &A,
     ) -> Result<TranscriptBound<A>, TranscriptError>
-        ensures { WritesOrRefuses (meaning.sent (⟦<A as Declared<F, D>>⟧.step
-            Message label.now Scalar) Cdc.observation Cdc.encoding value.now)
-            (proving_of C.state self.old) bound_value result (proving_of C.state self.new) }
+        ensures { AddsOrRefuses C.state
+            (meaning.sent (⟦<A as Declared<F, D>>⟧.step Message label.now Scalar) Cdc.observation
+            Cdc.encoding value.now) self.old bound_value result self.new }
     {
         self.steps
             .take_algebra::<F, A>(Kind::Message, label, Length::Scalar)?;

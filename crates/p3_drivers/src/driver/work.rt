@@ -1,11 +1,10 @@
 //! The steps that are a proof of work: a prover searches for a witness, and a verifier checks it.
 ghost use Rattle.std.specs.Prelude.{◌≡◌, ◌≤◌};
-ghost use Rattle.p3_driver_core.specs.Proving.{GrindsAndWrites, GrindsAndKeeps};
-ghost use Rattle.p3_driver_core.specs.Reads as reads;
-ghost use Rattle.p3_driver_core.specs.{Reads.AnswersRead, Verifying.{ReceivesWork, ChecksAndKeeps}, Working.work_of};
-ghost use Rattle.p3_fs_core.specs.{Scalar.encoding, declared.step.Kind.TheVariants.Pow};
-ghost use Rattle.p3_fs_core.specs.declared.step.Length.TheVariants.{Fixed};
+ghost use Rattle.p3_driver_core.specs.{Proving.{GrindsAndWrites, GrindsAndKeeps}, Reads.AnswersRead};
+ghost use Rattle.p3_driver_core.specs.{Verifying.{ReceivesWork, ChecksAndKeeps}, Working.work_of};
+ghost use Rattle.p3_fs_core.specs.{Scalar.encoding, declared.step.{Kind.TheVariants.Pow, Length.TheVariants.Fixed}};
 ghost use Rattle.p3_drivers.specs.Drivers.{proving_of, verifying_of};
+ghost use Rattle.p3_driver_core.specs.Reads as reads;
 
 use crate::{ProverState, VerifierState};
 use p3_driver_core::check_work;
@@ -28,8 +27,8 @@ impl<C: GrindingChallenger, U, D: DigestHasher> ProverState<C, U, D> {
     where
         C::Witness: AlgebraIdentity<C::Witness> + Named,
         requires { bits ≤ C.most_bits }
-        ensures { GrindsAndWrites (work_of
-            (⟦<C::Witness as Declared<C::Witness, D>>⟧.step Pow label.now (Fixed bits))
+        ensures { GrindsAndWrites
+            (work_of (⟦<C::Witness as Declared<C::Witness, D>>⟧.step Pow label.now (Fixed bits))
             C.Witness.residues C.before_witness C.observation C.bits_sampling bits)
             (encoding C.Witness.residues C.Witness.bit_length) C.may_run_out
             (proving_of C.state self.old) result (proving_of C.state self.new) }
@@ -51,8 +50,8 @@ impl<C: GrindingChallenger, U, D: DigestHasher> ProverState<C, U, D> {
     where
         C::Witness: AlgebraIdentity<C::Witness> + Named,
         requires { bits ≤ C.most_bits }
-        ensures { GrindsAndKeeps (work_of
-            (⟦<C::Witness as Declared<C::Witness, D>>⟧.step Pow label.now (Fixed bits))
+        ensures { GrindsAndKeeps
+            (work_of (⟦<C::Witness as Declared<C::Witness, D>>⟧.step Pow label.now (Fixed bits))
             C.Witness.residues C.before_witness C.observation C.bits_sampling bits) C.may_run_out
             (proving_of C.state self.old) (λ x. x) result (proving_of C.state self.new) }
     {
@@ -77,8 +76,8 @@ impl<C: GrindingChallenger, U, D: DigestHasher> VerifierState<'_, C, U, D> {
     where
         C::Witness: AlgebraIdentity<C::Witness> + Named,
         requires { bits ≤ C.most_bits }
-        ensures { ReceivesWork (work_of
-            (⟦<C::Witness as Declared<C::Witness, D>>⟧.step Pow label.now (Fixed bits))
+        ensures { ReceivesWork
+            (work_of (⟦<C::Witness as Declared<C::Witness, D>>⟧.step Pow label.now (Fixed bits))
             C.Witness.residues C.before_witness C.observation C.bits_sampling bits)
             (encoding C.Witness.residues C.Witness.bit_length)
             (verifying_of C.state self.old) result (verifying_of C.state self.new) }
@@ -106,10 +105,10 @@ impl<C: GrindingChallenger, U, D: DigestHasher> VerifierState<'_, C, U, D> {
     where
         C::Witness: AlgebraIdentity<C::Witness> + Named,
         requires { bits ≤ C.most_bits }
-        ensures { ChecksAndKeeps (work_of
-            (⟦<C::Witness as Declared<C::Witness, D>>⟧.step Pow label.now (Fixed bits))
-            C.Witness.residues C.before_witness C.observation C.bits_sampling bits)
-            witness (verifying_of C.state self.old) result (verifying_of C.state self.new) }
+        ensures { ChecksAndKeeps
+            (work_of (⟦<C::Witness as Declared<C::Witness, D>>⟧.step Pow label.now (Fixed bits))
+            C.Witness.residues C.before_witness C.observation C.bits_sampling bits) witness
+            (verifying_of C.state self.old) result (verifying_of C.state self.new) }
     {
         self.steps
             .take_algebra::<C::Witness, C::Witness>(Kind::Pow, label, Length::Fixed(bits))?;
@@ -120,9 +119,8 @@ impl<C: GrindingChallenger, U, D: DigestHasher> VerifierState<'_, C, U, D> {
 
     // Reads a witness.
     fn read_witness(&mut self) -> Result<C::Witness, TranscriptError>
-        ensures read { AnswersRead (reads.read_value {S = C.State}
-            (encoding C.Witness.residues C.Witness.bit_length) self.old.tape.bytes.now) (λ x. x)
-            result self.new.tape.bytes.now }
+        ensures read { AnswersRead (reads.read_value {S = C.State} (encoding C.Witness.residues
+            C.Witness.bit_length) self.old.tape.bytes.now) (λ x. x) result self.new.tape.bytes.now }
         ensures steps { self.new.steps ≡ self.old.steps }
         ensures challenger { self.new.challenger ≡ self.old.challenger }
     {

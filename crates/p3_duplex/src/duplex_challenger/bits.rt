@@ -1,5 +1,9 @@
 //! Numbers of some bits, drawn from a duplex challenger: the low bits of one element.
-ghost use Rattle.std.specs.Prelude.{◌^◌, ◌%◌};
+ghost use Rattle.std.specs.Prelude.{◌^◌, ◌%◌, Some};
+ghost use Rattle.p3_challenger_core.specs.{Sampling.{most_bits_of, unrefused_draw}, BitLaws.low_bits-below};
+ghost use Rattle.p3_challenger_core.specs.BitLaws.{most_bits-short};
+ghost use Rattle.p3_sponge.specs.DrawingLaws.{value-sampled};
+ghost use Rattle.p3_duplex.specs.DuplexState as duplex_state;
 
 use crate::DuplexChallenger;
 use p3_challenger_core::{CanSample, CanSampleBits, ChallengerError, FieldChallenger};
@@ -12,12 +16,6 @@ impl<
     const WIDTH: usize,
     const RATE: usize,
 > CanSampleBits<usize> for DuplexChallenger<F, P, WIDTH, RATE> {
-    ghost use Rattle.std.specs.Prelude.{Some, ◌^◌, ◌%◌};
-    ghost use Rattle.p3_duplex.specs.DuplexState as duplex_state;
-    ghost use Rattle.p3_challenger_core.specs.{Bits.most_bits_of, BitLaws.{low_bits-below, most_bits-short}};
-    ghost use Rattle.p3_challenger_core.specs.Sampling.{unrefused_draw};
-    ghost use Rattle.p3_sponge.specs.DrawingLaws.{value-sampled};
-
     // The greatest number of bits, below 64, whose power of two is below the order.
     ghost most_bits = { most_bits_of F.residues.order };
 

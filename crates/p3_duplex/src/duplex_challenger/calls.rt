@@ -1,10 +1,10 @@
 //! What each method is as a list of calls: of the call-by-call definition that `follows_segments` speaks of.
 ghost use Rattle.std.specs.Prelude.{◌≡◌, ◌<◌, ◌≤◌, ◌^◌, ◌%◌, ◌==◌, ◌++◌, ℕ, suc, Bool, List, [], ◌∷◌, Some, map};
 ghost use Rattle.std.specs.{Prelude.replicate, List.{flat_map, range_with_len}};
-ghost use Rattle.p3_symmetric.specs.HashValues.{values_of};
+ghost use Rattle.p3_symmetric.specs.Digests.{values_of};
 ghost use Rattle.p3_challenger_core.specs.{Sponge.after_steps, Segments.{observe, draw}};
-ghost use Rattle.p3_grinding.specs.Checks.{all_zero, check_of};
-ghost use Rattle.p3_duplex.specs.DuplexSegments.{absorbed_cells, output_at};
+ghost use Rattle.p3_grinding.specs.{Checks.bits_check, UniformDraws.no_bits};
+ghost use Rattle.p3_duplex.specs.{DuplexSegments.{absorbed_cells, output_at}, DuplexUniform.{SameDraw, single, halved}};
 ghost use Rattle.p3_duplex.specs.DuplexState.{DuplexState, run, run_to_digest, after_calls, ObservesEach};
 
 use crate::DuplexChallenger;
@@ -88,19 +88,18 @@ impl<
     ///
     /// A law: the body is empty, and a caller cites the clauses.
     pub fn checks_are_calls()
-        ensures none { (witness : F) (c : DuplexState F P) →
-            (check_of ⟦<Self as BeforeWitness>⟧.before_witness ⟦<Self as CanObserve<F>>⟧.observation
-            (all_zero (⟦<Self as CanSampleBits<usize>>⟧.bits_sampling 0)) 0 witness).sampled c
-            ≡ Some Bool.true }
+        ensures none { (witness : F) (c : DuplexState F P) → (bits_check
+            ⟦<Self as CanObserve<F>>⟧.observation ⟦<Self as BeforeWitness>⟧.before_witness
+            ⟦<Self as CanSampleBits<usize>>⟧.bits_sampling 0 witness).sampled c ≡ Some Bool.true }
         ensures sampled { (more : ℕ) (witness x : F) (c : DuplexState F P) →
             (run F.residues P.permutation RATE c (observe witness ∷ draw ∷ [])).answers ≡ x ∷ [] →
-            (check_of ⟦<Self as BeforeWitness>⟧.before_witness ⟦<Self as CanObserve<F>>⟧.observation
-            (all_zero (⟦<Self as CanSampleBits<usize>>⟧.bits_sampling (suc more)))
+            (bits_check ⟦<Self as CanObserve<F>>⟧.observation
+            ⟦<Self as BeforeWitness>⟧.before_witness ⟦<Self as CanSampleBits<usize>>⟧.bits_sampling
             (suc more) witness).sampled c ≡ Some (F.residues.number x % 2 ^ suc more == 0) }
-        ensures after { (more : ℕ) (witness : F) (c : DuplexState F P) →
-            (check_of ⟦<Self as BeforeWitness>⟧.before_witness ⟦<Self as CanObserve<F>>⟧.observation
-            (all_zero (⟦<Self as CanSampleBits<usize>>⟧.bits_sampling (suc more))) (suc more)
-            witness).after c ≡ after_calls F.residues P.permutation RATE c (observe witness ∷ draw ∷ []) }
+        ensures after { (more : ℕ) (witness : F) (c : DuplexState F P) → (bits_check
+            ⟦<Self as CanObserve<F>>⟧.observation ⟦<Self as BeforeWitness>⟧.before_witness
+            ⟦<Self as CanSampleBits<usize>>⟧.bits_sampling (suc more) witness).after c
+            ≡ after_calls F.residues P.permutation RATE c (observe witness ∷ draw ∷ []) }
     {}
 }
 
@@ -110,9 +109,6 @@ impl<
     const WIDTH: usize,
     const RATE: usize,
 > DuplexChallenger<F, P, WIDTH, RATE> {
-    ghost use Rattle.p3_grinding.specs.UniformDraws.{no_bits};
-    ghost use Rattle.p3_duplex.specs.DuplexUniform.{SameDraw, single, halved};
-
     /// A draw of no uniform bits draws nothing; one of as many as one element serves for is that of one element; and
     /// one of more is two, the low half first, each with a bound and a draw limit of its own.
     ///

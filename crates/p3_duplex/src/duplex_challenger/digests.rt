@@ -1,7 +1,10 @@
 //! What a duplex challenger observes beside single values and arrays: digests, caps and lists of
 //! lists, each value by value. None of it is ever refused.
-ghost use Rattle.std.specs.Prelude.{◌≡◌, ◌↔◌};
-ghost use Rattle.p3_challenger_core.specs.Observation.{observed_all};
+ghost use Rattle.std.specs.{Prelude.{◌≡◌, refl}, List.flat_map};
+ghost use Rattle.p3_challenger_core.specs.Observation.{observed_all, ObservesSame, unrefused_observe};
+ghost use Rattle.p3_duplex.specs.{DuplexState.fed_parts, DuplexStateLaws.{is_observation, parts-are_observation}};
+ghost use Rattle.p3_symmetric.specs.Digests.{values_of};
+ghost use Rattle.p3_duplex.specs.DuplexState as duplex_state;
 
 use crate::DuplexChallenger;
 use p3_challenger_core::{CanObserve, ChallengerError};
@@ -15,22 +18,13 @@ impl<
     const WIDTH: usize,
     const RATE: usize,
 > DuplexChallenger<F, P, WIDTH, RATE> {
-    ghost use Rattle.p3_duplex.specs.DuplexState.{DuplexState, fed_parts};
-
     /// A cap that is lent is observed as its contents are, the cap itself: it feeds the same symbols, and leaves
     /// the same state.
     ///
     /// A law: the body is empty, and a caller cites the clauses.
     pub fn lent_caps_are_caps<'a, M, const N: usize>()
-        ensures symbols { (cap : _) →
-            ⟦<Self as CanObserve<&'a MerkleCap<M, [F; N]>>>⟧.observation.symbols cap
-            ≡ ⟦<Self as CanObserve<MerkleCap<M, [F; N]>>>⟧.observation.symbols cap.now }
-        ensures observed { (s : DuplexState F P) (cap : _) →
-            ⟦<Self as CanObserve<&'a MerkleCap<M, [F; N]>>>⟧.observation.observed s cap
-            ≡ ⟦<Self as CanObserve<MerkleCap<M, [F; N]>>>⟧.observation.observed s cap.now }
-        ensures left { (s : DuplexState F P) (cap : _) (t : DuplexState F P) →
-            ⟦<Self as CanObserve<&'a MerkleCap<M, [F; N]>>>⟧.observation.may_leave s cap t
-            ↔ ⟦<Self as CanObserve<MerkleCap<M, [F; N]>>>⟧.observation.may_leave s cap.now t }
+        ensures { ObservesSame ⟦<Self as CanObserve<&'a MerkleCap<M, [F; N]>>>⟧.observation
+            (λ cap. cap.now) ⟦<Self as CanObserve<MerkleCap<M, [F; N]>>>⟧.observation }
     {}
 
     // Makes the values of parts pending, part by part.
@@ -61,12 +55,6 @@ impl<
     const RATE: usize,
     const N: usize,
 > CanObserve<Hash<M, F, N>> for DuplexChallenger<F, P, WIDTH, RATE> {
-    ghost use Rattle.std.specs.Prelude.{refl};
-    ghost use Rattle.p3_symmetric.specs.HashValues.{values_of};
-    ghost use Rattle.p3_challenger_core.specs.Observation.{unrefused_observe};
-    ghost use Rattle.p3_duplex.specs.DuplexState as duplex_state;
-    ghost use Rattle.p3_duplex.specs.DuplexStateLaws.{is_observation};
-
     // An observation takes no memory: it is never refused.
     ghost observation = { unrefused_observe values_of
         (λ s digest. duplex_state.fed F.residues P.permutation RATE s (values_of digest)) };
@@ -96,10 +84,6 @@ impl<
     const RATE: usize,
     const N: usize,
 > CanObserve<MerkleCap<M, [F; N]>> for DuplexChallenger<F, P, WIDTH, RATE> {
-    ghost use Rattle.std.specs.{Prelude.refl, List.flat_map};
-    ghost use Rattle.p3_challenger_core.specs.Observation.{unrefused_observe};
-    ghost use Rattle.p3_duplex.specs.{DuplexState.fed_parts, DuplexStateLaws.parts-are_observation};
-
     // An observation takes no memory: it is never refused.
     ghost observation = { unrefused_observe (λ cap. flat_map (λ root. root) cap)
         (λ s cap. fed_parts F.residues P.permutation RATE (λ root. root) s cap) };
@@ -129,10 +113,6 @@ impl<
     const RATE: usize,
     const N: usize,
 > CanObserve<&MerkleCap<M, [F; N]>> for DuplexChallenger<F, P, WIDTH, RATE> {
-    ghost use Rattle.std.specs.{Prelude.refl, List.flat_map};
-    ghost use Rattle.p3_challenger_core.specs.Observation.{unrefused_observe};
-    ghost use Rattle.p3_duplex.specs.{DuplexState.fed_parts, DuplexStateLaws.parts-are_observation};
-
     // An observation takes no memory: it is never refused.
     ghost observation = { unrefused_observe (λ cap. flat_map (λ root. root) cap.now)
         (λ s cap. fed_parts F.residues P.permutation RATE (λ root. root) s cap.now) };
@@ -160,10 +140,6 @@ impl<
     const WIDTH: usize,
     const RATE: usize,
 > CanObserve<Vec<Vec<F>>> for DuplexChallenger<F, P, WIDTH, RATE> {
-    ghost use Rattle.std.specs.{Prelude.refl, List.flat_map};
-    ghost use Rattle.p3_challenger_core.specs.Observation.{unrefused_observe};
-    ghost use Rattle.p3_duplex.specs.{DuplexState.fed_parts, DuplexStateLaws.parts-are_observation};
-
     // An observation takes no memory: it is never refused.
     ghost observation = { unrefused_observe (λ lists. flat_map (λ list. list.items) lists.items)
         (λ s lists. fed_parts F.residues P.permutation RATE (λ list. list.items) s lists.items) };

@@ -1,10 +1,10 @@
 //! The search for a witness, which tries one candidate in each lane: all start from one state, and differ in one cell.
-ghost use Rattle.std.specs.Prelude.{◌≡◌, ◌<◌, ℕ, ◌+◌, ◌-◌, ◌*◌, ◌^◌, ◌≤◌, ◌↔◌, min, MatchOption, IfOk, IfErr, IsOk};
-ghost use Rattle.std.specs.{Prelude.IsTrue, Mem.type_size};
+ghost use Rattle.std.specs.Prelude.{◌≡◌, ◌<◌, ℕ, ◌+◌, ◌-◌, ◌*◌, ◌^◌, ◌≤◌, ◌↔◌, min, MatchOption, IsOk, IsTrue};
+ghost use Rattle.std.specs.Mem.{type_size};
 ghost use Rattle.p3_duplex.specs.LaneSearch.{given_by, HasZeros, candidate, IsLeastOf, NoneOfAll, IsFirstLane};
 ghost use Rattle.p3_duplex.specs.LaneSearch.{PassesAt, LanePasses, check};
-ghost use Rattle.p3_challenger_core.specs.Bits.{most_bits_of};
-ghost use Rattle.p3_grinding.specs.Checks.{IsLeast, RefusesSearch};
+ghost use Rattle.p3_challenger_core.specs.Sampling.{most_bits_of};
+ghost use Rattle.p3_grinding.specs.Checks.{FindsOrRefuses};
 
 use crate::DuplexChallenger;
 use p3_challenger_core::ChallengerError;
@@ -23,12 +23,8 @@ impl<
     pub(super) fn grind_in_lanes(&mut self, bits: usize) -> Result<F, ChallengerError>
         requires bits { bits ≤ most_bits_of F.residues.order }
         requires width { WIDTH < 2 ^ 32 }
-        ensures least { IfOk result (λ witness. IsLeast F.residues
-            (check F.residues P.permutation RATE bits) self.old witness) }
-        ensures after { IfOk result (λ witness.
-            self.new ≡ (check F.residues P.permutation RATE bits witness).after self.old) }
-        ensures err { IfErr result (λ e. RefusesSearch F.residues (λ _. ⊥)
-            (check F.residues P.permutation RATE bits) e self.old self.new) }
+        ensures found { FindsOrRefuses F.residues (λ _. ⊥)
+            (check F.residues P.permutation RATE bits) self.old result self.new }
         ensures free { bits ≡ 0 → IsOk result }
     {
         if bits == 0 {
@@ -107,8 +103,8 @@ fn candidate_in<F: PrimeField64 + PackedField>(first: u64, lane: usize) -> F
 // The candidates from a first one on.
 fn candidates_from<F: PrimeField64 + PackedField>(first: u64) -> F::Packing
     requires { first < F.residues.order }
-    ensures { (l : ℕ) → l < F.Packing.WIDTH
-        → F.Packing.in_lane l result ≡ F.residues.of (candidate F.residues.order first l) }
+    ensures { (l : ℕ) → l < F.Packing.WIDTH →
+        F.Packing.in_lane l result ≡ F.residues.of (candidate F.residues.order first l) }
 {
     F::Packing::from_fn(
         |lane: usize| -> F

@@ -1,10 +1,8 @@
 //! Laws: what is never refused.
 ghost use Rattle.std.specs.Prelude.{ℕ, Bool, false};
-ghost use Rattle.p3_challenger_core.specs.Sampling.{RefusesDraw, RefusesDraws};
-ghost use Rattle.p3_challenger_core.specs.declared.error.ChallengerError.{ChallengerError};
-ghost use Rattle.p3_grinding.specs.Checks.{all_zero, check_of, zero_and_uniform};
-ghost use Rattle.p3_duplex.specs.DuplexState.{DuplexState};
-ghost use Rattle.p3_sponge.specs.CallPromises.{IsNeverRefused};
+ghost use Rattle.p3_challenger_core.specs.Sampling.{RefusesDraw};
+ghost use Rattle.p3_grinding.specs.Checks.{bits_check, uniform_check};
+ghost use Rattle.p3_sponge.specs.CallPromises.{IsNeverRefused, IsUnrefusedDraw};
 
 use crate::DuplexChallenger;
 use p3_challenger_core::{CanObserve, CanSample, CanSampleBits};
@@ -29,16 +27,15 @@ impl<
     ///
     /// A law: the body is empty, and a caller cites the clause.
     pub fn draws_are_not_refused<A: BasedVectorSpace<F>>()
-        ensures { (n : ℕ) (e : ChallengerError) (s t : DuplexState F P) →
-            ¬ (RefusesDraws ⟦<Self as CanSample<A>>⟧.sampling n e s t) }
+        ensures { IsUnrefusedDraw ⟦<Self as CanSample<A>>⟧.sampling }
     {}
 
     /// Nor are draws of bits.
     ///
     /// A law: the body is empty, and a caller cites the clause.
     pub fn bit_draws_are_not_refused()
-        ensures { (bits n : ℕ) (e : ChallengerError) (s t : DuplexState F P) →
-            ¬ (RefusesDraws (⟦<Self as CanSampleBits<usize>>⟧.bits_sampling bits) n e s t) }
+        ensures { (bits : ℕ) →
+            IsUnrefusedDraw (⟦<Self as CanSampleBits<usize>>⟧.bits_sampling bits) }
     {}
 
     /// Observations of arrays, digests, caps and lists of lists are never refused: no list of them leaves any
@@ -58,10 +55,9 @@ impl<
     ///
     /// A law: the body is empty, and a caller cites the clause.
     pub fn checks_are_not_refused()
-        ensures { (bits : ℕ) (witness : F) (e : ChallengerError) (c d : DuplexState F P) →
-            ¬ (RefusesDraw (check_of ⟦<Self as BeforeWitness>⟧.before_witness
-            ⟦<Self as CanObserve<F>>⟧.observation
-            (all_zero (⟦<Self as CanSampleBits<usize>>⟧.bits_sampling bits)) bits witness) e c d) }
+        ensures { (bits : ℕ) (witness : F) (e : _) (c d : _) → ¬ (RefusesDraw (bits_check
+            ⟦<Self as CanObserve<F>>⟧.observation ⟦<Self as BeforeWitness>⟧.before_witness
+            ⟦<Self as CanSampleBits<usize>>⟧.bits_sampling bits witness) e c d) }
     {}
 }
 
@@ -76,13 +72,12 @@ impl<
     ///
     /// A law: the body is empty, and a caller cites the clauses.
     pub fn uniform_checks_take_no_memory()
-        ensures memory { (resample : Bool) (bits : ℕ) (witness : F) (c d : DuplexState F P) →
-            ¬ ((check_of ⟦<Self as BeforeWitness>⟧.before_witness
-            ⟦<Self as CanObserve<F>>⟧.observation (zero_and_uniform
-            (⟦<Self as CanSampleUniformBits<F>>⟧.uniform resample bits)) bits witness).may_leave c d) }
-        ensures unrefused { (bits : ℕ) (witness : F) (e : ChallengerError) (c d : DuplexState F P) →
-            ¬ (RefusesDraw (check_of ⟦<Self as BeforeWitness>⟧.before_witness
-            ⟦<Self as CanObserve<F>>⟧.observation (zero_and_uniform
-            (⟦<Self as CanSampleUniformBits<F>>⟧.uniform false bits)) bits witness) e c d) }
+        ensures memory { (resample : Bool) (bits : ℕ) (witness : F) (c d : _) → ¬ ((uniform_check
+            ⟦<Self as CanObserve<F>>⟧.observation ⟦<Self as BeforeWitness>⟧.before_witness
+            ⟦<Self as CanSampleUniformBits<F>>⟧.uniform resample bits witness).may_leave c d) }
+        ensures unrefused { (bits : ℕ) (witness : F) (e : _) (c d : _) →
+            ¬ (RefusesDraw (uniform_check ⟦<Self as CanObserve<F>>⟧.observation
+            ⟦<Self as BeforeWitness>⟧.before_witness ⟦<Self as CanSampleUniformBits<F>>⟧.uniform
+            false bits witness) e c d) }
     {}
 }

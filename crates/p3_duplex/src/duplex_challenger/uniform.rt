@@ -1,10 +1,14 @@
 //! Uniform bits, drawn from a duplex challenger: the low bits of elements that are below the bound of the field for so
 //! many bits. As few bits as one element serves for are drawn from one, and more of them in two halves.
-ghost use Rattle.std.specs.Prelude.{◌≡◌, ◌<◌, ◌≤◌, ◌^◌, ◌/◌, ℕ, Bool, true, false, Some, OnOk, IfOk, IfErr};
+ghost use Rattle.std.specs.Prelude.{◌≡◌, ◌<◌, ◌≤◌, ◌^◌, ◌/◌, ℕ, Bool, true, false, Some, IfOk, MatchResult};
+ghost use Rattle.std.specs.Option.{option_map};
 ghost use Rattle.p3_field_core.specs.UniformBounds.{uniform_bound};
-ghost use Rattle.p3_challenger_core.specs.Sampling.{RefusesDraw};
+ghost use Rattle.p3_challenger_core.specs.Sampling.{DrawsOrRefuses};
+ghost use Rattle.p3_grinding.specs.UniformDraws.{is_below, low_bits, DrawsUniformly, RefusesUniform};
 ghost use Rattle.p3_grinding.specs.Candidates.{accepted_of, accepted_within};
-ghost use Rattle.p3_grinding.specs.UniformDraws.{is_below, low_bits, RefusesUniform};
+ghost use Rattle.p3_duplex.specs.DuplexUniform.{base_draw, draws_allowed, taken_element, single, halved, how_many_give};
+ghost use Rattle.p3_duplex.specs.{DuplexUniform.{MeetsElementLimit, uniform_bits}, DuplexState.DuplexState};
+ghost use Rattle.p3_duplex.specs.DuplexUniformLaws.{uniform_bits-is_uniform, uniform_bits-below};
 
 use crate::DuplexChallenger;
 use p3_challenger_core::ChallengerError;
@@ -18,10 +22,6 @@ impl<
     const WIDTH: usize,
     const RATE: usize,
 > DuplexChallenger<F, P, WIDTH, RATE> {
-    ghost use Rattle.std.specs.Option.{option_map};
-    ghost use Rattle.p3_duplex.specs.DuplexUniform.{base_draw, draws_allowed, taken_element, single, halved};
-    ghost use Rattle.p3_duplex.specs.{DuplexUniform.{how_many_give, MeetsElementLimit}, DuplexState.DuplexState};
-
     /// Bits that are drawn from one element have no bias: they are the low bits of the element that is taken, which is
     /// below the bound for so many, and each value of the bits is that of as many of the elements below the bound as
     /// the bound has multiples of `2^bits`. At least one bit is asked for, and as many as one element serves for.
@@ -29,8 +29,9 @@ impl<
     /// A law: the body is empty, and a caller cites the clauses.
     pub fn uniform_bits_have_no_bias()
         ensures drawn { (resample : Bool) (bits : ℕ) (c : DuplexState F P) → 0 < bits →
-            bits ≤ F.MAX_SINGLE_SAMPLE_BITS → (⟦<Self as CanSampleUniformBits<F>>⟧.uniform
-            resample bits).draw.sampled c ≡ option_map (low_bits F.residues bits)
+            bits ≤ F.MAX_SINGLE_SAMPLE_BITS →
+            (⟦<Self as CanSampleUniformBits<F>>⟧.uniform resample bits).draw.sampled c
+            ≡ option_map (low_bits F.residues bits)
             (taken_element F.residues P.permutation RATE resample bits c) }
         ensures below { (resample : Bool) (bits : ℕ) (c : DuplexState F P) (x : F) →
             taken_element F.residues P.permutation RATE resample bits c ≡ Some x →
@@ -68,14 +69,8 @@ impl<
     // The first element below a bound, of as many as the draw limit allows. Mostly it is the next one: fewer than half
     // of all elements are not below their bound.
     fn first_below(&mut self, bound: u64) -> Result<F, ChallengerError>
-        ensures drawn { IfOk result (λ x. (accepted_within (base_draw F.residues P.permutation RATE)
-            (is_below F.residues bound) draws_allowed).sampled self.old ≡ Some x) }
-        ensures after { OnOk result (self.new
-            ≡ (accepted_within (base_draw F.residues P.permutation RATE)
-            (is_below F.residues bound) draws_allowed).after self.old) }
-        ensures err { IfErr result
-            (λ e. RefusesDraw (accepted_within (base_draw F.residues P.permutation RATE)
-            (is_below F.residues bound) draws_allowed) e self.old self.new) }
+        ensures { DrawsOrRefuses (accepted_within (base_draw F.residues P.permutation RATE)
+            (is_below F.residues bound) draws_allowed) self.old result self.new }
     {
         let others = self.draw_limit - 1;
         let first = self.draw();
@@ -89,14 +84,8 @@ impl<
     // The first element below a bound, of so many.
     #[cold]
     fn first_below_of(&mut self, bound: u64, count: u64) -> Result<F, ChallengerError>
-        ensures drawn { IfOk result (λ x. (accepted_of (base_draw F.residues P.permutation RATE)
-            (is_below F.residues bound) count).sampled self.old ≡ Some x) }
-        ensures after { OnOk result (self.new
-            ≡ (accepted_of (base_draw F.residues P.permutation RATE)
-            (is_below F.residues bound) count).after self.old) }
-        ensures err { IfErr result
-            (λ e. RefusesDraw (accepted_of (base_draw F.residues P.permutation RATE)
-            (is_below F.residues bound) count) e self.old self.new) }
+        ensures { DrawsOrRefuses (accepted_of (base_draw F.residues P.permutation RATE)
+            (is_below F.residues bound) count) self.old result self.new }
     {
         for _ in 0..count {
             let element = self.draw();
@@ -109,13 +98,9 @@ impl<
 
     // An element below the bound for so many bits: the next one, or the first one where others may be drawn.
     fn uniform_element(&mut self, bits: usize, resample: bool) -> Result<F, UniformBitsError>
-        ensures bits { IfOk result (λ x.
-            (single F.residues P.permutation RATE resample bits).draw.sampled self.old
-            ≡ Some (low_bits F.residues bits x)) }
-        ensures after { OnOk result
-            (self.new ≡ (single F.residues P.permutation RATE resample bits).draw.after self.old) }
-        ensures err { IfErr result (λ e. RefusesUniform
-            (single F.residues P.permutation RATE resample bits) e self.old self.new) }
+        ensures { let u = single F.residues P.permutation RATE resample bits in MatchResult result
+            (λ x. (u.draw.sampled self.old ≡ Some (low_bits F.residues bits x))
+            × (self.new ≡ u.draw.after self.old)) (λ e. RefusesUniform u e self.old self.new) }
     {
         let bound = F::sampling_bits_m(bits);
         if resample {
@@ -133,12 +118,8 @@ impl<
     // So many bits of one element.
     fn single_bits(&mut self, bits: usize, resample: bool) -> Result<usize, UniformBitsError>
         requires { bits < 64 }
-        ensures drawn { IfOk result (λ x.
-            (single F.residues P.permutation RATE resample bits).draw.sampled self.old ≡ Some x) }
-        ensures after { OnOk result
-            (self.new ≡ (single F.residues P.permutation RATE resample bits).draw.after self.old) }
-        ensures err { IfErr result (λ e. RefusesUniform
-            (single F.residues P.permutation RATE resample bits) e self.old self.new) }
+        ensures drawn { DrawsUniformly (single F.residues P.permutation RATE resample bits)
+            self.old result self.new }
         ensures below { IfOk result (λ x. x < 2 ^ bits) }
     {
         let element = self.uniform_element(bits, resample)?;
@@ -148,12 +129,8 @@ impl<
     // So many bits in two halves, the low one first.
     fn halved_bits(&mut self, bits: usize, resample: bool) -> Result<usize, UniformBitsError>
         requires { bits < 64 }
-        ensures drawn { IfOk result (λ x.
-            (halved F.residues P.permutation RATE resample bits).draw.sampled self.old ≡ Some x) }
-        ensures after { OnOk result
-            (self.new ≡ (halved F.residues P.permutation RATE resample bits).draw.after self.old) }
-        ensures err { IfErr result (λ e. RefusesUniform
-            (halved F.residues P.permutation RATE resample bits) e self.old self.new) }
+        ensures { DrawsUniformly
+            (halved F.residues P.permutation RATE resample bits) self.old result self.new }
     {
         let low_count = bits / 2;
         let low = self.single_bits(low_count, resample)?;
@@ -168,9 +145,6 @@ impl<
     const WIDTH: usize,
     const RATE: usize,
 > CanSampleUniformBits<F> for DuplexChallenger<F, P, WIDTH, RATE> {
-    ghost use Rattle.p3_duplex.specs.DuplexUniform.{uniform_bits};
-    ghost use Rattle.p3_duplex.specs.DuplexUniformLaws.{uniform_bits-is_uniform, uniform_bits-below};
-
     // Nothing is drawn for 0 bits. As many bits as one element serves for are its low ones, where it is below the bound
     // for so many; more of them are drawn in two halves, each with a bound of its own and the whole draw limit.
     ghost uniform = { λ resample bits.

@@ -1,10 +1,11 @@
 //! What each method is as a list of calls: of the call-by-call definition that `follows_segments` speaks of.
-ghost use Rattle.std.specs.Prelude.{◌≡◌, ◌+◌, ◌++◌, ℕ, List, [], ◌∷◌, Some, map, replicate};
-ghost use Rattle.std.specs.List.{flat_map, range_with_len};
-ghost use Rattle.p3_symmetric.specs.HashValues.{values_of};
-ghost use Rattle.p3_challenger_core.specs.{Sponge.after_steps, Segments.{observe, observe_empty_array, draw}};
-ghost use Rattle.p3_hash_challenger.specs.{HashSegments.output_at, HashState.calls_of_array};
-ghost use Rattle.p3_hash_challenger.specs.HashState.{HashState, function_of, run, run_to_digest, after_calls};
+ghost use Rattle.std.specs.{Prelude.{◌≡◌, ◌+◌, ◌++◌, ℕ, List, [], ◌∷◌, Some, map, replicate}, List.flat_map};
+ghost use Rattle.std.specs.List.{range_with_len};
+ghost use Rattle.p3_symmetric.specs.Digests.{values_of};
+ghost use Rattle.p3_challenger_core.specs.{Observation.ActsAs, Segments.{observe, observe_empty_array, draw}};
+ghost use Rattle.p3_challenger_core.specs.Sponge.{after_steps};
+ghost use Rattle.p3_hash_challenger.specs.{HashSegments.output_at, HashState.{calls_of_array, HashState, function_of}};
+ghost use Rattle.p3_hash_challenger.specs.HashState.{run, run_to_digest, after_calls};
 
 use crate::HashChallenger;
 use p3_challenger_core::{CanFinalizeDigest, CanObserve, CanSample, Sponge};
@@ -20,21 +21,18 @@ impl<T: Copy, H: CryptographicHasher<T, [T; OUT_LEN]>, const OUT_LEN: usize> Has
     ///
     /// A law: the body is empty, and a caller cites the clauses.
     pub fn observes_are_calls<F, const N: usize>()
-        ensures value { (s : HashState T H) (x : T) → ⟦<Self as CanObserve<T>>⟧.observation.observed
-            s x ≡ after_calls (function_of H.hash OUT_LEN H.filler) s (observe x ∷ []) }
-        ensures array { (s : HashState T H) (xs : List T) →
-            ⟦<Self as CanObserve<[T; N]>>⟧.observation.observed s xs
-            ≡ after_calls (function_of H.hash OUT_LEN H.filler) s (calls_of_array xs) }
-        ensures digest { (s : HashState T H) (digest : _) →
-            ⟦<Self as CanObserve<Hash<F, T, N>>>⟧.observation.observed s digest
-            ≡ after_calls (function_of H.hash OUT_LEN H.filler) s (map observe (values_of digest)) }
-        ensures cap { (s : HashState T H) (cap : List (List T)) →
-            ⟦<Self as CanObserve<MerkleCap<F, [T; N]>>>⟧.observation.observed s cap ≡ after_calls
-            (function_of H.hash OUT_LEN H.filler) s (map observe (flat_map (λ root. root) cap)) }
-        ensures lists { (s : HashState T H) (lists : _) →
-            ⟦<Self as CanObserve<Vec<Vec<T>>>>⟧.observation.observed s lists
-            ≡ after_calls (function_of H.hash OUT_LEN H.filler) s
-            (map observe (flat_map (λ list. list.items) lists.items)) }
+        ensures value { ActsAs ⟦<Self as CanObserve<T>>⟧.observation.observed
+            (after_calls (function_of H.hash OUT_LEN H.filler)) (λ x. observe x ∷ []) }
+        ensures array { ActsAs ⟦<Self as CanObserve<[T; N]>>⟧.observation.observed
+            (after_calls (function_of H.hash OUT_LEN H.filler)) calls_of_array }
+        ensures digest { ActsAs ⟦<Self as CanObserve<Hash<F, T, N>>>⟧.observation.observed
+            (after_calls (function_of H.hash OUT_LEN H.filler)) (λ x. map observe (values_of x)) }
+        ensures cap { ActsAs ⟦<Self as CanObserve<MerkleCap<F, [T; N]>>>⟧.observation.observed
+            (after_calls (function_of H.hash OUT_LEN H.filler))
+            (λ cap. map observe (flat_map (λ root. root) cap)) }
+        ensures lists { ActsAs ⟦<Self as CanObserve<Vec<Vec<T>>>>⟧.observation.observed
+            (after_calls (function_of H.hash OUT_LEN H.filler))
+            (λ lists. map observe (flat_map (λ list. list.items) lists.items)) }
     {}
 
     /// Symbols that are fed, as values and steps of a transcript feed them, are observed one after another; and the
@@ -42,8 +40,8 @@ impl<T: Copy, H: CryptographicHasher<T, [T; OUT_LEN]>, const OUT_LEN: usize> Has
     ///
     /// A law: the body is empty, and a caller cites the clauses.
     pub fn symbols_are_calls()
-        ensures fed { (s : HashState T H) (symbols : List T) → ⟦<Self as Sponge>⟧.fed s symbols
-            ≡ after_calls (function_of H.hash OUT_LEN H.filler) s (map observe symbols) }
+        ensures fed { ActsAs ⟦<Self as Sponge>⟧.fed
+            (after_calls (function_of H.hash OUT_LEN H.filler)) (map observe) }
         ensures drawn { (n : ℕ) (s : HashState T H) → after_steps ⟦<Self as Sponge>⟧.next n s
             ≡ after_calls (function_of H.hash OUT_LEN H.filler) s (replicate n draw) }
     {}

@@ -1,7 +1,10 @@
 //! What a hash challenger observes beside single values and arrays: digests, caps and lists of lists.
 //! Each feeds its values in order, by one call a digest or a list.
-ghost use Rattle.std.specs.{Prelude.{◌≡◌, ◌↔◌, OnOk, IfErr}, List.flat_map};
-ghost use Rattle.p3_challenger_core.specs.Observation.{RefusesObserve, LeavesBeginning, observed_all};
+ghost use Rattle.std.specs.{Prelude.{◌≡◌, OnOk, IfErr}, List.flat_map};
+ghost use Rattle.p3_challenger_core.specs.Observation.{RefusesObserve, LeavesBeginning, observed_all, ObservesSame};
+ghost use Rattle.p3_symmetric.specs.Digests.{values_of};
+ghost use Rattle.p3_hash_challenger.specs.HashStateLaws.{lists-observed, parts-observed, parts-front};
+ghost use Rattle.p3_hash_challenger.specs.HashState as hash_state;
 
 use crate::HashChallenger;
 use p3_challenger_core::{CanObserve, ChallengerError};
@@ -13,30 +16,21 @@ impl<T: Copy, H: CryptographicHasher<T, [T; OUT_LEN]>, const OUT_LEN: usize> Has
     H,
     OUT_LEN,
 > {
-    ghost use Rattle.p3_hash_challenger.specs.HashState as hash_state;
-
     /// A cap that is lent is observed as its contents are, the cap itself: it feeds the same symbols, and leaves
     /// the same state.
     ///
     /// A law: the body is empty, and a caller cites the clauses.
     pub fn lent_caps_are_caps<'a, F, const N: usize>()
-        ensures symbols { (cap : _) →
-            ⟦<Self as CanObserve<&'a MerkleCap<F, [T; N]>>>⟧.observation.symbols cap
-            ≡ ⟦<Self as CanObserve<MerkleCap<F, [T; N]>>>⟧.observation.symbols cap.now }
-        ensures observed { (s : hash_state.HashState T H) (cap : _) →
-            ⟦<Self as CanObserve<&'a MerkleCap<F, [T; N]>>>⟧.observation.observed s cap
-            ≡ ⟦<Self as CanObserve<MerkleCap<F, [T; N]>>>⟧.observation.observed s cap.now }
-        ensures left { (s : hash_state.HashState T H) (cap : _) (t : hash_state.HashState T H) →
-            ⟦<Self as CanObserve<&'a MerkleCap<F, [T; N]>>>⟧.observation.may_leave s cap t
-            ↔ ⟦<Self as CanObserve<MerkleCap<F, [T; N]>>>⟧.observation.may_leave s cap.now t }
+        ensures { ObservesSame ⟦<Self as CanObserve<&'a MerkleCap<F, [T; N]>>>⟧.observation
+            (λ cap. cap.now) ⟦<Self as CanObserve<MerkleCap<F, [T; N]>>>⟧.observation }
     {}
 
     // Feeds parts in order, each by one call. A refused call has fed the parts before the refused one.
     fn feed_parts<Part: AsSlice<T>>(&mut self, parts: &[Part]) -> Result<(), ChallengerError>
         ensures each { OnOk result (self.new
             ≡ observed_all (λ s part. hash_state.fed s (Part.items part)) self.old parts.now) }
-        ensures whole { OnOk result (self.new
-            ≡ hash_state.fed self.old (flat_map Part.items parts.now)) }
+        ensures whole { OnOk result
+            (self.new ≡ hash_state.fed self.old (flat_map Part.items parts.now)) }
         ensures err { IfErr result (λ e. RefusesObserve
             (hash_state.LeavesParts Part.items self.old parts.now) e self.new) }
     {
@@ -70,12 +64,6 @@ impl<
     const N: usize,
     const OUT_LEN: usize,
 > CanObserve<Hash<F, T, N>> for HashChallenger<T, H, OUT_LEN> {
-    ghost use Rattle.std.specs.Prelude.{◌≡◌};
-    ghost use Rattle.p3_challenger_core.specs.Observation.{LeavesBeginning};
-    ghost use Rattle.p3_symmetric.specs.HashValues.{values_of};
-    ghost use Rattle.p3_hash_challenger.specs.HashState as hash_state;
-    ghost use Rattle.p3_hash_challenger.specs.HashStateLaws.{lists-observed};
-
     // A refused call changes nothing.
     ghost observation = { hash_state.observation_of_list values_of };
 
@@ -102,11 +90,6 @@ impl<
     const N: usize,
     const OUT_LEN: usize,
 > CanObserve<MerkleCap<F, [T; N]>> for HashChallenger<T, H, OUT_LEN> {
-    ghost use Rattle.std.specs.List.{flat_map};
-    ghost use Rattle.p3_challenger_core.specs.Observation.{LeavesBeginning};
-    ghost use Rattle.p3_hash_challenger.specs.HashState as hash_state;
-    ghost use Rattle.p3_hash_challenger.specs.HashStateLaws.{parts-observed, parts-front};
-
     // A refused call has fed the roots before the refused one.
     ghost observation = { hash_state.observation_of_parts (λ cap. cap) (λ root. root) };
 
@@ -133,11 +116,6 @@ impl<
     const N: usize,
     const OUT_LEN: usize,
 > CanObserve<&MerkleCap<F, [T; N]>> for HashChallenger<T, H, OUT_LEN> {
-    ghost use Rattle.std.specs.List.{flat_map};
-    ghost use Rattle.p3_challenger_core.specs.Observation.{LeavesBeginning};
-    ghost use Rattle.p3_hash_challenger.specs.HashState as hash_state;
-    ghost use Rattle.p3_hash_challenger.specs.HashStateLaws.{parts-observed, parts-front};
-
     // A refused call has fed the roots before the refused one.
     ghost observation = { hash_state.observation_of_parts (λ cap. cap.now) (λ root. root) };
 
@@ -159,11 +137,6 @@ impl<
 
 impl<T: Copy, H: CryptographicHasher<T, [T; OUT_LEN]>, const OUT_LEN: usize> CanObserve<Vec<Vec<T>>>
     for HashChallenger<T, H, OUT_LEN> {
-    ghost use Rattle.std.specs.List.{flat_map};
-    ghost use Rattle.p3_challenger_core.specs.Observation.{LeavesBeginning};
-    ghost use Rattle.p3_hash_challenger.specs.HashState as hash_state;
-    ghost use Rattle.p3_hash_challenger.specs.HashStateLaws.{parts-observed, parts-front};
-
     // A refused call has fed the lists before the refused one.
     ghost observation = { hash_state.observation_of_parts
         (λ lists. lists.items) (λ list. list.items) };

@@ -54,10 +54,10 @@ fn messages_with_room<const W: usize>(
     count: usize,
 ) -> Result<Vec<u8>, AllocError>
     requires { W < 2 ^ 63 }
-    ensures begin { IfOk result (λ messages.
-        BeginWith pending.now (length pending.now + W) messages.items) }
-    ensures room { IfOk result (λ messages.
-        length messages.items ≡ count * (length pending.now + W)) }
+    ensures begin { IfOk result
+        (λ messages. BeginWith pending.now (length pending.now + W) messages.items) }
+    ensures room { IfOk result
+        (λ messages. length messages.items ≡ count * (length pending.now + W)) }
 {
     let bytes = (pending.len() + W).saturating_mul(count);
     let mut messages = Vec::with_capacity(alloc, bytes)?;

@@ -1,5 +1,9 @@
 //! Numbers of some bits, drawn from a multi-field challenger: the low bits of one scalar.
-ghost use Rattle.std.specs.Prelude.{◌^◌, ◌%◌};
+ghost use Rattle.std.specs.Prelude.{◌^◌, ◌%◌, Some};
+ghost use Rattle.p3_multi_field.specs.MultiFieldState.{sampled, after_sampled};
+ghost use Rattle.p3_challenger_core.specs.{Sampling.{most_bits_of, unrefused_draw}, BitLaws.low_bits-below};
+ghost use Rattle.p3_challenger_core.specs.BitLaws.{most_bits-short};
+ghost use Rattle.p3_sponge.specs.DrawingLaws.{value-sampled};
 
 use crate::{HasFieldPair, MultiField32Challenger};
 use p3_challenger_core::{CanSample, CanSampleBits, ChallengerError, FieldChallenger};
@@ -14,12 +18,6 @@ impl<
     const WIDTH: usize,
     const RATE: usize,
 > CanSampleBits<usize> for MultiField32Challenger<F, PF, P, WIDTH, RATE> {
-    ghost use Rattle.std.specs.Prelude.{Some, ◌^◌, ◌%◌};
-    ghost use Rattle.p3_multi_field.specs.MultiFieldState.{sampled, after_sampled};
-    ghost use Rattle.p3_challenger_core.specs.{Bits.most_bits_of, BitLaws.{low_bits-below, most_bits-short}};
-    ghost use Rattle.p3_challenger_core.specs.Sampling.{unrefused_draw};
-    ghost use Rattle.p3_sponge.specs.DrawingLaws.{value-sampled};
-
     // The greatest number of bits, below 64, whose power of two is below the order of the scalars.
     ghost most_bits = { most_bits_of F.residues.order };
 

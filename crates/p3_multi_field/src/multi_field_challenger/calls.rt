@@ -1,9 +1,9 @@
 //! What each method is as a list of calls: of the call-by-call definition that `follows_segments` speaks of.
 ghost use Rattle.std.specs.Prelude.{◌≡◌, ◌^◌, ◌%◌, ◌==◌, ℕ, suc, Bool, List, [], ◌∷◌, Some, map, replicate};
 ghost use Rattle.std.specs.List.{flat_map};
-ghost use Rattle.p3_symmetric.specs.HashValues.{values_of};
+ghost use Rattle.p3_symmetric.specs.Digests.{values_of};
 ghost use Rattle.p3_challenger_core.specs.{Sponge.after_steps, Segments.{observe, draw}};
-ghost use Rattle.p3_grinding.specs.Checks.{all_zero, check_of};
+ghost use Rattle.p3_grinding.specs.Checks.{bits_check};
 ghost use Rattle.p3_multi_field.specs.{MultiFieldCalls.{scalar, digest}, MultiFieldState.DrawsHavePlaces};
 ghost use Rattle.p3_multi_field.specs.MultiFieldState.{MultiFieldState, run, run_to_digest, after_calls, ActsAsCalls};
 
@@ -65,9 +65,9 @@ impl<
         ensures after { (c : MultiFieldState F PF P) → ⟦<Self as CanSample<A>>⟧.sampling.after c
             ≡ after_calls ⟦<PF as HasFieldPair<F>>⟧.field_pair P.permutation RATE c
             (replicate A.DIMENSION draw) }
-        ensures bits { (bits : ℕ) (c : MultiFieldState F PF P) (x : F) → (run
-            ⟦<PF as HasFieldPair<F>>⟧.field_pair P.permutation RATE c (draw ∷ [])).answers ≡ x ∷ []
-            → (⟦<Self as CanSampleBits<usize>>⟧.bits_sampling bits).sampled c
+        ensures bits { (bits : ℕ) (c : MultiFieldState F PF P) (x : F) →
+            (run ⟦<PF as HasFieldPair<F>>⟧.field_pair P.permutation RATE c (draw ∷ [])).answers
+            ≡ x ∷ [] → (⟦<Self as CanSampleBits<usize>>⟧.bits_sampling bits).sampled c
             ≡ Some (F.residues.number x % 2 ^ bits) }
         ensures after_bits { (bits : ℕ) (c : MultiFieldState F PF P) →
             (⟦<Self as CanSampleBits<usize>>⟧.bits_sampling bits).after c
@@ -96,20 +96,19 @@ impl<
     ///
     /// A law: the body is empty, and a caller cites the clauses.
     pub fn checks_are_calls()
-        ensures none { (witness : F) (c : MultiFieldState F PF P) →
-            (check_of ⟦<Self as BeforeWitness>⟧.before_witness ⟦<Self as CanObserve<F>>⟧.observation
-            (all_zero (⟦<Self as CanSampleBits<usize>>⟧.bits_sampling 0)) 0 witness).sampled c
-            ≡ Some Bool.true }
+        ensures none { (witness : F) (c : MultiFieldState F PF P) → (bits_check
+            ⟦<Self as CanObserve<F>>⟧.observation ⟦<Self as BeforeWitness>⟧.before_witness
+            ⟦<Self as CanSampleBits<usize>>⟧.bits_sampling 0 witness).sampled c ≡ Some Bool.true }
         ensures sampled { (more : ℕ) (witness x : F) (c : MultiFieldState F PF P) →
             (run ⟦<PF as HasFieldPair<F>>⟧.field_pair P.permutation RATE c
             (observe (scalar witness) ∷ draw ∷ [])).answers ≡ x ∷ [] →
-            (check_of ⟦<Self as BeforeWitness>⟧.before_witness ⟦<Self as CanObserve<F>>⟧.observation
-            (all_zero (⟦<Self as CanSampleBits<usize>>⟧.bits_sampling (suc more))) (suc more)
-            witness).sampled c ≡ Some (F.residues.number x % 2 ^ suc more == 0) }
-        ensures after { (more : ℕ) (witness : F) (c : MultiFieldState F PF P) →
-            (check_of ⟦<Self as BeforeWitness>⟧.before_witness ⟦<Self as CanObserve<F>>⟧.observation
-            (all_zero (⟦<Self as CanSampleBits<usize>>⟧.bits_sampling (suc more))) (suc more)
-            witness).after c ≡ after_calls ⟦<PF as HasFieldPair<F>>⟧.field_pair P.permutation RATE c
+            (bits_check ⟦<Self as CanObserve<F>>⟧.observation
+            ⟦<Self as BeforeWitness>⟧.before_witness ⟦<Self as CanSampleBits<usize>>⟧.bits_sampling
+            (suc more) witness).sampled c ≡ Some (F.residues.number x % 2 ^ suc more == 0) }
+        ensures after { (more : ℕ) (witness : F) (c : MultiFieldState F PF P) → (bits_check
+            ⟦<Self as CanObserve<F>>⟧.observation ⟦<Self as BeforeWitness>⟧.before_witness
+            ⟦<Self as CanSampleBits<usize>>⟧.bits_sampling (suc more) witness).after c
+            ≡ after_calls ⟦<PF as HasFieldPair<F>>⟧.field_pair P.permutation RATE c
             (observe (scalar witness) ∷ draw ∷ []) }
     {}
 }

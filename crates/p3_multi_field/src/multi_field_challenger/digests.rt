@@ -1,10 +1,12 @@
 //! What a multi-field challenger observes beside single scalars: arrays and lists of lists of scalars, digests and
 //! caps. None of it is ever refused.
-ghost use Rattle.std.specs.Prelude.{◌≡◌, ◌↔◌, ◌≤◌, [], length};
-ghost use Rattle.p3_challenger_core.specs.Observation.{observed_all};
+ghost use Rattle.std.specs.{Prelude.{◌≡◌, ◌≤◌, [], length, map, ◌∷◌, refl}, List.flat_map};
+ghost use Rattle.p3_challenger_core.specs.Observation.{observed_all, ObservesSame, unrefused_observe};
 ghost use Rattle.p3_sponge.specs.{Cells.overwritten, SpongeCalls.permuting};
-ghost use Rattle.p3_multi_field.specs.{MultiFieldCalls.absorbed_pending, MultiFieldState.digest_observed};
-ghost use Rattle.p3_multi_field.specs.MultiFieldState.{MultiFieldState, rule, each_observed, scalars_observed};
+ghost use Rattle.p3_multi_field.specs.MultiFieldCalls.{absorbed_pending, scalar, digest};
+ghost use Rattle.p3_multi_field.specs.MultiFieldState.{digest_observed, rule, each_observed, scalars_observed};
+ghost use Rattle.p3_multi_field.specs.MultiFieldStateLaws.{is_observation, scalars-fed, lists-fed, digests-fed};
+ghost use Rattle.p3_symmetric.specs.Digests.{values_of};
 
 use crate::{HasFieldPair, MultiField32Challenger};
 use p3_challenger_core::{CanObserve, ChallengerError};
@@ -26,15 +28,8 @@ impl<
     ///
     /// A law: the body is empty, and a caller cites the clauses.
     pub fn lent_caps_are_caps<'a, const N: usize>()
-        ensures symbols { (cap : _) →
-            ⟦<Self as CanObserve<&'a MerkleCap<F, [PF; N]>>>⟧.observation.symbols cap
-            ≡ ⟦<Self as CanObserve<MerkleCap<F, [PF; N]>>>⟧.observation.symbols cap.now }
-        ensures observed { (s : MultiFieldState F PF P) (cap : _) →
-            ⟦<Self as CanObserve<&'a MerkleCap<F, [PF; N]>>>⟧.observation.observed s cap
-            ≡ ⟦<Self as CanObserve<MerkleCap<F, [PF; N]>>>⟧.observation.observed s cap.now }
-        ensures left { (s : MultiFieldState F PF P) (cap : _) (t : MultiFieldState F PF P) →
-            ⟦<Self as CanObserve<&'a MerkleCap<F, [PF; N]>>>⟧.observation.may_leave s cap t
-            ↔ ⟦<Self as CanObserve<MerkleCap<F, [PF; N]>>>⟧.observation.may_leave s cap.now t }
+        ensures { ObservesSame ⟦<Self as CanObserve<&'a MerkleCap<F, [PF; N]>>>⟧.observation
+            (λ cap. cap.now) ⟦<Self as CanObserve<MerkleCap<F, [PF; N]>>>⟧.observation }
     {}
 
     // Absorbs what is pending. Where nothing is, the outputs left are dropped.
@@ -133,10 +128,6 @@ impl<
     const RATE: usize,
     const N: usize,
 > CanObserve<[F; N]> for MultiField32Challenger<F, PF, P, WIDTH, RATE> {
-    ghost use Rattle.p3_challenger_core.specs.Observation.{unrefused_observe};
-    ghost use Rattle.std.specs.Prelude.{map};
-    ghost use Rattle.p3_multi_field.specs.{MultiFieldCalls.scalar, MultiFieldStateLaws.{is_observation, scalars-fed}};
-
     // An observation takes no memory: it is never refused.
     ghost observation = { unrefused_observe (λ xs. map scalar xs)
         (scalars_observed ⟦<PF as HasFieldPair<F>>⟧.field_pair P.permutation RATE) };
@@ -166,15 +157,10 @@ impl<
     const WIDTH: usize,
     const RATE: usize,
 > CanObserve<Vec<Vec<F>>> for MultiField32Challenger<F, PF, P, WIDTH, RATE> {
-    ghost use Rattle.p3_challenger_core.specs.Observation.{unrefused_observe};
-    ghost use Rattle.std.specs.{Prelude.map, List.flat_map};
-    ghost use Rattle.p3_multi_field.specs.{MultiFieldCalls.scalar, MultiFieldStateLaws.{is_observation, lists-fed}};
-
     // An observation takes no memory: it is never refused.
-    ghost observation = { unrefused_observe
-        (λ lists. flat_map (λ list. map scalar list.items) lists.items)
-        (λ s lists. each_observed (λ list. list.items) (scalars_observed
-        ⟦<PF as HasFieldPair<F>>⟧.field_pair P.permutation RATE) s lists.items) };
+    ghost observation = { unrefused_observe (λ lists. flat_map (λ list. map scalar list.items)
+        lists.items) (λ s lists. each_observed (λ list. list.items)
+        (scalars_observed ⟦<PF as HasFieldPair<F>>⟧.field_pair P.permutation RATE) s lists.items) };
 
     ghost slice_may_leave = { λ _ _ _. ⊥ };
 
@@ -203,11 +189,6 @@ impl<
     const RATE: usize,
     const N: usize,
 > CanObserve<Hash<F, PF, N>> for MultiField32Challenger<F, PF, P, WIDTH, RATE> {
-    ghost use Rattle.p3_challenger_core.specs.Observation.{unrefused_observe};
-    ghost use Rattle.std.specs.Prelude.{[], ◌∷◌, refl};
-    ghost use Rattle.p3_symmetric.specs.HashValues.{values_of};
-    ghost use Rattle.p3_multi_field.specs.{MultiFieldCalls.digest, MultiFieldStateLaws.is_observation};
-
     // An observation takes no memory: it is never refused.
     ghost observation = { unrefused_observe (λ words. digest (values_of words) ∷ [])
         (λ s words. digest_observed
@@ -239,10 +220,6 @@ impl<
     const RATE: usize,
     const N: usize,
 > CanObserve<MerkleCap<F, [PF; N]>> for MultiField32Challenger<F, PF, P, WIDTH, RATE> {
-    ghost use Rattle.p3_challenger_core.specs.Observation.{unrefused_observe};
-    ghost use Rattle.std.specs.Prelude.{map};
-    ghost use Rattle.p3_multi_field.specs.{MultiFieldCalls.digest, MultiFieldStateLaws.{is_observation, digests-fed}};
-
     // An observation takes no memory: it is never refused.
     ghost observation = { unrefused_observe (λ cap. map digest cap)
         (observed_all (digest_observed ⟦<PF as HasFieldPair<F>>⟧.field_pair P.permutation RATE)) };
@@ -273,14 +250,9 @@ impl<
     const RATE: usize,
     const N: usize,
 > CanObserve<&MerkleCap<F, [PF; N]>> for MultiField32Challenger<F, PF, P, WIDTH, RATE> {
-    ghost use Rattle.p3_challenger_core.specs.Observation.{unrefused_observe};
-    ghost use Rattle.std.specs.Prelude.{map};
-    ghost use Rattle.p3_multi_field.specs.{MultiFieldCalls.digest, MultiFieldStateLaws.{is_observation, digests-fed}};
-
     // An observation takes no memory: it is never refused.
-    ghost observation = { unrefused_observe (λ cap. map digest cap.now)
-        (λ s cap. observed_all (digest_observed
-        ⟦<PF as HasFieldPair<F>>⟧.field_pair P.permutation RATE) s cap.now) };
+    ghost observation = { unrefused_observe (λ cap. map digest cap.now) (λ s cap. observed_all
+        (digest_observed ⟦<PF as HasFieldPair<F>>⟧.field_pair P.permutation RATE) s cap.now) };
 
     ghost slice_may_leave = { λ _ _ _. ⊥ };
 

@@ -1,10 +1,8 @@
 //! Laws: what is never refused.
 ghost use Rattle.std.specs.Prelude.{ℕ};
-ghost use Rattle.p3_challenger_core.specs.Sampling.{RefusesDraw, RefusesDraws};
-ghost use Rattle.p3_challenger_core.specs.declared.error.ChallengerError.{ChallengerError};
-ghost use Rattle.p3_grinding.specs.Checks.{all_zero, check_of};
-ghost use Rattle.p3_multi_field.specs.MultiFieldState.{MultiFieldState};
-ghost use Rattle.p3_sponge.specs.CallPromises.{IsNeverRefused};
+ghost use Rattle.p3_challenger_core.specs.Sampling.{RefusesDraw};
+ghost use Rattle.p3_grinding.specs.Checks.{bits_check};
+ghost use Rattle.p3_sponge.specs.CallPromises.{IsNeverRefused, IsUnrefusedDraw};
 
 use crate::MultiField32Challenger;
 use p3_challenger_core::{CanObserve, CanSample, CanSampleBits};
@@ -31,16 +29,15 @@ impl<
     ///
     /// A law: the body is empty, and a caller cites the clause.
     pub fn draws_are_not_refused<A: BasedVectorSpace<F>>()
-        ensures { (n : ℕ) (e : ChallengerError) (s t : MultiFieldState F PF P) →
-            ¬ (RefusesDraws ⟦<Self as CanSample<A>>⟧.sampling n e s t) }
+        ensures { IsUnrefusedDraw ⟦<Self as CanSample<A>>⟧.sampling }
     {}
 
     /// Nor are draws of bits.
     ///
     /// A law: the body is empty, and a caller cites the clause.
     pub fn bit_draws_are_not_refused()
-        ensures { (bits n : ℕ) (e : ChallengerError) (s t : MultiFieldState F PF P) →
-            ¬ (RefusesDraws (⟦<Self as CanSampleBits<usize>>⟧.bits_sampling bits) n e s t) }
+        ensures { (bits : ℕ) →
+            IsUnrefusedDraw (⟦<Self as CanSampleBits<usize>>⟧.bits_sampling bits) }
     {}
 
     /// Observations of arrays and lists of lists of scalars, of digests and of caps are never refused: no list of them
@@ -60,9 +57,8 @@ impl<
     ///
     /// A law: the body is empty, and a caller cites the clause.
     pub fn checks_are_not_refused()
-        ensures { (bits : ℕ) (witness : F) (e : ChallengerError) (c d : MultiFieldState F PF P) →
-            ¬ (RefusesDraw (check_of ⟦<Self as BeforeWitness>⟧.before_witness
-            ⟦<Self as CanObserve<F>>⟧.observation
-            (all_zero (⟦<Self as CanSampleBits<usize>>⟧.bits_sampling bits)) bits witness) e c d) }
+        ensures { (bits : ℕ) (witness : F) (e : _) (c d : _) → ¬ (RefusesDraw (bits_check
+            ⟦<Self as CanObserve<F>>⟧.observation ⟦<Self as BeforeWitness>⟧.before_witness
+            ⟦<Self as CanSampleBits<usize>>⟧.bits_sampling bits witness) e c d) }
     {}
 }

@@ -1,4 +1,11 @@
 //! Scalars and elements that a multi-field challenger observes and draws, and the digest that it ends in.
+ghost use Rattle.std.specs.Prelude.{refl, [], ◌∷◌, Some};
+ghost use Rattle.p3_multi_field.specs.MultiFieldState.{after_sampled, scalar_observed, drawn, after_drawn, finalized};
+ghost use Rattle.p3_multi_field.specs.{MultiFieldStateLaws.{fed-append, is_observation}, MultiFieldCalls.scalar};
+ghost use Rattle.p3_challenger_core.specs.{Observation.unrefused_observe, Sampling.unrefused_draw};
+ghost use Rattle.p3_sponge.specs.DrawingLaws.{elements-sampled};
+ghost use Rattle.p3_multi_field.specs.MultiFieldState as multi_state;
+
 use crate::{HasFieldPair, MultiField32Challenger, MultiFieldSymbol};
 use p3_challenger_core::{CanFinalizeDigest, CanObserve, CanSample, ChallengerError, Sponge};
 use p3_field_bridge::FieldBridge;
@@ -12,10 +19,6 @@ impl<
     const WIDTH: usize,
     const RATE: usize,
 > Sponge for MultiField32Challenger<F, PF, P, WIDTH, RATE> {
-    ghost use Rattle.std.specs.Prelude.{refl};
-    ghost use Rattle.p3_multi_field.specs.MultiFieldState as multi_state;
-    ghost use Rattle.p3_multi_field.specs.{MultiFieldState.after_sampled, MultiFieldStateLaws.fed-append};
-
     type State = Self;
 
     type Symbol = MultiFieldSymbol<F, PF>;
@@ -38,11 +41,6 @@ impl<
     const WIDTH: usize,
     const RATE: usize,
 > CanObserve<F> for MultiField32Challenger<F, PF, P, WIDTH, RATE> {
-    ghost use Rattle.p3_challenger_core.specs.Observation.{unrefused_observe};
-    ghost use Rattle.p3_multi_field.specs.{MultiFieldCalls.scalar, MultiFieldStateLaws.is_observation};
-    ghost use Rattle.p3_multi_field.specs.MultiFieldState.{scalar_observed};
-    ghost use Rattle.std.specs.Prelude.{[], ◌∷◌, refl};
-
     // An observation takes no memory: it is never refused.
     ghost observation = { unrefused_observe (λ x. scalar x ∷ [])
         (scalar_observed ⟦<PF as HasFieldPair<F>>⟧.field_pair P.permutation RATE) };
@@ -73,15 +71,10 @@ impl<
     const WIDTH: usize,
     const RATE: usize,
 > CanSample<A> for MultiField32Challenger<F, PF, P, WIDTH, RATE> {
-    ghost use Rattle.std.specs.Prelude.{Some};
-    ghost use Rattle.p3_challenger_core.specs.Sampling.{unrefused_draw};
-    ghost use Rattle.p3_multi_field.specs.MultiFieldState.{drawn, after_drawn};
-    ghost use Rattle.p3_sponge.specs.DrawingLaws.{elements-sampled};
-
     // The element whose coefficients are the next digits, coefficient 0 first. A draw takes no memory and has no
     // limit: it is never refused.
-    ghost sampling = { unrefused_draw (λ s. Some (A.element (drawn
-        ⟦<PF as HasFieldPair<F>>⟧.field_pair P.permutation RATE A.DIMENSION s)))
+    ghost sampling = { unrefused_draw (λ s. Some
+        (A.element (drawn ⟦<PF as HasFieldPair<F>>⟧.field_pair P.permutation RATE A.DIMENSION s)))
         (after_drawn ⟦<PF as HasFieldPair<F>>⟧.field_pair P.permutation RATE A.DIMENSION) };
 
     ghost samples = { elements-sampled _ _ A.DIMENSION A.element };
@@ -102,8 +95,6 @@ impl<
     const WIDTH: usize,
     const RATE: usize,
 > CanFinalizeDigest for MultiField32Challenger<F, PF, P, WIDTH, RATE> {
-    ghost use Rattle.p3_multi_field.specs.MultiFieldState.{finalized};
-
     type Digest = [PF; RATE];
 
     // The rate after one more permutation, of what is pending where something is.

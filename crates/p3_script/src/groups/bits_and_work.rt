@@ -1,5 +1,6 @@
 //! The group that has bits and proofs of work beside the plain steps.
-ghost use Rattle.std.specs.Prelude.{◌≡◌, true, false, IsErr};
+ghost use Rattle.std.specs.Prelude.{◌≡◌, true, false, IsErr, Some};
+ghost use Rattle.p3_challenger_core.specs.Sampling.{unrefused_draw};
 
 use crate::groups::{BitsPow, StepGroup, not_there};
 use p3_challenger_core::CanSampleBits;
@@ -18,9 +19,6 @@ impl<C: GrindingChallenger + Drop> StepGroup<C, C::Witness> for BitsPow
 where
     C::Witness: ScalarField,
 {
-    ghost use Rattle.std.specs.Prelude.{Some};
-    ghost use Rattle.p3_challenger_core.specs.Sampling.{unrefused_draw};
-
     const HAS_POW: bool = true;
 
     ghost HAS_POW = { true };

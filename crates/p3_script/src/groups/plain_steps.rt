@@ -1,5 +1,7 @@
 //! The group of the plain steps alone.
-ghost use Rattle.std.specs.Prelude.{◌≡◌, false, IsErr};
+ghost use Rattle.std.specs.Prelude.{◌≡◌, false, IsErr, Some, []};
+ghost use Rattle.p3_script.specs.GroupLaws.{not_there};
+ghost use Rattle.p3_challenger_core.specs.{Observation.unrefused_observe, Sampling.unrefused_draw};
 
 use crate::groups::{Plain, StepGroup, not_there};
 use p3_challenger_core::Sponge;
@@ -10,10 +12,6 @@ use p3_fs_core::{Label, TranscriptError};
 use p3_symmetric::DigestHasher;
 
 impl<C: Sponge, F: ScalarField> StepGroup<C, F> for Plain {
-    ghost use Rattle.std.specs.Prelude.{Some, []};
-    ghost use Rattle.p3_script.specs.GroupLaws.{not_there};
-    ghost use Rattle.p3_challenger_core.specs.{Observation.unrefused_observe, Sampling.unrefused_draw};
-
     const HAS_POW: bool = false;
 
     ghost HAS_POW = { false };

@@ -1,9 +1,9 @@
 //! Laws: what each method is as calls on the inner challenger, or as calls of the list that `follows_groups` speaks of.
 ghost use Rattle.std.specs.{Prelude.{◌≡◌, ◌==◌, ℕ, suc, Bool, [], ◌∷◌, Some, None, IsSome}, List.flat_map};
 ghost use Rattle.std.specs.Option.{option_map};
-ghost use Rattle.p3_symmetric.specs.HashValues.{values_of};
+ghost use Rattle.p3_symmetric.specs.Digests.{values_of};
 ghost use Rattle.p3_challenger_core.specs.Sampling.{draws, after_draws};
-ghost use Rattle.p3_grinding.specs.Checks.{all_zero, check_of};
+ghost use Rattle.p3_grinding.specs.Checks.{bits_check};
 ghost use Rattle.p3_serializing.specs.{Bytes.bytes_of, SerializingState.{SerializingState, FeedsBytes}};
 ghost use Rattle.p3_serializing.specs.SerializingGroups.{observe, draw_bits, drop_byte, bits, by_calls};
 ghost use Rattle.p3_serializing.specs.SerializingGroups.{answers_by_calls, after_calls, check_by};
@@ -92,10 +92,9 @@ impl<
     ///
     /// A law: the body is empty, and a caller cites the clauses.
     pub fn checks_are_calls()
-        ensures none { (witness : F) (s : SerializingState Inner.State) →
-            (check_of ⟦<Self as BeforeWitness>⟧.before_witness ⟦<Self as CanObserve<F>>⟧.observation
-            (all_zero (⟦<Self as CanSampleBits<usize>>⟧.bits_sampling 0)) 0 witness).sampled s
-            ≡ Some Bool.true }
+        ensures none { (witness : F) (s : SerializingState Inner.State) → (bits_check
+            ⟦<Self as CanObserve<F>>⟧.observation ⟦<Self as BeforeWitness>⟧.before_witness
+            ⟦<Self as CanSampleBits<usize>>⟧.bits_sampling 0 witness).sampled s ≡ Some Bool.true }
         ensures sampled { (more n : ℕ) (witness : F) (s : SerializingState Inner.State) →
             let by = by_calls ⟦<Self as CanObserve<F>>⟧.observation
             ⟦<Self as CanSample<F>>⟧.sampling ⟦<Self as CanSampleBits<usize>>⟧.bits_sampling

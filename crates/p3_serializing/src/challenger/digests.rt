@@ -1,7 +1,12 @@
 //! The digests that a serializing challenger observes, of bytes or of words of 64 bits, and caps of them. A digest of
 //! bytes reaches the inner challenger as one slice, and a digest of words as a slice of 8 bytes for each word.
-ghost use Rattle.std.specs.Prelude.{◌≡◌, ◌↔◌, List, OnOk, IfErr};
-ghost use Rattle.p3_serializing.specs.SerializingState.{RefusesValue, each_as};
+ghost use Rattle.std.specs.Prelude.{List};
+ghost use Rattle.p3_challenger_core.specs.Observation.{each_as, ObservesOrRefuses, ObservesSame, Observation};
+ghost use Rattle.p3_challenger_core.specs.Observation.{IsObservation, observed_as, in_row};
+ghost use Rattle.p3_serializing.specs.SerializingState.{bytes_observed, words_observed};
+ghost use Rattle.p3_serializing.specs.SerializingStateLaws.{bytes-observed, words-observed, as-observed};
+ghost use Rattle.p3_serializing.specs.SerializingStateLaws.{rows-observed_as};
+ghost use Rattle.p3_symmetric.specs.Digests.{values_of};
 
 use crate::{SerializedIn, SerializingChallenger};
 use p3_challenger_core::{CanObserve, ChallengerError, Sponge};
@@ -13,47 +18,27 @@ impl<F: SerializedIn<BYTES>, Inner: CanObserve<u8>, const BYTES: usize> Serializ
     Inner,
     BYTES,
 > {
-    ghost use Rattle.p3_serializing.specs.SerializingState.{SerializingState};
-
     /// A cap that is lent is observed as its contents are, the cap itself: it feeds the same symbols, and leaves the
     /// same state.
     ///
     /// A law: the body is empty, and a caller cites the clauses.
     pub fn lent_caps_are_caps<'a, const N: usize>()
-        ensures byte_symbols { (cap : _) →
-            ⟦<Self as CanObserve<&'a MerkleCap<F, [u8; N]>>>⟧.observation.symbols cap
-            ≡ ⟦<Self as CanObserve<MerkleCap<F, [u8; N]>>>⟧.observation.symbols cap.now }
-        ensures bytes_observed { (s : SerializingState Inner.State) (cap : _) →
-            ⟦<Self as CanObserve<&'a MerkleCap<F, [u8; N]>>>⟧.observation.observed s cap
-            ≡ ⟦<Self as CanObserve<MerkleCap<F, [u8; N]>>>⟧.observation.observed s cap.now }
-        ensures bytes_left { (s : _) (cap : _) (t : SerializingState Inner.State) →
-            ⟦<Self as CanObserve<&'a MerkleCap<F, [u8; N]>>>⟧.observation.may_leave s cap t
-            ↔ ⟦<Self as CanObserve<MerkleCap<F, [u8; N]>>>⟧.observation.may_leave s cap.now t }
-        ensures word_symbols { (cap : _) →
-            ⟦<Self as CanObserve<&'a MerkleCap<F, [u64; N]>>>⟧.observation.symbols cap
-            ≡ ⟦<Self as CanObserve<MerkleCap<F, [u64; N]>>>⟧.observation.symbols cap.now }
-        ensures words_observed { (s : SerializingState Inner.State) (cap : _) →
-            ⟦<Self as CanObserve<&'a MerkleCap<F, [u64; N]>>>⟧.observation.observed s cap
-            ≡ ⟦<Self as CanObserve<MerkleCap<F, [u64; N]>>>⟧.observation.observed s cap.now }
-        ensures words_left { (s : _) (cap : _) (t : SerializingState Inner.State) →
-            ⟦<Self as CanObserve<&'a MerkleCap<F, [u64; N]>>>⟧.observation.may_leave s cap t
-            ↔ ⟦<Self as CanObserve<MerkleCap<F, [u64; N]>>>⟧.observation.may_leave s cap.now t }
+        ensures bytes { ObservesSame ⟦<Self as CanObserve<&'a MerkleCap<F, [u8; N]>>>⟧.observation
+            (λ cap. cap.now) ⟦<Self as CanObserve<MerkleCap<F, [u8; N]>>>⟧.observation }
+        ensures words { ObservesSame ⟦<Self as CanObserve<&'a MerkleCap<F, [u64; N]>>>⟧.observation
+            (λ cap. cap.now) ⟦<Self as CanObserve<MerkleCap<F, [u64; N]>>>⟧.observation }
     {}
 }
 
 // What the digests consist of that a challenger observes: bytes, or words of 64 bits.
 trait DigestPart<C: Sponge>: Copy {
-    ghost use Rattle.p3_challenger_core.specs.Observation.{Observation, IsObservation};
-
     // What the parts of a digest do to the challenger.
     ghost parts_observed: { Observation C.State C.Symbol (List Self) };
 
     // Passes them on in order.
     fn feed_parts(challenger: &mut C, parts: &[Self]) -> Result<(), ChallengerError>
-        ensures ok { OnOk result
-            (C.state challenger.new ≡ parts_observed.observed (C.state challenger.old) parts.now) }
-        ensures err { IfErr result (λ e. RefusesValue parts_observed parts.now e
-            (C.state challenger.old) (C.state challenger.new)) };
+        ensures { ObservesOrRefuses parts_observed parts.now
+            (C.state challenger.old) result (C.state challenger.new) };
 
     ghost observes: { IsObservation C.fed parts_observed };
 }
@@ -61,8 +46,6 @@ trait DigestPart<C: Sponge>: Copy {
 impl<F, Inner: CanObserve<u8>, const BYTES: usize> DigestPart<
     SerializingChallenger<F, Inner, BYTES>,
 > for u8 {
-    ghost use Rattle.p3_serializing.specs.{SerializingState.bytes_observed, SerializingStateLaws.bytes-observed};
-
     ghost parts_observed = { bytes_observed Inner.observation Inner.slice_may_leave };
 
     ghost observes = { bytes-observed Inner.fed Inner.fed_nothing Inner.fed_more Inner.observation
@@ -80,8 +63,6 @@ impl<F, Inner: CanObserve<u8>, const BYTES: usize> DigestPart<
 impl<F, Inner: CanObserve<u8>, const BYTES: usize> DigestPart<
     SerializingChallenger<F, Inner, BYTES>,
 > for u64 {
-    ghost use Rattle.p3_serializing.specs.{SerializingState.words_observed, SerializingStateLaws.words-observed};
-
     ghost parts_observed = { words_observed Inner.observation Inner.slice_may_leave };
 
     ghost observes = { words-observed Inner.fed Inner.fed_nothing Inner.fed_more Inner.observation
@@ -104,10 +85,8 @@ fn feed_digests<C: Sponge, Part: DigestPart<C>, Digest: AsSlice<Part>>(
     challenger: &mut C,
     digests: &[Digest],
 ) -> Result<(), ChallengerError>
-    ensures ok { OnOk result (C.state challenger.new ≡ (each_as Digest.items
-        Part.parts_observed).observed (C.state challenger.old) digests.now) }
-    ensures err { IfErr result (λ e. RefusesValue (each_as Digest.items Part.parts_observed)
-        digests.now e (C.state challenger.old) (C.state challenger.new)) }
+    ensures { ObservesOrRefuses (each_as Digest.items Part.parts_observed) digests.now
+        (C.state challenger.old) result (C.state challenger.new) }
 {
     for i in 0..digests.len() {
         Part::feed_parts(challenger, digests[i].as_slice())?;
@@ -120,10 +99,8 @@ fn feed_caps<C: Sponge, Part: DigestPart<C>, Digest: AsSlice<Part>, Cap: AsSlice
     challenger: &mut C,
     caps: &[Cap],
 ) -> Result<(), ChallengerError>
-    ensures ok { OnOk result (C.state challenger.new ≡ (each_as Cap.items (each_as Digest.items
-        Part.parts_observed)).observed (C.state challenger.old) caps.now) }
-    ensures err { IfErr result (λ e. RefusesValue (each_as Cap.items (each_as Digest.items
-        Part.parts_observed)) caps.now e (C.state challenger.old) (C.state challenger.new)) }
+    ensures { ObservesOrRefuses (each_as Cap.items (each_as Digest.items Part.parts_observed))
+        caps.now (C.state challenger.old) result (C.state challenger.new) }
 {
     for i in 0..caps.len() {
         feed_digests(challenger, caps[i].as_slice())?;
@@ -138,10 +115,6 @@ impl<
     const BYTES: usize,
     const N: usize,
 > CanObserve<Hash<F, Part, N>> for SerializingChallenger<F, Inner, BYTES> {
-    ghost use Rattle.p3_challenger_core.specs.Observation.{observed_as};
-    ghost use Rattle.p3_symmetric.specs.HashValues.{values_of};
-    ghost use Rattle.p3_serializing.specs.SerializingStateLaws.{as-observed};
-
     ghost observation = { observed_as values_of Part.parts_observed };
 
     ghost slice_may_leave = { (each_as values_of Part.parts_observed).may_leave };
@@ -167,9 +140,6 @@ impl<
     const BYTES: usize,
     const N: usize,
 > CanObserve<MerkleCap<F, [Part; N]>> for SerializingChallenger<F, Inner, BYTES> {
-    ghost use Rattle.p3_challenger_core.specs.Observation.{in_row, observed_as};
-    ghost use Rattle.p3_serializing.specs.SerializingStateLaws.{rows-observed_as};
-
     // Its roots in order.
     ghost observation = { observed_as (λ cap. cap) (in_row Part.parts_observed) };
 
@@ -196,9 +166,6 @@ impl<
     const BYTES: usize,
     const N: usize,
 > CanObserve<&MerkleCap<F, [Part; N]>> for SerializingChallenger<F, Inner, BYTES> {
-    ghost use Rattle.p3_challenger_core.specs.Observation.{in_row, observed_as};
-    ghost use Rattle.p3_serializing.specs.SerializingStateLaws.{rows-observed_as};
-
     // Its roots in order.
     ghost observation = { observed_as (λ cap. cap.now) (in_row Part.parts_observed) };
 

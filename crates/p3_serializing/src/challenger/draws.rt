@@ -1,8 +1,12 @@
 //! What a serializing challenger draws: elements of the vector spaces over its field, and so of the field itself, and
 //! numbers of some bits. Each is made of groups of bytes of the inner challenger.
-ghost use Rattle.std.specs.Prelude.{◌≡◌, ℕ, ◌≤◌, ◌-◌, ◌^◌, Some, OnOk, IfOk, IfErr};
-ghost use Rattle.p3_challenger_core.specs.Sampling.{RefusesDraw};
-ghost use Rattle.p3_serializing.specs.SerializingState.{bits_of_order, group, element_of_groups};
+ghost use Rattle.std.specs.Prelude.{◌≡◌, ℕ, ◌≤◌, ◌-◌, ◌^◌, Bool, nat_lt};
+ghost use Rattle.p3_challenger_core.specs.{Sampling.{DrawsOrRefuses, most_bits_of}, BitLaws.most_bits-short};
+ghost use Rattle.p3_serializing.specs.SerializingState.{bits_of_order, group, element_of_groups, state_of};
+ghost use Rattle.p3_serializing.specs.SerializingState.{element_drawn, groups_allowed, AlwaysGives, MeetsNoLimit};
+ghost use Rattle.p3_serializing.specs.SerializingState.{space_element_drawn, bits_drawn};
+ghost use Rattle.p3_serializing.specs.SerializingStateLaws.{space_element-drawn, bits-drawn, bits_drawn-below};
+ghost use Rattle.p3_grinding.specs.Candidates.{MeetsLimitExactly};
 
 use crate::{SerializedIn, SerializingChallenger};
 use p3_challenger_core::{
@@ -17,27 +21,21 @@ impl<F: SerializedIn<BYTES>, Inner: CanSample<u8>, const BYTES: usize> Serializi
     Inner,
     BYTES,
 > {
-    ghost use Rattle.p3_serializing.specs.SerializingState.{state_of, element_drawn};
-
     /// A draw of an element cuts each group to the least number of bits that every number below the order fits in.
     ///
     /// A law: a caller cites the clauses.
     pub fn groups_are_cut_to_least_bits()
         ensures enough { F.residues.order ≤ 2 ^ bits_of_order F.residues.order }
-        ensures least { (bits : ℕ) → F.residues.order ≤ 2 ^ bits
-            → bits_of_order F.residues.order ≤ bits }
+        ensures least { (bits : ℕ) → F.residues.order ≤ 2 ^ bits →
+            bits_of_order F.residues.order ≤ bits }
     {
         let _ = log2_ceil_u64(F::ORDER_U64);
     }
 
     // Draws an element of the field.
     fn draw(&mut self) -> Result<F, ChallengerError>
-        ensures drawn { IfOk result (λ x. (element_drawn Inner.sampling BYTES F.residues).sampled
-            (state_of Inner.state self.old) ≡ Some x) }
-        ensures after { OnOk result (state_of Inner.state self.new ≡ (element_drawn Inner.sampling
-            BYTES F.residues).after (state_of Inner.state self.old)) }
-        ensures err { IfErr result (λ e. RefusesDraw (element_drawn Inner.sampling BYTES F.residues)
-            e (state_of Inner.state self.old) (state_of Inner.state self.new)) }
+        ensures { DrawsOrRefuses (element_drawn Inner.sampling BYTES F.residues)
+            (state_of Inner.state self.old) result (state_of Inner.state self.new) }
     {
         draw_element::<F, Inner, BYTES>(&mut self.inner, self.draw_limit)
     }
@@ -48,10 +46,6 @@ impl<F: SerializedIn<BYTES>, Inner: CanSample<u8>, const BYTES: usize> Serializi
     Inner,
     BYTES,
 > {
-    ghost use Rattle.std.specs.Prelude.{Bool, nat_lt};
-    ghost use Rattle.p3_grinding.specs.Candidates.{MeetsLimitExactly};
-    ghost use Rattle.p3_serializing.specs.SerializingState.{groups_allowed, AlwaysGives, MeetsNoLimit};
-
     /// A draw of an element of the field gives nothing exactly where each of as many groups as the draw limit allows is
     /// drawn and, cut to the bits of the order, is not below the order. There, and nowhere else, it meets the limit,
     /// and the challenger stands after just so many groups. A draw of bits, uniform or not, meets no limit, and gives a
@@ -75,9 +69,6 @@ impl<
     Inner: CanSample<u8>,
     const BYTES: usize,
 > CanSample<A> for SerializingChallenger<F, Inner, BYTES> {
-    ghost use Rattle.p3_serializing.specs.SerializingState.{space_element_drawn};
-    ghost use Rattle.p3_serializing.specs.SerializingStateLaws.{space_element-drawn};
-
     // Each coefficient is drawn by itself, coefficient 0 first, and meets the draw limit by itself.
     ghost sampling = { space_element_drawn Inner.sampling BYTES F.residues A.DIMENSION A.element };
 
@@ -95,10 +86,6 @@ impl<
 
 impl<F: SerializedIn<BYTES>, Inner: CanSample<u8>, const BYTES: usize> CanSampleBits<usize>
     for SerializingChallenger<F, Inner, BYTES> {
-    ghost use Rattle.p3_challenger_core.specs.{Bits.most_bits_of, BitLaws.most_bits-short};
-    ghost use Rattle.p3_serializing.specs.SerializingState.{bits_drawn};
-    ghost use Rattle.p3_serializing.specs.SerializingStateLaws.{bits-drawn, bits_drawn-below};
-
     // The greatest number of bits, below 64, whose power of two is below the order.
     ghost most_bits = { most_bits_of F.residues.order };
 
@@ -152,12 +139,8 @@ impl<F, Inner: CanFinalizeDigest, const BYTES: usize> CanFinalizeDigest
 fn draw_group<F: SerializedIn<BYTES>, Inner: CanSample<u8>, const BYTES: usize>(
     inner: &mut Inner,
 ) -> Result<u64, ChallengerError>
-    ensures drawn { IfOk result (λ word.
-        (group Inner.sampling BYTES).sampled (Inner.state inner.old) ≡ Some word) }
-    ensures after { OnOk result
-        (Inner.state inner.new ≡ (group Inner.sampling BYTES).after (Inner.state inner.old)) }
-    ensures err { IfErr result (λ e. RefusesDraw (group Inner.sampling BYTES) e
-        (Inner.state inner.old) (Inner.state inner.new)) }
+    ensures { DrawsOrRefuses (group Inner.sampling BYTES)
+        (Inner.state inner.old) result (Inner.state inner.new) }
 {
     let bytes = sample_array::<u8, Inner, BYTES>(inner)?;
     Ok(F::number_of_bytes(&bytes))
@@ -175,12 +158,8 @@ fn draw_element<F: SerializedIn<BYTES>, Inner: CanSample<u8>, const BYTES: usize
     inner: &mut Inner,
     draw_limit: u64,
 ) -> Result<F, ChallengerError>
-    ensures drawn { IfOk result (λ x. (element_of_groups Inner.sampling BYTES F.residues
-        draw_limit).sampled (Inner.state inner.old) ≡ Some x) }
-    ensures after { OnOk result (Inner.state inner.new ≡ (element_of_groups Inner.sampling BYTES
-        F.residues draw_limit).after (Inner.state inner.old)) }
-    ensures err { IfErr result (λ e. RefusesDraw (element_of_groups Inner.sampling BYTES F.residues
-        draw_limit) e (Inner.state inner.old) (Inner.state inner.new)) }
+    ensures { DrawsOrRefuses (element_of_groups Inner.sampling BYTES F.residues draw_limit)
+        (Inner.state inner.old) result (Inner.state inner.new) }
 {
     let mask = order_mask::<F>();
     for _ in 0..draw_limit {

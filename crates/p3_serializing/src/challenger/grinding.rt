@@ -1,6 +1,10 @@
 //! Uniform bits and proof of work on a serializing challenger.
-ghost use Rattle.std.specs.Prelude.{◌≡◌, IfOk, IfErr};
+ghost use Rattle.std.{specs.Prelude.{◌≡◌, IfOk, IfErr}, proofs.Common.refl};
 ghost use Rattle.p3_challenger_core.specs.declared.error.ChallengerError.TheVariants.{OutOfMemory};
+ghost use Rattle.p3_serializing.specs.SerializingState.{state_of, byte_dropped, stepped, bits_drawn};
+ghost use Rattle.p3_serializing.specs.SerializingStateLaws.{byte_dropped-drawn, bits-drawn, bits_drawn-below};
+ghost use Rattle.p3_serializing.specs.{SerializingGrinding.may_run_out_of, SerializingSymbolLaws.elements-tell_apart};
+ghost use Rattle.p3_grinding.specs.{UniformDraws.never_rejects, UniformDrawLaws.never_rejects-is_uniform};
 
 use crate::{SerializedIn, SerializingChallenger};
 use p3_challenger_core::{CanSample, CanSampleBits, ChallengerError};
@@ -15,8 +19,6 @@ impl<
     Inner: ByteGrindingChallenger<BYTES, BYTES>,
     const BYTES: usize,
 > SerializingChallenger<F, Inner, BYTES> {
-    ghost use Rattle.p3_serializing.specs.SerializingState.{state_of};
-
     /// An equal challenger, which shares nothing with this one.
     ///
     /// The one error is [`ChallengerError::OutOfMemory`]. The Rust crate's `Clone`, which answers no error.
@@ -48,8 +50,6 @@ impl<F, Inner: TryClone, const BYTES: usize> TryClone for SerializingChallenger<
 
 impl<F, Inner: CanSample<u8>, const BYTES: usize> BeforeWitness
     for SerializingChallenger<F, Inner, BYTES> {
-    ghost use Rattle.p3_serializing.specs.{SerializingState.byte_dropped, SerializingStateLaws.byte_dropped-drawn};
-
     // One byte is drawn and dropped, so that the inner challenger hashes what was observed before it tries witnesses.
     ghost before_witness = { byte_dropped Inner.sampling };
 
@@ -63,10 +63,6 @@ impl<F, Inner: CanSample<u8>, const BYTES: usize> BeforeWitness
 
 impl<F: SerializedIn<BYTES>, Inner: CanSample<u8>, const BYTES: usize> CanSampleUniformBits<F>
     for SerializingChallenger<F, Inner, BYTES> {
-    ghost use Rattle.p3_grinding.specs.{UniformDraws.never_rejects, UniformDrawLaws.never_rejects-is_uniform};
-    ghost use Rattle.p3_serializing.specs.SerializingState.{stepped, bits_drawn};
-    ghost use Rattle.p3_serializing.specs.SerializingStateLaws.{bits-drawn, bits_drawn-below};
-
     // Bits of a group have no bias, so no value is rejected: one group is drawn, also for no bits.
     ghost uniform = { λ _ bits. never_rejects (bits_drawn Inner.sampling BYTES bits) };
 
@@ -91,10 +87,6 @@ impl<
     Inner: ByteGrindingChallenger<BYTES, BYTES>,
     const BYTES: usize,
 > GrindingChallenger for SerializingChallenger<F, Inner, BYTES> {
-    ghost use Rattle.std.proofs.Common.{refl};
-    ghost use Rattle.p3_serializing.specs.SerializingGrinding.{may_run_out_of};
-    ghost use Rattle.p3_serializing.specs.SerializingSymbolLaws.{elements-tell_apart};
-
     type Witness = F;
 
     // Where a copy or a check of some number of bits may be refused for memory.

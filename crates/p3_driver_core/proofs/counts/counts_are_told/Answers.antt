@@ -1,5 +1,5 @@
 use Rattle.std.proofs.Common.{[], ◌++◌, ◌<◌, ◌^◌, ap, sym, ◌∙◌, arith}
-use Rattle.p3_fs_core.specs.{Counts.count_width, CountLaws.{count_width-enough, count_width-most}}
+use Rattle.p3_fs_core.specs.{BigEndian.count_width, CountLaws.{count_width-enough, count_width-most}}
 use Rattle.p3_fs_core.specs.BigEndianLaws.{length-in_bytes, AreBytes-in_bytes}
 use Rattle.p3_driver_core.proofs.counts.counts_are_told.Goals as goal
 

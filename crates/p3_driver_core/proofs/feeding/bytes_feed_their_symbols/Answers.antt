@@ -1,8 +1,7 @@
 use Rattle.std.proofs.Common.{ℕ, List, length}
-use Rattle.p3_fs_core.specs.{Counts.count_bytes, Alphabet.alphabet_of}
-use Rattle.p3_driver_core.specs.{Effects.observing_bytes, Feeding.Feeds}
-use Rattle.p3_driver_core.specs.FeedingLaws.{observing_bytes-feeds, in_sequence-feeds}
-use Rattle.p3_driver_core.proofs.feeding.bytes_feed_their_symbols.Given.{Over}
+use Rattle.p3_fs_core.specs.{BigEndian.count_bytes, Alphabet.alphabet_of}
+use Rattle.p3_driver_core.specs.{Effects.observing_bytes, FeedingLaws.{observing_bytes-feeds, in_sequence-feeds}}
+use Rattle.p3_driver_core.{specs.Feeding.Feeds, proofs.feeding.bytes_feed_their_symbols.Given.Over}
 use Rattle.p3_driver_core.proofs.feeding.bytes_feed_their_symbols.Goals as goal
 
 bytes-feed : (g : Over) (bytes : List ℕ) → Feeds g.C.Sponge.fed (observing_bytes

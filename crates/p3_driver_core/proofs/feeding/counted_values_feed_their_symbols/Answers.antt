@@ -1,5 +1,5 @@
 use Rattle.std.proofs.Common.{length}
-use Rattle.p3_fs_core.specs.{Counts.count_bytes, Alphabet.alphabet_of}
+use Rattle.p3_fs_core.specs.{BigEndian.count_bytes, Alphabet.alphabet_of}
 use Rattle.p3_driver_core.specs.FeedingLaws.{observing_bytes-feeds, observing_list-feeds, in_sequence-feeds}
 use Rattle.p3_driver_core.proofs.feeding.counted_values_feed_their_symbols.Goals as goal
 

@@ -1,5 +1,5 @@
 use Rattle.p3_challenger_core.specs.SymbolLaws.{places-prefix_code, valued-prefix_code}
-use Rattle.p3_symmetric.specs.{HashValues.values_of, HashValueLaws.{length-values, values-injective}}
+use Rattle.p3_symmetric.specs.{Digests.values_of, HashValueLaws.{length-values, values-injective}}
 use Rattle.p3_hash_challenger.proofs.prefix_code.hash_arrays_are_prefix_code.Goals as goal
 
 pub returns-clause-arrays : goal.returns-clause-arrays

@@ -1,4 +1,4 @@
-use Rattle.p3_symmetric.specs.{HashValues.values_of, HashValueLaws.values-injective}
+use Rattle.p3_symmetric.specs.{Digests.values_of, HashValueLaws.values-injective}
 use Rattle.p3_multi_field.specs.MultiFieldSymbolLaws.{scalars-prefix_code, digest-prefix_code}
 use Rattle.p3_multi_field.proofs.prefix_code.multi_field_arrays_are_prefix_code.Goals as goal
 

@@ -1,11 +1,11 @@
 -- Each kind of step, by the laws of what it does.
 use Rattle.std.proofs.Common.{subst, ◌∷◌, [], Some, refl, inl, inr}
-use Rattle.p3_fs_core.specs.{Algebras.algebra_step, ScalarLaws.is_encoding, StepFits.FitsLength}
+use Rattle.p3_fs_core.specs.{Steps.algebra_step, ScalarLaws.is_encoding, StepFits.FitsLength}
 use Rattle.p3_driver_core.specs.Effects.{untouched}
-use Rattle.p3_step_laws.specs.Memory.{OnlyMemoryRefusesToRead}
-use Rattle.p3_runs.specs.{Plays.no_challenge, Rules.Rules}
-use Rattle.p3_runs.specs.Values.{IsNothing, bytes_in, scalar_in, scalars_in, extension_in}
-use Rattle.p3_script.{proofs.Canonical.step-canonical, proofs.Determined.step-determined, specs.SuiteRules.rules_of}
+use Rattle.p3_step_laws.specs.OneReason.{OnlyMemoryRefusesToRead}
+use Rattle.p3_runs.specs.{Plays.no_challenge, Values.{IsNothing, bytes_in, scalar_in, scalars_in, extension_in}}
+use Rattle.p3_runs.specs.Rules.{Rules}
+use Rattle.p3_script.{proofs.{Canonical.step-canonical, Determined.step-determined}, specs.SuiteRules.rules_of}
 use Rattle.p3_script.proofs.Possible.{IsRefusedForMemory, known_with-refused, known-refused, counted-refused}
 use Rattle.p3_script.proofs.Possible.{sends-refused, within_refused, untouched-tells, witness-refused, carried-refused}
 use Rattle.p3_script.{specs.Scripts.{play_of, list_sent, counted_known}, proofs.laws.script_steps_are_lawful.Given.Over}

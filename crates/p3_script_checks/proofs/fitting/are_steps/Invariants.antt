@@ -2,7 +2,7 @@ use Rattle.std.proofs.Common.{◌≡◌, drop, map}
 use Rattle.p3_fs_core.specs.Interactions.{step_of}
 use Rattle.p3_runs.specs.Runs.{interactions}
 use Rattle.p3_script.specs.{Scripts.play_of, SuiteRules.rules_of}
-use Rattle.p3_script_checks.specs.Carriers.{CarryRules}
+use Rattle.p3_script_checks.specs.Places.{CarryRules}
 use Rattle.p3_script_checks.proofs.fitting.are_steps.Given as goal
 
 -- what is so of the steps that are left is so of all

@@ -1,7 +1,7 @@
 use Rattle.std.proofs.Common.{sym, ◌∙◌}
 use Rattle.p3_challenger_core.specs.SymbolLaws.{row-prefix_code, bytes-prefix_code}
 use Rattle.p3_serializing.specs.SerializingSymbolLaws.{words-read}
-use Rattle.p3_symmetric.specs.{HashValues.values_of, HashValueLaws.{length-values, values-injective}}
+use Rattle.p3_symmetric.specs.{Digests.values_of, HashValueLaws.{length-values, values-injective}}
 use Rattle.p3_serializing.proofs.prefix_code.serialized_digests_are_prefix_code.Goals as goal
 
 pub returns-clause-bytes : goal.returns-clause-bytes

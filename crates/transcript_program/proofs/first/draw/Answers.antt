@@ -1,6 +1,7 @@
-use Rattle.p3_challenger.specs.{BabyBearResidues.residues, BytesToField.{challenge_of, draw_bytes}}
-use Rattle.p3_challenger.specs.{HashState.{function_of, sampled, after_sampled}, Sampling.{unrefused_draw, in_row}}
+use Rattle.p3_challenger.specs.{BytesToField.{challenge_of, draw_bytes}, HashState.{function_of, sampled}}
+use Rattle.p3_challenger.specs.{HashState.after_sampled, Sampling.{unrefused_draw, in_row}}
 use Rattle.p3_challenger.specs.SamplingLaws.{made_of-refuses, in_row-not_refused}
+use Rattle.p3_field.specs.BabyBearResidues.{residues}
 use Rattle.std.specs.Prelude.{Some}
 use Rattle.transcript_program.specs.Scalar.{width}
 use Rattle.transcript_program.proofs.first.draw.Goals as goal

@@ -1,6 +1,6 @@
 use Rattle.std.proofs.Common.{◌≡◌, [], length, drop, Option, Some, Result, Ok, arith, refl, sym, ap, ◌∙◌, length-drop}
-use Rattle.p3_challenger.specs.{HashState.{observed, function_of}, BabyBearResidues.BabyBear}
-use Rattle.p3_challenger.specs.TranscriptError.{TranscriptError}
+use Rattle.p3_challenger.specs.{HashState.{observed, function_of}, TranscriptError.TranscriptError}
+use Rattle.p3_field.specs.BabyBearResidues.{BabyBear}
 use Rattle.transcript_program.specs.{Scalar.width, First.{drawn_scalar, after_scalar, read_whole}}
 use Rattle.transcript_program.proofs.FirstLemmas.{read_whole-decoded}
 use Rattle.transcript_program.specs.Scalar as scalar

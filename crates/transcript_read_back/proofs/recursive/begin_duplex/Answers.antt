@@ -1,10 +1,10 @@
 use Rattle.std.proofs.Common.{◌<◌, ap, arith}
-use Rattle.p3_challenger.specs.{BabyBearResidues.residues, HashValueLaws.length-values}
-use Rattle.transcript_read_back.specs.AcceptedReadBackLaws.{accepted-read_back, accepted-read_back_or_collide}
-use Rattle.transcript_read_back.specs.CallByCall.{duplex_run}
-use Rattle.transcript_read_back.specs.ChallengerReadBackLaws.{duplex-reads_back, duplex-reads_back_or_collides}
-use Rattle.transcript_read_back.specs.ChallengerReadBackLaws.{duplex-ends_alike, some-of_length}
-use Rattle.transcript_read_back.specs.TranscriptReadBackLaws.{transcripts-read_back, transcripts-read_back_or_collide}
+use Rattle.p3_challenger.specs.HashValueLaws.{length-values}
+use Rattle.p3_field.specs.BabyBearResidues.{residues}
+use Rattle.transcript_read_back.specs.AcceptedReadBackLaws.{accepted-read_back_or_collide, accepted-read_back}
+use Rattle.transcript_read_back.specs.{CallByCall.duplex_run, ChallengerReadBackLaws.duplex-reads_back_or_collides}
+use Rattle.transcript_read_back.specs.ChallengerReadBackLaws.{duplex-reads_back, duplex-ends_alike, some-of_length}
+use Rattle.transcript_read_back.specs.TranscriptReadBackLaws.{transcripts-read_back_or_collide, transcripts-read_back}
 use Rattle.transcript_read_back.proofs.recursive.begin_duplex.Goals as goal
 
 pub scripts_are_calls-requires-clause-opaque_feeds : goal.scripts_are_calls-requires-clause-opaque_feeds

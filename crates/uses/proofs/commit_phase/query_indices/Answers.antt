@@ -9,4 +9,4 @@ loop-init g c =
 pub loop-preserved : goal.loop-preserved
 loop-preserved g c =
     kept-more (g.C.CanSampleUniformBits.uniform true c.args.demands.index_bits).draw _ _ _ _ _ _ c.loop.invariant
-    c.in_ok-sample_uniform_bits.ensures.drawn c.in_ok-sample_uniform_bits.ensures.after c.in_ok-keep.ensures
+    c.in_ok-sample_uniform_bits.ensures.0 c.in_ok-sample_uniform_bits.ensures.1 c.in_ok-keep.ensures

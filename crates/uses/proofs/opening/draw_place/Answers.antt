@@ -1,5 +1,6 @@
 use Rattle.std.proofs.Common.{◌%◌, ap, ◌∙◌}
-use Rattle.p3_challenger.specs.{BabyBearResidues.residues, Bound.bound_value}
+use Rattle.p3_challenger.specs.Bound.{bound_value}
+use Rattle.p3_field.specs.BabyBearResidues.{residues}
 use Rattle.uses.proofs.opening.draw_place.Goals as goal
 
 pub returns-clause-drawn : goal.returns-clause-drawn

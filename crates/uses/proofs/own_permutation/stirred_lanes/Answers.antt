@@ -1,5 +1,5 @@
 use Rattle.std.proofs.Common.{◌∙◌, ap, lit<}
-use Rattle.p3_challenger.specs.{BabyBearResidues.residues, Residues.{plus, sum_of}, SmallPrimeLaws.laws}
+use Rattle.p3_field.specs.{BabyBearResidues.residues, Residues.{plus, sum_of}, SmallPrimeLaws.laws}
 use Rattle.p3_lanes.specs.SmallPrimeLanes.{element_in}
 use Rattle.uses.proofs.Powers.{seventh-power}
 use Rattle.uses.proofs.own_permutation.stirred_lanes.Goals as goal

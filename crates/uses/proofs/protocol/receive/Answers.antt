@@ -1,12 +1,12 @@
 use Rattle.std.proofs.Common.{lit<, ◌≡◌, ◌++◌, [], length, append-nil, ap, sym, ◌∙◌}
 use Rattle.std.proofs.lemmas.Result.{err_from_is_err_and}
-use Rattle.p3_challenger.specs.{BabyBearResidues.residues, Bound.bound_value, Encoding.{Encoding, IsEncoding}}
-use Rattle.p3_challenger.specs.{BabyBearResidues.BabyBear, Scalar.encoding, ScalarLaws.is_encoding, SmallPrimeLaws.laws}
-use Rattle.p3_challenger.specs.{Transcripts.step_on, Drivers.verifying_of}
+use Rattle.p3_challenger.specs.{Bound.bound_value, Encoding.{Encoding, IsEncoding}, Scalar.encoding}
+use Rattle.p3_challenger.specs.{ScalarLaws.is_encoding, Transcripts.step_on, Drivers.verifying_of}
+use Rattle.p3_field.specs.{BabyBearResidues.{residues, BabyBear}, SmallPrimeLaws.laws}
+use Rattle.uses.proofs.{Runs.{counted, read}, ReadBytes.{bytes-left, bytes-read, value-left, value-read, encoded-whole}}
 use Rattle.uses.proofs.Accepting.{begins, divisor-drawn, divisor-next, draws-place, ends-past, completing-of, memory-of}
-use Rattle.uses.proofs.{Accepting.{plays-on, plays-or_memory, reads, reads-or_memory, same-claim}, Runs.{counted, read}}
-use Rattle.uses.proofs.Accepting.{sends-offset, sends-quotient, sends-slope}
-use Rattle.uses.proofs.ReadBytes.{bytes-left, bytes-read, value-left, value-read, encoded-whole}
+use Rattle.uses.proofs.Accepting.{plays-on, plays-or_memory, reads, reads-or_memory, same-claim, sends-offset}
+use Rattle.uses.proofs.Accepting.{sends-quotient, sends-slope}
 use Rattle.uses.proofs.protocol.receive.Goals as goal
 
 elements : Encoding BabyBear

@@ -1,5 +1,5 @@
 use Rattle.std.proofs.Common.{ap}
-use Rattle.p3_challenger.specs.Algebras.{algebra_of}
+use Rattle.p3_challenger.specs.Steps.{algebra_of}
 use Rattle.uses.{specs.TwoSums.steps_of_two, proofs.RecordSums.{ends-own, two-are, two-recorded, two-viable}}
 use Rattle.uses.proofs.two_sums.pattern.Goals as goal
 

@@ -1,5 +1,5 @@
 use Rattle.std.proofs.{Common.{◌∙◌, ap}, lemmas.Result.err_from_is_err_and}
-use Rattle.p3_challenger.specs.{Algebras.algebra_of, Drivers.proving_of, SeparatorSeed.pattern_of}
+use Rattle.p3_challenger.specs.{Steps.algebra_of, Drivers.proving_of, SeparatorSeed.pattern_of}
 use Rattle.p3_sumcheck.specs.Sumchecks.{sumcheck_of}
 use Rattle.uses.{specs.TwoSums.steps_of_two, proofs.TwoSums.{all-next, proves-two, sent-ends, start-own}}
 use Rattle.uses.proofs.two_sums.prove_two.Goals as goal

@@ -1,5 +1,5 @@
 use Rattle.std.proofs.{Common.{◌∙◌, Err, ap, subst}, lemmas.Result.err_from_is_err_and}
-use Rattle.p3_challenger.specs.{Algebras.algebra_of, Drivers.verifying_of, Reading.AreBytes}
+use Rattle.p3_challenger.specs.{Steps.algebra_of, Drivers.verifying_of, Reading.AreBytes}
 use Rattle.p3_sumcheck.specs.{ReadingLaws.next-reading_fault, Sumchecks.sumcheck_of, Tables.total}
 use Rattle.p3_sumcheck.specs.declared.error.SumcheckError.TheVariants.{Transcript}
 use Rattle.uses.{specs.TwoSums.sum_step, proofs.ReadSums.{read_sum, sum-passes, sum-read, sum-then, sumcheck-fault}}

@@ -1,8 +1,8 @@
 use Rattle.std.proofs.{Common.{◌∙◌, [], append-nil, ap, sym}, lemmas.Result.err_from_is_err_and}
-use Rattle.p3_challenger.specs.{Algebras.algebra_of, Drivers.verifying_of}
+use Rattle.p3_challenger.specs.{Steps.algebra_of, Drivers.verifying_of}
 use Rattle.p3_sumcheck.specs.Sumchecks.{sumcheck_of}
-use Rattle.uses.{specs.TwoSums.{steps_of_sum, with_bytes}, proofs.TwoSums.two-split}
-use Rattle.uses.proofs.TwoSums.{both-passed, first-bytes, first-left, first-next, second-bytes, second-left, second-next}
+use Rattle.uses.{specs.TwoSums.{steps_of_sum, with_bytes}, proofs.TwoSums.{two-split, both-passed, first-bytes}}
+use Rattle.uses.proofs.TwoSums.{first-left, first-next, second-bytes, second-left, second-next}
 use Rattle.uses.proofs.two_sums.receive_two.Goals as goal
 
 pub returns-clause-accepts : goal.returns-clause-accepts

@@ -1,5 +1,5 @@
 use Rattle.std.proofs.{Common.ap, lemmas.Result.err_from_is_err_and}
-use Rattle.p3_challenger.specs.{Algebras.algebra_of, Rounds.steps_of_rounds}
+use Rattle.p3_challenger.specs.{Steps.algebra_of, Rounds.steps_of_rounds}
 use Rattle.p3_sumcheck.specs.{DeclaringLaws.only-memory, Sumchecks.round_steps}
 use Rattle.uses.{specs.TwoSums.sum_step, proofs.RecordSums.{on-both, viable-then, viable-taken}}
 use Rattle.uses.proofs.two_sums.record_sum.Goals as goal

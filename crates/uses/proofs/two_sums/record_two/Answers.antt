@@ -1,5 +1,5 @@
 use Rattle.std.proofs.{Common.{◌++◌, append_assoc, subst, sym}, lemmas.Result.err_from_is_err_and}
-use Rattle.p3_challenger.specs.{Algebras.algebra_of, PatternGrammar.IsViable}
+use Rattle.p3_challenger.specs.{Steps.algebra_of, PatternGrammar.IsViable}
 use Rattle.uses.{specs.TwoSums.steps_of_sum, proofs.RecordSums.{viable-front, viable-next}}
 use Rattle.uses.proofs.two_sums.record_two.Goals as goal
 

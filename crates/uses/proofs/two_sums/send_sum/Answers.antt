@@ -1,5 +1,5 @@
 use Rattle.std.proofs.{Common.{◌∙◌, ap}, lemmas.Result.err_from_is_err_and}
-use Rattle.p3_challenger.specs.{Algebras.algebra_of, Drivers.proving_of}
+use Rattle.p3_challenger.specs.{Steps.algebra_of, Drivers.proving_of}
 use Rattle.p3_sumcheck.specs.{Sumchecks.sumcheck_of, Tables.total}
 use Rattle.uses.proofs.TwoSums.{rounds-next, sum-own, sum-passed, sum-sent}
 use Rattle.uses.proofs.two_sums.send_sum.Goals as goal

@@ -1,5 +1,5 @@
 use Rattle.std.proofs.lemmas.Result.{err_from_is_err_and}
-use Rattle.p3_challenger.specs.{Algebras.algebra_of, Completeness.IsOwnRefusal, Drivers.proving_of}
+use Rattle.p3_challenger.specs.{Steps.algebra_of, Completeness.IsOwnRefusal, Drivers.proving_of}
 use Rattle.p3_sumcheck.specs.Sumchecks.{sumcheck_of}
 use Rattle.uses.{specs.TwoSums.steps_of_sum, proofs.TwoSums.{both-passed, first-next, match-then, ok-then, second-next}}
 use Rattle.uses.proofs.two_sums.send_two.Goals as goal

@@ -1,5 +1,5 @@
 use Rattle.std.proofs.{Common.{inr, sym, ap}, lemmas.Result.err_from_is_err_and}
-use Rattle.p3_challenger.specs.{Algebras.algebra_of, Drivers.verifying_of, Observation.observed_all}
+use Rattle.p3_challenger.specs.{Steps.algebra_of, Drivers.verifying_of, Observation.observed_all}
 use Rattle.p3_challenger.specs.SeparatorSeed.{pattern_of, seed_of_separator}
 use Rattle.p3_sumcheck.specs.{Sumchecks.sumcheck_of, declared.error.SumcheckError.TheVariants.Transcript}
 use Rattle.uses.{specs.TwoSums.{begun, steps_of_two}, proofs.TwoSums.{reads-end, start-memory, start-own}}

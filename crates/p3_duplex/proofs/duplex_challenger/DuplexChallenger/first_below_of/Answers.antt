@@ -3,21 +3,16 @@ use Rattle.p3_grinding.specs.CandidateLaws.{seeks-next, seeks-gives, seeks-reach
 use Rattle.p3_duplex.proofs.Uniform.{below-true, below-false}
 use Rattle.p3_duplex.proofs.duplex_challenger.DuplexChallenger.first_below_of.Goals as goal
 
-pub returns-then-as_canonical_u64-bound-clause-drawn :
-    goal.returns-then-as_canonical_u64-bound-clause-drawn
-returns-then-as_canonical_u64-bound-clause-drawn g c =
+pub returns-then-as_canonical_u64-bound : goal.returns-then-as_canonical_u64-bound
+returns-then-as_canonical_u64-bound g c =
     let more : c.loop.counter < c.args.count = search (rules, c.loop-test.true) in
-    seeks-gives _ _ c.args.count c.args.self.now c.loop.counter _ _ _ more
-    (ap Some (sym c.draw-element.ensures.value)) c.draw-element.ensures.after c.loop.invariant
-    (below-true _ _ _ c.as_canonical_u64.ensures c.if-as_canonical_u64-bound.true)
-
-pub returns-then-as_canonical_u64-bound-clause-after :
-    goal.returns-then-as_canonical_u64-bound-clause-after
-returns-then-as_canonical_u64-bound-clause-after g c =
-    let more : c.loop.counter < c.args.count = search (rules, c.loop-test.true) in
-    seeks-reached _ _ c.args.count c.args.self.now c.loop.counter _ _ _ more
-    (ap Some (sym c.draw-element.ensures.value)) c.draw-element.ensures.after c.loop.invariant
-    (below-true _ _ _ c.as_canonical_u64.ensures c.if-as_canonical_u64-bound.true)
+    let given = ap Some (sym c.draw-element.ensures.value) in
+    let accepted = below-true _ _ _ c.as_canonical_u64.ensures c.if-as_canonical_u64-bound.true in (
+      seeks-gives _ _ c.args.count c.args.self.now c.loop.counter _ _ _ more given c.draw-element.ensures.after
+          c.loop.invariant accepted,
+      seeks-reached _ _ c.args.count c.args.self.now c.loop.counter _ _ _ more given c.draw-element.ensures.after
+          c.loop.invariant accepted,
+    )
 
 pub loop-preserved : goal.loop-preserved
 loop-preserved g c =
@@ -26,7 +21,7 @@ loop-preserved g c =
     (ap Some (sym c.draw-element.ensures.value)) c.draw-element.ensures.after c.loop.invariant
     (below-false _ _ _ c.as_canonical_u64.ensures c.if-as_canonical_u64-bound.false)
 
-pub returns-clause-err : goal.returns-clause-err
-returns-clause-err g c =
+pub returns : goal.returns
+returns g c =
     let all : c.args.count ≤ c.loop.counter = search (rules, c.loop-test.false) in
     seeks-none _ _ c.args.count c.args.self.now c.loop.counter c.loop.self all c.loop.invariant

@@ -1,4 +1,4 @@
-use Rattle.std.proofs.Common.{refl, subst, arith}
+use Rattle.std.proofs.Common.{refl, subst, arith, rules}
 use Rattle.p3_challenger_core.specs.BitLaws.{most_bits-short}
 use Rattle.p3_duplex.specs.LaneSearch.{IsLeastOf, NoneOfAll}
 use Rattle.p3_duplex.proofs.LaneSearching.{passes-prepared, least-is_least, none-passes, array_fits}
@@ -20,19 +20,21 @@ least_in_lanes-found-requires g c =
       ),
     )
 
-pub returns-in-Some-clause-least : goal.returns-in-Some-clause-least
-returns-in-Some-clause-least g c =
+pub returns-in-Some-clause-found : goal.returns-in-Some-clause-found
+returns-in-Some-clause-found g c =
     let r = g.F.PrimeCharacteristicRing.residues in
     let permute = g.P.CryptographicPermutation.permutation in
     let inside = c.self.inside in
     let same = passes-prepared r permute g.row.RATE c.self.invariant.positive c.args.self.now
     inside.sponge_state inside.input_buffer inside.inputs inside.outputs_left inside.draw_limit inside.permutation
-    (omega (arith, c.self.invariant.short, c.self.told2)) c.self.view_is c.overwrite.new.cells c.overwrite.ensures c.args.bits in
-    least-is_least r permute g.row.RATE c.args.self.now c.args.bits c.if-bits-eq0.false c.in-Some.witness
-    (subst (λ Passes. IsLeastOf r Passes c.in-Some.witness) same c.in-Some.ensures)
+    (omega (arith, c.self.invariant.short, c.self.told2)) c.self.view_is c.overwrite.new.cells c.overwrite.ensures c.args.bits in (
+      least-is_least r permute g.row.RATE c.args.self.now c.args.bits c.if-bits-eq0.false c.in-Some.witness
+          (subst (λ Passes. IsLeastOf r Passes c.in-Some.witness) same c.in-Some.ensures),
+      search rules,
+    )
 
-pub returns-in-None-clause-err : goal.returns-in-None-clause-err
-returns-in-None-clause-err g c =
+pub returns-in-None-clause-found : goal.returns-in-None-clause-found
+returns-in-None-clause-found g c =
     let r = g.F.PrimeCharacteristicRing.residues in
     let permute = g.P.CryptographicPermutation.permutation in
     let inside = c.self.inside in

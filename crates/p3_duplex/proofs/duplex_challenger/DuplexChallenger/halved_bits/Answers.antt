@@ -4,8 +4,8 @@ use Rattle.p3_duplex.specs.{DuplexState.after_sampled, DuplexUniform.single, Dup
 use Rattle.p3_duplex.proofs.Uniform.{moved_up}
 use Rattle.p3_duplex.proofs.duplex_challenger.DuplexChallenger.halved_bits.Goals as goal
 
-pub returns-in_err-low-clause-err : goal.returns-in_err-low-clause-err
-returns-in_err-low-clause-err g c =
+pub returns-in_err-low : goal.returns-in_err-low
+returns-in_err-low g c =
     let r = g.F.PrimeCharacteristicRing.residues in
     let permute = g.P.CryptographicPermutation.permutation in
     let bits = c.args.bits in
@@ -13,18 +13,19 @@ returns-in_err-low-clause-err g c =
     let stops = halves-refused (after_sampled r permute g.row.RATE) c.args.resample (bits / 2)
     (single r permute g.row.RATE c.args.resample (bits / 2))
     (single r permute g.row.RATE c.args.resample (bits - bits / 2)) (laws (bits / 2)) (laws (bits - bits / 2))
-    c.in_err-low.field-0.0 c.args.self.now c.single_bits.new.self c.in_err-low.ensures.err in
+    c.in_err-low.field-0.0 c.args.self.now c.single_bits.new.self c.in_err-low.ensures.drawn in
     search (rules, stops)
 
-pub returns-clause-drawn : goal.returns-clause-drawn
-returns-clause-drawn g c =
+pub returns : goal.returns
+returns g c =
     let r = g.F.PrimeCharacteristicRing.residues in
     let permute = g.P.CryptographicPermutation.permutation in
     let bits = c.args.bits in
     let laws = single-is_uniform r permute g.row.RATE c.args.resample in
     let high = single r permute g.row.RATE c.args.resample (bits - bits / 2) in
-    halves-sampled (after_sampled r permute g.row.RATE) c.args.resample (bits / 2)
+    let drawn = halves-sampled (after_sampled r permute g.row.RATE) c.args.resample (bits / 2)
     (single r permute g.row.RATE c.args.resample (bits / 2)) high (laws (bits / 2)) (laws (bits - bits / 2))
-    c.args.self.now c.in_ok-low.low c.in_ok-high.high c.in_ok-low.ensures.drawn
-    (ap high.draw.sampled (sym c.in_ok-low.ensures.after) ∙ c.in_ok-high.ensures.drawn)
-    ∙ ap (λ n. Some (c.in_ok-low.low + n)) (sym (moved_up bits c.in_ok-high.high c.requires c.in_ok-high.ensures.below))
+    c.args.self.now c.in_ok-low.low c.in_ok-high.high c.in_ok-low.ensures.drawn.0
+    (ap high.draw.sampled (sym c.in_ok-low.ensures.drawn.1) ∙ c.in_ok-high.ensures.drawn.0)
+    ∙ ap (λ n. Some (c.in_ok-low.low + n)) (sym (moved_up bits c.in_ok-high.high c.requires c.in_ok-high.ensures.below)) in
+    (drawn, search rules)

@@ -1,6 +1,6 @@
 use Rattle.std.{proofs.Common.◌∙◌, specs.List.flat_map}
 use Rattle.p3_duplex.{specs.DuplexStateLaws.fed-flat_map, proofs.Calls.fed-is_calls}
-use Rattle.p3_symmetric.specs.HashValues.{values_of}
+use Rattle.p3_symmetric.specs.Digests.{values_of}
 use Rattle.p3_duplex.proofs.duplex_challenger.DuplexChallenger.observes_are_calls.Goals as goal
 
 pub returns-clause-array : goal.returns-clause-array

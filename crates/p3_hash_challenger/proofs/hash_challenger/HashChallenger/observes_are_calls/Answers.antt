@@ -1,5 +1,5 @@
 use Rattle.std.specs.List.{flat_map}
-use Rattle.p3_symmetric.specs.HashValues.{values_of}
+use Rattle.p3_symmetric.specs.Digests.{values_of}
 use Rattle.p3_hash_challenger.{specs.HashState.function_of, proofs.Calls.{fed-is_calls, array-is_calls}}
 use Rattle.p3_hash_challenger.proofs.hash_challenger.HashChallenger.observes_are_calls.Goals as goal
 

@@ -1,4 +1,4 @@
-use Rattle.p3_symmetric.specs.HashValues.{values_of}
+use Rattle.p3_symmetric.specs.Digests.{values_of}
 use Rattle.p3_serializing.{specs.Bytes.bytes_of, proofs.Calls.{row-bytes, rows-bytes}}
 use Rattle.p3_serializing.proofs.challenger.SerializingChallenger.observes_are_calls.Goals as goal
 

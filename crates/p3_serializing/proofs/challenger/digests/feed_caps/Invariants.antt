@@ -1,6 +1,6 @@
 use Rattle.std.proofs.Common.{drop}
 use Rattle.p3_challenger_core.specs.{CallLaws.GoesOn, Observation.observed_as}
-use Rattle.p3_serializing.specs.SerializingState.{each_as}
+use Rattle.p3_challenger_core.specs.Observation.{each_as}
 use Rattle.p3_serializing.proofs.challenger.digests.feed_caps.Given as goal
 
 abbrev pub invariant-loop-i : goal.invariant-loop-i

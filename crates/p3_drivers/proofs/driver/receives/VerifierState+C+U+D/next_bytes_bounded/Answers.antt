@@ -1,5 +1,5 @@
 use Rattle.std.proofs.{Common.{length, inl, inr, subst, ap, ◌∙◌, ◌||◌}, lemmas.Result.err_from_is_err_and}
-use Rattle.p3_fs_core.specs.{Counts.count_bytes, Alphabet.alphabet_of, declared.step.Kind.TheVariants.Message}
+use Rattle.p3_fs_core.specs.{BigEndian.count_bytes, Alphabet.alphabet_of, declared.step.Kind.TheVariants.Message}
 use Rattle.p3_fs_core.specs.declared.step.Length.TheVariants.{Bounded}
 use Rattle.p3_driver_core.specs.{Effects.{observing_bytes, in_sequence}, Transcripts.bytes_step}
 use Rattle.p3_drivers.{proofs.Refusals.{not-read, refused-after_read}, specs.Drivers.verifying_of}

@@ -1,6 +1,6 @@
 use Rattle.std.proofs.{Common.{ap, ◌∙◌, ◌||◌}, lemmas.Result.err_from_is_err_and}
-use Rattle.p3_fs_core.specs.declared.step.{Kind.TheVariants.Message, Length.TheVariants.Fixed}
-use Rattle.p3_fs_core.specs.Algebras.{algebra_of, algebra_step}
+use Rattle.p3_fs_core.specs.{Steps.{algebra_of, algebra_step}, declared.step.Kind.TheVariants.Message}
+use Rattle.p3_fs_core.specs.declared.step.Length.TheVariants.{Fixed}
 use Rattle.p3_drivers.{proofs.Refusals.list-refused, specs.Drivers.verifying_of}
 use Rattle.p3_drivers.proofs.driver.receives.VerifierState+C+U+D.next_scalars.Goals as goal
 

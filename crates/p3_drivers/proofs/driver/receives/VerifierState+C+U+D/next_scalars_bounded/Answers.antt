@@ -1,7 +1,7 @@
 use Rattle.std.proofs.{Common.{refl, subst, ap, ◌∙◌, ◌||◌}, lemmas.Result.err_from_is_err_and}
 use Rattle.p3_fs_core.specs.declared.step.{Kind.TheVariants.Message, Length.TheVariants.Bounded}
-use Rattle.p3_fs_core.specs.{Counts.count_bytes, Alphabet.alphabet_of, Algebras.{algebra_of, algebra_step}}
-use Rattle.p3_driver_core.specs.{Bound.bound_values, Opened.playing_of, Effects.observing_bytes}
+use Rattle.p3_fs_core.specs.{BigEndian.count_bytes, Alphabet.alphabet_of, Steps.{algebra_of, algebra_step}}
+use Rattle.p3_driver_core.specs.{Bound.bound_values, Driving.playing_of, Effects.observing_bytes}
 use Rattle.p3_drivers.proofs.Refusals.{not-read, count-fails, count-refused, values-refused, values-received}
 use Rattle.p3_drivers.specs.Drivers.{verifying_of}
 use Rattle.p3_driver_core.specs.Reads as reads

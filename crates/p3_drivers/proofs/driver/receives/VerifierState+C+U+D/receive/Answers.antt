@@ -1,6 +1,6 @@
 use Rattle.std.proofs.{Common.{ap, ◌∙◌, ◌||◌}, lemmas.Result.err_from_is_err_and}
-use Rattle.p3_fs_core.specs.declared.step.{Kind.TheVariants.Message, Length.TheVariants.Scalar}
-use Rattle.p3_fs_core.specs.Algebras.{algebra_of, algebra_step}
+use Rattle.p3_fs_core.specs.{Steps.{algebra_of, algebra_step}, declared.step.Kind.TheVariants.Message}
+use Rattle.p3_fs_core.specs.declared.step.Length.TheVariants.{Scalar}
 use Rattle.p3_drivers.{proofs.Refusals.not-read, specs.Drivers.verifying_of}
 use Rattle.p3_driver_core.specs.Reads as reads
 use Rattle.p3_drivers.proofs.driver.receives.VerifierState+C+U+D.receive.Goals as goal

@@ -1,5 +1,5 @@
 use Rattle.std.proofs.{Common.{ap, subst, refl, inl, ◌||◌}, lemmas.Result.err_from_is_err_and}
-use Rattle.p3_fs_core.specs.{Algebras.{algebra_of, algebra_step}, Alphabet.alphabet_of}
+use Rattle.p3_fs_core.specs.{Steps.{algebra_of, algebra_step}, Alphabet.alphabet_of}
 use Rattle.p3_fs_core.specs.declared.step.{Kind.TheVariants.Message, Length.TheVariants.Bounded}
 use Rattle.p3_driver_core.specs.Effects.{observing_bytes}
 use Rattle.p3_drivers.{specs.Drivers.proving_of, proofs.Pieces.challenger-refused}

@@ -1,7 +1,7 @@
 use Rattle.std.proofs.{Common.{inl, refl, ap, ◌||◌}, lemmas.Result.err_from_is_err_and}
-use Rattle.p3_fs_core.specs.declared.step.{Kind.TheVariants.Pow, Length.TheVariants.Fixed}
-use Rattle.p3_fs_core.specs.Algebras.{algebra_of, algebra_step}
-use Rattle.p3_driver_core.specs.{Opened.transcript_of, Working.work_of}
+use Rattle.p3_fs_core.specs.{Steps.{algebra_of, algebra_step}, declared.step.Kind.TheVariants.Pow}
+use Rattle.p3_fs_core.specs.declared.step.Length.TheVariants.{Fixed}
+use Rattle.p3_driver_core.specs.{Driving.transcript_of, Working.work_of}
 use Rattle.p3_drivers.proofs.Pieces.{search-refused}
 use Rattle.p3_drivers.proofs.driver.work.ProverState+C+U+D.pow.Goals as goal
 
@@ -18,6 +18,6 @@ returns-in_err-sent g c =
           g.C.BeforeWitness.before_witness g.C.CanObserve.observation g.C.CanSampleBits.bits_sampling c.args.bits)
           g.C.GrindingChallenger.may_run_out (transcript_of (state c.args.self.now.challenger) c.args.self.now.steps)
           (transcript_of (state c.grind.new.self) c.take_algebra.new.self) c.in_err-sent.field-0.0 opened.is_next
-          (ap (λ b. b || c.take_algebra.new.self.player.finished) opened.closed) c.in_err-sent.ensures.err,
+          (ap (λ b. b || c.take_algebra.new.self.player.finished) opened.closed) c.in_err-sent.ensures.found,
       refl,
     ))

@@ -1,6 +1,6 @@
 use Rattle.std.proofs.{Common.{ap, ◌∙◌, ◌||◌, inl}, lemmas.Result.err_from_is_err_and}
-use Rattle.p3_fs_core.specs.{Scalar.encoding, declared.step.Kind.TheVariants.Pow, Algebras.{algebra_of, algebra_step}}
-use Rattle.p3_fs_core.specs.declared.step.Length.TheVariants.{Fixed}
+use Rattle.p3_fs_core.specs.{Scalar.encoding, declared.step.{Kind.TheVariants.Pow, Length.TheVariants.Fixed}}
+use Rattle.p3_fs_core.specs.Steps.{algebra_of, algebra_step}
 use Rattle.p3_driver_core.specs.Working.{work_of}
 use Rattle.p3_drivers.{proofs.Refusals.not-read, specs.Drivers.verifying_of}
 use Rattle.p3_driver_core.specs.Reads as reads

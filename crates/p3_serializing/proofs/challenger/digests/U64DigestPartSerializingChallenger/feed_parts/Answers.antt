@@ -15,11 +15,11 @@ loop-i-preserved g c =
     c.loop-i-test.true (get_or_default words c.loop-i.i 0 word c.loop-i-test.true) c.loop-i.invariant
     (state c.feed.new.self)
     (subst (λ (bytes : List _). state c.feed.new.self ≡ of_bytes.observed (state c.loop-i.challenger) bytes)
-    (c.to_le_bytes.ensures ∙ bytes_of_8 word) c.in_ok-feed.ensures.ok)
+    (c.to_le_bytes.ensures ∙ bytes_of_8 word) c.in_ok-feed.ensures)
 
 -- the words before the refused one are observed
-pub returns-in_err-feed-clause-err : goal.returns-in_err-feed-clause-err
-returns-in_err-feed-clause-err g c =
+pub returns-in_err-feed : goal.returns-in_err-feed
+returns-in_err-feed g c =
     let inner = g.Inner.CanObserve in
     let of_bytes = bytes_observed inner.observation inner.slice_may_leave in
     let o = number_observed inner.observation inner.slice_may_leave 8 in
@@ -31,5 +31,5 @@ returns-in_err-feed-clause-err g c =
     c.in_err-feed.field-0.0 (state c.feed.new.self)
     (subst (λ (bytes : List _). RefusesObserve (of_bytes.may_leave (state c.loop-i.challenger) bytes)
     c.in_err-feed.field-0.0 (state c.feed.new.self)) (c.to_le_bytes.ensures ∙ bytes_of_8 word)
-    c.in_err-feed.ensures.err) in
+    c.in_err-feed.ensures) in
     search (rules, left)

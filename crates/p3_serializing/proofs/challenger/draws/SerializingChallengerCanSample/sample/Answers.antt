@@ -18,7 +18,7 @@ returns-in_err-draw-clause-err g c =
     let there = state c.draw.new.self in
     let more : i < space.DIMENSION = omega (arith, c.loop-i-test.true, c.DIMENSION-i-end.ensures) in
     let stops = drew-stops d space.DIMENSION start (take i (space.coefficients c.loop-i.element)) i
-    (state c.loop-i.self) more c.loop-i.invariant e there c.in_err-draw.ensures.err in
+    (state c.loop-i.self) more c.loop-i.invariant e there c.in_err-draw.ensures in
     let whole = refused-space_element g.Inner.Sponge.next m.sampling g.met.Inner.CanSample.samples g.row.BYTES r
     space.DIMENSION space.element e start there stops in
     search (rules, whole)
@@ -36,12 +36,12 @@ loop-i-preserved g c =
     let more : i < space.DIMENSION = omega (arith, c.loop-i-test.true, c.DIMENSION-i-end.ensures) in
     let in_range : i < length xs = omega (arith, more, g.met.A.BasedVectorSpace.length_coefficients c.loop-i.element) in
     let next = drew-one_more d space.DIMENSION start (take i xs) i (state c.loop-i.self) x more
-    c.in_ok-draw.ensures.drawn c.loop-i.invariant in
+    c.in_ok-draw.ensures.0 c.loop-i.invariant in
     drew-as d space.DIMENSION start (take i xs ++ x ∷ [])
     (take (i + 1) (space.coefficients c.with_coefficient-element.result)) (space.DIMENSION - (i + 1))
     (d.after (state c.loop-i.self)) (state c.draw.new.self)
     (ap (take (i + 1)) c.with_coefficient-element.ensures ∙ take_more_set xs i x in_range)
-    c.in_ok-draw.ensures.after next
+    c.in_ok-draw.ensures.1 next
 
 -- an element is its coefficients
 pub returns-clause-drawn : goal.returns-clause-drawn

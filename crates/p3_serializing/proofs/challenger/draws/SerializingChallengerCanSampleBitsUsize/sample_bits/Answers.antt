@@ -21,6 +21,6 @@ returns-clause-drawn g c =
     let mask : (1 * 2 ^ bits) % 18446744073709551616 - 1 ≡ 2 ^ bits - 1 = ap (λ n. n - 1) (shifted bits short) in
     let here : c.self.inside.inner ≡ c.args.self.now.inner = ap (λ v. v.inner) c.self.view_is in
     let drawn : read.sampled (state c.args.self.now.inner) ≡ Some c.in_ok-word.word =
-    ap (λ i. read.sampled (state i)) (sym here) ∙ c.in_ok-word.ensures.drawn in
+    ap (λ i. read.sampled (state i)) (sym here) ∙ c.in_ok-word.ensures.0 in
     masked-drawn (read.sampled (state c.args.self.now.inner)) c.in_ok-word.word
     ((1 * 2 ^ bits) % 18446744073709551616 - 1) bits mask drawn

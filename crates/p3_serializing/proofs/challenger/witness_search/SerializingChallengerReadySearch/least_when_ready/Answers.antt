@@ -36,7 +36,7 @@ returns-in_err-feed_element-in-Some-clause-err g c =
     g.Inner.CanSample.sampling g.F.PrimeCharacteristicRing.residues g.row.BYTES c.args.bits
     g.Inner.TryClone.clones_may_fail (state c.args.self.now) c.from_canonical-witness.result
     c.in_err-feed_element-in-Some.field-0.0 (state c.feed_element.new.self)
-    c.in_err-feed_element-in-Some.ensures.err in
+    c.in_err-feed_element-in-Some.ensures in
     search (rules, refused)
 
 -- the group after it is refused
@@ -64,6 +64,6 @@ returns-in_err-sample_bits-in-Some-clause-err g c =
     ∙ found.passes in
     let refused = draw-refused o slice_may_leave d r g.row.BYTES bits g.Inner.TryClone.clones_may_fail start
     g.Inner.Sponge.next g.met.Inner.CanSample.samples witness c.in_err-sample_bits-in-Some.field-0.0
-    (state c.feed_element.new.self) (state c.sample_bits.new.self) c.in_ok-feed_element-in-Some.ensures.ok passes
+    (state c.feed_element.new.self) (state c.sample_bits.new.self) c.in_ok-feed_element-in-Some.ensures passes
     c.in_err-sample_bits-in-Some.ensures.err in
     search (rules, refused)
