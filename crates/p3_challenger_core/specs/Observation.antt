@@ -53,7 +53,7 @@ abbrev pub RefusesObserve : {S : Type 0} → (S → Type 0) → ChallengerError 
 RefusesObserve MayLeave OutOfMemory t = MayLeave t
 RefusesObserve MayLeave _ t = ⊥
 
--- the same of one value
+-- what an observe of this value leaves, where it answers this error
 abbrev pub RefusesValue : {S Symbol T : Type 0} → Observation S Symbol T → T → ChallengerError → S → S → Type 0
 RefusesValue o x e s t = RefusesObserve (o.may_leave s x) e t
 
