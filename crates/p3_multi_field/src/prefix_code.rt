@@ -34,8 +34,10 @@ pub fn multi_field_arrays_are_prefix_code<
     const RATE: usize,
     const N: usize,
 >()
-    ensures arrays { IsPrefixCodeOn (λ values. length values ≡ N)
-        ⟦<MultiField32Challenger<F, PF, P, WIDTH, RATE> as CanObserve<[F; N]>>⟧.observation.symbols }
-    ensures digests { IsPrefixCode
-        ⟦<MultiField32Challenger<F, PF, P, WIDTH, RATE> as CanObserve<Hash<F, PF, N>>>⟧.observation.symbols }
+    ensures arrays { let arrays =
+        ⟦<MultiField32Challenger<F, PF, P, WIDTH, RATE> as CanObserve<[F; N]>>⟧ in
+        IsPrefixCodeOn (λ values. length values ≡ N) arrays.observation.symbols }
+    ensures digests { let digests =
+        ⟦<MultiField32Challenger<F, PF, P, WIDTH, RATE> as CanObserve<Hash<F, PF, N>>>⟧ in
+        IsPrefixCode digests.observation.symbols }
 {}

@@ -36,12 +36,15 @@ pub fn serialized_digests_are_prefix_code<
     const BYTES: usize,
     const N: usize,
 >()
-    ensures bytes { IsPrefixCode Inner.observation.symbols → IsPrefixCode
-        ⟦<SerializingChallenger<F, Inner, BYTES> as CanObserve<Hash<F, u8, N>>>⟧.observation.symbols }
-    ensures known_bytes { IsPrefixCodeOn IsByte Inner.observation.symbols
-        → IsPrefixCodeOn (λ digest. AreBytes (values_of digest))
-        ⟦<SerializingChallenger<F, Inner, BYTES> as CanObserve<Hash<F, u8, N>>>⟧.observation.symbols }
-    ensures words { IsPrefixCodeOn IsByte Inner.observation.symbols
-        → IsPrefixCodeOn (λ digest. AreWords (values_of digest))
-        ⟦<SerializingChallenger<F, Inner, BYTES> as CanObserve<Hash<F, u64, N>>>⟧.observation.symbols }
+    ensures bytes { let digests =
+        ⟦<SerializingChallenger<F, Inner, BYTES> as CanObserve<Hash<F, u8, N>>>⟧ in
+        IsPrefixCode Inner.observation.symbols → IsPrefixCode digests.observation.symbols }
+    ensures known_bytes { let digests =
+        ⟦<SerializingChallenger<F, Inner, BYTES> as CanObserve<Hash<F, u8, N>>>⟧ in
+        IsPrefixCodeOn IsByte Inner.observation.symbols
+        → IsPrefixCodeOn (λ digest. AreBytes (values_of digest)) digests.observation.symbols }
+    ensures words { let digests =
+        ⟦<SerializingChallenger<F, Inner, BYTES> as CanObserve<Hash<F, u64, N>>>⟧ in
+        IsPrefixCodeOn IsByte Inner.observation.symbols
+        → IsPrefixCodeOn (λ digest. AreWords (values_of digest)) digests.observation.symbols }
 {}
