@@ -447,8 +447,25 @@ fn absorb<
     ensures { let rule = duplex F.residues (P.permutation permutation.now) RATE in
         cells.new ≡ rule.permute (permutation_input rule cells.old block.now) }
 {
-    if !block.is_empty() {
+    if block.is_empty() {
+        *cells = permuted(*cells, permutation);
+    } else {
         overwrite(&mut cells[..], block, RATE);
+        permutation.permute_mut(cells);
     }
-    permutation.permute_mut(cells);
+}
+
+// The cells, permuted.
+// It is not written out at each call: else a loop of draws keeps the cells in registers of vectors, and at every draw
+// moves them about for the next permutation.
+#[inline(never)]
+fn permuted<F: PrimeField64, P: CryptographicPermutation<[F; WIDTH]>, const WIDTH: usize>(
+    cells: [F; WIDTH],
+    permutation: &P,
+) -> [F; WIDTH]
+    ensures { result ≡ P.permutation permutation.now cells }
+{
+    let mut permuted = cells;
+    permutation.permute_mut(&mut permuted);
+    permuted
 }
