@@ -6,8 +6,6 @@ mod candidates;
 #[cfg(test)]
 mod counting;
 #[cfg(test)]
-mod hash;
-#[cfg(test)]
 mod multi_field;
 #[cfg(test)]
 mod printed;

@@ -1,16 +1,10 @@
-// The challenger over two fields: what its tests share, a small challenger and calls of any.
-mod calls;
-mod digests;
-mod made;
-mod work;
-
-use crate::support::{draws, observe_one};
-use p3_challenger_core::{CanFinalizeDigest, CanObserve, CanSample, ChallengerError};
-use p3_field::{BabyBear, F257, PrimeCharacteristicRing};
-use p3_multi_field::MultiField32Challenger;
+// The challenger over two fields: a small one, which fields make one, and what is told of those that do not.
+use p3_field::{BabyBear, F257, Goldilocks};
+use p3_multi_field::{MultiField32Challenger, MultiField32ChallengerError};
 use p3_symmetric::Turn;
-use p3_test_support::element;
+use std::alloc::{AllocError, Global};
 use std::process::Abort;
+use std::test::Fail;
 
 /// Three cells of the larger field, of which two are the rate.
 pub type Small = MultiField32Challenger<F257, BabyBear, Turn<2>, 3, 2>;
@@ -20,37 +14,42 @@ pub fn fresh(rt: &impl Abort) -> Small {
     MultiField32Challenger::new(Turn).expect(rt, "these fields make a challenger")
 }
 
-/// The element of the larger field of a number.
-pub fn word(number: u64) -> BabyBear {
-    BabyBear::from_u64(number)
+type Wide = MultiField32Challenger<BabyBear, Goldilocks, Turn<1>, 129, 128>;
+
+type Full = MultiField32Challenger<BabyBear, Goldilocks, Turn<1>, 128, 127>;
+
+type OneField = MultiField32Challenger<BabyBear, BabyBear, Turn<1>, 257, 256>;
+
+fn says(
+    alloc: Global,
+    error: &MultiField32ChallengerError,
+    text: &str,
+) -> Result<bool, AllocError> {
+    Ok(error.to_string(alloc)?.as_str() == text)
 }
 
-/// Observes the scalars of these numbers, one by one.
-pub fn observe_each<C: CanObserve<F257>>(
-    challenger: &mut C,
-    numbers: &[u64],
-) -> Result<(), ChallengerError> {
-    for number in numbers {
-        challenger.observe(element(*number))?;
-    }
+#[test]
+fn batch_of_more_scalars_than_a_byte_counts_is_refused(rt: HostRuntime) -> Result<(), Fail> {
+    let error = MultiField32ChallengerError::AbsorbLengthTagOverflow {
+        batch_len: 256,
+        max: 255,
+    };
+    assert!(rt; Wide::new(Turn).err() == Some(error));
+    let text =
+        "a full absorb batch contains 256 sampled-field elements, exceeding the u8 length-tag limit of 255";
+    assert!(rt; says(rt.alloc(), &error, text)?);
+    assert!(rt; Full::new(Turn).is_ok());
     Ok(())
 }
 
-/// Whether the scalars of these numbers are drawn next, once a value is observed.
-pub fn draws_after<V, C: CanObserve<V> + CanSample<F257>>(
-    challenger: &mut C,
-    value: V,
-    numbers: &[u64],
-) -> Result<bool, ChallengerError> {
-    observe_one(challenger, value)?;
-    draws(challenger, numbers)
-}
-
-/// Whether the digest has these two words.
-pub fn ends_in<C: CanFinalizeDigest<Digest = [BabyBear; 2]>>(
-    challenger: C,
-    first: u64,
-    second: u64,
-) -> bool {
-    challenger.finalize() == [word(first), word(second)]
+#[test]
+fn orders_that_do_not_increase_are_refused_first(rt: HostRuntime) -> Result<(), Fail> {
+    let error = MultiField32ChallengerError::FieldOrderNotIncreasing {
+        input_field: "BabyBear",
+        sponge_field: "BabyBear",
+    };
+    assert!(rt; OneField::new(Turn).err() == Some(error));
+    let text = "sampled field `BabyBear` must have smaller order than transcript field `BabyBear`";
+    assert!(rt; says(rt.alloc(), &error, text)?);
+    Ok(())
 }

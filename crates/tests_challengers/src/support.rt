@@ -1,6 +1,6 @@
 // What the tests share. Each function is generic over the challenger, and so proved once, from its bounds alone: of a
 // test on a challenger as it is each call takes seconds to prove.
-use p3_challenger_core::{CanObserve, CanSample, CanSampleBits, ChallengerError};
+use p3_challenger_core::{CanObserve, CanSample, ChallengerError};
 use p3_field::F257;
 use p3_grinding::GrindingChallenger;
 use p3_test_support::element;
@@ -19,14 +19,6 @@ pub fn observe_one<V, C: CanObserve<V>>(
     challenger.observe(value)
 }
 
-/// Observes values by one call.
-pub fn observe_many<V, C: CanObserve<V>>(
-    challenger: &mut C,
-    values: &[V],
-) -> Result<(), ChallengerError> {
-    challenger.observe_slice(values)
-}
-
 /// Whether the elements of these numbers are drawn next.
 pub fn draws<C: CanSample<F257>>(
     challenger: &mut C,
@@ -40,19 +32,7 @@ pub fn draws<C: CanSample<F257>>(
     Ok(true)
 }
 
-// Bits, a search and a check, each of as many bits as may be asked for.
-
-/// The next number of so many bits.
-pub fn bits<C: CanSampleBits<usize>>(
-    rt: &impl Abort,
-    challenger: &mut C,
-    bits: usize,
-) -> Result<usize, ChallengerError> {
-    assert!(rt; bits <= C::max_bits());
-    challenger.sample_bits(bits)
-}
-
-/// The witness that is found and observed.
+/// The witness that is found and observed, of as many bits as may be asked for.
 pub fn grind<C: GrindingChallenger<Witness = F257>>(
     rt: &impl Abort,
     challenger: &mut C,
@@ -60,15 +40,4 @@ pub fn grind<C: GrindingChallenger<Witness = F257>>(
 ) -> Result<F257, ChallengerError> {
     assert!(rt; bits <= C::max_bits());
     challenger.grind(bits)
-}
-
-/// Whether the element of a number is a witness; it is observed.
-pub fn passes<C: GrindingChallenger<Witness = F257>>(
-    rt: &impl Abort,
-    challenger: &mut C,
-    bits: usize,
-    witness: u64,
-) -> Result<bool, ChallengerError> {
-    assert!(rt; bits <= C::max_bits());
-    challenger.check_witness(bits, element(witness))
 }

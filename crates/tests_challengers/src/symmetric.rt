@@ -1,20 +1,12 @@
 ghost use Rattle.std.specs.Prelude.{◌≡◌, ◌↔◌, IsTrue};
 ghost use Rattle.p3_symmetric.specs.Digests.{values_of};
 
-use p3_field::{BabyBear, F257, PrimeCharacteristicRing, PrimeField64};
-use p3_symmetric::{CryptographicPermutation, Hash, MerkleCap, Turn};
+use p3_field::{F257, PrimeField64};
+use p3_symmetric::{Hash, MerkleCap};
 use p3_test_support::element;
 use std::test::Fail;
 
 // ---- what generic code knows: each of these is proved from its bound alone
-
-fn permuted<T: Copy, P: CryptographicPermutation<T>>(permutation: P, state: T) -> T
-    ensures { result ≡ P.permutation permutation state }
-{
-    let mut state = state;
-    permutation.permute_mut(&mut state);
-    state
-}
 
 fn digest_from<F, T, const N: usize>(values: [T; N]) -> Hash<F, T, N>
     ensures { values_of result ≡ values }
@@ -36,27 +28,6 @@ struct Marker;
 
 fn three(x: u64, y: u64, z: u64) -> [F257; 3] {
     [element(x), element(y), element(z)]
-}
-
-#[test]
-fn cells_turn_and_get_their_place_and_one(rt: HostRuntime) {
-    let state = three(10, 20, 256);
-    assert_eq!(rt; permuted(Turn::<0>, state), three(11, 22, 2));
-    assert_eq!(rt; permuted(Turn::<1>, state), three(21, 1, 13));
-    assert_eq!(rt; permuted(Turn::<2>, state), three(0, 12, 23));
-    assert_eq!(rt;
-        permuted(Turn::<5>, state),
-        three(0, 12, 23),
-        "a whole turn and two places"
-    );
-    assert_eq!(rt; permuted(Turn::<2>, [element(7)]), [element(8)]);
-    let nothing: [F257; 0] = [];
-    assert_eq!(rt; permuted(Turn::<1>, nothing), nothing);
-    let state = [BabyBear::from_u64(2013265920), BabyBear::from_u64(5)];
-    assert_eq!(rt;
-        permuted(Turn::<1>, state),
-        [BabyBear::from_u64(6), BabyBear::from_u64(1)]
-    );
 }
 
 #[test]

@@ -79,14 +79,6 @@ fn limit_holds_for_each_half(rt: HostRuntime) {
     assert_answered_before(&rt, &mut &mut twice, observed, (28, true, Ok(196612)), 5);
 }
 
-#[test]
-fn no_bits_draw_nothing(rt: HostRuntime) {
-    let once = (0, false, Ok(0));
-    assert_answered_before(&rt, &mut fresh::<2>(1), BEFORE_LARGEST, once, 2013265920);
-    let again = (0, true, Ok(0));
-    assert_answered_before(&rt, &mut fresh::<2>(1), BEFORE_LARGEST, again, 2013265920);
-}
-
 // Whether an error prints this text.
 fn says(alloc: Global, error: &UniformBitsError, text: &str) -> Result<bool, AllocError> {
     Ok(error.to_string(alloc)?.as_str() == text)

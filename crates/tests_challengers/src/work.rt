@@ -1,15 +1,20 @@
 ghost use Rattle.std.specs.Prelude.{◌≤◌};
 
-use crate::support::{draws, grind, holds, passes};
-use p3_challenger_core::{CanObserve, CanSample, ChallengerError};
+use crate::support::{draws, grind, holds};
+use p3_challenger_core::{CanSample, ChallengerError};
 use p3_duplex::DuplexChallenger;
 use p3_field::F257;
 use p3_grinding::{GrindingChallenger, TryClone, UniformGrindingChallenger};
+use p3_hash_challenger::HashChallenger;
+use p3_serializing::SerializingChallenger32;
 use p3_symmetric::Turn;
-use p3_test_support::element;
+use p3_test_support::{LengthHasher, element, length_challenger};
 use std::process::Abort;
+use std::test::Fail;
 
 type Sponge<const K: usize> = DuplexChallenger<F257, Turn<K>, 3, 2>;
+
+type Serializing = SerializingChallenger32<F257, HashChallenger<u8, LengthHasher, 32>>;
 
 fn fresh<const K: usize>(draw_limit: u64) -> Sponge<K>
     requires { 1 ≤ draw_limit }
@@ -50,37 +55,15 @@ fn passes_uniform<C: UniformGrindingChallenger<Witness = F257>>(
 
 // What challengers do stands in generic functions, which are proved from their bounds alone.
 
-fn finds_least_witnesses<C: TryClone + GrindingChallenger<Witness = F257> + CanSample<F257>>(
-    rt: &impl Abort,
-    mut challenger: C,
-) -> Result<bool, ChallengerError> {
-    let mut copy = challenger.try_clone()?;
-    let of_three_bits = grind(rt, &mut copy, 3)? == element(6) && draws(&mut copy, &[2, 4])?;
-    let of_eight_bits = grind(rt, &mut &mut challenger, 8)? == element(254);
-    Ok(of_three_bits && of_eight_bits && draws(&mut challenger, &[2, 4])?)
-}
-
-fn finds_no_witness<C: TryClone + GrindingChallenger<Witness = F257> + CanSample<F257>>(
-    rt: &impl Abort,
-    mut challenger: C,
-) -> Result<bool, ChallengerError> {
-    let mut copy = challenger.try_clone()?;
-    let none = grind(rt, &mut copy, 1) == Err(ChallengerError::NoWitness);
-    let unchanged = draws(&mut copy, &[2, 1, 5, 3])?;
-    challenger.observe(element(5))?;
-    let of_three_bits = grind(rt, &mut challenger, 3) == Err(ChallengerError::NoWitness);
-    Ok(none && unchanged && of_three_bits && grind(rt, &mut challenger, 2)? == element(0))
-}
-
-fn asks_for_no_work<C: UniformGrindingChallenger<Witness = F257> + CanSample<F257>>(
+// Whether no witness is found, and these numbers are drawn next, as they would have been before.
+fn finds_none<C: GrindingChallenger<Witness = F257> + CanSample<F257>>(
     rt: &impl Abort,
     challenger: &mut C,
+    bits: usize,
+    next: &[u64],
 ) -> Result<bool, ChallengerError> {
-    let first = grind(rt, challenger, 0)? == element(0) && passes(rt, challenger, 0, 7)?;
-    let uniform = grind_uniform(rt, challenger, 0, true)? == element(0)
-        && passes_uniform(rt, challenger, 0, 7, true)?
-        && passes_uniform(rt, challenger, 0, 7, false)?;
-    Ok(first && uniform && draws(challenger, &[2, 1])?)
+    let none = grind(rt, challenger, bits) == Err(ChallengerError::NoWitness);
+    Ok(none && draws(challenger, next)?)
 }
 
 fn finds_uniform_witness<C: TryClone + UniformGrindingChallenger<Witness = F257> + CanSample<F257>>(
@@ -115,18 +98,12 @@ fn meets_the_limit<C: TryClone + UniformGrindingChallenger<Witness = F257>>(
 }
 
 #[test]
-fn least_witness_is_found_and_observed(rt: HostRuntime) {
-    assert!(rt; holds(&rt, finds_least_witnesses(&rt, fresh::<2>(10))));
-}
-
-#[test]
-fn no_witness_leaves_the_challenger(rt: HostRuntime) {
-    assert!(rt; holds(&rt, finds_no_witness(&rt, fresh::<1>(10))));
-}
-
-#[test]
-fn no_bits_ask_for_no_work(rt: HostRuntime) {
-    assert!(rt; holds(&rt, asks_for_no_work(&rt, &mut fresh::<1>(10))));
+fn no_witness_leaves_the_challenger(rt: HostRuntime) -> Result<(), Fail> {
+    assert!(rt; holds(&rt, finds_none(&rt, &mut fresh::<1>(10), 1, &[2, 1, 5, 3])));
+    let five = length_challenger(rt.alloc(), 5)?;
+    let mut serializing: Serializing = SerializingChallenger32::new(five, 10);
+    assert!(rt; holds(&rt, finds_none(&rt, &mut serializing, 1, &[63])));
+    Ok(())
 }
 
 #[test]
