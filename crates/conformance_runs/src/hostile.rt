@@ -4,9 +4,10 @@ use crate::mutation::change;
 use anyhow::{Result, bail};
 use p3_challenger::ChallengerError;
 use p3_challenger::fs::TranscriptError;
-use p3_challenger::fs::script::{Step, admitted, carried_len, prove, sent_matches, verify};
+use p3_challenger::fs::script::Step;
 use p3_field::PrimeField64;
 use rand_xoshiro::Xoshiro256PlusPlus;
+use script_lines::playing::{prove_steps, verify_steps};
 use script_lines::script::Steps;
 use script_lines::world::{SeparatorOf, World};
 use std::alloc::Global;
@@ -65,10 +66,7 @@ pub fn try_changes<S: World>(
     tally: &mut Tally,
 ) -> Result<()> {
     let (steps, sent) = (script.steps.as_slice(), script.sent.as_slice());
-    if !admitted(steps) || !sent_matches(steps, sent) {
-        return Ok(());
-    }
-    let Ok(proved) = prove::<S>(alloc, S::fresh(alloc)?, separator, steps, sent) else {
+    let Ok(Ok(proved)) = prove_steps::<S>(alloc, S::fresh(alloc)?, separator, steps, sent) else {
         return Ok(());
     };
     let carried = proved.carried.as_slice();
@@ -91,10 +89,7 @@ fn judge<S: World>(
     narg: &[u8],
     tally: &mut Tally,
 ) -> Result<()> {
-    if !admitted(steps) || carried_len(steps) != carried.len() {
-        bail!("another number of witnesses than these steps carry");
-    }
-    match verify::<S>(alloc, S::fresh(alloc)?, separator, steps, carried, narg) {
+    match verify_steps::<S>(alloc, S::fresh(alloc)?, separator, steps, carried, narg)? {
         Ok(verified) => {
             let bytes = encoded(alloc, steps, verified.received.as_slice())?;
             if bytes.as_slice() != narg {

@@ -1,9 +1,8 @@
 // A whole script by one call on each side.
 use crate::told::{Told, drawn, numbers, received, refused};
-use anyhow::{Result, bail};
-use p3_challenger::fs::script::{
-    Fault, Proved, Step, Verified, admitted, carried_len, prove, sent_matches, verify,
-};
+use anyhow::Result;
+use p3_challenger::fs::script::{Fault, Proved, Step, Verified};
+use script_lines::playing::{prove_steps, verify_steps};
 use script_lines::script::Steps;
 use script_lines::world::{SeparatorOf, World};
 use std::alloc::Global;
@@ -55,12 +54,8 @@ pub fn prove_whole<S: World>(
     separator: &SeparatorOf<S>,
     script: &Steps<S>,
 ) -> Result<Written<S>> {
-    let steps = script.steps.as_slice();
-    let sent = script.sent.as_slice();
-    if !admitted(steps) || !sent_matches(steps, sent) {
-        bail!("steps that are not played here, or not with these values");
-    }
-    match prove::<S>(alloc, S::fresh(alloc)?, separator, steps, sent) {
+    let (steps, sent) = (script.steps.as_slice(), script.sent.as_slice());
+    match prove_steps::<S>(alloc, S::fresh(alloc)?, separator, steps, sent)? {
         Ok(proved) => Written::proved(alloc, proved),
         Err(fault) => Written::refused(alloc, &fault, String::new(alloc)),
     }
@@ -74,10 +69,7 @@ pub fn verify_whole<S: World>(
     carried: &[S::Field],
     narg: &[u8],
 ) -> Result<Told> {
-    if !admitted(steps) || carried_len(steps) != carried.len() {
-        bail!("another number of witnesses than these steps carry");
-    }
-    match verify::<S>(alloc, S::fresh(alloc)?, separator, steps, carried, narg) {
+    match verify_steps::<S>(alloc, S::fresh(alloc)?, separator, steps, carried, narg)? {
         Ok(verified) => accepted(alloc, verified),
         Err(fault) => Ok(Told::plain(alloc, refused(alloc, &fault)?)),
     }

@@ -6,6 +6,7 @@
 pub mod alone;
 pub mod change;
 pub mod line;
+pub mod playing;
 pub mod recording;
 mod rule;
 pub mod script;

@@ -2,7 +2,6 @@
 use crate::command::{Command, Request};
 use crate::entry::{Entry, parse_table};
 use crate::explaining::{Explained, Row, copied, explain};
-use crate::playing::{prove_steps, verify_steps};
 use crate::protocol::{Name, Protocol};
 use crate::shown::{Shown, drawn, numbers, received};
 use crate::suites::{GoldilocksBytes, HashesBytes};
@@ -14,6 +13,7 @@ use p3_challenger::ChallengerError;
 use p3_challenger::fs::TranscriptError;
 use p3_challenger::fs::script::{Fault, Proved, Sent, Step, Verified, carried_len};
 use p3_symmetric::Sha256Hasher;
+use script_lines::playing::{prove_steps, verify_steps};
 use serde::Serialize;
 use std::alloc::Global;
 use test_suites::{HashSuite, Serializing32Suite, Serializing64Suite};

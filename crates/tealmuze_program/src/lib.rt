@@ -12,7 +12,6 @@ mod explaining;
 mod fault;
 mod labels;
 mod numbers;
-mod playing;
 mod protocol;
 mod shown;
 mod steps;
