@@ -1,16 +1,53 @@
-// The draw limit of serializing challengers, after whole groups of bytes.
+// Serializing challengers: what no row observes, arrays and slices of digests; and the draw limit, after whole groups of
+// bytes.
 ghost use Rattle.std.specs.Prelude.{◌≤◌};
 
-use crate::support::holds;
-use p3_challenger_core::{CanSample, ChallengerError};
-use p3_field::{BabyBear, PrimeCharacteristicRing};
+use crate::support::{holds, observe_many, observe_one};
+use p3_challenger_core::{CanObserve, CanSample, ChallengerError};
+use p3_field::{BabyBear, Goldilocks, PrimeCharacteristicRing};
 use p3_hash_challenger::HashChallenger;
-use p3_serializing::SerializingChallenger32;
-use p3_test_support::{LengthHasher, Supply, length_challenger};
+use p3_serializing::{SerializingChallenger32, SerializingChallenger64};
+use p3_symmetric::{Hash, MerkleCap};
+use p3_test_support::{LengthHasher, SumHasher, Supply, length_challenger};
 use std::alloc::{AllocError, Global};
 use std::test::Fail;
 
 type Short = SerializingChallenger32<BabyBear, HashChallenger<u8, LengthHasher, 32>>;
+
+type Long = SerializingChallenger64<Goldilocks, HashChallenger<u8, SumHasher, 32>>;
+
+type Bytes = MerkleCap<Goldilocks, [u8; 1]>;
+
+// The values of the row of `ser64` over `sum`, which draws what is drawn here.
+fn draws_after_lists<
+    'a,
+    C: CanObserve<Goldilocks>
+        + CanObserve<[Goldilocks; 2]>
+        + CanObserve<Hash<Goldilocks, u8, 1>>
+        + CanObserve<Hash<Goldilocks, u64, 2>>
+        + CanObserve<&'a Bytes>
+        + CanSample<Goldilocks>,
+>(challenger: &mut C, bytes: &'a Bytes) -> Result<bool, ChallengerError> {
+    observe_one(challenger, Goldilocks::from_u64(258))?;
+    observe_one(
+        challenger,
+        [Goldilocks::from_u64(1), Goldilocks::from_u64(2)],
+    )?;
+    observe_many(challenger, &[Hash::<Goldilocks, u8, 1>::from([9])])?;
+    observe_many(challenger, &[Hash::<Goldilocks, u64, 2>::from([65535, 1])])?;
+    observe_many(challenger, &[bytes])?;
+    let drawn: Goldilocks = challenger.sample()?;
+    Ok(drawn == Goldilocks::from_u64(3038570946151526449))
+}
+
+#[test]
+fn arrays_and_slices_of_digests_are_observed_in_order(rt: HostRuntime) -> Result<(), Fail> {
+    let initial_state = vec![in rt.alloc(); 1u8]?;
+    let mut challenger: Long = Long::from_hasher(initial_state, SumHasher, 10);
+    let bytes: Bytes = MerkleCap::new(vec![in rt.alloc(); [1u8], [2]]?);
+    assert!(rt; holds(&rt, draws_after_lists(&mut challenger, &bytes)));
+    Ok(())
+}
 
 // Whether the element of this number is drawn next.
 fn draws<C: CanSample<BabyBear>>(challenger: &mut C, number: u64) -> Result<bool, ChallengerError> {

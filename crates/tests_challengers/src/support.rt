@@ -19,6 +19,14 @@ pub fn observe_one<V, C: CanObserve<V>>(
     challenger.observe(value)
 }
 
+/// Observes values by one call.
+pub fn observe_many<V, C: CanObserve<V>>(
+    challenger: &mut C,
+    values: &[V],
+) -> Result<(), ChallengerError> {
+    challenger.observe_slice(values)
+}
+
 /// Whether the elements of these numbers are drawn next.
 pub fn draws<C: CanSample<F257>>(
     challenger: &mut C,

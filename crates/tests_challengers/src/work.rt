@@ -1,6 +1,6 @@
 ghost use Rattle.std.specs.Prelude.{◌≤◌};
 
-use crate::support::{draws, grind, holds};
+use crate::support::{draws, grind, holds, observe_one};
 use p3_challenger_core::{CanSample, ChallengerError};
 use p3_duplex::DuplexChallenger;
 use p3_field::F257;
@@ -100,6 +100,9 @@ fn meets_the_limit<C: TryClone + UniformGrindingChallenger<Witness = F257>>(
 #[test]
 fn no_witness_leaves_the_challenger(rt: HostRuntime) -> Result<(), Fail> {
     assert!(rt; holds(&rt, finds_none(&rt, &mut fresh::<1>(10), 1, &[2, 1, 5, 3])));
+    let mut pending = fresh::<1>(10);
+    assert!(rt; observe_one(&mut pending, element(5)).is_ok());
+    assert!(rt; holds(&rt, finds_none(&rt, &mut pending, 3, &[3, 1, 10])));
     let five = length_challenger(rt.alloc(), 5)?;
     let mut serializing: Serializing = SerializingChallenger32::new(five, 10);
     assert!(rt; holds(&rt, finds_none(&rt, &mut serializing, 1, &[63])));
