@@ -45,24 +45,40 @@ fn both_sides<S: World>(
     separator: &SeparatorOf<S>,
     script: &mut Script<S>,
 ) -> Result<String> {
-    let mut text = String::new(alloc);
+    let mut text = String::from_str(alloc, fit(separator, script)?)?;
+    let (told, verdict) = play_sides(alloc, separator, script)?;
+    push_told(&mut text, line.form, &told)?;
+    text.push_str(" ; verify ")?;
+    push_told(&mut text, line.form, &verdict)?;
+    Ok(text)
+}
+
+// Whether the steps are those of the pattern, where the line has a pattern of its own.
+fn fit<S: World>(separator: &SeparatorOf<S>, script: &Script<S>) -> Result<&'static str> {
     let fit = fits(script.played.steps.as_slice(), separator.pattern());
     if fit != are_steps_of(script.played.steps.as_slice(), separator.pattern()) {
         bail!("steps that are said to fit and do not, or the other way round");
     }
-    if script.pattern.is_some() {
-        text.push_str(if fit { "fits ; " } else { "other steps ; " })?;
+    match (&script.pattern, fit) {
+        (None, _) => Ok(""),
+        (Some(_), true) => Ok("fits ; "),
+        (Some(_), false) => Ok("other steps ; "),
     }
+}
+
+// What is told of the prover, and of the verifier of the proof as the line changes it.
+fn play_sides<S: World>(
+    alloc: Global,
+    separator: &SeparatorOf<S>,
+    script: &mut Script<S>,
+) -> Result<(Told, Told)> {
     let mut written = prover_side(alloc, separator, script)?;
     script.change.apply(&mut written.narg)?;
     if let Some(carried) = script.carried.take() {
         written.carried = carried;
     }
     let verdict = verifier_side(alloc, separator, script, &written)?;
-    push_told(&mut text, line.form, &written.told)?;
-    text.push_str(" ; verify ")?;
-    push_told(&mut text, line.form, &verdict)?;
-    Ok(text)
+    Ok((written.told, verdict))
 }
 
 fn push_told(text: &mut String, form: Form, told: &Told) -> Result<()> {

@@ -66,10 +66,9 @@ const CHANGES: u64 = 2;
 
 fn main(rt: HostRuntime) -> Result<ExitCode> {
     let mut words = env::args(&rt)?.skip(1);
-    let folder = words.next();
-    let folder = match &folder {
-        Some(word) => word.as_str(),
-        None => ".",
+    let folder = match words.next() {
+        Some(folder) => folder,
+        None => String::from_str(rt.alloc(), ".")?,
     };
     let seed = number_or(words.next(), SEED)?;
     let asked = words.next();
@@ -79,13 +78,27 @@ fn main(rt: HostRuntime) -> Result<ExitCode> {
     let mut changes = Changes { rng, count };
     let mut agree = true;
     for file in FILES {
-        let path = format!(in rt.alloc(); "{folder}/{file}.txt")?;
-        let text = fs::read_to_string(&rt, path.as_str()).context(path.as_str())?;
-        let outcome = play_file(rt.alloc(), text.as_str(), &mut changes).context(path.as_str())?;
-        agree = agree && outcome.differing.is_empty();
-        tell(&rt, file, &outcome, shows)?;
+        agree = play_and_tell(&rt, folder.as_str(), file, &mut changes, shows)? && agree;
     }
     Ok(ExitCode::from(if agree { 0 } else { 1 }))
+}
+
+// Plays the lines of a file, and says what came of them. Gives whether all agree.
+fn play_and_tell(
+    rt: &HostRuntime,
+    folder: &str,
+    file: &str,
+    changes: &mut Changes,
+    shows: bool,
+) -> Result<bool> {
+    let path = format!(in rt.alloc(); "{folder}/{file}.txt")?;
+    let text = fs::read_to_string(rt, path.as_str()).context(path.as_str())?;
+    let outcome = play_file(rt.alloc(), text.as_str(), changes).context(path.as_str())?;
+    tell(rt, file, &outcome)?;
+    if shows {
+        tell_tally(rt, &outcome.tally)?;
+    }
+    Ok(outcome.differing.is_empty())
 }
 
 // The number of a word, or this one without a word.
@@ -106,9 +119,8 @@ struct Outcome {
     tally: Tally,
 }
 
-// Says how the lines were answered and how many changed proofs there were; and, where that is asked for, what became of
-// how many.
-fn tell(rt: &HostRuntime, file: &str, outcome: &Outcome, shows: bool) -> Result<()> {
+// Says how the lines were answered, and how many changed proofs there were.
+fn tell(rt: &HostRuntime, file: &str, outcome: &Outcome) -> Result<()> {
     for (line, answer) in &outcome.differing {
         println!(rt; "{file}: line {line} answers {answer}")?;
     }
@@ -123,12 +135,15 @@ fn tell(rt: &HostRuntime, file: &str, outcome: &Outcome, shows: bool) -> Result<
     println!(rt;
         "{file}: {total} changed proofs, each refused or the encoding of what was received"
     )?;
-    if shows {
-        let accepted = tally.accepted;
-        println!(rt; "accepted: {accepted}")?;
-        for (reason, count) in &tally.refused {
-            println!(rt; "{reason}: {count}")?;
-        }
+    Ok(())
+}
+
+// Says what became of how many changed proofs.
+fn tell_tally(rt: &HostRuntime, tally: &Tally) -> Result<()> {
+    let accepted = tally.accepted;
+    println!(rt; "accepted: {accepted}")?;
+    for (reason, count) in &tally.refused {
+        println!(rt; "{reason}: {count}")?;
     }
     Ok(())
 }
@@ -144,21 +159,32 @@ fn play_file(alloc: Global, text: &str, changes: &mut Changes) -> Result<Outcome
     let mut number = 0usize;
     for text in text.lines() {
         number = number.saturating_add(1);
-        if text.starts_with('#') {
-            continue;
-        }
-        let line = Line::parse(alloc, text).context(format_args!("line {number}"))?;
-        let found = play_line(alloc, &line, changes, &mut outcome.tally).context(format_args!(
-            "line {number}"
-        ))?;
-        if found.text.as_str() == line.answer {
-            outcome.lines = outcome.lines.saturating_add(1);
-            outcome.steps = outcome.steps.saturating_add(found.steps);
-        } else {
-            outcome.differing.push((number, found.text))?;
+        if !text.starts_with('#') {
+            play_text(alloc, text, number, changes, &mut outcome).context(format_args!(
+                "line {number}"
+            ))?;
         }
     }
     Ok(outcome)
+}
+
+// Plays the line of this number.
+fn play_text(
+    alloc: Global,
+    text: &str,
+    number: usize,
+    changes: &mut Changes,
+    outcome: &mut Outcome,
+) -> Result<()> {
+    let line = Line::parse(alloc, text)?;
+    let found = play_line(alloc, &line, changes, &mut outcome.tally)?;
+    if found.text.as_str() == line.answer {
+        outcome.lines = outcome.lines.saturating_add(1);
+        outcome.steps = outcome.steps.saturating_add(found.steps);
+    } else {
+        outcome.differing.push((number, found.text))?;
+    }
+    Ok(())
 }
 
 // Plays a line in its world. Each world is named once, since what its suite owes is proved again wherever it is named.

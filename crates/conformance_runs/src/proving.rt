@@ -36,7 +36,17 @@ pub fn prove_by_steps<S: World>(
     let made = play::<S>(alloc, &mut prover, script, pattern);
     let wrote = wrote(alloc, prover.narg());
     let end = prover.finish();
-    let (made, wrote) = (made?, wrote?);
+    ended(alloc, made?, end, script.steps.len(), wrote?)
+}
+
+// What a prover leaves that has ended so, with these bytes written.
+fn ended<S: World>(
+    alloc: Global,
+    made: Made<S>,
+    end: Result<(Vec<u8>, S::Challenger), TranscriptError>,
+    position: usize,
+    wrote: String,
+) -> Result<Written<S>> {
     match (made.refused, end) {
         (None, Ok((narg, challenger))) => Written::proved(
             alloc,
@@ -48,10 +58,7 @@ pub fn prove_by_steps<S: World>(
                 challenger,
             },
         ),
-        (None, Err(error)) => {
-            let position = script.steps.len();
-            Written::refused(alloc, &Fault { position, error }, wrote)
-        }
+        (None, Err(error)) => Written::refused(alloc, &Fault { position, error }, wrote),
         (Some((fault, left)), Err(TranscriptError::Pattern(PatternError::Finished))) => {
             Written::refused(alloc, &fault, left)
         }
@@ -81,23 +88,29 @@ fn play<S: World>(
         match play_step(alloc, prover, script, place)? {
             Ok(played) => made.keep(step, played)?,
             Err(error) => {
-                try_again(alloc, prover, script, place)?;
-                try_again(alloc, prover, pattern, place)?;
-                let wrote = wrote(alloc, prover.narg())?;
-                let state = S::state(alloc, prover.challenger_mut())?;
-                let left = format!(in alloc; "{wrote} ; {state}")?;
-                made.refused = Some((
-                    Fault {
-                        position: place,
-                        error,
-                    },
-                    left,
-                ));
+                let left = left(alloc, prover, script, pattern, place)?;
+                let position = place;
+                made.refused = Some((Fault { position, error }, left));
                 break;
             }
         }
     }
     Ok(made)
+}
+
+// What is left of a prover that refused the step at a place, and refuses it once more, and that of the pattern.
+fn left<S: World>(
+    alloc: Global,
+    prover: &mut ProverOf<S>,
+    script: &Steps<S>,
+    pattern: &Steps<S>,
+    place: usize,
+) -> Result<String> {
+    try_again(alloc, prover, script, place)?;
+    try_again(alloc, prover, pattern, place)?;
+    let wrote = wrote(alloc, prover.narg())?;
+    let state = S::state(alloc, prover.challenger_mut())?;
+    Ok(format!(in alloc; "{wrote} ; {state}")?)
 }
 
 impl<S: World> Made<S> {

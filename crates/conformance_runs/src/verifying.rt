@@ -99,23 +99,29 @@ fn play<'a, S: World>(
         match play_step(alloc, verifier, steps, place, witness)? {
             Ok(answer) => taken.keep(answer)?,
             Err(error) => {
-                try_again(alloc, verifier, steps, place)?;
-                try_again(alloc, verifier, pattern, place)?;
-                let unread = verifier.remaining_narg();
-                let state = S::state(alloc, verifier.challenger_mut())?;
-                let left = format!(in alloc; " ; unread {unread} ; {state}")?;
-                taken.refused = Some((
-                    Fault {
-                        position: place,
-                        error,
-                    },
-                    left,
-                ));
+                let left = left(alloc, verifier, steps, pattern, place)?;
+                let position = place;
+                taken.refused = Some((Fault { position, error }, left));
                 break;
             }
         }
     }
     Ok(taken)
+}
+
+// What is left of a verifier that refused the step at a place, and refuses it once more, and that of the pattern.
+fn left<S: World>(
+    alloc: Global,
+    verifier: &mut VerifierOf<'_, S>,
+    steps: &[Step<S>],
+    pattern: &[Step<S>],
+    place: usize,
+) -> Result<String> {
+    try_again(alloc, verifier, steps, place)?;
+    try_again(alloc, verifier, pattern, place)?;
+    let unread = verifier.remaining_narg();
+    let state = S::state(alloc, verifier.challenger_mut())?;
+    Ok(format!(in alloc; " ; unread {unread} ; {state}")?)
 }
 
 impl<'a, S: World> Taken<'a, S> {

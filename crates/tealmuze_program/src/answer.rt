@@ -1,11 +1,12 @@
 // What the program answers to a command.
 use crate::command::{Command, Request};
 use crate::entry::{Entry, parse_table};
-use crate::explaining::{Explained, Row, copied, explain};
-use crate::protocol::{Name, Protocol};
-use crate::shown::{Shown, drawn, numbers, received};
+use crate::explaining::{Explained, copied, explain};
+use crate::explanation::explanation;
+use crate::protocol::Protocol;
+use crate::refusal::{RefusalShown, refusal};
+use crate::shown::{Shown, all_drawn, all_received, numbers};
 use crate::suites::{GoldilocksBytes, HashesBytes};
-use crate::table::{Line, layout};
 use crate::values::parse_values;
 use anyhow::{Context, Error, Result, bail};
 use conformance_tokens::symbol::element;
@@ -175,70 +176,15 @@ fn answer_proved<S: HashesBytes>(
             status: 0,
         });
     }
-    let mut challenges = Vec::new(alloc);
-    for values in &proved.challenges {
-        challenges.push(drawn::<S>(alloc, values)?)?;
-    }
     let shown = ProofShown {
         proof: hex::encode(alloc, narg)?,
         witnesses: numbers::<S>(alloc, proved.witnesses.as_slice())?,
         carried: numbers::<S>(alloc, proved.carried.as_slice())?,
-        challenges,
+        challenges: all_drawn::<S>(alloc, proved.challenges.as_slice())?,
     };
     let proof = &shown.proof;
     let text = format!(in alloc; "{proof}\n")?;
     written(alloc, request, &shown, text, 0)
-}
-
-// Where values or a proof are refused, and why.
-#[derive(Drop, Serialize)]
-struct RefusalShown {
-    step: usize,
-    #[serde(rename = "type")]
-    kind: Option<String>,
-    label: Option<String>,
-    byte: Option<usize>,
-    reason: String,
-}
-
-impl RefusalShown {
-    fn line(&self, alloc: Global) -> Result<String> {
-        let mut line = String::from_str(alloc, "refused at ")?;
-        match (&self.kind, &self.label) {
-            (Some(kind), Some(label)) => {
-                let step = self.step;
-                write!(line, "step {step} ({kind} `{label}`)")?;
-            }
-            _ => line.push_str("the end")?,
-        }
-        if let Some(byte) = self.byte {
-            write!(line, ", byte {byte}")?;
-        }
-        let reason = &self.reason;
-        writeln!(line, ": {reason}")?;
-        Ok(line)
-    }
-}
-
-fn refusal<S: HashesBytes>(
-    alloc: Global,
-    protocol: &Protocol<'_, S>,
-    fault: &Fault,
-    byte: Option<usize>,
-) -> Result<RefusalShown> {
-    let error = &fault.error;
-    let mut refused = RefusalShown {
-        step: fault.position,
-        kind: None,
-        label: None,
-        byte,
-        reason: format!(in alloc; "{error}")?,
-    };
-    if let Some(Name { kind, label }) = protocol.names.get(fault.position) {
-        refused.kind = Some(String::from_str(alloc, kind)?);
-        refused.label = Some(String::from_str(alloc, label)?);
-    }
-    Ok(refused)
 }
 
 // What a verifier answers.
@@ -257,36 +203,52 @@ fn answer_verify<S: HashesBytes>(
     second: &[u8],
 ) -> Result<Answer> {
     let proof = proof_of(alloc, request, second)?;
-    let mut shown = VerdictShown {
+    match verdict(alloc, request, protocol, proof.as_slice())? {
+        Ok(verified) => answer_accepted(alloc, request, &verified),
+        Err(fault) => answer_refused(alloc, request, protocol, &fault),
+    }
+}
+
+fn answer_accepted<S: HashesBytes>(
+    alloc: Global,
+    request: &Request<'_>,
+    verified: &Verified<'_, S>,
+) -> Result<Answer> {
+    let shown = VerdictShown {
+        accepted: true,
+        received: all_received::<S>(alloc, verified.received.as_slice())?,
+        challenges: all_drawn::<S>(alloc, verified.challenges.as_slice())?,
+        refused: None,
+    };
+    let mut text = String::from_str(alloc, "accepted\n")?;
+    push_lines(&mut text, "received", shown.received.as_slice())?;
+    push_lines(&mut text, "challenge", shown.challenges.as_slice())?;
+    written(alloc, request, &shown, text, 0)
+}
+
+// Adds a line for each value, after this word.
+fn push_lines(text: &mut String, word: &str, values: &[Shown]) -> Result<()> {
+    for value in values {
+        writeln!(text, "{word} {value}")?;
+    }
+    Ok(())
+}
+
+fn answer_refused<S: HashesBytes>(
+    alloc: Global,
+    request: &Request<'_>,
+    protocol: &Protocol<'_, S>,
+    fault: &Fault,
+) -> Result<Answer> {
+    let refused = refusal(alloc, protocol, fault, None)?;
+    let text = refused.line(alloc)?;
+    let shown = VerdictShown {
         accepted: false,
         received: Vec::new(alloc),
         challenges: Vec::new(alloc),
-        refused: None,
+        refused: Some(refused),
     };
-    let mut text = String::new(alloc);
-    match verdict(alloc, request, protocol, proof.as_slice())? {
-        Ok(verified) => {
-            shown.accepted = true;
-            text.push_str("accepted\n")?;
-            for value in &verified.received {
-                let value = received::<S>(alloc, value)?;
-                writeln!(text, "received {value}")?;
-                shown.received.push(value)?;
-            }
-            for values in &verified.challenges {
-                let values = drawn::<S>(alloc, values)?;
-                writeln!(text, "challenge {values}")?;
-                shown.challenges.push(values)?;
-            }
-        }
-        Err(fault) => {
-            let refused = refusal(alloc, protocol, &fault, None)?;
-            text = refused.line(alloc)?;
-            shown.refused = Some(refused);
-        }
-    }
-    let status = u8::from(!shown.accepted);
-    written(alloc, request, &shown, text, status)
+    written(alloc, request, &shown, text, 1)
 }
 
 fn verdict<'n, S: HashesBytes>(
@@ -343,29 +305,6 @@ fn digits_of(alloc: Global, text: &[u8]) -> Result<Vec<u8>> {
     hex::decode(alloc, digits.as_str()).context("expected hexadecimal digits")
 }
 
-// What a step did.
-#[derive(Drop, Serialize)]
-struct StepShown<'a> {
-    step: usize,
-    #[serde(rename = "type")]
-    kind: &'a str,
-    label: &'a str,
-    offset: usize,
-    read: String,
-    value: Option<Shown>,
-    fed: String,
-    challenge: Option<Shown>,
-}
-
-// What became of a proof.
-#[derive(Drop, Serialize)]
-struct ExplainedShown<'a> {
-    accepted: bool,
-    seed: String,
-    steps: Vec<StepShown<'a>>,
-    refused: Option<RefusalShown>,
-}
-
 fn answer_explain<S: HashesBytes>(
     alloc: Global,
     request: &Request<'_>,
@@ -373,29 +312,27 @@ fn answer_explain<S: HashesBytes>(
     second: &[u8],
 ) -> Result<Answer> {
     let proof = proof_of(alloc, request, second)?;
-    let carried = witnesses::<S>(alloc, request, protocol.steps.as_slice())?;
-    let explained = explain::<S>(
-        alloc,
-        &protocol.separator,
-        protocol.steps.as_slice(),
-        carried.as_slice(),
-        proof.as_slice(),
-    )?;
-    check_told(
-        &explained,
-        verdict(alloc, request, protocol, proof.as_slice())?.err(),
-    )?;
-    let len = proof.len();
+    let explained = explained(alloc, request, protocol, proof.as_slice())?;
     let shown = explanation(alloc, protocol, explained)?;
-    let seed = &shown.seed;
-    let mut text = format!(in alloc; "seed {seed}\n")?;
-    text.push_str(table_of(alloc, &shown)?.as_str())?;
-    match &shown.refused {
-        Some(refused) => text.push_str(refused.line(alloc)?.as_str())?,
-        None => writeln!(text, "accepted: {len} bytes")?,
-    }
+    let text = shown.text(alloc, proof.len())?;
     let status = u8::from(!shown.accepted);
     written(alloc, request, &shown, text, status)
+}
+
+// What became of a proof by its steps, of which the verifier of the whole proof says the same.
+fn explained<'n, S: HashesBytes>(
+    alloc: Global,
+    request: &Request<'_>,
+    protocol: &Protocol<'_, S>,
+    proof: &'n [u8],
+) -> Result<Explained<'n>> {
+    let steps = protocol.steps.as_slice();
+    let carried = witnesses::<S>(alloc, request, steps)?;
+    let carried = carried.as_slice();
+    let explained = explain::<S>(alloc, &protocol.separator, steps, carried, proof)?;
+    let verdict = verdict(alloc, request, protocol, proof)?;
+    check_told(&explained, verdict.err())?;
+    Ok(explained)
 }
 
 // Refuses to tell of the steps what the verifier of the whole proof does not.
@@ -415,86 +352,5 @@ fn is_memory(fault: &Fault) -> bool {
         TranscriptError::OutOfMemory | TranscriptError::Challenger(ChallengerError::OutOfMemory) =>
             true,
         _ => false,
-    }
-}
-
-fn explanation<'a, S: HashesBytes>(
-    alloc: Global,
-    protocol: &Protocol<'a, S>,
-    explained: Explained<'_>,
-) -> Result<ExplainedShown<'a>> {
-    let refused = match &explained.refused {
-        Some((fault, byte)) => Some(refusal(alloc, protocol, fault, Some(*byte))?),
-        None => None,
-    };
-    let mut steps = Vec::new(alloc);
-    let mut names = protocol.names.iter();
-    for row in explained.rows {
-        let name = names.next().context("a step without a name")?;
-        steps.push(step_shown(alloc, steps.len(), *name, row)?)?;
-    }
-    Ok(ExplainedShown {
-        accepted: refused.is_none(),
-        seed: hex::encode(alloc, explained.seed.as_slice())?,
-        steps,
-        refused,
-    })
-}
-
-fn step_shown<'a>(
-    alloc: Global,
-    step: usize,
-    name: Name<'a>,
-    row: Row<'_>,
-) -> Result<StepShown<'a>> {
-    Ok(StepShown {
-        step,
-        kind: name.kind,
-        label: name.label,
-        offset: row.offset,
-        read: hex::encode(alloc, row.read)?,
-        value: row.value,
-        fed: hex::encode(alloc, row.fed.as_slice())?,
-        challenge: row.drawn,
-    })
-}
-
-fn table_of(alloc: Global, shown: &ExplainedShown<'_>) -> Result<String> {
-    let head = [
-        "step",
-        "type",
-        "label",
-        "byte",
-        "read",
-        "value",
-        "fed",
-        "challenge",
-    ];
-    let mut lines: Vec<Line> = Vec::new(alloc);
-    lines.push(head.try_map(|text| String::from_str(alloc, text))?)?;
-    for row in &shown.steps {
-        lines.push(line_of(alloc, row)?)?;
-    }
-    layout(alloc, lines.as_slice())
-}
-
-fn line_of(alloc: Global, row: &StepShown<'_>) -> Result<Line> {
-    let StepShown { step, offset, .. } = row;
-    Ok([
-        format!(in alloc; "{step}")?,
-        String::from_str(alloc, row.kind)?,
-        String::from_str(alloc, row.label)?,
-        format!(in alloc; "{offset}")?,
-        String::from_str(alloc, row.read.as_str())?,
-        text_or_none(alloc, &row.value)?,
-        String::from_str(alloc, row.fed.as_str())?,
-        text_or_none(alloc, &row.challenge)?,
-    ])
-}
-
-fn text_or_none(alloc: Global, shown: &Option<Shown>) -> Result<String> {
-    match shown {
-        Some(shown) => Ok(format!(in alloc; "{shown}")?),
-        None => Ok(String::new(alloc)),
     }
 }

@@ -2,7 +2,7 @@
 use anyhow::{Context, Result};
 use clap::{Arg, ArgAction, ArgMatches, Error};
 use conformance_tokens::tokens::look_up;
-use std::alloc::Global;
+use std::alloc::{AllocError, Global};
 
 /// What is to be done with a protocol.
 #[derive(Clone, Copy, Debug, PartialEq, Eq)]
@@ -47,36 +47,50 @@ pub fn parse<'a>(alloc: Global, words: &'a [&'a str]) -> Result<ArgMatches<'a>, 
     grammar(alloc)?.try_get_matches_from(words)
 }
 
-fn grammar<'a>(alloc: Global) -> Result<clap::Command<'a>, Error> {
-    let file = "the protocol, in TOML";
-    let proof = "the proof";
-    let pattern = clap::Command::new(alloc, "pattern")
-        .about("Shows the pattern, its digest and the seed")
-        .arg(path(alloc, "FILE", file))?;
-    let prove = clap::Command::new(alloc, "prove")
-        .about("Makes a proof")
-        .arg(path(alloc, "FILE", file))?
-        .arg(path(alloc, "VALUES", "what the steps send, in TOML"))?;
-    let verify = clap::Command::new(alloc, "verify")
-        .about("Verifies a proof")
-        .arg(path(alloc, "FILE", file))?
-        .arg(path(alloc, "PROOF", proof))?
-        .arg(carried(alloc))?;
-    let explain = clap::Command::new(alloc, "explain")
-        .about("Shows what each step of a proof read, fed and drew")
-        .arg(path(alloc, "FILE", file))?
-        .arg(path(alloc, "PROOF", proof))?
-        .arg(carried(alloc))?;
-    let commands = clap::Command::new(alloc, "tealmuze")
+fn grammar<'a>(alloc: Global) -> Result<clap::Command<'a>, AllocError> {
+    let prove = of_file(alloc, "prove", "Makes a proof")?;
+    let prove = prove.arg(path(alloc, "VALUES", "what the steps send, in TOML"))?;
+    let explain = "Shows what each step of a proof read, fed and drew";
+    program(alloc)?
+        .subcommand(of_file(
+            alloc,
+            "pattern",
+            "Shows the pattern, its digest and the seed",
+        )?)?
+        .subcommand(prove)?
+        .subcommand(of_proof(alloc, "verify", "Verifies a proof")?)?
+        .subcommand(of_proof(alloc, "explain", explain)?)
+}
+
+// What stands before or after any command.
+fn program<'a>(alloc: Global) -> Result<clap::Command<'a>, AllocError> {
+    clap::Command::new(alloc, "tealmuze")
         .about("Plays the transcript of a protocol that stands in a file")
         .subcommand_required(true)
         .arg(flag(alloc, "json", "Answers in JSON"))?
-        .arg(flag(alloc, "hex", "Reads and writes proofs in hexadecimal"))?
-        .subcommand(pattern)?
-        .subcommand(prove)?
-        .subcommand(verify)?
-        .subcommand(explain)?;
-    Ok(commands)
+        .arg(flag(alloc, "hex", "Reads and writes proofs in hexadecimal"))
+}
+
+// A command that is about a protocol.
+fn of_file<'a>(
+    alloc: Global,
+    name: &'a str,
+    about: &'a str,
+) -> Result<clap::Command<'a>, AllocError> {
+    clap::Command::new(alloc, name)
+        .about(about)
+        .arg(path(alloc, "FILE", "the protocol, in TOML"))
+}
+
+// A command that is about a proof.
+fn of_proof<'a>(
+    alloc: Global,
+    name: &'a str,
+    about: &'a str,
+) -> Result<clap::Command<'a>, AllocError> {
+    of_file(alloc, name, about)?
+        .arg(path(alloc, "PROOF", "the proof"))?
+        .arg(carried(alloc))
 }
 
 // A file that a command needs.

@@ -3,8 +3,8 @@ use crate::entry::Entry;
 use crate::numbers::bytes;
 use crate::steps::parse_step;
 use anyhow::{Context, Result, bail};
-use p3_challenger::fs::DomainSeparator;
 use p3_challenger::fs::script::{Step, Suite};
+use p3_challenger::fs::{DomainSeparator, InteractionPattern};
 use script_lines::alone::{is_admitted, only};
 use script_lines::recording::record;
 use script_lines::world::{SeparatorOf, World};
@@ -80,18 +80,41 @@ fn parse_separator<S: World>(
     file: Entry<'_>,
     steps: &[Step<S>],
 ) -> Result<SeparatorOf<S>> {
-    let Ok(version) = u8::try_from(file.number("version")?) else {
-        bail!("version: expected a number below 256");
-    };
+    let pattern = record::<S>(alloc, steps)?;
+    let mut separator = parse_head::<S>(alloc, file, pattern)?;
+    for (place, value) in file.list_or_none("instance")?.iter().enumerate() {
+        add_chunk::<S>(alloc, &mut separator, value).context(format_args!("instance[{place}]"))?;
+    }
+    Ok(separator)
+}
+
+// What binds a transcript to the pattern, and to the protocol's version and name.
+fn parse_head<S: World>(
+    alloc: Global,
+    file: Entry<'_>,
+    pattern: InteractionPattern,
+) -> Result<SeparatorOf<S>> {
+    let version = parse_version(file)?;
     let name = file.text("name")?.as_bytes();
     if name.is_empty() || name.len() > 62 {
         bail!("name: expected 1 to 62 bytes");
     }
-    let pattern = record::<S>(alloc, steps)?;
-    let mut separator = DomainSeparator::new(alloc, version, name, pattern)?;
-    for (place, value) in file.list_or_none("instance")?.iter().enumerate() {
-        let chunk = bytes(alloc, value).context(format_args!("instance[{place}]"))?;
-        separator.instance(chunk.as_slice()).context("instance")?;
+    Ok(DomainSeparator::new(alloc, version, name, pattern)?)
+}
+
+fn parse_version(file: Entry<'_>) -> Result<u8> {
+    match u8::try_from(file.number("version")?) {
+        Ok(version) => Ok(version),
+        Err(_) => bail!("version: expected a number below 256"),
     }
-    Ok(separator)
+}
+
+// Adds a chunk to the instance's label.
+fn add_chunk<S: World>(
+    alloc: Global,
+    separator: &mut SeparatorOf<S>,
+    digits: &toml::Value,
+) -> Result<()> {
+    let chunk = bytes(alloc, digits)?;
+    Ok(separator.instance(chunk.as_slice())?)
 }

@@ -120,3 +120,21 @@ pub fn drawn<S: Suite>(alloc: Global, drawn: &Drawn<S>) -> Result<Shown> {
         }
     }
 }
+
+/// Shows all that a verifier received.
+pub fn all_received<S: Suite>(alloc: Global, values: &[Received<'_, S>]) -> Result<Vec<Shown>> {
+    let mut shown = Vec::new(alloc);
+    for value in values {
+        shown.push(received::<S>(alloc, value)?)?;
+    }
+    Ok(shown)
+}
+
+/// Shows all that was drawn.
+pub fn all_drawn<S: Suite>(alloc: Global, challenges: &[Drawn<S>]) -> Result<Vec<Shown>> {
+    let mut shown = Vec::new(alloc);
+    for values in challenges {
+        shown.push(drawn::<S>(alloc, values)?)?;
+    }
+    Ok(shown)
+}

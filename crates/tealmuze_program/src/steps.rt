@@ -8,6 +8,7 @@ use p3_challenger::fs::script::Step;
 use p3_challenger::fs::{Kind, Label};
 use script_lines::world::World;
 use std::alloc::Global;
+use toml::Value;
 
 // What a container is of.
 const KINDS: [(&str, Kind); 7] = [
@@ -24,63 +25,94 @@ const KINDS: [(&str, Kind); 7] = [
 pub fn parse_step<S: World>(alloc: Global, entry: Entry<'_>) -> Result<Step<S>> {
     let label = label(alloc, entry.text("label")?).context("label")?;
     let name = entry.text("type")?;
+    entry.only(keys_of(name)?)?;
+    parse_named(alloc, entry, name, label)
+}
+
+// Reads a step of this type.
+fn parse_named<S: World>(
+    alloc: Global,
+    entry: Entry<'_>,
+    name: &str,
+    label: Label,
+) -> Result<Step<S>> {
     match name {
         "begin" | "end" => parse_marker(entry, name, label),
-        "salt" | "bytes" | "hint" | "scalars" => parse_fixed(entry, name, label),
-        "bytes_bounded" | "hint_bounded" | "scalars_bounded" => parse_bounded(entry, name, label),
-        "public_scalar" | "public_scalars" | "public_scalars_bounded" => {
-            parse_public(alloc, entry, name, label)
-        }
-        "observe_extension" | "observe_extensions" | "observe_extensions_bounded" | "opaque" => {
+        "public_scalar" | "observe_extension" | "opaque" => parse_known(alloc, entry, name, label),
+        "public_scalars" | "public_scalars_bounded" => parse_public(alloc, entry, name, label),
+        "observe_extensions" | "observe_extensions_bounded" => {
             parse_observed(alloc, entry, name, label)
         }
-        "pow" | "observe_pow" => parse_work(entry, name, label),
         "scalar" | "extension" | "challenge_scalar" | "challenge_extension" => {
-            parse_single(entry, name, label)
+            Ok(single(name, label))
         }
-        _ => parse_draws(entry, name, label),
+        "challenge_bits" | "challenge_uniform_bits" => parse_bits(entry, name, label),
+        _ => parse_counted(entry, name, label),
     }
 }
 
-// Refuses a step that has a key beside its type, its label, and these.
-fn only(entry: Entry<'_>, first: &str, second: &str) -> Result<()> {
-    entry.only(&["type", "label", first, second])
+// The keys of a step.
+fn keys_of(name: &str) -> Result<&'static [&'static str]> {
+    match name {
+        "begin" | "end" => Ok(&["type", "label", "kind"]),
+        "salt" | "bytes" | "hint" => Ok(&["type", "label", "len"]),
+        "bytes_bounded" | "hint_bounded" | "scalars_bounded" => Ok(&["type", "label", "max"]),
+        "scalar" | "extension" | "challenge_scalar" | "challenge_extension" => {
+            Ok(&["type", "label"])
+        }
+        "public_scalar" | "observe_extension" | "opaque" => Ok(&["type", "label", "value"]),
+        "public_scalars" | "observe_extensions" => Ok(&["type", "label", "values"]),
+        "public_scalars_bounded" | "observe_extensions_bounded" => {
+            Ok(&["type", "label", "values", "max"])
+        }
+        "scalars" | "challenge_scalars" | "challenge_extensions" => Ok(&["type", "label", "n"]),
+        "challenge_bits" | "challenge_uniform_bits" => Ok(&["type", "label", "width", "n"]),
+        "pow" | "observe_pow" => Ok(&["type", "label", "bits"]),
+        _ => bail!("type: unknown step `{name}`"),
+    }
 }
 
 fn parse_marker<S: World>(entry: Entry<'_>, name: &str, label: Label) -> Result<Step<S>> {
-    only(entry, "kind", "kind")?;
-    let kind = entry.text("kind")?;
-    let kind = look_up(&KINDS, kind).context(format_args!("kind `{kind}`"))?;
-    match name {
-        "begin" => Ok(Step::Begin { label, kind }),
-        _ => Ok(Step::End { label, kind }),
-    }
+    let kind = parse_kind(entry.text("kind")?)?;
+    Ok(match name {
+        "begin" => Step::Begin { label, kind },
+        _ => Step::End { label, kind },
+    })
 }
 
-// So many bytes or scalars.
-fn parse_fixed<S: World>(entry: Entry<'_>, name: &str, label: Label) -> Result<Step<S>> {
-    if name == "scalars" {
-        only(entry, "n", "n")?;
-        let n = entry.count("n")?;
-        return Ok(Step::Scalars { label, n });
-    }
-    only(entry, "len", "len")?;
-    let len = entry.count("len")?;
-    match name {
-        "salt" => Ok(Step::Salt { label, len }),
-        "bytes" => Ok(Step::Bytes { label, len }),
-        _ => Ok(Step::Hint { label, len }),
-    }
+fn parse_kind(name: &str) -> Result<Kind> {
+    look_up(&KINDS, name).context(format_args!("kind `{name}`"))
 }
 
-// At most so many bytes or scalars.
-fn parse_bounded<S: World>(entry: Entry<'_>, name: &str, label: Label) -> Result<Step<S>> {
-    only(entry, "max", "max")?;
-    let max = entry.count("max")?;
+// A value that both sides know.
+fn parse_known<S: World>(
+    alloc: Global,
+    entry: Entry<'_>,
+    name: &str,
+    label: Label,
+) -> Result<Step<S>> {
+    step_of_value(alloc, entry.value("value")?, name, label).context("value")
+}
+
+fn step_of_value<S: World>(
+    alloc: Global,
+    value: &Value,
+    name: &str,
+    label: Label,
+) -> Result<Step<S>> {
     match name {
-        "bytes_bounded" => Ok(Step::BytesBounded { label, max }),
-        "hint_bounded" => Ok(Step::HintBounded { label, max }),
-        _ => Ok(Step::ScalarsBounded { label, max }),
+        "public_scalar" => {
+            let value = scalar::<S>(value)?;
+            Ok(Step::PublicScalar { label, value })
+        }
+        "observe_extension" => {
+            let value = extension::<S>(alloc, value)?;
+            Ok(Step::ObserveExtension { label, value })
+        }
+        _ => {
+            let value = S::opaque(alloc, value.as_str().context("expected a text")?)?;
+            Ok(Step::Opaque { label, value })
+        }
     }
 }
 
@@ -91,89 +123,73 @@ fn parse_public<S: World>(
     name: &str,
     label: Label,
 ) -> Result<Step<S>> {
-    if name == "public_scalar" {
-        only(entry, "value", "value")?;
-        let value = scalar::<S>(entry.value("value")?).context("value")?;
-        return Ok(Step::PublicScalar { label, value });
-    }
     let values = scalars::<S>(alloc, entry.list("values")?).context("values")?;
     if name == "public_scalars" {
-        only(entry, "values", "values")?;
         return Ok(Step::PublicScalars { label, values });
     }
-    only(entry, "values", "max")?;
     let max = entry.count("max")?;
     Ok(Step::PublicScalarsBounded { label, values, max })
 }
 
-// Elements of the extension, and values of the challenger's own, that the proof does not carry.
+// Elements of the extension that the proof does not carry.
 fn parse_observed<S: World>(
     alloc: Global,
     entry: Entry<'_>,
     name: &str,
     label: Label,
 ) -> Result<Step<S>> {
-    if name == "opaque" {
-        only(entry, "value", "value")?;
-        let value = S::opaque(alloc, entry.text("value")?).context("value")?;
-        return Ok(Step::Opaque { label, value });
-    }
-    if name == "observe_extension" {
-        only(entry, "value", "value")?;
-        let value = extension::<S>(alloc, entry.value("value")?).context("value")?;
-        return Ok(Step::ObserveExtension { label, value });
-    }
     let values = extensions::<S>(alloc, entry.list("values")?).context("values")?;
     if name == "observe_extensions" {
-        only(entry, "values", "values")?;
         return Ok(Step::ObserveExtensions { label, values });
     }
-    only(entry, "values", "max")?;
     let max = entry.count("max")?;
     Ok(Step::ObserveExtensionsBounded { label, values, max })
 }
 
-// A proof of work.
-fn parse_work<S: World>(entry: Entry<'_>, name: &str, label: Label) -> Result<Step<S>> {
-    only(entry, "bits", "bits")?;
-    let bits = entry.count("bits")?;
-    match name {
-        "pow" => Ok(Step::Pow { label, bits }),
-        _ => Ok(Step::ObservePow { label, bits }),
-    }
-}
-
 // One value that is sent or drawn.
-fn parse_single<S: World>(entry: Entry<'_>, name: &str, label: Label) -> Result<Step<S>> {
-    entry.only(&["type", "label"])?;
+fn single<S: World>(name: &str, label: Label) -> Step<S> {
     match name {
-        "scalar" => Ok(Step::Scalar { label }),
-        "extension" => Ok(Step::Extension { label }),
-        "challenge_scalar" => Ok(Step::ChallengeScalar { label }),
-        _ => Ok(Step::ChallengeExtension { label }),
+        "scalar" => Step::Scalar { label },
+        "extension" => Step::Extension { label },
+        "challenge_scalar" => Step::ChallengeScalar { label },
+        _ => Step::ChallengeExtension { label },
     }
 }
 
-// Draws of so many values.
-fn parse_draws<S: World>(entry: Entry<'_>, name: &str, label: Label) -> Result<Step<S>> {
+// Draws of numbers of bits.
+fn parse_bits<S: World>(entry: Entry<'_>, name: &str, label: Label) -> Result<Step<S>> {
+    let width = entry.count("width")?;
+    let n = entry.count("n")?;
+    Ok(match name {
+        "challenge_bits" => Step::ChallengeBits { label, width, n },
+        _ => Step::ChallengeUniformBits { label, width, n },
+    })
+}
+
+// A step that has one count: of bytes, of values, or of the bits of a proof of work.
+fn parse_counted<S: World>(entry: Entry<'_>, name: &str, label: Label) -> Result<Step<S>> {
+    let key = match name {
+        "salt" | "bytes" | "hint" => "len",
+        "bytes_bounded" | "hint_bounded" | "scalars_bounded" => "max",
+        "pow" | "observe_pow" => "bits",
+        _ => "n",
+    };
+    let count = entry.count(key)?;
+    Ok(counted(name, label, count))
+}
+
+fn counted<S: World>(name: &str, label: Label, count: usize) -> Step<S> {
     match name {
-        "challenge_scalars" | "challenge_extensions" => {
-            only(entry, "n", "n")?;
-            let n = entry.count("n")?;
-            match name {
-                "challenge_scalars" => Ok(Step::ChallengeScalars { label, n }),
-                _ => Ok(Step::ChallengeExtensions { label, n }),
-            }
-        }
-        "challenge_bits" | "challenge_uniform_bits" => {
-            only(entry, "width", "n")?;
-            let width = entry.count("width")?;
-            let n = entry.count("n")?;
-            match name {
-                "challenge_bits" => Ok(Step::ChallengeBits { label, width, n }),
-                _ => Ok(Step::ChallengeUniformBits { label, width, n }),
-            }
-        }
-        _ => bail!("type: unknown step `{name}`"),
+        "salt" => Step::Salt { label, len: count },
+        "bytes" => Step::Bytes { label, len: count },
+        "hint" => Step::Hint { label, len: count },
+        "bytes_bounded" => Step::BytesBounded { label, max: count },
+        "hint_bounded" => Step::HintBounded { label, max: count },
+        "scalars_bounded" => Step::ScalarsBounded { label, max: count },
+        "scalars" => Step::Scalars { label, n: count },
+        "challenge_scalars" => Step::ChallengeScalars { label, n: count },
+        "challenge_extensions" => Step::ChallengeExtensions { label, n: count },
+        "pow" => Step::Pow { label, bits: count },
+        _ => Step::ObservePow { label, bits: count },
     }
 }

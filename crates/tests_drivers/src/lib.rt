@@ -1,10 +1,7 @@
-//! Tests of both drivers of a transcript, of what no script says: what comes back of a value, bytes that outlive the
-//! verifier, a challenger that is lent, code over either driver, markers of other types, a driver that was halted, and
-//! draws by any rule.
+//! Tests of both drivers of a transcript, of what no script says: bytes that outlive the verifier, a challenger that is
+//! lent, code over either driver, markers of other types, a driver that was halted, and draws by any rule.
 #![tactic(auto)]
 
-#[cfg(test)]
-mod bound;
 #[cfg(test)]
 mod ends;
 #[cfg(test)]

@@ -2,7 +2,8 @@
 //
 // The other program's challenger, fed both seeds and the two values between them, draws these numbers.
 use crate::small_world::{
-    Prover, Scalars, Verifier, World, challenge, drawn, element, scalars, separator, world,
+    Prover, Scalars, Separator, Verifier, World, challenge, drawn, element, scalars, separator,
+    world,
 };
 use p3_challenger::fs::{Interaction, Kind, Length, ProverState, TranscriptError, VerifierState};
 use p3_field::{F257, PrimeField64};
@@ -55,19 +56,30 @@ fn play_verifier(
     Ok([inner, value.into_inner().as_canonical_u64()])
 }
 
+// Proves; gives the proof, and what was drawn.
+fn prove(alloc: Global, separator: &Separator) -> Result<(Vec<u8>, [u64; 3]), TranscriptError> {
+    let mut prover = ProverState::new(alloc, world(), separator)?;
+    let proved = play_prover(alloc, &mut prover);
+    let (narg, mut challenger) = prover.finish()?;
+    let [inner, outer] = proved?;
+    Ok((narg, [inner, outer, drawn(&mut challenger)?]))
+}
+
+// Verifies; gives what was drawn.
+fn verify(alloc: Global, separator: &Separator, narg: &[u8]) -> Result<[u64; 3], TranscriptError> {
+    let mut verifier = VerifierState::new(alloc, world(), separator, narg)?;
+    let verified = play_verifier(alloc, &mut verifier);
+    let mut challenger = verifier.finish()?;
+    let [inner, outer] = verified?;
+    Ok([inner, outer, drawn(&mut challenger)?])
+}
+
 #[test]
 fn a_protocol_is_played_within_another(rt: HostRuntime) -> Result<(), Fail> {
     let alloc = rt.alloc();
     let separator = separator(alloc, outer_steps(alloc)?)?;
-    let mut prover = ProverState::new(alloc, world(), &separator)?;
-    let proved = play_prover(alloc, &mut prover);
-    let (narg, mut challenger) = prover.finish()?;
-    let [inner, outer] = proved?;
-    assert_eq!(rt; [inner, outer, drawn(&mut challenger)?], DRAWN);
-    let mut verifier = VerifierState::new(alloc, world(), &separator, &narg)?;
-    let verified = play_verifier(alloc, &mut verifier);
-    let mut challenger = verifier.finish()?;
-    let [inner, outer] = verified?;
-    assert_eq!(rt; [inner, outer, drawn(&mut challenger)?], DRAWN);
+    let (narg, proved) = prove(alloc, &separator)?;
+    assert_eq!(rt; proved, DRAWN);
+    assert_eq!(rt; verify(alloc, &separator, narg.as_slice())?, DRAWN);
     Ok(())
 }

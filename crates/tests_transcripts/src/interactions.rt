@@ -35,11 +35,13 @@ fn assert_placed(rt: &impl Abort, step: &Interaction, other: &Interaction, order
 fn patterns(alloc: Global) -> Result<Vec<InteractionPattern>, Fail> {
     let low = Interaction::opaque(Hierarchy::Atomic, Kind::Public, "a", Length::Scalar);
     let high = Interaction::opaque(Hierarchy::Atomic, Kind::Public, "b", Length::Scalar);
-    let mut patterns = vec![in alloc; InteractionPattern::empty(alloc)]?;
-    patterns.push(InteractionPattern::new(vec![in alloc; low]?)?)?;
-    patterns.push(InteractionPattern::new(vec![in alloc; low, low]?)?)?;
-    patterns.push(InteractionPattern::new(vec![in alloc; low, high]?)?)?;
-    patterns.push(InteractionPattern::new(vec![in alloc; high]?)?)?;
+    let lists: [&[Interaction]; 5] = [&[], &[low], &[low, low], &[low, high], &[high]];
+    let mut patterns = Vec::new(alloc);
+    for list in lists {
+        let mut steps = Vec::new(alloc);
+        steps.extend_from_slice(list)?;
+        patterns.push(InteractionPattern::new(steps)?)?;
+    }
     Ok(patterns)
 }
 

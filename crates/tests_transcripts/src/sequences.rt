@@ -20,67 +20,6 @@ fn closer(kind: Kind, label: Label) -> Interaction {
 }
 
 #[test]
-fn a_lone_closer_misses_its_opener(rt: HostRuntime) -> Result<(), Fail> {
-    let end = closer(Kind::Protocol, "outer");
-    let found = InteractionPattern::new(vec![in rt.alloc(); end]?);
-    let fault = TranscriptError::MissingBegin(MissingBeginInfo { position: 0, end });
-    assert_eq!(rt; found, Err(fault));
-    Ok(())
-}
-
-#[test]
-fn a_container_of_messages_takes_no_challenge(rt: HostRuntime) -> Result<(), Fail> {
-    let begin = opener(Kind::Message, "round");
-    let interaction = opener(Kind::Challenge, "inner");
-    let found = InteractionPattern::new(vec![in rt.alloc(); begin, interaction]?);
-    let fault = TranscriptError::InvalidKind(InvalidKindInfo {
-        begin_position: 0,
-        begin,
-        interaction_position: 1,
-        interaction,
-    });
-    assert_eq!(rt; found, Err(fault));
-    Ok(())
-}
-
-#[test]
-fn the_innermost_of_two_openers_misses_its_closer(rt: HostRuntime) -> Result<(), Fail> {
-    let begin = opener(Kind::Message, "inner");
-    let found = InteractionPattern::new(vec![in rt.alloc();
-        opener(Kind::Protocol, "outer"),
-        begin,
-    ]?);
-    let fault = TranscriptError::MissingEnd(MissingEndInfo { position: 1, begin });
-    assert_eq!(rt; found, Err(fault));
-    Ok(())
-}
-
-#[test]
-fn faults_under_two_openers_name_the_inner_one(rt: HostRuntime) -> Result<(), Fail> {
-    let outer = opener(Kind::Protocol, "outer");
-    let begin = opener(Kind::Message, "inner");
-    let end = closer(Kind::Protocol, "outer");
-    let found = InteractionPattern::new(vec![in rt.alloc(); outer, begin, end]?);
-    let fault = TranscriptError::MismatchedBeginEnd(MismatchedBeginEndInfo {
-        begin_position: 1,
-        begin,
-        end_position: 2,
-        end,
-    });
-    assert_eq!(rt; found, Err(fault));
-    let interaction = step(Hierarchy::Atomic, Kind::Challenge, "challenge");
-    let found = InteractionPattern::new(vec![in rt.alloc(); outer, begin, interaction]?);
-    let fault = TranscriptError::InvalidKind(InvalidKindInfo {
-        begin_position: 1,
-        begin,
-        interaction_position: 2,
-        interaction,
-    });
-    assert_eq!(rt; found, Err(fault));
-    Ok(())
-}
-
-#[test]
 fn nested_containers_are_a_pattern(rt: HostRuntime) -> Result<(), Fail> {
     let steps = [
         opener(Kind::Protocol, "outer"),
