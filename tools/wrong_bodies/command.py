@@ -6,7 +6,7 @@ import signal
 import sys
 import tempfile
 
-from . import listing, record
+from . import counts, listing, record
 from .kit import rtlib
 from .run import Run
 from .verdicts import MEANING
@@ -19,7 +19,8 @@ Tries the edits crates/NAME/{FOLDER}/*.edit, of each crate that has that folder,
 named. An edit has lines 'file: src/x.rt', 'old: TEXT' (standing once in that file) and 'new: TEXT'; further pairs apply to
 what the earlier ones made. The prover must refuse it at a goal of each function that it changes. A line 'refused at: NAME'
 (a function's name, or Type::name, module::name; there may be several) says that it is refused in that function instead, as
-an edit of a constant or of a ghost member is.
+an edit of a constant or of a ghost member is. Where no function has the name, it is that of a ghost member of an impl, such
+as a law, at whose value the edit is refused.
 
 Edits of different functions are checked together, on a copy of the crate. What is not plainly refused so is tried alone, and
 so is an edit of more than bodies. Each edit has a row: a word, its name, the functions that it changes, and the first goal.
@@ -32,7 +33,10 @@ tried all the same, 3 in 100 and at least 20, which the hash of the commit choos
 its crate are tried. With --all every edit is tried. With --record what was seen refused is put on record; nothing else writes it.
 {MEANING}
 A refusal may have marks: [requires] only what a callee asks failed, [gave up] the search met a limit at each goal, [false]
-values are known at which a goal is false, [answers] only answers that a proof file gives failed.
+values are known at which a goal is false, [answers] only answers that a proof file, or the value of a ghost member, gives failed.
+
+Where no names are given, what {counts.TABLE} and {counts.SUM} say of how many edits there are is looked at too, and a page
+that says another number counts as one failure. With --count these pages are written.
 
 The last line is 'N passed, M failed': an edit passes where it is refused. The exit status is 1 where one failed."""
 
@@ -46,6 +50,7 @@ def parsed(words):
     parser.add_argument("--all", action="store_true", help="try all, also what is on record")
     parser.add_argument("--record", action="store_true", help="put on record what is seen refused, and try no sample")
     parser.add_argument("--list", action="store_true", help="print what each edit does, and try none")
+    parser.add_argument("--count", action="store_true", help=f"write into {counts.TABLE} and {counts.SUM} how many edits there are, and try none")
     parser.add_argument("--alone", action="store_true", help="check each edit by itself")
     parser.add_argument("--fresh", action="store_true", help="take nothing of what rt check kept of the crate")
     parser.add_argument("--keep", metavar="DIR", help="keep what each check printed, in DIR/CRATE")
@@ -75,13 +80,26 @@ def main(words):
     if given.list:
         print(*listing.lines([it for it in crates if not given.names or it.name in given.names]), sep="\n")
         return 0
+    if given.count:
+        return count(root, crates)
     asked = asked_for(given.names, crates)
     with tempfile.TemporaryDirectory(prefix="wrong-bodies-") as room:
         remove_when_stopped(room)
         run = Run(given, room)
         run.all_of(asked, root)
+        if not given.names:
+            run.failed += counts.faults(root, crates)
     print(*run.last_lines(), sep="\n")
     return 1 if run.failed else 0
+
+
+def count(root, crates):
+    """Writes into the pages how many edits there are, and returns the exit status."""
+    try:
+        print(f"{counts.write(root, crates)} edits")
+    except counts.NoPlace as error:
+        stop(error)
+    return 0
 
 
 def remove_when_stopped(room):

@@ -1,8 +1,8 @@
 """Edits: what a file of `wrong-bodies/` says, and which places of the crate's text it changes.
 
 An edit file has lines `file: src/x.rt`, `old: TEXT` and `new: TEXT`. The old text stands exactly once in that file, as the
-pairs above it left it. A line `refused at: NAME` says that a caller of that name refuses the edit, and not the function that
-it changes; there may be several. Any other line is a remark.
+pairs above it left it. A line `refused at: NAME` says that a caller of that name refuses the edit, or a ghost member of that
+name, and not the function that it changes; there may be several. Any other line is a remark.
 """
 import collections
 import os

@@ -1,4 +1,4 @@
-"""A crate's functions and constants: where each stands in the text, and the names that a check gives it."""
+"""A crate's functions, constants and ghost members: where each stands in the text, and the names that a check gives it."""
 import re
 
 from .edits import BadEdit
@@ -7,7 +7,7 @@ from .kit import bodies
 
 
 class Item:
-    """A function or a constant, and where it begins, where its head ends, its body begins and it ends, in characters."""
+    """A function, a constant or a ghost member, and where it begins, where its head ends, its body begins and it ends, in characters."""
 
     def __init__(self, file, name, module, block):
         self.file, self.name, self.module, self.block = file, name, list(module), block
@@ -17,6 +17,8 @@ class Item:
         # Of a method of an impl of a trait, what a check calls the impl.
         self.impl_names = None
         self.is_constant = False
+        # Whether it is a ghost member of an impl: a law, or a definition.
+        self.is_ghost = False
 
     def owner(self):
         """Returns the name of the type or trait that it belongs to, or an empty text."""
@@ -82,15 +84,18 @@ class Texts:
 
 
 class Functions:
-    """The functions and constants of a crate's source."""
+    """The functions and constants of a crate's source, and the ghost members of its impls."""
 
     def __init__(self, folder, is_program):
         self.text_of = Texts(folder)
         source = bodies.Source(folder)
         source.read("src/main.rt" if is_program else "src/lib.rt")
         self.items = [self.function(it) for it in source.functions if it.has_body]
+        # (no edit is one of a ghost member: it is of what rests on it, or of the function in which it is refused)
+        self.ghosts = []
         for file in source.data:
             rows, data = source.tokens(file)
+            self.ghosts += self.ghost_members(source, file, rows, data)
             rows = [it for it in rows if it[3] in ("Code", "Literal", "Head")]
             self.items += self.constants(source, file, rows, data)
             for it in self.items:
@@ -125,6 +130,22 @@ class Functions:
                 found.append(made)
         return found
 
+    def ghost_members(self, source, file, rows, data):
+        """Returns the ghost members that the impls of a file give, by its tokens, but of impls that have no function."""
+        blocks = {it.block for it in source.functions if it.file == file and it.block and not it.block.is_trait}
+        found = []
+        for at in range(len(rows) - 3):
+            head = [it[4] for it in rows[at : at + 4] if it[3] == "Head"]
+            block = next((it for it in blocks if it.span[0] <= rows[at][1] < it.span[1]), None)
+            if not block or len(head) < 4 or head[0] != "ghost" or head[2:] != ["=", "{"]:
+                continue
+            last = next(it for it in rows[at:] if it[3] == "End")[2]
+            made = Item(file, head[1], module_of(file), block)
+            made.begin, made.end = len(data[: rows[at][1]].decode()), len(data[:last].decode())
+            made.is_ghost = True
+            found.append(made)
+        return found
+
     def holding(self, file, start, end):
         """Returns the innermost item that holds this stretch of a file, or None."""
         found = [it for it in self.items if it.file == file and it.begin <= start < it.end and end <= it.end]
@@ -156,12 +177,13 @@ class Functions:
         return found
 
     def called(self, name):
-        """Returns the one item that `refused at:` names."""
-        found = [it for it in self.items if name.replace(" ", "") in it.spellings()]
+        """Returns the one item that `refused at:` names: a function or a constant, or else a ghost member."""
+        named = lambda items: [it for it in items if name.replace(" ", "") in it.spellings()]
+        found = named(self.items) or named(self.ghosts)
         if len(found) == 1:
             return found[0]
         if not found:
-            raise BadEdit(f"'refused at: {name}' names no function of the crate")
+            raise BadEdit(f"'refused at: {name}' names no function and no ghost member of the crate")
         all_of_them = ", ".join(it.shown() for it in found)
         raise BadEdit(f"'refused at: {name}' may be any of {all_of_them}: write more of the name")
 

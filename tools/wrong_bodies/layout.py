@@ -50,12 +50,12 @@ class Layouts:
         return self.known[file]
 
     def item_at(self, file, row, column):
-        """Returns the innermost function or constant that stands there, or None."""
+        """Returns the innermost function or constant that stands there, or the ghost member, or None."""
         layout = self.of(file)
         if not layout:
             return None
         place, found = layout.place(row, column), []
-        for it in self.functions.items:
+        for it in [*self.functions.items, *self.functions.ghosts]:
             if it.file == file:
                 begin, end = layout.moved(it.begin, False), layout.moved(it.end, True)
                 found += [(end - begin, it)] * (begin <= place < end)

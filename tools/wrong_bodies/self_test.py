@@ -7,7 +7,7 @@ import subprocess
 import sys
 import tempfile
 
-from . import libraries, record, sample, self_record, texts
+from . import counts, libraries, record, sample, self_record, texts
 from .kit import rtlib
 
 COMMAND = f"{os.path.dirname(os.path.dirname(os.path.realpath(__file__)))}/wrong-bodies"
@@ -35,7 +35,7 @@ twice n = n + n
 HIGH = """// Small functions to try wrong bodies on.
 #![tactic(auto)]
 
-ghost use Rattle.std.specs.Prelude.{◌≡◌, ◌≤◌, ◌+◌};
+ghost use Rattle.std.specs.Prelude.{◌≡◌, ◌≤◌, ◌+◌, ℕ};
 
 use low::doubled;
 
@@ -90,6 +90,37 @@ pub fn lesser(a: u8, b: u8) -> u8
     if a < b { a } else { b }
 }
 
+/// Steps of one length.
+pub trait Stepping {
+    ghost far: { ℕ };
+
+    ghost goes: { 1 ≤ far };
+
+    ghost stays: { far ≤ 100 };
+
+    /// The number one step further on.
+    fn advanced(n: u8) -> u8
+        requires { n ≤ 100 }
+        ensures { result ≡ n + far };
+}
+
+/// Steps of two.
+pub struct Twos;
+
+impl Stepping for Twos {
+    ghost use Rattle.std.proofs.Common.{arith};
+
+    ghost far = { 2 };
+
+    ghost goes = { omega arith };
+
+    ghost stays = { omega arith };
+
+    fn advanced(n: u8) -> u8 {
+        n + 2
+    }
+}
+
 /// How many elements the first half has.
 pub fn half(values: &mut [u8]) -> usize {
     let count = values.len() / 2;
@@ -107,6 +138,7 @@ returns-then-a-b-clause-second c = omega arith
 Case = collections.namedtuple("Case", "pairs callers word mark", defaults=("",))
 NEXT, GREATER, LESSER = "doubled(n) + 1", "if a < b { b } else { a }", "if a < b { a } else { b }"
 ASKS_MORE = [("requires { n ≤ 60 }", "requires { n ≤ 30 }")]
+NOWHERE = [("ghost far = { 2 }", "ghost far = { 0 }"), ("        n + 2", "        n + 0")]
 CASES = {
     "meaning_turned": Case([(NEXT, "doubled(n)")], [], "refused"),
     "branches_exchanged": Case([(GREATER, "if a < b { a } else { b }")], [], "refused", "[false]"),
@@ -121,6 +153,9 @@ CASES = {
     "body_before_another_function": Case(
         [("ensures { result ≡ n + 2 }", "ensures { result ≡ n + 2 } { n + 0x2 } fn unasked(n: u8) -> u8")], [], "elsewhere"
     ),
+    "law_refused_with_its_body_turned_too": Case(NOWHERE, ["Twos::goes"], "refused", "[answers]"),
+    "law_that_still_holds": Case(NOWHERE, ["<Twos as Stepping>::stays"], "elsewhere"),
+    "law_that_is_not_there": Case(NOWHERE, ["Twos::returns"], "bad-edit"),
     "constant_turned": Case([("STEP: u8 = 2", "STEP: u8 = 3")], ["stepped"], "refused", "[false]"),
     "caller_that_is_not_there": Case(ASKS_MORE, ["quadrupled"], "bad-edit"),
     "brace_lost": Case([(GREATER, "if a < b { b } else { a")], [], "not-source"),
@@ -269,6 +304,26 @@ def of_forged(root):
     os.remove(record.file_of(high))
 
 
+def of_counts(root):
+    """Has the two pages say how many edits there are."""
+    crates = rtlib.crates_below(root)
+    yield "where there are no pages, nothing is said of the number of edits", counts.faults(root, crates) == []
+    write(f"{root}/{counts.TABLE}", f"Before.\n\n{counts.HEAD}| `low` | 3 |\n| all | 3 |\n\n| After | it |\n|---|---|\n| all | of it |\n")
+    write(f"{root}/{counts.SUM}", "3 wrong bodies (mutants) are on file, of 3.\n")
+    told = counts.faults(root, crates)
+    yield "a page that says another number of edits is told", [it.partition(" ")[0] for it in told] == [counts.TABLE, counts.SUM]
+    status, lines = run(root, "--count")
+    many = len(CASES)
+    rows = f"{counts.HEAD}| `high` | {many} |\n| all | {many} |\n\n| After | it |\n|---|---|\n| all | of it |\n"
+    is_written = rtlib.text_of(f"{root}/{counts.TABLE}") == f"Before.\n\n{rows}"
+    yield "the table is written, and nothing else of its page", status == 0 and lines[-1] == f"{many} edits" and is_written
+    yield "and so is the sum", rtlib.text_of(f"{root}/{counts.SUM}") == f"{many} wrong bodies (mutants) are on file, of 3.\n"
+    yield "then the pages are as they have to be", counts.faults(root, crates) == []
+    write(f"{root}/{counts.SUM}", "No number.\n")
+    yield "a page without a place for it is told", len(counts.faults(root, crates)) == 1
+    os.remove(f"{root}/{counts.TABLE}")
+
+
 def of_samples():
     """Chooses among many names."""
     names = [f"crate/edit_{it}" for it in range(1000)]
@@ -312,7 +367,7 @@ def main(is_asked=True, is_recorded=False):
     counts = collections.Counter()
     with tempfile.TemporaryDirectory(prefix="wrong-bodies-self-test-") as root:
         make(root)
-        told = [*of_samples(), *of_keys(root), *of_all(root), *of_one(root), *of_record(root), *of_forged(root), *of_marked(root)]
+        told = [*of_samples(), *of_counts(root), *of_keys(root), *of_all(root), *of_one(root), *of_record(root), *of_forged(root), *of_marked(root)]
         with open(f"{root}/crates/high/src/lib.rt", encoding="utf-8") as it:
             told.append(("the crate's own text is as it was", it.read() == HIGH))
     for text, holds in told:

@@ -62,8 +62,8 @@ def marks(real):
         "gave up": all("gave up" in it.words for it in goals),
         # values are known at which one is false
         "false": any(re.search("goal is false|does not follow", it.words) for it in goals),
-        # only answers that a proof file gives failed: they may be of another form than the new goals
-        "answers": all(it.where.startswith("proofs/") for it in goals),
+        # only answers that a proof file or an impl gives failed: they may be of another form than the new goals
+        "answers": all(of.is_ghost or it.where.startswith("proofs/") for of, of_one in real.items() for it in of_one),
     }
     return "".join(f"[{mark}] " for mark, holds in said.items() if holds)
 

@@ -1,1 +1,2 @@
+pub mod OnePlace
 pub mod TwoProofs

@@ -2,8 +2,10 @@
 //! one or two laws of this repository. The search finds them, but for one that is written beside.
 #![tactic(auto)]
 
+mod one_place;
 mod two_proofs;
 
+pub use one_place::symbols_tell_each_value;
 use p3_challenger::HashChallenger;
 use p3_challenger::laws::prefix_codes::{
     duplex_arrays_are_prefix_code, duplex_elements_are_prefix_code, hash_arrays_are_prefix_code,
@@ -28,6 +30,7 @@ pub fn duplex_symbols_bind() {
     binding::<DuplexSuite>();
     equal_symbols_have_equal_values::<DuplexSuite>();
     challenges_bind_what_came_before::<DuplexSuite>();
+    symbols_tell_each_value::<DuplexSuite>();
 }
 
 /// Over `HashChallenger` of bytes, whose bytes are its symbols, and so are those of an array of 32 bytes.

@@ -9,9 +9,8 @@ use anyhow::{Context, Result, bail};
 use conformance_tokens::answer;
 use conformance_tokens::line::Step;
 use conformance_tokens::symbol::{Extended, numbers_of};
-use p3_challenger::DuplexChallenger;
-use p3_field::{BabyBear, F257, Goldilocks};
-use p3_lanes::{LanePermutation, PackedField};
+use p3_challenger::{DuplexChallenger, LanePermutation};
+use p3_field::{BabyBear, F257, Goldilocks, PackedField};
 use p3_symmetric::{CryptographicPermutation, Turn};
 use std::alloc::Global;
 

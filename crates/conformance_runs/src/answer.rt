@@ -119,15 +119,15 @@ fn verifier_side<S: World>(
     script: &Script<S>,
     written: &Written<S>,
 ) -> Result<Told> {
-    let steps = script.played.steps.as_slice();
+    let played = &script.played;
     let carried = written.carried.as_slice();
     let narg = written.narg.as_slice();
-    if carried_len(steps) != carried.len() {
+    if carried_len(played.steps.as_slice()) != carried.len() {
         return Ok(Told::plain(alloc, String::from_str(alloc, "not carried")?));
     }
-    let whole = verify_whole(alloc, separator, steps, carried, narg)?;
-    let pattern = steps_of_pattern(script).steps.as_slice();
-    let by_steps = verify_by_steps(alloc, separator, steps, pattern, carried, narg)?;
+    let whole = verify_whole(alloc, separator, played, carried, narg)?;
+    let pattern = steps_of_pattern(script);
+    let by_steps = verify_by_steps(alloc, separator, played, pattern, carried, narg)?;
     agreed(alloc, whole, by_steps)
 }
 

@@ -8,16 +8,16 @@
 //! one of [`script_lines::world`], or a suite over another challenger. The steps are those that
 //! [`script_lines::steps`] reads, each with what the prover is handed for it. After them may stand one of
 //! [`script_lines::change::Change`], which is what becomes of the proof before the verifier reads it; `carried v..`,
-//! the witnesses that the verifier's caller carries in place of the prover's; and `handed VALUE`, one value more for
-//! the prover. Where the steps of the pattern are others than those that are played, they stand in between:
-//! `| STEPS | pattern STEPS | ANSWER`.
+//! the witnesses that the verifier's caller carries in place of the prover's; `handed VALUE`, one value more for the
+//! prover; and `next N`, how many scalars are drawn in the end, where it is not two. Where the steps of the pattern
+//! are others than those that are played, they stand in between: `| STEPS | pattern STEPS | ANSWER`.
 //!
 //! Each side plays the script in two ways, by `prove` or `verify` and step by step on a driver, and both have to
 //! tell the same. A driver that refused a step has to refuse it once more, and the step of the pattern there, and
 //! its end.
 //!
 //! The answer is `PROVER ; verify VERIFIER`. Of a prover it is `wire HEX ; draws n.. ; witnesses n.. ; next a b`:
-//! the bytes of the proof, the numbers that were drawn, the witnesses that were found, and the next two scalars
+//! the bytes of the proof, the numbers that were drawn, the witnesses that were found, and the next scalars
 //! that its challenger draws; of a verifier `accepted n.. next a b`, with what it drew and what its challenger
 //! draws next. Of either it may be `refused POSITION REASON`, with the position of the step, counted from 0, or the
 //! number of steps for the end; and `not handed` or `not carried`, where the values or the witnesses are not those

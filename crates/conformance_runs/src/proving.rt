@@ -36,7 +36,7 @@ pub fn prove_by_steps<S: World>(
     let made = play::<S>(alloc, &mut prover, script, pattern);
     let wrote = wrote(alloc, prover.narg());
     let end = prover.finish();
-    ended(alloc, made?, end, script.steps.len(), wrote?)
+    ended(alloc, made?, end, script, wrote?)
 }
 
 // What a prover leaves that has ended so, with these bytes written.
@@ -44,9 +44,10 @@ fn ended<S: World>(
     alloc: Global,
     made: Made<S>,
     end: Result<(Vec<u8>, S::Challenger), TranscriptError>,
-    position: usize,
+    script: &Steps<S>,
     wrote: String,
 ) -> Result<Written<S>> {
+    let position = script.steps.len();
     match (made.refused, end) {
         (None, Ok((narg, challenger))) => Written::proved(
             alloc,
@@ -57,6 +58,7 @@ fn ended<S: World>(
                 challenges: made.challenges,
                 challenger,
             },
+            script.next,
         ),
         (None, Err(error)) => Written::refused(alloc, &Fault { position, error }, wrote),
         (Some((fault, left)), Err(TranscriptError::Pattern(PatternError::Finished))) => {
@@ -109,7 +111,7 @@ fn left<S: World>(
     try_again(alloc, prover, script, place)?;
     try_again(alloc, prover, pattern, place)?;
     let wrote = wrote(alloc, prover.narg())?;
-    let state = S::state(alloc, prover.challenger_mut())?;
+    let state = S::state(alloc, prover.challenger_mut(), script.next)?;
     Ok(format!(in alloc; "{wrote} ; {state}")?)
 }
 

@@ -7,6 +7,7 @@ use p3_challenger::fs::script::{
 };
 use p3_challenger::fs::{PatternError, TranscriptError, VerifierState};
 use script_lines::alone::{is_admitted, is_carried, only};
+use script_lines::script::Steps;
 use script_lines::world::{SeparatorOf, World};
 use std::alloc::Global;
 
@@ -30,8 +31,8 @@ struct Taken<'a, S: World> {
 pub fn verify_by_steps<S: World>(
     alloc: Global,
     separator: &SeparatorOf<S>,
-    steps: &[Step<S>],
-    pattern: &[Step<S>],
+    script: &Steps<S>,
+    pattern: &Steps<S>,
     carried: &[S::Field],
     narg: &[u8],
 ) -> Result<Told> {
@@ -42,10 +43,10 @@ pub fn verify_by_steps<S: World>(
             return Ok(Told::plain(alloc, text));
         }
     };
-    let taken = play::<S>(alloc, &mut verifier, steps, pattern, carried);
+    let taken = play::<S>(alloc, &mut verifier, script, pattern, carried);
     let unread = verifier.remaining_narg();
     let end = verifier.finish();
-    ended(alloc, taken?, end, steps.len(), unread)
+    ended(alloc, taken?, end, script, unread)
 }
 
 // What is told of a verifier that has ended so, with bytes left.
@@ -53,9 +54,10 @@ fn ended<S: World>(
     alloc: Global,
     taken: Taken<'_, S>,
     end: Result<S::Challenger, TranscriptError>,
-    position: usize,
+    script: &Steps<S>,
     unread: usize,
 ) -> Result<Told> {
+    let position = script.steps.len();
     match (taken.refused, end) {
         (None, Ok(challenger)) => accepted(
             alloc,
@@ -64,6 +66,7 @@ fn ended<S: World>(
                 challenges: taken.challenges,
                 challenger,
             },
+            script.next,
         ),
         (None, Err(error)) => Ok(Told {
             text: refused(alloc, &Fault { position, error })?,
@@ -81,8 +84,8 @@ fn ended<S: World>(
 fn play<'a, S: World>(
     alloc: Global,
     verifier: &mut VerifierOf<'a, S>,
-    steps: &[Step<S>],
-    pattern: &[Step<S>],
+    script: &Steps<S>,
+    pattern: &Steps<S>,
     carried: &[S::Field],
 ) -> Result<Taken<'a, S>> {
     let mut taken = Taken {
@@ -90,6 +93,7 @@ fn play<'a, S: World>(
         challenges: Vec::new(alloc),
         refused: None,
     };
+    let steps = script.steps.as_slice();
     let mut carried = carried.iter();
     for place in 0..steps.len() {
         let witness = match &steps[place] {
@@ -99,7 +103,7 @@ fn play<'a, S: World>(
         match play_step(alloc, verifier, steps, place, witness)? {
             Ok(answer) => taken.keep(answer)?,
             Err(error) => {
-                let left = left(alloc, verifier, steps, pattern, place)?;
+                let left = left(alloc, verifier, script, pattern, place)?;
                 let position = place;
                 taken.refused = Some((Fault { position, error }, left));
                 break;
@@ -113,14 +117,14 @@ fn play<'a, S: World>(
 fn left<S: World>(
     alloc: Global,
     verifier: &mut VerifierOf<'_, S>,
-    steps: &[Step<S>],
-    pattern: &[Step<S>],
+    script: &Steps<S>,
+    pattern: &Steps<S>,
     place: usize,
 ) -> Result<String> {
-    try_again(alloc, verifier, steps, place)?;
-    try_again(alloc, verifier, pattern, place)?;
+    try_again(alloc, verifier, script.steps.as_slice(), place)?;
+    try_again(alloc, verifier, pattern.steps.as_slice(), place)?;
     let unread = verifier.remaining_narg();
-    let state = S::state(alloc, verifier.challenger_mut())?;
+    let state = S::state(alloc, verifier.challenger_mut(), script.next)?;
     Ok(format!(in alloc; " ; unread {unread} ; {state}")?)
 }
 

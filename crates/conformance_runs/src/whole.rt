@@ -1,7 +1,7 @@
 // A whole script by one call on each side.
 use crate::told::{Told, drawn, numbers, received, refused};
 use anyhow::Result;
-use p3_challenger::fs::script::{Fault, Proved, Step, Verified};
+use p3_challenger::fs::script::{Fault, Proved, Verified};
 use script_lines::playing::{prove_steps, verify_steps};
 use script_lines::script::Steps;
 use script_lines::world::{SeparatorOf, World};
@@ -31,12 +31,12 @@ impl<S: World> Written<S> {
         }
     }
 
-    /// Of a prover that has played all steps.
-    pub fn proved(alloc: Global, mut proved: Proved<S>) -> Result<Written<S>> {
+    /// Of a prover that has played all steps, whose challenger draws so many scalars then.
+    pub fn proved(alloc: Global, mut proved: Proved<S>, next: usize) -> Result<Written<S>> {
         let wire = hex::encode(alloc, proved.narg.as_slice())?;
         let draws = drawn::<S>(alloc, proved.challenges.as_slice())?;
         let witnesses = numbers::<S>(alloc, proved.witnesses.as_slice())?;
-        let state = S::state(alloc, &mut proved.challenger)?;
+        let state = S::state(alloc, &mut proved.challenger, next)?;
         let text = format!(in alloc;
             "wire {wire} ; draws {draws} ; witnesses {witnesses} ; {state}"
         )?;
@@ -56,7 +56,7 @@ pub fn prove_whole<S: World>(
 ) -> Result<Written<S>> {
     let (steps, sent) = (script.steps.as_slice(), script.sent.as_slice());
     match prove_steps::<S>(alloc, S::fresh(alloc)?, separator, steps, sent)? {
-        Ok(proved) => Written::proved(alloc, proved),
+        Ok(proved) => Written::proved(alloc, proved, script.next),
         Err(fault) => Written::refused(alloc, &fault, String::new(alloc)),
     }
 }
@@ -65,20 +65,25 @@ pub fn prove_whole<S: World>(
 pub fn verify_whole<S: World>(
     alloc: Global,
     separator: &SeparatorOf<S>,
-    steps: &[Step<S>],
+    script: &Steps<S>,
     carried: &[S::Field],
     narg: &[u8],
 ) -> Result<Told> {
+    let steps = script.steps.as_slice();
     match verify_steps::<S>(alloc, S::fresh(alloc)?, separator, steps, carried, narg)? {
-        Ok(verified) => accepted(alloc, verified),
+        Ok(verified) => accepted(alloc, verified, script.next),
         Err(fault) => Ok(Told::plain(alloc, refused(alloc, &fault)?)),
     }
 }
 
-/// What is told of a verifier that has accepted a proof.
-pub fn accepted<S: World>(alloc: Global, mut verified: Verified<'_, S>) -> Result<Told> {
+/// What is told of a verifier that has accepted a proof, whose challenger draws so many scalars then.
+pub fn accepted<S: World>(
+    alloc: Global,
+    mut verified: Verified<'_, S>,
+    next: usize,
+) -> Result<Told> {
     let draws = drawn::<S>(alloc, verified.challenges.as_slice())?;
-    let state = S::state(alloc, &mut verified.challenger)?;
+    let state = S::state(alloc, &mut verified.challenger, next)?;
     Ok(Told {
         text: format!(in alloc; "accepted {draws} {state}")?,
         more: received::<S>(alloc, verified.received.as_slice())?,

@@ -59,16 +59,16 @@ fn show_demo_script(rt: &HostRuntime) -> anyhow::Result<()> {
     let inputs = vec![in alloc; seven, eight]?;
     let agreed = demo_script::prove_and_verify(alloc, &separator, inputs, &sent)?;
     let agreed = agreed.context("values that the steps do not have")?;
-    let proof = hex::encode(alloc, agreed.proof.as_slice())?;
+    let proof = hex::encode(alloc, agreed.proved.narg.as_slice())?;
     println!(rt; "demo script: {proof}")?;
-    for drawn in &agreed.verified {
+    for drawn in &agreed.drawn {
         match drawn {
             Drawn::Scalars(scalars) | Drawn::Extensions(scalars) => println!(rt; "{scalars:?}")?,
             Drawn::Bits(numbers) => println!(rt; "{numbers:?}")?,
         }
     }
     let fewer = vec![in alloc; seven]?;
-    let other = demo_script::verify(alloc, &separator, fewer, agreed.proof.as_slice());
+    let other = demo_script::verify(alloc, &separator, fewer, agreed.proved.narg.as_slice());
     if let Err(fault) = other {
         println!(rt;
             "a number fewer: refused at {}, {}",
@@ -216,5 +216,5 @@ fn round_separator<U>(alloc: Global) -> Result<DomainSeparator<U, Polynomial>, T
     );
     let drawn = sent.of_same_type(Hierarchy::Atomic, Kind::Challenge, "drawn", Length::Scalar);
     let pattern = InteractionPattern::new(vec![in alloc; sent, drawn]?)?;
-    Ok(DomainSeparator::new(alloc, 1, b"round", pattern)?)
+    DomainSeparator::new(alloc, 1, b"round", pattern)
 }

@@ -1,8 +1,8 @@
 // Calls on each challenger.
 use anyhow::{Result, bail};
 use p3_challenger::{
-    CanObserve, CanSample, ChallengerError, DuplexChallenger, GrindingChallenger, HashChallenger,
-    MultiField32Challenger, SerializingChallenger32, SerializingChallenger64, TryClone,
+    CanCopy, CanObserve, CanSample, ChallengerError, DuplexChallenger, GrindingChallenger,
+    HashChallenger, MultiField32Challenger, SerializingChallenger32, SerializingChallenger64,
 };
 use p3_field::{BabyBear, F257, Goldilocks, PrimeCharacteristicRing, PrimeField64};
 use p3_symmetric::{Sha256Hasher, Turn};
@@ -67,7 +67,7 @@ fn show_bytes(rt: &HostRuntime, challenger: &mut Bytes) -> Result<()> {
         ChallengerError::OutOfMemory,
         challenger.observe_slice(&[1, 2, 3])
     )?;
-    let mut copy = again!(ChallengerError::OutOfMemory, challenger.try_clone())?;
+    let mut copy = again!(ChallengerError::OutOfMemory, challenger.copy())?;
     let drawn: u8 = again!(ChallengerError::OutOfMemory, challenger.sample())?;
     let of_copy: u8 = again!(ChallengerError::OutOfMemory, copy.sample())?;
     println!(rt; "hash: {drawn} {of_copy}")?;
@@ -75,7 +75,7 @@ fn show_bytes(rt: &HostRuntime, challenger: &mut Bytes) -> Result<()> {
 }
 
 // Observes scalars, copies the challenger, searches for a witness, checks it on the copy, and draws from both.
-fn show_work<C: TryClone + GrindingChallenger + CanSample<C::Witness>>(
+fn show_work<C: CanCopy + GrindingChallenger + CanSample<C::Witness>>(
     rt: &HostRuntime,
     name: &str,
     challenger: &mut C,
@@ -88,7 +88,7 @@ fn show_work<C: TryClone + GrindingChallenger + CanSample<C::Witness>>(
         ChallengerError::OutOfMemory,
         challenger.observe_slice(values)
     )?;
-    let mut copy = again!(ChallengerError::OutOfMemory, challenger.try_clone())?;
+    let mut copy = again!(ChallengerError::OutOfMemory, challenger.copy())?;
     let found = again!(ChallengerError::OutOfMemory, challenger.grind(BITS))?;
     let passes = again!(
         ChallengerError::OutOfMemory,

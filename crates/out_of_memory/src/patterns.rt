@@ -7,7 +7,7 @@ use p3_challenger::fs::{
 };
 use p3_field::F257;
 use p3_symmetric::{Sha256Hasher, Turn};
-use std::alloc::{AllocError, Global};
+use std::alloc::Global;
 
 type Separator = DomainSeparator<FieldUnit<F257>, Sha256Hasher>;
 
@@ -16,10 +16,13 @@ pub fn show(rt: &HostRuntime) -> Result<()> {
     let alloc = rt.alloc();
     let recorded = again!(TranscriptError::OutOfMemory, recorded(alloc))?;
     let pattern = again!(TranscriptError::OutOfMemory, listed(alloc))?;
-    let copy = again!(AllocError, pattern.clone())?;
+    let copy = again!(TranscriptError::OutOfMemory, pattern.clone())?;
     let same = pattern == recorded && pattern == copy;
-    let text = again!(AllocError, pattern.alternate())?;
-    let digest = again!(AllocError, pattern.pattern_hash::<Sha256Hasher>())?;
+    let text = again!(TranscriptError::OutOfMemory, pattern.alternate())?;
+    let digest = again!(
+        TranscriptError::OutOfMemory,
+        pattern.pattern_hash::<Sha256Hasher>()
+    )?;
     let (lines, first) = (text.as_str().lines().count(), digest[0]);
     println!(rt; "pattern: {same} {lines} {first}")?;
     show_separator(rt)
@@ -54,7 +57,7 @@ fn listed(alloc: Global) -> Result<InteractionPattern, TranscriptError> {
 }
 
 fn separator(alloc: Global) -> Result<Separator, TranscriptError> {
-    Ok(DomainSeparator::new(alloc, 1, b"one", listed(alloc)?)?)
+    DomainSeparator::new(alloc, 1, b"one", listed(alloc)?)
 }
 
 // Adds a chunk to the label, copies the separator, and observes the seed.
@@ -62,7 +65,7 @@ fn show_separator(rt: &HostRuntime) -> Result<()> {
     let alloc = rt.alloc();
     let mut separator = again!(TranscriptError::OutOfMemory, separator(alloc))?;
     again!(TranscriptError::OutOfMemory, separator.instance(b"label"))?;
-    let copy = again!(AllocError, separator.clone())?;
+    let copy = again!(TranscriptError::OutOfMemory, separator.clone())?;
     let same = copy == separator;
     let mut challenger: DuplexChallenger<F257, Turn<2>, 3, 2> = DuplexChallenger::new(Turn, 4);
     again!(

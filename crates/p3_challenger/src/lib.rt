@@ -16,11 +16,12 @@ pub use p3_challenger_core::{
 pub use p3_duplex::DuplexChallenger;
 pub use p3_field_core::UniformSamplingField;
 pub use p3_grinding::{
-    BeforeWitness, ByteCandidates, ByteGrindingChallenger, CanSampleUniformBits,
-    GrindingChallenger, ResamplingError, TryClone, UniformBitsError, UniformGrindingChallenger,
+    BeforeWitness, ByteCandidates, ByteGrindingChallenger, CanCopy, CanSampleUniformBits,
+    GrindingChallenger, ResamplingError, UniformBitsError, UniformGrindingChallenger,
     least_uniform_witness, least_witness,
 };
 pub use p3_hash_challenger::HashChallenger;
+pub use p3_lanes::{LanePermutation, permute_each_lane};
 pub use p3_multi_field::{
     HasFieldPair, MultiField32Challenger, MultiField32ChallengerError, MultiFieldSymbol,
 };

@@ -8,7 +8,7 @@
 ghost use Rattle.std.specs.Prelude.{◌≡◌, ◌↔◌, ℕ, true, ◌+◌, ◌<◌, ◌≤◌, ◌^◌, List, [], ◌∷◌, ◌++◌, length, OnOk, OnErr};
 ghost use Rattle.std.specs.{Prelude.{IfOk, IfErr}, List.{All, flat_map}};
 ghost use Rattle.p3_challenger_core.specs.{Observation.observed_all, Sponge.IsFed, Reading.IsPrefixCodeOn};
-ghost use Rattle.p3_fs_core.specs.Alphabet.{LeavesItems};
+ghost use Rattle.p3_fs_core.specs.{Alphabet.LeavesItems, declared.error.TranscriptError.TheVariants.OutOfMemory};
 ghost use Rattle.p3_patterns.specs.PatternSteps.{steps_of};
 ghost use Rattle.p3_domain_separator.specs.{Separators.{IsIdentifier, IsLabel}, Seed.{AreSeedParts, seed_of_parts}};
 ghost use Rattle.p3_domain_separator.specs.Seed.{identifier, counted, label_of, FitsCount, RefusesChunk, RefusesSeed};
@@ -68,18 +68,19 @@ impl<U, D> DomainSeparator<U, D> {
     ///
     /// The identifier is the version, the name, zeros, and in the last place the length of the name.
     ///
-    /// Conditions: the name has 1 to 62 bytes. The one error is that memory was refused: the pattern is gone then.
-    /// The Rust crate panics on another name, and answers no error.
+    /// Conditions: the name has 1 to 62 bytes. The one error is [`TranscriptError::OutOfMemory`]: the pattern is gone
+    /// then. The Rust crate panics on another name, and answers no error.
     pub fn new(
         alloc: Global,
         version: u8,
         name: &[u8],
         pattern: InteractionPattern,
-    ) -> Result<Self, AllocError>
+    ) -> Result<Self, TranscriptError>
         requires named { 1 ≤ length name.now }
         requires short { length name.now ≤ 62 }
-        ensures { IfOk result (λ separator. separator_of separator
+        ensures ok { IfOk result (λ separator. separator_of separator
             ≡ record { version = version; name = name.now; chunks = []; pattern = pattern }) }
+        ensures err { IfErr result (λ e. e ≡ OutOfMemory) }
     {
         Ok(DomainSeparator {
             protocol_id: protocol_identifier(version, name),
@@ -157,10 +158,12 @@ impl<U, D> DomainSeparator<U, D> {
         InteractionPattern::compared_by_steps();
     }
 
-    /// An equal separator, which shares the pattern. The one error is that memory was refused. The Rust crate's
-    /// `Clone`, which answers no error.
-    pub fn clone(&self) -> Result<Self, AllocError>
-        ensures { IfOk result (λ copy. separator_of copy ≡ separator_of self.now) }
+    /// An equal separator, which shares the pattern.
+    ///
+    /// The one error is [`TranscriptError::OutOfMemory`]. The Rust crate's `Clone`, which answers no error.
+    pub fn clone(&self) -> Result<Self, TranscriptError>
+        ensures ok { IfOk result (λ copy. separator_of copy ≡ separator_of self.now) }
+        ensures err { IfErr result (λ e. e ≡ OutOfMemory) }
     {
         Ok(DomainSeparator {
             protocol_id: self.protocol_id,
@@ -208,8 +211,9 @@ impl<U: Unit, D: DigestHasher> DomainSeparator<U, D> {
     }
 
     // The bytes of the seed.
-    fn seed_bytes(&self) -> Result<Vec<u8>, AllocError>
+    fn seed_bytes(&self) -> Result<Vec<u8>, TranscriptError>
         ensures bytes { IfOk result (λ seed. seed.items ≡ seed_of_separator D.digest_of self.now) }
+        ensures err { IfErr result (λ e. e ≡ OutOfMemory) }
         ensures parts { OnOk result (AreSeedParts (seed_parts D.digest_of self.now)) }
     {
         let digest = self.pattern.pattern_hash::<D>()?;

@@ -17,6 +17,9 @@ pub use Rattle.p3_small_primes.specs.KoalaBearResidues
 pub use Rattle.p3_goldilocks.specs.GoldilocksResidues
 pub use Rattle.p3_field_bridge.specs.Bridges
 pub use Rattle.p3_field_bridge.specs.Digits
+pub use Rattle.p3_lanes.specs.GoldilocksInLanes
+pub use Rattle.p3_lanes.specs.SmallPrimesInLanes
+pub use Rattle.p3_lanes.specs.declared.small_prime_lanes.SmallPrimeLanes
 pub use Rattle.p3_small_primes.specs.declared.small_prime.SmallPrime
 pub use Rattle.p3_goldilocks.specs.declared.goldilocks.Goldilocks
 pub use Rattle.p3_field_core.specs.declared.coeffs.Coeffs

@@ -1,8 +1,8 @@
 //! Prime fields: their elements as residues, the traits that generic code is written against, and
-//! four fields.
+//! four fields, alone and in lanes.
 //!
 //! This crate has no code of its own: it shows [`p3_field_core`], [`p3_small_primes`],
-//! [`p3_goldilocks`] and [`p3_field_bridge`].
+//! [`p3_goldilocks`], [`p3_field_bridge`], and the fields of [`p3_lanes`].
 #![tactic(auto)]
 
 pub use p3_field_bridge::{
@@ -14,4 +14,8 @@ pub use p3_field_core::{
     UniformSamplingField, log2_ceil_u64, residues_are_a_ring, uniform_bounds_are_whole,
 };
 pub use p3_goldilocks::Goldilocks;
+pub use p3_lanes::{
+    BabyBearLanes, F257Lanes, GoldilocksLanes, KoalaBearLanes, PackedField, PackedValue,
+    SmallPrimeLanes,
+};
 pub use p3_small_primes::{BabyBear, F257, KoalaBear, SmallOrder, SmallPrime};

@@ -39,20 +39,20 @@ module _ {S Symbol W : Type 0} (before : Sampling S (Unit {0})) (o : Observation
   fails_unready (Some x) o is = absurd (not_drawn x is)
 
   -- no copy is made ready
-  pub not_ready-refused : (clones_may_fail : Type 0) (bits : ℕ) (e : ChallengerError) → (bits == 0) ≡ false
-      → RefusesReady clones_may_fail before e start
-      → RefusesSearch r (MayRunOut clones_may_fail (check_of before o test bits)) (check_of before o test bits) e start
+  pub not_ready-refused : (copies_may_fail : Type 0) (bits : ℕ) (e : ChallengerError) → (bits == 0) ≡ false
+      → RefusesReady copies_may_fail before e start
+      → RefusesSearch r (MayRunOut copies_may_fail (check_of before o test bits)) (check_of before o test bits) e start
       start
-  not_ready-refused clones_may_fail zero e more h = absurd (not_both more)
-  not_ready-refused clones_may_fail (suc bits) OutOfMemory more (inl copied) = (inl copied, refl)
-  not_ready-refused clones_may_fail (suc bits) OutOfMemory more (inr left) =
+  not_ready-refused copies_may_fail zero e more h = absurd (not_both more)
+  not_ready-refused copies_may_fail (suc bits) OutOfMemory more (inl copied) = (inl copied, refl)
+  not_ready-refused copies_may_fail (suc bits) OutOfMemory more (inr left) =
       (inr (r.of 0, left.0, inl left.1), refl)
-  not_ready-refused clones_may_fail (suc bits) NoWitness more h = (
+  not_ready-refused copies_may_fail (suc bits) NoWitness more h = (
     λ n below passes. none_not_some (sym (fails_unready (before.sampled start)
         (test.sampled (o.observed (before.after start) (r.of n))) h) ∙ passes),
     refl,
   )
-  not_ready-refused clones_may_fail (suc bits) e more h = absurd h
+  not_ready-refused copies_may_fail (suc bits) e more h = absurd h
 
   module _ (ready : S) (drawn : before.sampled start ≡ Some tt) (at : ready ≡ before.after start) where
     same_answer : (witness : W) → (checked before o test witness).sampled start
@@ -93,18 +93,18 @@ module _ {S Symbol W : Type 0} (before : Sampling S (Unit {0})) (o : Observation
           least = λ k h passes. is.least k h (sym (same_answer (r.of k)) ∙ passes);
         }
 
-    pub prepared-refused : (clones_may_fail : Type 0) (bits : ℕ) (e : ChallengerError) (t : S) → (bits == 0) ≡ false
-        → RefusesSearch r (MayRunOut clones_may_fail (checked draws_nothing o test)) (checked draws_nothing o test) e
+    pub prepared-refused : (copies_may_fail : Type 0) (bits : ℕ) (e : ChallengerError) (t : S) → (bits == 0) ≡ false
+        → RefusesSearch r (MayRunOut copies_may_fail (checked draws_nothing o test)) (checked draws_nothing o test) e
         ready t
-        → RefusesSearch r (MayRunOut clones_may_fail (check_of before o test bits)) (check_of before o test bits) e
+        → RefusesSearch r (MayRunOut copies_may_fail (check_of before o test bits)) (check_of before o test bits) e
         start start
-    prepared-refused clones_may_fail zero e t more h = absurd (not_both more)
-    prepared-refused clones_may_fail (suc bits) OutOfMemory t more (inl copied, back) = (inl copied, refl)
-    prepared-refused clones_may_fail (suc bits) OutOfMemory t more (inr left, back) =
+    prepared-refused copies_may_fail zero e t more h = absurd (not_both more)
+    prepared-refused copies_may_fail (suc bits) OutOfMemory t more (inl copied, back) = (inl copied, refl)
+    prepared-refused copies_may_fail (suc bits) OutOfMemory t more (inr left, back) =
         (inr (left.0, left.1, may_leave_later left.0 left.1 left.2), refl)
-    prepared-refused clones_may_fail (suc bits) NoWitness t more h =
+    prepared-refused copies_may_fail (suc bits) NoWitness t more h =
         (λ n below passes. h.0 n below (sym (same_answer (r.of n)) ∙ passes), refl)
-    prepared-refused clones_may_fail (suc bits) e t more h = absurd h
+    prepared-refused copies_may_fail (suc bits) e t more h = absurd h
 
     -- one check, whose first draw was done
     pub prepared-check_refused : (bits : ℕ) (witness : W) (e : ChallengerError) (t : S) → (bits == 0) ≡ false

@@ -73,13 +73,13 @@ module _ {S W : Type 0} (r : Residues W) (check : W → Sampling S Bool) (start 
     searched-after there is = is ∙ ap (check (r.of n)).after so_far.ready
 
     -- its check is refused for memory
-    pub searched-refused : (clones_may_fail : Type 0) (e : ChallengerError) (after : S) → (e ≡ DrawLimit → ⊥)
+    pub searched-refused : (copies_may_fail : Type 0) (e : ChallengerError) (after : S) → (e ≡ DrawLimit → ⊥)
         → RefusesDraw (check (r.of n)) e trial after
-        → RefusesSearch r (MayRunOut clones_may_fail check) check e start challenger
-    searched-refused clones_may_fail OutOfMemory after other h =
+        → RefusesSearch r (MayRunOut copies_may_fail check) check e start challenger
+    searched-refused copies_may_fail OutOfMemory after other h =
         (inr (r.of n, after, subst (λ s. (check (r.of n)).may_leave s after) so_far.ready h), so_far.kept)
-    searched-refused clones_may_fail DrawLimit after other h = absurd (other refl)
-    searched-refused clones_may_fail e after other h = absurd h
+    searched-refused copies_may_fail DrawLimit after other h = absurd (other refl)
+    searched-refused copies_may_fail e after other h = absurd h
 
     -- all of them were tried
     pub searched-none : r.order ≤ n → NonePasses r check start × (challenger ≡ start)

@@ -108,7 +108,7 @@ NonePasses r check s = (n : ℕ) → n < r.order → ¬ (Passes r check s n)
 
 -- a search for a witness may be refused for memory: a copy may be, or the check of a witness
 abbrev pub MayRunOut : {S W : Type 0} → Type 0 → (W → Sampling S Bool) → S → Type 0
-MayRunOut {S} {W} clones_may_fail check s = clones_may_fail ⊎ ((witness : W) × (t : S) × (check witness).may_leave s t)
+MayRunOut {S} {W} copies_may_fail check s = copies_may_fail ⊎ ((witness : W) × (t : S) × (check witness).may_leave s t)
 
 -- what a search that answers this error leaves: the challenger as it was; there is no witness, or memory was refused
 abbrev pub RefusesSearch : {S W : Type 0} → Residues W → (S → Type 0) → (W → Sampling S Bool) → ChallengerError → S →
@@ -119,7 +119,7 @@ RefusesSearch r may_run_out check _ s t = ⊥
 
 -- the same of a search that tests each candidate on a copy of the challenger
 abbrev pub RefusesTrials : {S W : Type 0} → Residues W → Type 0 → (W → Sampling S Bool) → ChallengerError → S → S → Type 0
-RefusesTrials r clones_may_fail check = RefusesSearch r (MayRunOut clones_may_fail check) check
+RefusesTrials r copies_may_fail check = RefusesSearch r (MayRunOut copies_may_fail check) check
 
 -- a search finds the least witness that passes, and leaves what its check leaves; or it is refused
 abbrev pub FindsOrRefuses : {S W : Type 0} → Residues W → (S → Type 0) → (W → Sampling S Bool) → S →
@@ -131,11 +131,11 @@ FindsOrRefuses r may_run_out check s result t =
 -- the same of a search that tests each candidate on a copy of the challenger
 abbrev pub TriesOrRefuses : {S W : Type 0} → Residues W → Type 0 → (W → Sampling S Bool) → S →
     Result W ChallengerError → S → Type 0
-TriesOrRefuses r clones_may_fail check = FindsOrRefuses r (MayRunOut clones_may_fail check) check
+TriesOrRefuses r copies_may_fail check = FindsOrRefuses r (MayRunOut copies_may_fail check) check
 
 -- why no copy of a challenger is made ready for witnesses: memory was refused, or what is drawn before a witness
 -- meets a limit, so that there is no witness
 abbrev pub RefusesReady : {S : Type 0} → Type 0 → Sampling S (Unit {0}) → ChallengerError → S → Type 0
-RefusesReady {S} clones_may_fail before OutOfMemory s = clones_may_fail ⊎ ((t : S) × before.may_leave s t)
-RefusesReady clones_may_fail before NoWitness s = before.sampled s ≡ None
-RefusesReady clones_may_fail before _ s = ⊥
+RefusesReady {S} copies_may_fail before OutOfMemory s = copies_may_fail ⊎ ((t : S) × before.may_leave s t)
+RefusesReady copies_may_fail before NoWitness s = before.sampled s ≡ None
+RefusesReady copies_may_fail before _ s = ⊥

@@ -5,7 +5,7 @@ ghost use Rattle.p3_challenger_core.specs.Sampling.{in_row, RefusesDraw};
 ghost use Rattle.p3_challenger_core.specs.declared.error.ChallengerError.TheVariants.{OutOfMemory};
 ghost use Rattle.p3_grinding.specs.Checks.{byte_check, Finds, MayRunOut};
 
-use crate::TryClone;
+use crate::CanCopy;
 use p3_challenger_core::{CanObserve, CanSample, ChallengerError, sample_array};
 
 /// Candidates of a search, each of which is a string of `W` bytes, and which of the strings of `S` bytes that may be
@@ -37,7 +37,7 @@ pub trait ByteCandidates<const W: usize, const S: usize> {
 /// bytes that are drawn.
 ///
 /// The Rust crate's `ByteGrindingChallenger`, where `W` and `S` are parameters of `find_witness`.
-pub trait ByteGrindingChallenger<const W: usize, const S: usize>: TryClone
+pub trait ByteGrindingChallenger<const W: usize, const S: usize>: CanCopy
     + CanObserve<u8>
     + CanSample<u8> {
     /// The least candidate below `num_candidates` that passes, or `None` where none does. Nothing changes.
@@ -54,7 +54,7 @@ pub trait ByteGrindingChallenger<const W: usize, const S: usize>: TryClone
             (Finds (byte_check (in_slice Self.observation Self.slice_may_leave)
             (in_row Self.sampling S) (K.encoded candidates.now) (K.accepted candidates.now))
             (Self.state self.now) num_candidates) }
-        ensures err { IfErr result (λ e. (e ≡ OutOfMemory) × MayRunOut Self.clones_may_fail
+        ensures err { IfErr result (λ e. (e ≡ OutOfMemory) × MayRunOut Self.copies_may_fail
             (byte_check (in_slice Self.observation Self.slice_may_leave) (in_row Self.sampling S)
             (K.encoded candidates.now) (K.accepted candidates.now)) (Self.state self.now)) }
     {
@@ -70,7 +70,7 @@ pub trait ByteGrindingChallenger<const W: usize, const S: usize>: TryClone
 ///
 /// The one error is [`ChallengerError::OutOfMemory`]. Not in the Rust crate.
 pub fn find_witness_plainly<
-    C: CanObserve<u8> + CanSample<u8> + TryClone,
+    C: CanObserve<u8> + CanSample<u8> + CanCopy,
     K: ByteCandidates<W, S>,
     const W: usize,
     const S: usize,
@@ -78,16 +78,16 @@ pub fn find_witness_plainly<
     ensures found { IfOk result (Finds (byte_check (in_slice C.observation C.slice_may_leave)
         (in_row C.sampling S) (K.encoded candidates.now) (K.accepted candidates.now))
         (C.state challenger.now) num_candidates) }
-    ensures err { IfErr result (λ e. (e ≡ OutOfMemory) × MayRunOut C.clones_may_fail
+    ensures err { IfErr result (λ e. (e ≡ OutOfMemory) × MayRunOut C.copies_may_fail
         (byte_check (in_slice C.observation C.slice_may_leave) (in_row C.sampling S)
         (K.encoded candidates.now) (K.accepted candidates.now)) (C.state challenger.now)) }
 {
-    let mut trial = challenger.try_clone()?;
+    let mut trial = challenger.copy()?;
     for candidate in 0..num_candidates {
         match check_bytes::<C, K, W, S>(&mut trial, candidates, candidate) {
             Ok(true) => return Ok(Some(candidate)),
-            Ok(false) => trial.try_clone_from(challenger)?,
-            Err(ChallengerError::DrawLimit) => trial.try_clone_from(challenger)?,
+            Ok(false) => trial.copy_from(challenger)?,
+            Err(ChallengerError::DrawLimit) => trial.copy_from(challenger)?,
             Err(error) => return Err(error),
         }
     }

@@ -2,8 +2,8 @@
 ghost use Rattle.std.specs.Prelude.{◌≡◌, ◌≤◌, IfOk, IfErr, IsOk};
 ghost use Rattle.p3_grinding.specs.Checks.{bits_check, ready_check, IsLeast, RefusesTrials, TriesOrRefuses};
 
-use crate::search::prepared_clone;
-use crate::{BeforeWitness, TryClone};
+use crate::search::prepared_copy;
+use crate::{BeforeWitness, CanCopy};
 use p3_challenger_core::{CanObserve, CanSampleBits, ChallengerError};
 use p3_field_core::PrimeField64;
 use std::mem;
@@ -11,7 +11,7 @@ use std::mem;
 /// A challenger that has a search of its own for the least witness, once it is ready for one.
 ///
 /// Not in the Rust crate.
-pub trait ReadySearch<W: PrimeField64>: CanObserve<W> + CanSampleBits<usize> + TryClone {
+pub trait ReadySearch<W: PrimeField64>: CanObserve<W> + CanSampleBits<usize> + CanCopy {
     /// The least witness after which the `bits` bits that are drawn are 0. The challenger is left as it is
     /// once the witness was observed and these bits were drawn.
     ///
@@ -25,7 +25,7 @@ pub trait ReadySearch<W: PrimeField64>: CanObserve<W> + CanSampleBits<usize> + T
             (ready_check Self.observation Self.bits_sampling bits) (Self.state self.old)) }
         ensures after { IfOk result (λ witness. Self.state self.new ≡ (ready_check
             Self.observation Self.bits_sampling bits witness).after (Self.state self.old)) }
-        ensures err { IfErr result (λ e. RefusesTrials W.residues Self.clones_may_fail
+        ensures err { IfErr result (λ e. RefusesTrials W.residues Self.copies_may_fail
             (ready_check Self.observation Self.bits_sampling bits) e
             (Self.state self.old) (Self.state self.old)) };
 }
@@ -39,7 +39,7 @@ pub fn least_witness_by_own_search<W: PrimeField64, C: BeforeWitness + ReadySear
     bits: usize,
 ) -> Result<W, ChallengerError>
     requires { bits ≤ C.most_bits }
-    ensures found { TriesOrRefuses W.residues C.clones_may_fail
+    ensures found { TriesOrRefuses W.residues C.copies_may_fail
         (bits_check C.observation C.before_witness C.bits_sampling bits)
         (C.state challenger.old) result (C.state challenger.new) }
     ensures free { bits ≡ 0 → IsOk result }
@@ -47,7 +47,7 @@ pub fn least_witness_by_own_search<W: PrimeField64, C: BeforeWitness + ReadySear
     if bits == 0 {
         return Ok(W::from_canonical(0));
     }
-    let mut prepared = prepared_clone(challenger)?;
+    let mut prepared = prepared_copy(challenger)?;
     let witness = prepared.least_when_ready(bits)?;
     mem::swap(challenger, &mut prepared);
     Ok(witness)

@@ -5,7 +5,7 @@ ghost use Rattle.std.specs.Prelude.{◌≡◌, ◌≤◌, Some, OnOk, IfOk, IfEr
 ghost use Rattle.p3_grinding.specs.Checks.{bits_check, ready_check, RefusesReady, TriesOrRefuses};
 ghost use Rattle.p3_challenger_core.specs.Sampling.{DrawsOrRefuses};
 
-use crate::{BeforeWitness, TryClone};
+use crate::{BeforeWitness, CanCopy};
 use p3_challenger_core::{CanObserve, CanSampleBits, ChallengerError};
 use p3_field_core::PrimeField64;
 use std::mem;
@@ -19,10 +19,10 @@ use std::mem;
 /// `bits` is at most `max_bits`. Not in the Rust crate.
 pub fn least_witness<
     W: PrimeField64,
-    C: BeforeWitness + CanObserve<W> + CanSampleBits<usize> + TryClone,
+    C: BeforeWitness + CanObserve<W> + CanSampleBits<usize> + CanCopy,
 >(challenger: &mut C, bits: usize) -> Result<W, ChallengerError>
     requires { bits ≤ C.most_bits }
-    ensures found { TriesOrRefuses W.residues C.clones_may_fail
+    ensures found { TriesOrRefuses W.residues C.copies_may_fail
         (bits_check C.observation C.before_witness C.bits_sampling bits)
         (C.state challenger.old) result (C.state challenger.new) }
     ensures free { bits ≡ 0 → IsOk result }
@@ -30,7 +30,7 @@ pub fn least_witness<
     if bits == 0 {
         return Ok(W::from_canonical(0));
     }
-    let mut prepared = prepared_clone(challenger)?;
+    let mut prepared = prepared_copy(challenger)?;
     let witness = least_prepared(&mut prepared, bits)?;
     mem::swap(challenger, &mut prepared);
     Ok(witness)
@@ -40,15 +40,15 @@ pub fn least_witness<
 ///
 /// The errors are [`ChallengerError::NoWitness`] where that meets a draw limit, so that no witness passes, and
 /// [`ChallengerError::OutOfMemory`].
-pub(crate) fn prepared_clone<C: BeforeWitness + TryClone>(
+pub(crate) fn prepared_copy<C: BeforeWitness + CanCopy>(
     challenger: &C,
 ) -> Result<C, ChallengerError>
     ensures drawn { OnOk result (C.before_witness.sampled (C.state challenger.now) ≡ Some tt) }
     ensures after { IfOk result (λ c. C.state c ≡ C.before_witness.after (C.state challenger.now)) }
     ensures err { IfErr result
-        (λ e. RefusesReady C.clones_may_fail C.before_witness e (C.state challenger.now)) }
+        (λ e. RefusesReady C.copies_may_fail C.before_witness e (C.state challenger.now)) }
 {
-    let mut prepared = challenger.try_clone()?;
+    let mut prepared = challenger.copy()?;
     match prepared.draw_before_witness() {
         Ok(()) => Ok(prepared),
         Err(ChallengerError::DrawLimit) => Err(ChallengerError::NoWitness),
@@ -57,15 +57,15 @@ pub(crate) fn prepared_clone<C: BeforeWitness + TryClone>(
 }
 
 // The least witness that passes on a challenger which is ready for one.
-fn least_prepared<W: PrimeField64, C: CanObserve<W> + CanSampleBits<usize> + TryClone>(
+fn least_prepared<W: PrimeField64, C: CanObserve<W> + CanSampleBits<usize> + CanCopy>(
     challenger: &mut C,
     bits: usize,
 ) -> Result<W, ChallengerError>
     requires { bits ≤ C.most_bits }
-    ensures { TriesOrRefuses W.residues C.clones_may_fail (ready_check C.observation
+    ensures { TriesOrRefuses W.residues C.copies_may_fail (ready_check C.observation
         C.bits_sampling bits) (C.state challenger.old) result (C.state challenger.new) }
 {
-    let mut trial = challenger.try_clone()?;
+    let mut trial = challenger.copy()?;
     for candidate in 0..W::ORDER_U64 {
         let witness = W::from_canonical(candidate);
         match passes(&mut trial, bits, witness) {
@@ -73,8 +73,8 @@ fn least_prepared<W: PrimeField64, C: CanObserve<W> + CanSampleBits<usize> + Try
                 mem::swap(challenger, &mut trial);
                 return Ok(witness);
             }
-            Ok(false) => trial.try_clone_from(challenger)?,
-            Err(ChallengerError::DrawLimit) => trial.try_clone_from(challenger)?,
+            Ok(false) => trial.copy_from(challenger)?,
+            Err(ChallengerError::DrawLimit) => trial.copy_from(challenger)?,
             Err(error) => return Err(error),
         }
     }

@@ -3,8 +3,8 @@ ghost use Rattle.std.specs.Prelude.{◌≡◌, ◌≤◌, IsOk};
 ghost use Rattle.p3_grinding.specs.Checks.{zero_and_uniform, uniform_check, ready_uniform_check, TriesOrRefuses};
 ghost use Rattle.p3_challenger_core.specs.Sampling.{DrawsOrRefuses};
 
-use crate::search::prepared_clone;
-use crate::{BeforeWitness, CanSampleUniformBits, TryClone, UniformBitsError};
+use crate::search::prepared_copy;
+use crate::{BeforeWitness, CanCopy, CanSampleUniformBits, UniformBitsError};
 use p3_challenger_core::{CanObserve, ChallengerError};
 use p3_field_core::PrimeField64;
 use std::mem;
@@ -17,10 +17,10 @@ use std::mem;
 /// `bits` is at most `max_bits`. Not in the Rust crate.
 pub fn least_uniform_witness<
     W: PrimeField64,
-    C: BeforeWitness + CanObserve<W> + CanSampleUniformBits<W> + TryClone,
+    C: BeforeWitness + CanObserve<W> + CanSampleUniformBits<W> + CanCopy,
 >(challenger: &mut C, bits: usize, resample: bool) -> Result<W, ChallengerError>
     requires { bits ≤ C.most_bits }
-    ensures found { TriesOrRefuses W.residues C.clones_may_fail
+    ensures found { TriesOrRefuses W.residues C.copies_may_fail
         (uniform_check C.observation C.before_witness C.uniform resample bits)
         (C.state challenger.old) result (C.state challenger.new) }
     ensures free { bits ≡ 0 → IsOk result }
@@ -28,24 +28,24 @@ pub fn least_uniform_witness<
     if bits == 0 {
         return Ok(W::from_canonical(0));
     }
-    let mut prepared = prepared_clone(challenger)?;
+    let mut prepared = prepared_copy(challenger)?;
     let witness = least_prepared(&mut prepared, bits, resample)?;
     mem::swap(challenger, &mut prepared);
     Ok(witness)
 }
 
 // The least witness that passes on a challenger which is ready for one.
-fn least_prepared<W: PrimeField64, C: CanObserve<W> + CanSampleUniformBits<W> + TryClone>(
+fn least_prepared<W: PrimeField64, C: CanObserve<W> + CanSampleUniformBits<W> + CanCopy>(
     challenger: &mut C,
     bits: usize,
     resample: bool,
 ) -> Result<W, ChallengerError>
     requires { bits ≤ C.most_bits }
-    ensures { TriesOrRefuses W.residues C.clones_may_fail
+    ensures { TriesOrRefuses W.residues C.copies_may_fail
         (ready_uniform_check C.observation C.uniform resample bits)
         (C.state challenger.old) result (C.state challenger.new) }
 {
-    let mut trial = challenger.try_clone()?;
+    let mut trial = challenger.copy()?;
     for candidate in 0..W::ORDER_U64 {
         let witness = W::from_canonical(candidate);
         match passes(&mut trial, bits, resample, witness) {
@@ -53,8 +53,8 @@ fn least_prepared<W: PrimeField64, C: CanObserve<W> + CanSampleUniformBits<W> + 
                 mem::swap(challenger, &mut trial);
                 return Ok(witness);
             }
-            Ok(false) => trial.try_clone_from(challenger)?,
-            Err(ChallengerError::DrawLimit) => trial.try_clone_from(challenger)?,
+            Ok(false) => trial.copy_from(challenger)?,
+            Err(ChallengerError::DrawLimit) => trial.copy_from(challenger)?,
             Err(error) => return Err(error),
         }
     }

@@ -1,3 +1,3 @@
+pub mod GoldilocksInLanes
 pub mod LaneLaws
-pub mod SmallPrimeLanes
-pub mod GoldilocksLanes
+pub mod SmallPrimesInLanes

@@ -26,7 +26,7 @@ pub struct GoldilocksLanes {
 const ORDER: u64 = Goldilocks::ORDER_U64;
 
 impl Add for GoldilocksLanes {
-    ghost use Rattle.p3_lanes.specs.GoldilocksLanes.{IsInEachLane};
+    ghost use Rattle.p3_lanes.specs.GoldilocksInLanes.{IsInEachLane};
 
     type Output = GoldilocksLanes;
 
@@ -42,7 +42,7 @@ impl Add for GoldilocksLanes {
 }
 
 impl Sub for GoldilocksLanes {
-    ghost use Rattle.p3_lanes.specs.GoldilocksLanes.{IsInEachLane};
+    ghost use Rattle.p3_lanes.specs.GoldilocksInLanes.{IsInEachLane};
 
     type Output = GoldilocksLanes;
 
@@ -59,7 +59,7 @@ impl Sub for GoldilocksLanes {
 }
 
 impl Mul for GoldilocksLanes {
-    ghost use Rattle.p3_lanes.specs.GoldilocksLanes.{IsInEachLane};
+    ghost use Rattle.p3_lanes.specs.GoldilocksInLanes.{IsInEachLane};
 
     type Output = GoldilocksLanes;
 
@@ -73,7 +73,7 @@ impl Mul for GoldilocksLanes {
 }
 
 impl PackedValue<Goldilocks> for GoldilocksLanes {
-    ghost use Rattle.p3_lanes.specs.GoldilocksLanes.{element_in};
+    ghost use Rattle.p3_lanes.specs.GoldilocksInLanes.{element_in};
 
     const WIDTH: usize = 4;
 

@@ -43,7 +43,7 @@ impl<const ORDER: u32, const N: usize> Add for SmallPrimeLanes<ORDER, N>
 where
     SmallPrime<ORDER>: SmallOrder<ORDER>,
 {
-    ghost use Rattle.p3_lanes.specs.SmallPrimeLanes.{IsInEachLane};
+    ghost use Rattle.p3_lanes.specs.SmallPrimesInLanes.{IsInEachLane};
 
     type Output = Self;
 
@@ -65,7 +65,7 @@ impl<const ORDER: u32, const N: usize> Sub for SmallPrimeLanes<ORDER, N>
 where
     SmallPrime<ORDER>: SmallOrder<ORDER>,
 {
-    ghost use Rattle.p3_lanes.specs.SmallPrimeLanes.{IsInEachLane};
+    ghost use Rattle.p3_lanes.specs.SmallPrimesInLanes.{IsInEachLane};
 
     type Output = Self;
 
@@ -87,7 +87,7 @@ impl<const ORDER: u32, const N: usize> Mul for SmallPrimeLanes<ORDER, N>
 where
     SmallPrime<ORDER>: SmallOrder<ORDER>,
 {
-    ghost use Rattle.p3_lanes.specs.SmallPrimeLanes.{IsInEachLane};
+    ghost use Rattle.p3_lanes.specs.SmallPrimesInLanes.{IsInEachLane};
 
     type Output = Self;
 
@@ -107,7 +107,7 @@ impl<const ORDER: u32, const N: usize> PackedValue<SmallPrime<ORDER>> for SmallP
 where
     SmallPrime<ORDER>: SmallOrder<ORDER>,
 {
-    ghost use Rattle.p3_lanes.specs.SmallPrimeLanes.{element_in};
+    ghost use Rattle.p3_lanes.specs.SmallPrimesInLanes.{element_in};
 
     const WIDTH: usize = N;
 

@@ -6,6 +6,7 @@ pub mod MultiFieldSteps
 pub mod Numbers
 pub mod Packing
 pub mod Pairs
+pub mod Preparing
 pub mod ReadBack
 pub mod WordBlocks
 pub mod WorkedRows

@@ -4,4 +4,5 @@ pub mod MultiFieldSegments
 pub mod MultiFieldState
 pub mod MultiFieldStateLaws
 pub mod MultiFieldSymbolLaws
+pub mod PreparedChecks
 pub mod Refusals

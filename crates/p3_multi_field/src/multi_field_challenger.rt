@@ -24,6 +24,7 @@ mod calls;
 mod digests;
 mod grinding;
 mod packing;
+mod pow_check;
 mod refusals;
 mod values;
 

@@ -1,14 +1,14 @@
 //! The text of a whole pattern, and its digest.
-ghost use Rattle.std.specs.{Prelude.{◌≡◌, ◌↔◌, ◌<◌, ◌^◌, List, Some, map, length, IfOk, string_bytes}, Fmt.decimal};
+ghost use Rattle.std.specs.{Prelude.{◌≡◌, ◌↔◌, ◌<◌, ◌^◌, List, Some, map, length, IfOk, IfErr, string_bytes}, Fmt.decimal};
 ghost use Rattle.std.specs.List.{repeat};
 ghost use Rattle.p3_fs_core.specs.{Steps.{Step, plain_text}, Interactions.step_of};
+ghost use Rattle.p3_fs_core.specs.declared.error.TranscriptError.TheVariants.{OutOfMemory};
 ghost use Rattle.p3_patterns.specs.{PatternSteps.steps_of, Rendering.{SameButTypeNames, AllFitTypes}};
 ghost use Rattle.p3_patterns.specs.Rendering.{depth_after, indentation, text_of, line, rendering, hashed_text};
 
 use crate::InteractionPattern;
-use p3_fs_core::{Alternate, Hierarchy, Interaction};
+use p3_fs_core::{Alternate, Hierarchy, Interaction, TranscriptError};
 use p3_symmetric::DigestHasher;
-use std::alloc::AllocError;
 use std::fmt;
 
 impl fmt::Display for InteractionPattern {
@@ -29,16 +29,17 @@ impl InteractionPattern {
     /// it has a line for each: its position, in as many digits as the last one, two spaces for each container
     /// around it, and the alternate text of the step, which says its type by its tag and not by its name.
     ///
-    /// The one error is that memory was refused. The pattern stays as it is. Not in the Rust crate, where `{:#}`
-    /// alone prints it.
-    pub fn alternate(&self) -> Result<String, AllocError>
-        ensures { IfOk result (λ text. string_bytes text ≡ hashed_text self.now.steps) }
+    /// The one error is [`TranscriptError::OutOfMemory`]. The pattern stays as it is. Not in the Rust crate, where
+    /// `{:#}` alone prints it.
+    pub fn alternate(&self) -> Result<String, TranscriptError>
+        ensures ok { IfOk result (λ text. string_bytes text ≡ hashed_text self.now.steps) }
+        ensures err { IfErr result (λ e. e ≡ OutOfMemory) }
     {
         let rendering = Rendering {
             steps: self.interactions(),
             alternate: true,
         };
-        rendering.to_string(self.allocator())
+        Ok(rendering.to_string(self.allocator())?)
     }
 
     /// The digest of the pattern's alternate text, 32 bytes.
@@ -46,11 +47,15 @@ impl InteractionPattern {
     /// Two patterns with the same steps, but for the names of their types, have the same text, and any other two
     /// have different ones. So their digests differ too, unless `D` takes the two texts to one digest.
     ///
-    /// The one error is that memory for the text was refused. The pattern stays as it is. In the Rust crate it is
-    /// Keccak-256, and answers no error.
-    pub fn pattern_hash<D: DigestHasher>(&self) -> Result<[u8; 32], AllocError>
+    /// The one error is [`TranscriptError::OutOfMemory`], where no memory is given for the text. The pattern stays as
+    /// it is. In the Rust crate it is Keccak-256, and answers no error.
+    pub fn pattern_hash<D: DigestHasher>(&self) -> Result<[u8; 32], TranscriptError>
         ensures digest { IfOk result (λ digest. digest ≡ D.digest_of (hashed_text self.now.steps)) }
+        ensures err { IfErr result (λ e. e ≡ OutOfMemory) }
         ensures fits { AllFitTypes (steps_of self.now) × (length (steps_of self.now) < 2 ^ 64) }
+        // What is hashed tells this pattern from every other, but for the names of types.
+        ensures injective { (other : InteractionPattern) → hashed_text self.now.steps ≡ hashed_text other.steps
+            ↔ SameButTypeNames (steps_of self.now) (steps_of other) }
     {
         let text = self.alternate()?;
         Ok(D::digest(text.as_bytes()))

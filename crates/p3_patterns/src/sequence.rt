@@ -149,9 +149,12 @@ impl InteractionPattern {
         Interaction::compared_by_parts();
     }
 
-    /// An equal pattern. The one error is that memory was refused. The Rust crate's `Clone`, which answers no error.
-    pub fn clone(&self) -> Result<Self, AllocError>
-        ensures { IfOk result (λ pattern. pattern ≡ self.now) }
+    /// An equal pattern.
+    ///
+    /// The one error is [`TranscriptError::OutOfMemory`]. The Rust crate's `Clone`, which answers no error.
+    pub fn clone(&self) -> Result<Self, TranscriptError>
+        ensures ok { IfOk result (λ pattern. pattern ≡ self.now) }
+        ensures err { IfErr result (λ e. e ≡ error.OutOfMemory) }
     {
         Ok(InteractionPattern {
             interactions: self.interactions.clone()?,

@@ -1,6 +1,8 @@
 pub mod Accepting
 pub mod Draws
+pub mod GroupDraws
 pub mod GroupLaws
+pub mod OneRun
 pub mod ScriptLaws
 pub mod Scripts
 pub mod Standings

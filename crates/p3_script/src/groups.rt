@@ -11,6 +11,7 @@ ghost use Rattle.p3_fs_core.specs.{Scalar.encoding, Steps.Step};
 ghost use Rattle.p3_step_laws.specs.{Completeness.{CompletesWork, CompletesCarriedWork}, ReadBack.OnlyReads};
 ghost use Rattle.p3_step_laws.specs.{ReadBack.AnyValue, OneReason.{TellsLimits, TellOneReason, HasOneReason}};
 ghost use Rattle.p3_runs.specs.Sides.{RefusesToReadWork};
+ghost use Rattle.p3_script.specs.GroupDraws.{DrawsAndFeeds};
 ghost use Rattle.p3_driver_core.specs.Meanings as meaning;
 
 mod all_steps;
@@ -211,6 +212,9 @@ pub trait StepGroup<C: Sponge, F: ScalarField> {
             (encoding F.residues F.bit_length)) }
         ensures carried { IsTrue HAS_POW → (step : Step) (bits : ℕ) (x : F) → TellOneReason
             (RefusesToCheck (work_of step F.residues before_witness witness bit_draws bits) x) };
+
+    // Draws are draws of the challenger, and a witness feeds it the symbols that it is said to.
+    ghost draws_and_feeds: { DrawsAndFeeds C.next C.fed bit_draws uniform_draws before_witness witness };
 
     // What witnesses feed tells them apart.
     ghost witnesses_prefix_free: { IsTrue HAS_POW → IsPrefixFree witness.symbols };

@@ -25,11 +25,14 @@ pub fn equal_symbols_have_equal_values<S: Suite>()
     binding::<S>();
 }
 
-/// A challenge binds all that came before it. Take two accepted proofs, of any scripts, under any separators, from any
-/// challengers. Where the first `n` steps of their runs fed the same symbols, which is all that a challenge after them
-/// comes of, the protocols and instances are the same, the patterns are the same but for the names of types, and so is
-/// what each of these steps absorbed, unless the alternate renderings of the patterns differ and share a digest. The same
-/// is so of two proofs that provers made.
+/// What was fed before a challenge binds all that came before it. Take two accepted proofs, of any scripts, under any
+/// separators, from any challengers. Where the first `n` steps of their runs fed the same symbols, which is all that a
+/// challenge after them comes of, the protocols and instances are the same, the patterns are the same but for the names of
+/// types, and so is what each of these steps absorbed, unless the alternate renderings of the patterns differ and share a
+/// digest. The same is so of two proofs that provers made.
+///
+/// So a challenge binds all that came before it, unless the hash function or the permutation of the challenger collides:
+/// that different symbols give different challenges is what it is trusted for.
 ///
 /// Conditions: those of [`binding`]; that the proofs are bytes, which slices and vectors are; and that the scripts' opaque
 /// values are of their type.

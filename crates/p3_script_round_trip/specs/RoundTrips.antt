@@ -1,10 +1,11 @@
 -- A verifier that plays the run of a prover.
 use Rattle.std.specs.Prelude.{ℕ, List}
 use Rattle.p3_runs.specs.{Fronts.Run, Plays.Play, Provings.IsProverOutcome, Rules.Rules, Values.{Value, Challenge}}
-use Rattle.p3_runs.specs.Verdicts.{with_steps, IsOutcome}
+use Rattle.p3_runs.specs.Verdicts.{with_steps, Accepts, IsOutcome}
 use Rattle.p3_script.specs.Scripts.{play_of, values_received, challenges_of}
 use Rattle.p3_script_prover.specs.declared.proving.Proved.{Proved}
 use Rattle.p3_script_verifier.specs.declared.verifying.Verified.{Verified}
+use Rattle.p3_script.specs.declared.steps.Drawn.{Drawn}
 use Rattle.p3_script.specs.declared.steps.Step as script
 
 -- One run is both: the prover's, with these bytes, witnesses, challenges and challenger; and the verifier's, of which these
@@ -24,3 +25,13 @@ abbrev pub AreOfOneRun : {Su F EF U O C K Ac D G It St Sy S Symbol : Type 0} (ru
 AreOfOneRun rules script sent state proved verified = PlaysOneRun rules (play_of rules) script sent proved.narg.items
     proved.witnesses.items proved.carried.items (challenges_of proved.challenges.items) (state proved.challenger)
     (values_received verified.received.items) (challenges_of verified.challenges.items) (state verified.challenger)
+
+-- A verifier accepts what a prover answered: with some values for what it received, it drew these challenges and has this
+-- challenger in the end.
+pub record IsAcceptedProof {Su F EF U O C K Ac D G It St Sy S Symbol : Type 0} (rules : Rules S Symbol It F EF O Ac)
+    (script : Run (script.Step Su F EF U O C K Ac D G It St Sy) F EF S U D) (state : C → S)
+    (proved : Proved Su F EF U O C K Ac D G It St Sy) (drawn : List (Drawn Su F EF U O C K Ac D G It St Sy))
+    (end : C) : Type 0 where
+  pub received : List (Value F EF)
+  pub accepts : Accepts rules (play_of rules) script proved.narg.items proved.carried.items received
+      (challenges_of drawn) (state end)

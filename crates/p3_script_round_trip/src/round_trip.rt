@@ -4,7 +4,8 @@ ghost use Rattle.p3_fs_core.specs.declared.error.TranscriptError.TheVariants.{Ou
 ghost use Rattle.p3_runs.specs.{Provings.AreHanded, Runs.AreAdmitted, Verdicts.script_of};
 ghost use Rattle.p3_script.specs.Scripts.{play_of, values_sent, challenges_of};
 ghost use Rattle.p3_script_prover.specs.ProverAnswers.{IsProvedScript, IsRefusedScript};
-ghost use Rattle.p3_script_round_trip.specs.RoundTrips.{AreOfOneRun};
+ghost use Rattle.p3_script_round_trip.specs.RoundTrips.{AreOfOneRun, IsAcceptedProof};
+ghost use Rattle.p3_script_verifier.specs.VerifierAnswers.{IsVerifiedScript};
 
 use p3_challenger_core::Sponge;
 use p3_domain_separator::DomainSeparator;
@@ -16,7 +17,8 @@ use std::alloc::Global;
 /// Verifies what [`prove`] answered for the script, from a challenger that equals the prover's.
 ///
 /// The proof is accepted: what is received are the values that were sent, with the witnesses in their places, the
-/// challenges are the prover's, and so is the challenger in the end. Only being out of memory can come instead.
+/// challenges are the prover's, and so is the challenger in the end. The one error is
+/// [`TranscriptError::OutOfMemory`](p3_fs_core::TranscriptError::OutOfMemory).
 ///
 /// Conditions: the steps are admitted, and `proved` is an answer of [`prove`] for them, from this state of a challenger.
 /// Not in the Rust crate.
@@ -32,6 +34,9 @@ pub fn verify_proved<'a, S: Suite>(
     requires proved { let rules = ⟦<S as Meaning>⟧.rules S.Field.DIMENSION in
         let script = script_of (S.Challenger.state challenger) separator.now steps.now in
         IsProvedScript rules script (values_sent sent.now) S.Challenger.state proved.now }
+    ensures accepted { let rules = ⟦<S as Meaning>⟧.rules S.Field.DIMENSION in
+        let script = script_of (S.Challenger.state challenger) separator.now steps.now in
+        IfOk result (IsVerifiedScript rules script proved.now.narg.items proved.now.carried.items S.Challenger.state) }
     ensures same { let script = script_of (S.Challenger.state challenger) separator.now steps.now in
         IfOk result (AreOfOneRun (⟦<S as Meaning>⟧.rules S.Field.DIMENSION) script
         (values_sent sent.now) S.Challenger.state proved.now) }
@@ -48,11 +53,13 @@ pub fn verify_proved<'a, S: Suite>(
     )
 }
 
-/// Proves a script, and verifies the proof, from two challengers of one state: what the prover answers, and the
-/// verifier's challenges and challenger, which are the prover's.
+/// Proves a script, and verifies the proof, from two challengers of one state.
 ///
-/// The errors are those of [`prove`], and out of memory. Conditions: those of [`prove`], and that the challengers are
-/// equal. Not in the Rust crate.
+/// It answers what [`prove`] answers for the values, and the challenges and the challenger of [`verify`], which has
+/// accepted the proof: they are the prover's.
+///
+/// The errors are those of [`prove`], and [`TranscriptError::OutOfMemory`](p3_fs_core::TranscriptError::OutOfMemory).
+/// Conditions: those of [`prove`], and that the challengers are equal. Not in the Rust crate.
 pub fn prove_and_verify<S: Suite>(
     alloc: Global,
     first: S::Challenger,
@@ -65,6 +72,12 @@ pub fn prove_and_verify<S: Suite>(
     requires admitted { AreAdmitted (play_of (⟦<S as Meaning>⟧.rules S.Field.DIMENSION)) steps.now }
     requires handed { let rules = ⟦<S as Meaning>⟧.rules S.Field.DIMENSION in
         AreHanded (play_of rules) steps.now (values_sent sent.now) }
+    ensures proved { let rules = ⟦<S as Meaning>⟧.rules S.Field.DIMENSION in
+        let script = script_of (S.Challenger.state first) separator.now steps.now in
+        IfOk result (λ r. IsProvedScript rules script (values_sent sent.now) S.Challenger.state r.0) }
+    ensures accepted { let rules = ⟦<S as Meaning>⟧.rules S.Field.DIMENSION in
+        let script = script_of (S.Challenger.state first) separator.now steps.now in
+        IfOk result (λ r. IsAcceptedProof rules script S.Challenger.state r.0 r.1.items r.2) }
     ensures challenges { IfOk result
         (λ r. challenges_of r.1.items ≡ challenges_of r.0.challenges.items) }
     ensures challengers { IfOk result

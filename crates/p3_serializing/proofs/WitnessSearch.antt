@@ -53,23 +53,23 @@ module _ {I Symbol F : Type 0} (o : Observation I Symbol ℕ) (slice_may_leave :
   inner-left s k t (inr (is, inl fed)) = inr (refl, inl (fed, refl))
   inner-left s k t (inr (is, inr drawn)) = inr (refl, inr (drawn, refl))
 
-  module _ (clones_may_fail : Type 0) (s : SerializingState I) where
+  module _ (copies_may_fail : Type 0) (s : SerializingState I) where
     -- the inner challenger's search is refused for memory
-    pub search-refused : MayRunOut clones_may_fail inner_check s.inner → MayRunOut clones_may_fail ready_check s
+    pub search-refused : MayRunOut copies_may_fail inner_check s.inner → MayRunOut copies_may_fail ready_check s
     search-refused (inl copied) = inl copied
     search-refused (inr left) =
         inr (r.of left.0, record s { inner = left.1 }, inner-left s left.0 left.1 left.2)
 
-    pub search-refused_as : (e : ChallengerError) → (e ≡ OutOfMemory) × MayRunOut clones_may_fail inner_check s.inner
-        → RefusesSearch r (MayRunOut clones_may_fail ready_check) ready_check e s s
+    pub search-refused_as : (e : ChallengerError) → (e ≡ OutOfMemory) × MayRunOut copies_may_fail inner_check s.inner
+        → RefusesSearch r (MayRunOut copies_may_fail ready_check) ready_check e s s
     search-refused_as e h =
-        subst (λ x. RefusesSearch r (MayRunOut clones_may_fail ready_check) ready_check x s s) (sym h.0)
+        subst (λ x. RefusesSearch r (MayRunOut copies_may_fail ready_check) ready_check x s s) (sym h.0)
         (search-refused h.1, refl)
 
     -- the witness that was found is refused for memory
     pub observe-refused : (witness : F) (e : ChallengerError) (t : SerializingState I)
         → RefusesObserve ((element_observed o slice_may_leave r n).may_leave s witness) e t
-        → RefusesSearch r (MayRunOut clones_may_fail ready_check) ready_check e s s
+        → RefusesSearch r (MayRunOut copies_may_fail ready_check) ready_check e s s
     observe-refused witness OutOfMemory t h = (inr (witness, t, inr (refl, inl h)), refl)
     observe-refused witness _ t h = absurd h
 
@@ -77,7 +77,7 @@ module _ {I Symbol F : Type 0} (o : Observation I Symbol ℕ) (slice_may_leave :
     pub draw-refused : (next : I → I) → IsSampling next d → (witness : F) (e : ChallengerError)
         (u t : SerializingState I) → u ≡ (element_observed o slice_may_leave r n).observed s witness
         → (ready_check witness).sampled s ≡ Some true → RefusesDraw (bits_drawn d n bits) e u t
-        → RefusesSearch r (MayRunOut clones_may_fail ready_check) ready_check e s s
+        → RefusesSearch r (MayRunOut copies_may_fail ready_check) ready_check e s s
     draw-refused next laws witness OutOfMemory u t is passes h =
         (inr (witness, t, inr (refl, inr (subst (λ v. (bits_drawn d n bits).may_leave v t) is h))), refl)
     draw-refused next laws witness DrawLimit u t is passes h =

@@ -16,7 +16,7 @@ module _ {I Symbol F : Type 0} (o : Observation I Symbol ℕ) (slice_may_leave :
 
   -- where a search may be refused for memory: where a copy may be, or a check
   abbrev pub may_run_out_of : Type 0 → SerializingState I → Type 0
-  may_run_out_of clones_may_fail s = (bits : ℕ) × MayRunOut clones_may_fail (serializing_check bits) s
+  may_run_out_of copies_may_fail s = (bits : ℕ) × MayRunOut copies_may_fail (serializing_check bits) s
 
 -- the bytes of the witness of a number
 abbrev pub witness_bytes : {F : Type 0} → Residues F → ℕ → ℕ → List ℕ

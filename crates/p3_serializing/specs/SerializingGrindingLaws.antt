@@ -9,12 +9,12 @@ use Rattle.p3_serializing.specs.SerializingGrinding.{serializing_check, may_run_
 use Rattle.p3_serializing.specs.SerializingState.{SerializingState}
 
 module _ {I Symbol F : Type 0} (o : Observation I Symbol ℕ) (slice_may_leave : I → List ℕ → I → Type 0)
-    (d : Sampling I ℕ) (r : Residues F) (n : ℕ) (clones_may_fail : Type 0) (bits : ℕ) where
+    (d : Sampling I ℕ) (r : Residues F) (n : ℕ) (copies_may_fail : Type 0) (bits : ℕ) where
   -- a search by a check of so many bits is a search
   pub refused-search : (e : ChallengerError) (s t : SerializingState I)
-      → RefusesSearch r (MayRunOut clones_may_fail (serializing_check o slice_may_leave d r n bits))
+      → RefusesSearch r (MayRunOut copies_may_fail (serializing_check o slice_may_leave d r n bits))
       (serializing_check o slice_may_leave d r n bits) e s t
-      → RefusesSearch r (may_run_out_of o slice_may_leave d r n clones_may_fail)
+      → RefusesSearch r (may_run_out_of o slice_may_leave d r n copies_may_fail)
       (serializing_check o slice_may_leave d r n bits) e s t
   refused-search OutOfMemory s t h = ((bits, h.0), h.1)
   refused-search NoWitness s t h = h

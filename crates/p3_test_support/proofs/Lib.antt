@@ -7,3 +7,4 @@ pub mod Lies
 pub mod Observed
 pub mod ReadBackRows
 pub mod UniformRows
+pub mod WrongDefinitions

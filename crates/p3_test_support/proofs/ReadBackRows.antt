@@ -1,10 +1,10 @@
 -- Worked rows on reading back, computed on the definitions: where two lists of calls observe other values and end
 -- alike, a hash function, or a permutation, of no strength has a collision, and it is there.
-use Rattle.std.proofs.Common.{◌≡◌, ℕ, List, [], ◌∷◌, ◌++◌, inl, refl, ap, lit≤, map, take, length, arith}
+use Rattle.std.proofs.Common.{◌≡◌, ℕ, List, [], ◌∷◌, ◌++◌, inl, refl, ap, lit≤, arith}
 use Rattle.std.specs.List.{range_with_len}
 use Rattle.p3_challenger_core.specs.Segments.{Call, observe, observe_empty_array, draw, run_calls}
 use Rattle.p3_small_primes.specs.F257Residues.{F257, residues}
-use Rattle.p3_read_back.specs.Queries.{observed_values, CollideAtSomePlace, ReadsBack}
+use Rattle.p3_read_back.specs.Queries.{observed_values, CollideAtSomePlace}
 use Rattle.p3_hash_challenger.specs.HashCalls.{HashRun, with_pending, hash_by_calls}
 use Rattle.p3_duplex.specs.DuplexCalls.{DuplexRun, fresh, duplex_by_calls}
 use Rattle.p3_test_support.specs.ReadBackWorlds.{by_length, turn, element_of}
@@ -101,17 +101,6 @@ permuted_states_collide =
       other_is = refl;
       collision = record { different = λ e. let first : element_of 1 ≡ element_of 2 = cc in one_is_not_two first; past = refl; near = (0, lit≤ tt, inl refl) };
     }
-
--- ---- without the cell that counts the values, 5 is not told from 5 and a zero after it
-
-abbrev without_count : List (Call F257) → DuplexRun F257
-without_count calls = let run = permuting calls in record run { queries = map (take 2) run.queries }
-
-without_count-refused : ReadsBack without_count (λ s. s.pending) → ⊥
-without_count-refused told =
-    let same : element_of 5 ∷ [] ≡ element_of 5 ∷ element_of 0 ∷ [] =
-    told (observed 5 ∷ draw ∷ []) (observed 5 ∷ observed 0 ∷ draw ∷ []) refl refl in
-    absurd (omega (arith, ap length same))
 
 -- ---- nothing collides with itself
 

@@ -10,6 +10,9 @@ use p3_challenger::fs::DomainSeparator;
 use p3_challenger::fs::script::{Sent, Step};
 use std::alloc::Global;
 
+// How many scalars are drawn after the steps, where a line does not say it.
+const NEXT: usize = 2;
+
 /// The steps of a script, and what the prover is handed for them.
 #[derive(Drop)]
 pub struct Steps<S: World> {
@@ -19,6 +22,8 @@ pub struct Steps<S: World> {
     pub sent: Vec<Sent<S>>,
     // How many values there are before each step.
     before: Vec<usize>,
+    /// How many scalars the challenger draws after them, to tell what became of it.
+    pub next: usize,
 }
 
 /// What is played.
@@ -40,6 +45,7 @@ impl<S: World> Steps<S> {
             steps: Vec::new(alloc),
             sent: Vec::new(alloc),
             before: Vec::new(alloc),
+            next: NEXT,
         }
     }
 
@@ -98,6 +104,7 @@ impl<S: World> Script<S> {
             "" => {}
             "narg" | "flip" | "cut" | "more" => self.change = Change::parse(alloc, name, tokens)?,
             "carried" => self.carried = Some(scalars::<S>(alloc, tokens)?),
+            "next" => self.played.next = tokens.parse()?,
             "handed" => self.played.sent.push(parse_value(alloc, tokens)?)?,
             _ => self.played.push(alloc, text)?,
         }

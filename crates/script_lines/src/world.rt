@@ -18,11 +18,14 @@ pub trait World: Suite {
     /// A challenger that observed nothing yet.
     fn fresh(alloc: Global) -> Result<Self::Challenger>;
 
-    /// `next a b`, the next two scalars that the challenger draws, or what else is to be told of it.
-    fn state(alloc: Global, challenger: &mut Self::Challenger) -> Result<String> {
-        let first = draw::<Self>(challenger)?;
-        let second = draw::<Self>(challenger)?;
-        Ok(format!(in alloc; "next {first} {second}")?)
+    /// `next n..`, so many scalars that the challenger draws next, or what else is to be told of it.
+    fn state(alloc: Global, challenger: &mut Self::Challenger, next: usize) -> Result<String> {
+        let mut text = String::from_str(alloc, "next")?;
+        for _ in 0..next {
+            let number = draw::<Self>(challenger)?;
+            write!(text, " {number}")?;
+        }
+        Ok(text)
     }
 
     /// The value of these tokens that the challenger itself knows how to observe.
@@ -73,7 +76,7 @@ impl<const K: usize, G: StepGroup<Sponge<K>, F257>> Suite for Small<K, G> {
 }
 
 // More draws in a row than any script has refused.
-const DRAW_LIMIT: u64 = 1 << 16;
+const DRAW_LIMIT: u64 = 10;
 
 impl<const K: usize, G: StepGroup<Sponge<K>, F257>> World for Small<K, G> {
     fn fresh(_alloc: Global) -> Result<Sponge<K>> {
@@ -132,7 +135,7 @@ impl World for Notes {
     }
 
     // What the challenger was fed since the seed.
-    fn state(alloc: Global, challenger: &mut WideSponge) -> Result<String> {
+    fn state(alloc: Global, challenger: &mut WideSponge, _next: usize) -> Result<String> {
         let mut text = String::from_str(alloc, "fed")?;
         for symbol in challenger.input().iter().skip(SEED_LEN) {
             write!(text, " {}", symbol.as_canonical_u64())?;

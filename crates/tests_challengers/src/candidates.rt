@@ -1,9 +1,8 @@
-use crate::counting::CountedSum;
+use crate::counting::{Calls, CountedSum};
 use p3_challenger_core::{CanSample, ChallengerError};
 use p3_grinding::{ByteCandidates, ByteGrindingChallenger};
 use p3_hash_challenger::HashChallenger;
 use p3_test_support::{SumHasher, length_challenger};
-use std::cell::Cell;
 use std::process::Abort;
 use std::test::Fail;
 
@@ -99,13 +98,17 @@ fn candidates_of_no_byte_keep_the_output(rt: HostRuntime) -> Result<(), Fail> {
     Ok(())
 }
 
+// The candidates are 64, of which none passes, and then 11, of which the last one does.
 #[test]
 fn candidates_are_hashed_four_at_once(rt: HostRuntime) -> Result<(), Fail> {
-    let calls = Cell::new(0u32);
+    let calls = Calls::new();
     let hasher = CountedSum { calls: &calls };
     let challenger = HashChallenger::new(vec![in rt.alloc(); 0u8, 1, 2, 3]?, hasher);
+    assert_least_found(&rt, &challenger, 64, 10, None);
+    assert_eq!(rt; (calls.batches.get(), calls.messages.get()), (16, 64));
     assert_least_found(&rt, &challenger, 11, 47, Some(10));
-    assert!(rt; calls.get() <= 3, "{}", calls.get());
+    assert_eq!(rt; (calls.batches.get(), calls.messages.get()), (19, 75));
+    assert_eq!(rt; calls.single.get(), 0);
     assert_least_found(&rt, &challenger, 10, 47, None);
     Ok(())
 }

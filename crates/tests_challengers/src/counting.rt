@@ -1,20 +1,41 @@
-// A permutation that counts its calls for one state, and a hasher that counts its calls for one message. Those for states
-// in lanes, or for many messages, count nothing: so a search that is made of them is told from one that tries its
-// candidates one by one.
+// A permutation and a hasher that count their calls: those for one state, or one message, apart from those for several
+// at once. So a search that tries as many candidates at once as there are lanes is told from one that tries fewer.
 use p3_field::{BabyBear, F257};
 use p3_lanes::{LanePermutation, PackedField};
 use p3_symmetric::{CryptographicHasher, CryptographicPermutation, Turn};
 use p3_test_support::SumHasher;
 use std::cell::Cell;
 
+/// How often a function was called.
+#[derive(Drop)]
+pub struct Calls {
+    /// For one state, or one message.
+    pub single: Cell<u32>,
+    /// For several at once.
+    pub batches: Cell<u32>,
+    /// How many messages these had together.
+    pub messages: Cell<u32>,
+}
+
+impl Calls {
+    /// No calls yet.
+    pub fn new() -> Calls {
+        Calls {
+            single: Cell::new(0),
+            batches: Cell::new(0),
+            messages: Cell::new(0),
+        }
+    }
+}
+
+fn add(count: &Cell<u32>, more: u32) {
+    count.set(count.get().saturating_add(more));
+}
+
 /// `Turn<2>` over three cells.
 #[derive(Clone, Copy)]
 pub struct CountedTurn<'a> {
-    pub calls: &'a Cell<u32>,
-}
-
-fn count(calls: &Cell<u32>) {
-    calls.set(calls.get().saturating_add(1));
+    pub calls: &'a Calls,
 }
 
 impl CryptographicPermutation<[F257; 3]> for CountedTurn<'_> {
@@ -24,7 +45,7 @@ impl CryptographicPermutation<[F257; 3]> for CountedTurn<'_> {
     ghost permutation = { λ _ cells. turned residues 2 3 cells };
 
     fn permute_mut(&self, state: &mut [F257; 3]) {
-        count(self.calls);
+        add(&self.calls.single, 1);
         Turn::<2>.permute_mut(state);
     }
 }
@@ -36,26 +57,35 @@ impl CryptographicPermutation<[BabyBear; 3]> for CountedTurn<'_> {
     ghost permutation = { λ _ cells. turned residues 2 3 cells };
 
     fn permute_mut(&self, state: &mut [BabyBear; 3]) {
-        count(self.calls);
+        add(&self.calls.single, 1);
         Turn::<2>.permute_mut(state);
     }
 }
 
 impl LanePermutation<F257, 3> for CountedTurn<'_> {
     fn permute_lanes(&self, state: &mut [<F257 as PackedField>::Packing; 3]) {
+        add(&self.calls.batches, 1);
         LanePermutation::<F257, 3>::permute_lanes(&Turn::<2>, state);
     }
 }
 
 /// What counts calls.
 pub trait Counter: Copy {
-    /// Counts one more.
-    fn count(&self);
+    /// Counts one more for one message.
+    fn count_single(&self);
+
+    /// Counts one more for so many messages.
+    fn count_batch(&self, messages: usize);
 }
 
-impl Counter for &Cell<u32> {
-    fn count(&self) {
-        count(self);
+impl Counter for &Calls {
+    fn count_single(&self) {
+        add(&self.single, 1);
+    }
+
+    fn count_batch(&self, messages: usize) {
+        add(&self.batches, 1);
+        add(&self.messages, messages.min(1000) as u32);
     }
 }
 
@@ -83,11 +113,12 @@ impl<C: Counter> CryptographicHasher<u8, [u8; 32]> for CountedSum<C> {
     ghost digests = { λ _ _. refl };
 
     fn hash_slice(&self, input: &[u8]) -> [u8; 32] {
-        self.calls.count();
+        self.calls.count_single();
         SumHasher.hash_slice(input)
     }
 
     fn hash_many(&self, messages: &[u8], digests: &mut [[u8; 32]]) {
+        self.calls.count_batch(digests.len());
         SumHasher.hash_many(messages, digests);
     }
 }

@@ -14,6 +14,8 @@ mod searches;
 #[cfg(test)]
 mod serializing;
 #[cfg(test)]
+mod sha256;
+#[cfg(test)]
 mod support;
 #[cfg(test)]
 mod symmetric;

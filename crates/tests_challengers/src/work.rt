@@ -4,7 +4,7 @@ use crate::support::{draws, grind, holds, observe_one};
 use p3_challenger_core::{CanSample, ChallengerError};
 use p3_duplex::DuplexChallenger;
 use p3_field::F257;
-use p3_grinding::{GrindingChallenger, TryClone, UniformGrindingChallenger};
+use p3_grinding::{CanCopy, GrindingChallenger, UniformGrindingChallenger};
 use p3_hash_challenger::HashChallenger;
 use p3_serializing::SerializingChallenger32;
 use p3_symmetric::Turn;
@@ -66,34 +66,34 @@ fn finds_none<C: GrindingChallenger<Witness = F257> + CanSample<F257>>(
     Ok(none && draws(challenger, next)?)
 }
 
-fn finds_uniform_witness<C: TryClone + UniformGrindingChallenger<Witness = F257> + CanSample<F257>>(
+fn finds_uniform_witness<C: CanCopy + UniformGrindingChallenger<Witness = F257> + CanSample<F257>>(
     rt: &impl Abort,
     challenger: &C,
     resample: bool,
 ) -> Result<bool, ChallengerError> {
-    let mut copy = challenger.try_clone()?;
+    let mut copy = challenger.copy()?;
     let found = grind_uniform(rt, &mut copy, 8, resample)? == element(255);
     Ok(found && draws(&mut copy, &[2, 4])?)
 }
 
 fn finds_uniform_witnesses<
-    C: TryClone + UniformGrindingChallenger<Witness = F257> + CanSample<F257>,
+    C: CanCopy + UniformGrindingChallenger<Witness = F257> + CanSample<F257>,
 >(rt: &impl Abort, challenger: &C) -> Result<bool, ChallengerError> {
     let again = finds_uniform_witness(rt, challenger, true)?;
     let or_fails = finds_uniform_witness(rt, challenger, false)?;
-    let mut copy = challenger.try_clone()?;
+    let mut copy = challenger.copy()?;
     let plain = grind(rt, &mut copy, 8)? == element(254) && draws(&mut copy, &[2, 4])?;
     Ok(again && or_fails && plain)
 }
 
-fn meets_the_limit<C: TryClone + UniformGrindingChallenger<Witness = F257>>(
+fn meets_the_limit<C: CanCopy + UniformGrindingChallenger<Witness = F257>>(
     rt: &impl Abort,
     challenger: &C,
 ) -> Result<bool, ChallengerError> {
-    let found = grind_uniform(rt, &mut challenger.try_clone()?, 8, true)? == element(255);
+    let found = grind_uniform(rt, &mut challenger.copy()?, 8, true)? == element(255);
     let limit = Err(ChallengerError::DrawLimit);
-    let met = passes_uniform(rt, &mut challenger.try_clone()?, 8, 254, true) == limit;
-    let rejected = !passes_uniform(rt, &mut challenger.try_clone()?, 8, 254, false)?;
+    let met = passes_uniform(rt, &mut challenger.copy()?, 8, 254, true) == limit;
+    let rejected = !passes_uniform(rt, &mut challenger.copy()?, 8, 254, false)?;
     Ok(found && met && rejected)
 }
 

@@ -5,7 +5,11 @@
 #[cfg(test)]
 mod ends;
 #[cfg(test)]
+mod lent;
+#[cfg(test)]
 mod nested;
+#[cfg(test)]
+mod opaque;
 #[cfg(test)]
 mod rejecting;
 #[cfg(test)]

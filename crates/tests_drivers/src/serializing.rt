@@ -62,7 +62,7 @@ fn separator(alloc: Global) -> Result<Separator, TranscriptError> {
         ),
         Interaction::marker::<()>(Hierarchy::End, Kind::Protocol, "block"),
     ]?)?;
-    Ok(DomainSeparator::new(alloc, 0, b"symmetric-steps", pattern)?)
+    DomainSeparator::new(alloc, 0, b"symmetric-steps", pattern)
 }
 
 // Observes 7, and 9 in the extension, and gives the numbers of all that is drawn.

@@ -40,7 +40,7 @@ pub fn element(number: u64) -> F257 {
 /// The separator of a protocol of these steps.
 pub fn separator(alloc: Global, steps: Vec<Interaction>) -> Result<Separator, TranscriptError> {
     let pattern = InteractionPattern::new(steps)?;
-    Ok(DomainSeparator::new(alloc, 1, b"world", pattern)?)
+    DomainSeparator::new(alloc, 1, b"world", pattern)
 }
 
 /// The number of the next element that a challenger draws.

@@ -67,7 +67,7 @@ fn rounds_alone(alloc: Global, rounds: usize) -> Result<Separator, TranscriptErr
     let mut recorder = PatternState::<u8>::new(alloc);
     let declared = declare::<BabyBear, u8, Sha256Hasher>(&mut recorder, rounds);
     let pattern = declared.and(recorder.finalize())?;
-    Ok(DomainSeparator::new(alloc, 1, b"large", pattern)?)
+    DomainSeparator::new(alloc, 1, b"large", pattern)
 }
 
 #[test]

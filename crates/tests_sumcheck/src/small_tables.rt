@@ -60,7 +60,7 @@ fn rounds_alone(alloc: Global, rounds: usize) -> Result<Separator, TranscriptErr
     let mut recorder = PatternState::<Alphabet>::new(alloc);
     let declared = declare::<F257, Alphabet, Sha256Hasher>(&mut recorder, rounds);
     let pattern = declared.and(recorder.finalize())?;
-    Ok(DomainSeparator::new(alloc, 1, b"world", pattern)?)
+    DomainSeparator::new(alloc, 1, b"world", pattern)
 }
 
 // The elements of numbers.

@@ -1,16 +1,16 @@
 ghost use Rattle.std.specs.Prelude.{◌≤◌, length};
 
 use p3_domain_separator::DomainSeparator;
-use p3_fs_core::{Hierarchy, Interaction, Kind, Length};
+use p3_fs_core::{Hierarchy, Interaction, Kind, Length, TranscriptError};
 use p3_patterns::InteractionPattern;
 use p3_symmetric::Sha256Hasher;
-use std::alloc::{AllocError, Global};
+use std::alloc::Global;
 use std::test::Fail;
 
 type Separator<U> = DomainSeparator<U, Sha256Hasher>;
 
 // A separator of a protocol of no steps.
-fn separator<U>(alloc: Global, version: u8, name: &[u8]) -> Result<Separator<U>, AllocError>
+fn separator<U>(alloc: Global, version: u8, name: &[u8]) -> Result<Separator<U>, TranscriptError>
     requires named { 1 ≤ length name.now }
     requires short { length name.now ≤ 62 }
 {

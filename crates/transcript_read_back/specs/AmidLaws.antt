@@ -1,7 +1,7 @@
 -- A state to which symbols are fed, after some draws and before some.
-use Rattle.std.proofs.Common.{◌≡◌, ℕ, List, [], ◌∷◌, ◌++◌, append-nil, flat_map, refl, sym, ap, ◌∙◌}
-use Rattle.p3_challenger.specs.{Sponge.{IsNonEmpty, IsStepsOn, after_steps}, ObservationLaws.nothing-fed}
-use Rattle.p3_challenger.specs.Observation.{Observation, IsObservation, unrefused_observe, observed_all}
+use Rattle.std.proofs.Common.{◌≡◌, ℕ, List, [], ◌∷◌, ◌++◌, flat_map, sym, ap, ◌∙◌}
+use Rattle.p3_challenger.specs.Sponge.{IsNonEmpty, IsStepsOn, after_steps}
+use Rattle.p3_challenger.specs.Observation.{Observation, IsObservation, observed_all}
 use Rattle.p3_challenger.specs.{Alphabet.AreItems, Feeding.FedAmidDraws}
 
 module _ {S Symbol : Type 0} (next : S → S) (fed : S → List Symbol → S) where
@@ -55,15 +55,3 @@ module _ {S Symbol : Type 0} (next : S → S) (fed : S → List Symbol → S) wh
           ap (λ t. observed_all o.observed t xs) (exactly x are.0 s)
           ∙ row-exactly IsValue o exactly xs are.1 (fed s (o.symbols x))
           ∙ fed_more s (o.symbols x) (flat_map o.symbols xs)
-
--- a value that feeds nothing, and changes nothing
-pub nothing-observed : {S Symbol T : Type 0} (fed : S → List Symbol → S) → ((s : S) → fed s [] ≡ s) →
-    ((s : S) (a b : List Symbol) → fed (fed s a) b ≡ fed s (a ++ b)) →
-    IsObservation {T = T} fed (unrefused_observe (λ _. []) (λ s _. s))
-nothing-observed fed fed_nothing fed_more =
-    record {
-      observes = λ s x. nothing-fed fed fed_nothing fed_more s s refl;
-      observes_after = λ s y ys x. ap (fed s) (sym (append-nil (y ∷ ys)));
-      leaves = λ s x t h. absurd h;
-      leaves_after = λ s y ys x t h. absurd h;
-    }

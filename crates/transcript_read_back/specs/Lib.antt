@@ -3,7 +3,6 @@ pub mod AcceptedReadBackLaws
 pub mod AmidLaws
 pub mod CallByCall
 pub mod ChallengerReadBackLaws
-pub mod GroupDraws
 pub mod Recursive
 pub mod RunCallLaws
 pub mod RunCalls

@@ -3,11 +3,9 @@
 #![tactic(auto)]
 
 mod call_by_call;
-mod groups;
 mod recursive;
 mod scripts;
 
 pub use call_by_call::{duplex_is_call_by_call, hash_is_call_by_call};
-pub use groups::{all_steps_draw_and_feed, bits_and_work_draw_and_feed, plain_steps_draw_and_feed};
 pub use recursive::{OverDuplex, OverHash, begin_duplex, begin_hash};
 pub use scripts::scripts_are_calls;

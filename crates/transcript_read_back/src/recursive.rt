@@ -20,7 +20,6 @@ ghost use Rattle.transcript_read_back.specs.Recursive.{StringsTellValuesOrCollid
 ghost use Rattle.p3_field.specs.BabyBearResidues as baby_bear;
 
 use crate::call_by_call::{duplex_is_call_by_call, hash_is_call_by_call};
-use crate::groups::{all_steps_draw_and_feed, plain_steps_draw_and_feed};
 use crate::scripts::scripts_are_calls;
 use p3_challenger::fs::script::{AcceptAll, Both, Meaning, Plain, Suite};
 use p3_challenger::fs::{BytesToFieldCodec, FieldToFieldCodec, FieldUnit};
@@ -29,9 +28,8 @@ use p3_challenger::laws::prefix_codes::{
     hash_values_are_prefix_code,
 };
 use p3_challenger::laws::scripts::{binding, equal_symbols_have_equal_values};
-use p3_challenger::{DuplexChallenger, HashChallenger};
+use p3_challenger::{DuplexChallenger, HashChallenger, LanePermutation};
 use p3_field::{BabyBear, Coeffs};
-use p3_lanes::LanePermutation;
 use p3_symmetric::{CryptographicHasher, Hash, Sha256Hasher};
 use std::marker::PhantomData;
 
@@ -147,7 +145,6 @@ pub fn begin_duplex<P: LanePermutation<BabyBear, WIDTH>, const WIDTH: usize, con
 {
     duplex_elements_are_prefix_code::<BabyBear, P, WIDTH, RATE>();
     duplex_arrays_are_prefix_code::<BabyBear, BabyBear, P, WIDTH, RATE, 8>();
-    all_steps_draw_and_feed::<DuplexChallenger<BabyBear, P, WIDTH, RATE>>();
     duplex_is_call_by_call::<BabyBear, P, WIDTH, RATE>();
     scripts_are_calls::<OverDuplex<P, WIDTH, RATE>>();
     binding::<OverDuplex<P, WIDTH, RATE>>();
@@ -175,7 +172,6 @@ pub fn begin_hash<H: CryptographicHasher<u8, [u8; 32]>>(
 {
     hash_values_are_prefix_code::<u8, H, 32>();
     hash_arrays_are_prefix_code::<u8, u8, H, 32, 32>();
-    plain_steps_draw_and_feed::<HashChallenger<u8, H, 32>, BabyBear>();
     hash_is_call_by_call::<u8, H, 32>();
     scripts_are_calls::<OverHash<H>>();
     binding::<OverHash<H>>();

@@ -1,7 +1,7 @@
 //! The law that a run of a script is calls on the challenger.
 ghost use Rattle.std.specs.Prelude.{List};
 ghost use Rattle.p3_challenger.specs.{Segments.{Call, Run}, Sponge.IsNonEmpty};
-ghost use Rattle.transcript_read_back.specs.{CallByCall.IsCallByCall, GroupDraws.DrawsAndFeeds};
+ghost use Rattle.transcript_read_back.specs.{CallByCall.IsCallByCall};
 ghost use Rattle.transcript_read_back.specs.ScriptReadBack.{EachScriptMakesQueries};
 
 use p3_challenger::fs::script::{Meaning, Suite};
@@ -12,9 +12,8 @@ use p3_challenger::laws::prefix_codes::counts_are_told;
 /// symbols that the run feeds, and leave the state that it leaves: so it makes a query.
 ///
 /// Conditions: each item of the alphabet, each value of the codec, and each value of the opaque
-/// type that is its own feeds something; and so the group's steps are made of what is fed and
-/// drawn, as those of each group of this repository are. An array of no places feeds nothing, and
-/// drops the outputs of a `HashChallenger` all the same.
+/// type that is its own feeds something. An array of no places feeds nothing, and drops the outputs
+/// of a `HashChallenger` all the same.
 ///
 /// A law: the body calls laws alone, and a caller cites the clause. Not in the Rust crate.
 pub fn scripts_are_calls<S: Suite>()
@@ -23,8 +22,6 @@ pub fn scripts_are_calls<S: Suite>()
     requires values { S.Codec.feeds_prefix_code }
     requires opaque_feeds { (x : S.Opaque) → S.is_own x →
         IsNonEmpty (S.Challenger.CanObserve-2.observation.symbols x) }
-    requires group { DrawsAndFeeds S.Challenger.next S.Challenger.fed S.Group.bit_draws S.Group.uniform_draws
-        S.Group.before_witness S.Group.witness }
     ensures { (run : S.Challenger.State → List (Call S.Challenger.Symbol) →
         Run S.Challenger.Symbol (List S.Challenger.Symbol) S.Challenger.State) →
         IsCallByCall run S.Challenger.fed S.Challenger.next →

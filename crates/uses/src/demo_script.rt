@@ -3,14 +3,16 @@
 //! Both sides know a list of at most four numbers. The prover sends a salt and at most four values, and finds a witness
 //! for 8 bits of work. Then a challenge is drawn, the prover sends a note that no challenge depends on, and two places
 //! are drawn, of 4 bits each. No code stands here for any of these steps. The contract of [`verify`] says which bytes
-//! are accepted, and what comes of them; that of [`prove_and_verify`], that both sides end in one state.
-ghost use Rattle.std.specs.Prelude.{◌≡◌, List, [], IfOk, IfErr, IfSome};
-ghost use Rattle.p3_challenger.specs.{Runs.{AreAdmitted, carried_count}, Scripts.{play_of, challenges_of}};
+//! are accepted, and what comes of them; that of [`prove_and_verify`], that both sides tell one run, which the values have.
+ghost use Rattle.std.specs.Prelude.{◌≡◌, ◌⊎◌, List, [], IfOk, IfErr, IfSome, None};
+ghost use Rattle.p3_challenger.specs.{Runs.{AreAdmitted, carried_count}, Scripts.{play_of, values_sent}};
+ghost use Rattle.p3_challenger.specs.{Provings.AreHanded, ProverAnswers.{IsProvedScript, IsRefusedScript}};
 ghost use Rattle.p3_challenger.specs.{Verdicts.script_of, VerifierAnswers.{IsVerifiedScript, IsRefusedProof}};
+ghost use Rattle.p3_challenger.specs.{RoundTrips.IsAcceptedProof, TranscriptError.TheVariants.OutOfMemory};
 ghost use Rattle.uses.specs.DemoScript.{AreDemoSteps, fresh_challenger};
 
 use p3_challenger::fs::script::{
-    AcceptAll, Both, Drawn, Fault, Meaning, Sent, Step, Suite, Verified, sent_matches,
+    AcceptAll, Both, Drawn, Fault, Meaning, Proved, Sent, Step, Suite, Verified, sent_matches,
 };
 use p3_challenger::fs::{
     DomainSeparator, FieldToFieldCodec, FieldUnit, Hierarchy, Interaction, InteractionPattern,
@@ -116,7 +118,7 @@ pub fn steps(inputs: Vec<Goldilocks>) -> [Step<Demo>; 9]
     ]
 }
 
-/// The pattern of these steps, and its separator. The one error in fact is that memory is out.
+/// The pattern of these steps, and its separator. In practice the only error is out of memory.
 pub fn separator(alloc: Global) -> Result<Separator, TranscriptError> {
     let (leaf, kind) = (Hierarchy::Atomic, Kind::Protocol);
     let inputs = Interaction::algebra::<Goldilocks, Goldilocks, Sha256Hasher>(
@@ -136,46 +138,55 @@ pub fn separator(alloc: Global) -> Result<Separator, TranscriptError> {
         Interaction::uniform_bits(leaf, Kind::Challenge, "indices", 4, Length::Fixed(2)),
         Interaction::marker::<()>(Hierarchy::End, kind, "demo"),
     ]?;
-    Ok(Separator::new(alloc, 2, b"demo", InteractionPattern::new(steps)?)?)
+    Separator::new(alloc, 2, b"demo", InteractionPattern::new(steps)?)
 }
 
-/// What both sides drew, and the challenger in the end, on each side.
+/// What both sides answered of one transcript.
 #[derive(Drop)]
 pub struct Agreed {
-    /// The bytes of the proof.
-    pub proof: Vec<u8>,
-    /// What the prover drew.
-    pub proved: Vec<Drawn<Demo>>,
+    /// The prover's answer, with the proof.
+    pub proved: Proved<Demo>,
     /// What the verifier drew.
-    pub verified: Vec<Drawn<Demo>>,
+    pub drawn: Vec<Drawn<Demo>>,
+    /// The verifier's challenger in the end.
+    pub challenger: Challenger,
 }
 
-/// Proves that these values were sent, and verifies the proof: both sides draw the same. More than four numbers are
-/// refused at the step of the list.
+/// Proves that these values were sent, and verifies the proof, which is accepted: both sides draw the same. More than four
+/// numbers are refused at the step of the list.
 ///
-/// Nothing is answered where other values are sent than the steps have: a salt of 8 bytes, a list of scalars, and the
-/// bytes of a note. The errors are those of [`script::prove`], and out of memory.
+/// Nothing is answered exactly where other values are sent than the steps have: a salt of 8 bytes, a list of scalars, and
+/// the bytes of a note. The errors are those of [`script::prove`], and out of memory.
 pub fn prove_and_verify(
     alloc: Global,
     separator: &Separator,
     inputs: Vec<Goldilocks>,
     sent: &[Sent<Demo>],
 ) -> Result<Option<Agreed>, Fault>
-    ensures { IfOk result (λ agreed. IfSome agreed (λ a.
-        challenges_of a.verified.items ≡ challenges_of a.proved.items)) }
+    ensures proved { IfOk result (λ agreed. IfSome agreed (λ a. (steps : List _) × AreDemoSteps inputs steps
+        × IsProvedScript (⟦<Demo as Meaning>⟧.rules 1) (script_of fresh_challenger separator.now steps)
+        (values_sent sent.now) ⟦<Challenger as Sponge>⟧.state a.proved)) }
+    ensures accepted { IfOk result (λ agreed. IfSome agreed (λ a. (steps : List _) × AreDemoSteps inputs steps
+        × IsAcceptedProof (⟦<Demo as Meaning>⟧.rules 1) (script_of fresh_challenger separator.now steps)
+        ⟦<Challenger as Sponge>⟧.state a.proved a.drawn.items a.challenger)) }
+    ensures other { IfOk result (λ agreed. agreed ≡ None → (steps : List _) × AreDemoSteps inputs steps
+        × (AreHanded (play_of (⟦<Demo as Meaning>⟧.rules 1)) steps (values_sent sent.now) → ⊥)) }
+    ensures refused { IfErr result (λ fault. (steps : List _) × AreDemoSteps inputs steps
+        × (IsRefusedScript (⟦<Demo as Meaning>⟧.rules 1) (script_of fresh_challenger separator.now steps)
+        (values_sent sent.now) fault ⊎ (fault.error ≡ OutOfMemory))) }
 {
     let steps = steps(inputs);
     if !sent_matches(&steps, sent) {
         return Ok(None);
     }
     let (prover, verifier) = (challenger(alloc), challenger(alloc));
-    let (proved, verified, _) = script::prove_and_verify::<Demo>(
+    let (proved, drawn, challenger) = script::prove_and_verify::<Demo>(
         alloc, prover, verifier, separator, &steps, sent,
     )?;
     Ok(Some(Agreed {
-        proof: proved.narg,
-        proved: proved.challenges,
-        verified,
+        proved,
+        drawn,
+        challenger,
     }))
 }
 

@@ -289,5 +289,5 @@ pub fn separator(alloc: Global) -> Result<Separator, TranscriptError> {
         sibling,
         sibling,
     ]?)?;
-    Ok(Separator::new(alloc, 1, b"opening", pattern)?)
+    Separator::new(alloc, 1, b"opening", pattern)
 }

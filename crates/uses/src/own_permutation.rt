@@ -7,9 +7,8 @@
 ghost use Rattle.std.specs.Prelude.{◌≡◌, ◌+◌, ◌<◌, ℕ};
 ghost use Rattle.p3_field.specs.{BabyBearResidues.residues, Residues.{power_of, plus}};
 
-use p3_challenger::DuplexChallenger;
-use p3_field::{BabyBear, PrimeCharacteristicRing};
-use p3_lanes::{BabyBearLanes, LanePermutation, PackedValue};
+use p3_challenger::{DuplexChallenger, LanePermutation};
+use p3_field::{BabyBear, BabyBearLanes, PackedValue, PrimeCharacteristicRing};
 use p3_symmetric::CryptographicPermutation;
 
 /// Each of four cells gets its place and one added and is taken to the seventh power; and then all get the sum of all.

@@ -7,9 +7,8 @@
 ghost use Rattle.std.specs.Prelude.{◌≡◌};
 ghost use Rattle.uses.specs.OwnRounds.{after_round};
 
-use p3_challenger::DuplexChallenger;
-use p3_field::{BabyBear, PrimeCharacteristicRing};
-use p3_lanes::{BabyBearLanes, LanePermutation, permute_each_lane};
+use p3_challenger::{DuplexChallenger, LanePermutation, permute_each_lane};
+use p3_field::{BabyBear, BabyBearLanes, PrimeCharacteristicRing};
 use p3_symmetric::CryptographicPermutation;
 
 /// How many rounds there are.

@@ -238,7 +238,7 @@ pub fn separator(alloc: Global) -> Result<Separator, TranscriptError>
     let mut recorder = PatternState::<u8>::new(alloc);
     let recorded = record(&mut recorder);
     let pattern = recorded.and(recorder.finalize())?;
-    Ok(Separator::new(alloc, 1, b"line", pattern)?)
+    Separator::new(alloc, 1, b"line", pattern)
 }
 
 // The steps in order. Each names its value's type, so that a proof of one type is not read as another.

@@ -6,12 +6,14 @@
 //! ```
 //!
 //! A [`Suite`] names the types that play together. A protocol in which a value depends on a challenge is played step by
-//! step, by [`prover_step`] and [`verifier_step`]. What the symbols say of a run that it fed the challenger is the law
-//! [`binding`](crate::laws::scripts::binding). Not in the Rust crate.
+//! step, by [`prover_step`] and [`verifier_step`]. That bytes are a proof of one run at most is the law
+//! [`proofs_have_one_run`], and what the symbols say of a run that it fed the challenger is the law [`binding`]. Not in
+//! the Rust crate.
 
+pub use p3_binding::binding;
 pub use p3_script::{
     AcceptAll, AcceptRule, BitsPow, Both, Distinct, Drawn, Fault, Meaning, Plain, Received, Sent,
-    Step, StepGroup, Suite,
+    Step, StepGroup, Suite, proofs_have_one_run,
 };
 pub use p3_script_checks::{admitted, carried_len, fits, sent_matches};
 pub use p3_script_prover::{Played, Proved, prove, prover_step};

@@ -3,7 +3,7 @@ use crate::DuplexChallenger;
 use p3_challenger_core::ChallengerError;
 use p3_field_core::{PrimeField64, UniformSamplingField};
 use p3_grinding::{
-    BeforeWitness, GrindingChallenger, TryClone, UniformGrindingChallenger, least_uniform_witness,
+    BeforeWitness, CanCopy, GrindingChallenger, UniformGrindingChallenger, least_uniform_witness,
     least_witness,
 };
 use p3_lanes::{LanePermutation, PackedField};
@@ -14,14 +14,14 @@ impl<
     P: CryptographicPermutation<[F; WIDTH]>,
     const WIDTH: usize,
     const RATE: usize,
-> TryClone for DuplexChallenger<F, P, WIDTH, RATE> {
-    ghost clones_may_fail = { ⊥ };
+> CanCopy for DuplexChallenger<F, P, WIDTH, RATE> {
+    ghost copies_may_fail = { ⊥ };
 
-    fn try_clone(&self) -> Result<Self, ChallengerError> {
+    fn copy(&self) -> Result<Self, ChallengerError> {
         Ok(self.clone())
     }
 
-    fn try_clone_from(&mut self, other: &Self) -> Result<(), ChallengerError> {
+    fn copy_from(&mut self, other: &Self) -> Result<(), ChallengerError> {
         *self = other.clone();
         Ok(())
     }

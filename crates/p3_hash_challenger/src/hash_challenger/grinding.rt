@@ -2,18 +2,18 @@
 use super::witness_search::least_in_batches;
 use crate::HashChallenger;
 use p3_challenger_core::ChallengerError;
-use p3_grinding::{ByteCandidates, ByteGrindingChallenger, TryClone, find_witness_plainly};
+use p3_grinding::{ByteCandidates, ByteGrindingChallenger, CanCopy, find_witness_plainly};
 use p3_symmetric::CryptographicHasher;
 
-impl<T: Copy, H: CryptographicHasher<T, [T; OUT_LEN]>, const OUT_LEN: usize> TryClone
+impl<T: Copy, H: CryptographicHasher<T, [T; OUT_LEN]>, const OUT_LEN: usize> CanCopy
     for HashChallenger<T, H, OUT_LEN> {
-    ghost clones_may_fail = { Unit {0} };
+    ghost copies_may_fail = { Unit {0} };
 
-    fn try_clone(&self) -> Result<Self, ChallengerError> {
+    fn copy(&self) -> Result<Self, ChallengerError> {
         self.clone()
     }
 
-    fn try_clone_from(&mut self, other: &Self) -> Result<(), ChallengerError> {
+    fn copy_from(&mut self, other: &Self) -> Result<(), ChallengerError> {
         if other.digest.is_none() {
             self.input_buffer.clear();
             self.input_buffer

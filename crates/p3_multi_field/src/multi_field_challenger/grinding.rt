@@ -3,7 +3,7 @@ use crate::MultiField32Challenger;
 use p3_challenger_core::ChallengerError;
 use p3_field_bridge::FieldBridge;
 use p3_field_core::{PrimeField32, PrimeField64};
-use p3_grinding::{BeforeWitness, GrindingChallenger, TryClone, least_witness};
+use p3_grinding::{BeforeWitness, CanCopy, GrindingChallenger};
 use p3_symmetric::CryptographicPermutation;
 
 impl<
@@ -12,15 +12,15 @@ impl<
     P: CryptographicPermutation<[PF; WIDTH]>,
     const WIDTH: usize,
     const RATE: usize,
-> TryClone for MultiField32Challenger<F, PF, P, WIDTH, RATE> {
-    ghost clones_may_fail = { ⊥ };
+> CanCopy for MultiField32Challenger<F, PF, P, WIDTH, RATE> {
+    ghost copies_may_fail = { ⊥ };
 
-    fn try_clone(&self) -> Result<Self, ChallengerError> {
+    fn copy(&self) -> Result<Self, ChallengerError> {
         Ok(self.clone())
     }
 
     // Of what may be pending only what is so is copied.
-    fn try_clone_from(&mut self, other: &Self) -> Result<(), ChallengerError> {
+    fn copy_from(&mut self, other: &Self) -> Result<(), ChallengerError> {
         let scalars = other.pending();
         self.sponge_state = other.sponge_state;
         self.pending[..scalars.len()].copy_from_slice(scalars);
@@ -69,6 +69,6 @@ impl<
     ghost number_is = { λ n. refl };
 
     fn grind(&mut self, bits: usize) -> Result<F, ChallengerError> {
-        least_witness(self, bits)
+        self.grind_prepared(bits)
     }
 }

@@ -40,6 +40,13 @@ where
 
     ghost may_run_out = { C.may_run_out };
 
+    ghost draws_and_feeds = { record {
+      bits_drawn = C.samples_bits;
+      uniform_drawn = λ width. (C.draws_uniform true width).draws;
+      before_drawn = C.prepares;
+      witness_observed = C.observes;
+    } };
+
     ghost witnesses_prefix_free = { λ _. C.witnesses_prefix_free };
 
     fn max_bits() -> usize {

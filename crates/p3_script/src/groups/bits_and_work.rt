@@ -1,6 +1,7 @@
 //! The group that has bits and proofs of work beside the plain steps.
 ghost use Rattle.std.specs.Prelude.{◌≡◌, true, false, IsErr, Some};
 ghost use Rattle.p3_challenger_core.specs.Sampling.{unrefused_draw};
+ghost use Rattle.p3_script.specs.GroupLaws.{nothing-drawn};
 
 use crate::groups::{BitsPow, StepGroup, not_there};
 use p3_challenger_core::CanSampleBits;
@@ -38,6 +39,13 @@ where
     ghost witness = { C.observation };
 
     ghost may_run_out = { C.may_run_out };
+
+    ghost draws_and_feeds = { record {
+      bits_drawn = C.samples_bits;
+      uniform_drawn = λ _. nothing-drawn C.next 0;
+      before_drawn = C.prepares;
+      witness_observed = C.observes;
+    } };
 
     ghost witnesses_prefix_free = { λ _. C.witnesses_prefix_free };
 

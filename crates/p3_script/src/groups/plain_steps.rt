@@ -1,6 +1,6 @@
 //! The group of the plain steps alone.
 ghost use Rattle.std.specs.Prelude.{◌≡◌, false, IsErr, Some, []};
-ghost use Rattle.p3_script.specs.GroupLaws.{not_there};
+ghost use Rattle.p3_script.specs.GroupLaws.{not_there, nothing-drawn, nothing-observed};
 ghost use Rattle.p3_challenger_core.specs.{Observation.unrefused_observe, Sampling.unrefused_draw};
 
 use crate::groups::{Plain, StepGroup, not_there};
@@ -31,6 +31,13 @@ impl<C: Sponge, F: ScalarField> StepGroup<C, F> for Plain {
     ghost witness = { unrefused_observe (λ _. []) (λ s _. s) };
 
     ghost may_run_out = { λ _. ⊥ };
+
+    ghost draws_and_feeds = { record {
+      bits_drawn = λ _. nothing-drawn C.next 0;
+      uniform_drawn = λ _. nothing-drawn C.next 0;
+      before_drawn = nothing-drawn C.next tt;
+      witness_observed = nothing-observed C.fed C.fed_nothing C.fed_more;
+    } };
 
     ghost witnesses_prefix_free = { not_there };
 

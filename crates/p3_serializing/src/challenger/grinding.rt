@@ -9,7 +9,7 @@ ghost use Rattle.p3_grinding.specs.{UniformDraws.never_rejects, UniformDrawLaws.
 use crate::{SerializedIn, SerializingChallenger};
 use p3_challenger_core::{CanSample, CanSampleBits, ChallengerError};
 use p3_grinding::{
-    BeforeWitness, ByteGrindingChallenger, CanSampleUniformBits, GrindingChallenger, TryClone,
+    BeforeWitness, ByteGrindingChallenger, CanCopy, CanSampleUniformBits, GrindingChallenger,
     UniformBitsError, least_witness_by_own_search,
 };
 use std::marker::PhantomData;
@@ -24,25 +24,25 @@ impl<
     /// The one error is [`ChallengerError::OutOfMemory`]. The Rust crate's `Clone`, which answers no error.
     pub fn clone(&self) -> Result<Self, ChallengerError>
         ensures ok { IfOk result (λ c. state_of Inner.state c ≡ state_of Inner.state self.now) }
-        ensures err { IfErr result (λ e. Inner.clones_may_fail × (e ≡ OutOfMemory)) }
+        ensures err { IfErr result (λ e. Inner.copies_may_fail × (e ≡ OutOfMemory)) }
     {
-        self.try_clone()
+        self.copy()
     }
 }
 
-impl<F, Inner: TryClone, const BYTES: usize> TryClone for SerializingChallenger<F, Inner, BYTES> {
-    ghost clones_may_fail = { Inner.clones_may_fail };
+impl<F, Inner: CanCopy, const BYTES: usize> CanCopy for SerializingChallenger<F, Inner, BYTES> {
+    ghost copies_may_fail = { Inner.copies_may_fail };
 
-    fn try_clone(&self) -> Result<Self, ChallengerError> {
+    fn copy(&self) -> Result<Self, ChallengerError> {
         Ok(SerializingChallenger {
-            inner: self.inner.try_clone()?,
+            inner: self.inner.copy()?,
             draw_limit: self.draw_limit,
             field: PhantomData,
         })
     }
 
-    fn try_clone_from(&mut self, other: &Self) -> Result<(), ChallengerError> {
-        self.inner.try_clone_from(&other.inner)?;
+    fn copy_from(&mut self, other: &Self) -> Result<(), ChallengerError> {
+        self.inner.copy_from(&other.inner)?;
         self.draw_limit = other.draw_limit;
         Ok(())
     }
@@ -92,7 +92,7 @@ impl<
     // Where a copy or a check of some number of bits may be refused for memory.
     ghost may_run_out = { may_run_out_of Inner.CanObserve.observation
         Inner.CanObserve.slice_may_leave Inner.CanSample.sampling F.residues BYTES
-        Inner.clones_may_fail };
+        Inner.copies_may_fail };
 
     ghost witnesses_prefix_free = { elements-tell_apart Inner.CanObserve.observation.symbols
         Inner.bytes_prefix_free F.residues F.are_residues BYTES F.order_fits };

@@ -8,3 +8,7 @@ returns-in_err-proved-clause-refused g c =
 
 pub verify_proved-requires-clause-proved : goal.verify_proved-requires-clause-proved
 verify_proved-requires-clause-proved g c = rw c.requires.equal c.in_ok-proved.ensures.proved
+
+pub returns-clause-accepted : goal.returns-clause-accepted
+returns-clause-accepted g c =
+    record { received = _; accepts = rw c.requires.equal at c.in_ok-challenges.ensures.accepted }

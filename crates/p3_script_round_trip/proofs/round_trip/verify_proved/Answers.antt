@@ -4,6 +4,9 @@ use Rattle.p3_script_round_trip.proofs.round_trip.verify_proved.Goals as goal
 pub verify-requires-clause-carried : goal.verify-requires-clause-carried
 verify-requires-clause-carried g c = rw c.deref.ensures.value c.requires.proved.1
 
+pub returns-clause-accepted : goal.returns-clause-accepted
+returns-clause-accepted g c = rw (c.deref.ensures.value, c.deref-2.ensures.value) at c.verify.ensures.accepted
+
 pub returns-clause-same : goal.returns-clause-same
 returns-clause-same g c =
     let accepted = rw (c.deref.ensures.value, c.deref-2.ensures.value) at c.verify.ensures.accepted in

@@ -27,14 +27,14 @@ returns g c = λ run by.
           (g.S.Extension.BasedVectorSpace.coefficients x) (each-any (g.S.Extension.BasedVectorSpace.coefficients x)) s;
       opaque = some-exactly next fed g.S.Suite.is_own g.S.Challenger.CanObserve-2.observation
           g.met.S.Challenger.CanObserve-2.observes c.requires.opaque_feeds;
-      witness = c.requires.group.witness_observed;
+      witness = g.met.S.Group.StepGroup.draws_and_feeds.witness_observed;
       witness_some = λ there. (g.met.S.Group.StepGroup.witnesses_prefix_free there).some;
       scalars = is_codec.samples;
       extensions = made_of-is_sampling next g.S.Extension.BasedVectorSpace.element
           (sampling.in_row codec.sampling g.S.Extension.BasedVectorSpace.DIMENSION)
           (in_row-is_sampling next codec.sampling is_codec.samples g.S.Extension.BasedVectorSpace.DIMENSION);
-      bits = c.requires.group.bits_drawn;
-      uniform = c.requires.group.uniform_drawn;
-      before_witness = c.requires.group.before_drawn;
+      bits = g.met.S.Group.StepGroup.draws_and_feeds.bits_drawn;
+      uniform = g.met.S.Group.StepGroup.draws_and_feeds.uniform_drawn;
+      before_witness = g.met.S.Group.StepGroup.draws_and_feeds.before_drawn;
     } in
     each-makes_queries _ _ _ _ _ _ _ _ _ _ run fed next by laws c.separators_have_seeds.ensures.bytes

@@ -1,6 +1,6 @@
 use Rattle.std.proofs.Common.{◌∙◌, ap, lit<}
 use Rattle.p3_field.specs.{BabyBearResidues.residues, Residues.{plus, sum_of}, SmallPrimeLaws.laws}
-use Rattle.p3_lanes.specs.SmallPrimeLanes.{element_in}
+use Rattle.p3_field.specs.SmallPrimesInLanes.{element_in}
 use Rattle.uses.proofs.Powers.{seventh-power}
 use Rattle.uses.proofs.own_permutation.stirred_lanes.Goals as goal
 

@@ -2,8 +2,8 @@ use Rattle.std.{proofs.Common.{◌≡◌, ◌≤◌, length, [], arith}, specs.L
 use Rattle.p3_domain_separator.{specs.Seed.{identifier, label_of, FitsCount}, proofs.SeparatorContents.made_of}
 use Rattle.p3_domain_separator.proofs.domain_separator.DomainSeparator.new.Goals as goal
 
-pub returns : goal.returns
-returns g c =
+pub returns-clause-ok : goal.returns-clause-ok
+returns-clause-ok g c =
     let name = c.args.name.now in
     let id : c.protocol_identifier.result ≡ identifier c.args.version name = c.protocol_identifier.ensures in
     let short : length name ≤ 62 = c.requires.short in

@@ -1,7 +1,7 @@
 use Rattle.std.proofs.Common.{◌≡◌, ◌<◌, ◌∙◌, ◌+◌, ℕ, List, [], ◌∷◌, map, length, slice_index_or, sym, ap, ap₂, lit<}
 use Rattle.std.proofs.{Common.arith, lemmas.List.get_or-map}
 use Rattle.p3_field.specs.{BabyBearResidues.{BabyBear, residues}, Residues.{plus, power_of, sum_of}}
-use Rattle.p3_lanes.specs.{SmallPrimeLanes.element_in, declared.small_prime_lanes.SmallPrimeLanes.SmallPrimeLanes}
+use Rattle.p3_field.specs.{SmallPrimesInLanes.element_in, SmallPrimeLanes.SmallPrimeLanes}
 use Rattle.uses.specs.OwnPermutation.{stirred_cell}
 use Rattle.uses.proofs.own_permutation.StirLanePermutationBabyBear4.permute_lanes.Goals as goal
 

@@ -8,5 +8,5 @@ returns-clause-found g c =
     let state = state_of g.Inner.Sponge.state in
     MatchResult-weaker c.least_witness_by_own_search.result c.least_witness_by_own_search.ensures.found (λ _ h. h)
     (λ e. refused-search observes.observation observes.slice_may_leave g.Inner.CanSample.sampling
-    g.F.PrimeCharacteristicRing.residues g.row.BYTES g.Inner.TryClone.clones_may_fail c.args.bits e
+    g.F.PrimeCharacteristicRing.residues g.row.BYTES g.Inner.CanCopy.copies_may_fail c.args.bits e
     (state c.args.self.now) (state c.least_witness_by_own_search.new.challenger))

@@ -18,7 +18,7 @@ returns-in_err-candidate-clause-err g c =
     let d = g.Inner.CanSample.sampling in
     let r = g.F.PrimeCharacteristicRing.residues in
     let bits = c.args.bits in
-    let clones = g.Inner.TryClone.clones_may_fail in
+    let clones = g.Inner.CanCopy.copies_may_fail in
     let state = state_of g.Inner.Sponge.state in
     let check = ready_check o slice_may_leave d r g.row.BYTES bits in
     let e = c.in_err-candidate.field-0.0 in
@@ -34,7 +34,7 @@ returns-in_err-feed_element-in-Some-clause-err g c =
     let state = state_of g.Inner.Sponge.state in
     let refused = observe-refused g.Inner.CanObserve.observation g.Inner.CanObserve.slice_may_leave
     g.Inner.CanSample.sampling g.F.PrimeCharacteristicRing.residues g.row.BYTES c.args.bits
-    g.Inner.TryClone.clones_may_fail (state c.args.self.now) c.from_canonical-witness.result
+    g.Inner.CanCopy.copies_may_fail (state c.args.self.now) c.from_canonical-witness.result
     c.in_err-feed_element-in-Some.field-0.0 (state c.feed_element.new.self)
     c.in_err-feed_element-in-Some.ensures in
     search (rules, refused)
@@ -62,7 +62,7 @@ returns-in_err-sample_bits-in-Some-clause-err g c =
     ∙ ap (check (r.of candidate)).sampled (sym same)
     ∙ same-answer o slice_may_leave d r g.row.BYTES bits inside candidate
     ∙ found.passes in
-    let refused = draw-refused o slice_may_leave d r g.row.BYTES bits g.Inner.TryClone.clones_may_fail start
+    let refused = draw-refused o slice_may_leave d r g.row.BYTES bits g.Inner.CanCopy.copies_may_fail start
     g.Inner.Sponge.next g.met.Inner.CanSample.samples witness c.in_err-sample_bits-in-Some.field-0.0
     (state c.feed_element.new.self) (state c.sample_bits.new.self) c.in_ok-feed_element-in-Some.ensures passes
     c.in_err-sample_bits-in-Some.ensures.err in

@@ -1,0 +1,5 @@
+pub mod Keccak
+pub mod Tables
+pub mod KnownDigests
+pub mod Rows
+pub mod KeccakLaws

@@ -1,0 +1,28 @@
+-- A round, row by row of its result: each row is made of five lanes of the state.
+use Rattle.std.specs.Prelude.{ℕ, List, [], ◌∷◌, bit_and, bit_xor, slice_index}
+use Rattle.std.specs.Int.{w64, bit_not, rotate_left}
+use Rattle.p3_keccak.specs.Keccak.{theta_effect}
+
+-- D[0] to D[4] of θ
+abbrev pub theta_effects : List ℕ → List ℕ
+theta_effects a =
+    theta_effect a 0 ∷ theta_effect a 1 ∷ theta_effect a 2 ∷ theta_effect a 3 ∷ theta_effect a 4 ∷ []
+
+-- a lane after χ, from that lane and the two after it in its row
+abbrev pub chi_lane : ℕ → ℕ → ℕ → ℕ
+chi_lane b next after = bit_xor b (bit_and (bit_not w64 next) after)
+
+-- χ of a row
+abbrev pub chi_row : ℕ → ℕ → ℕ → ℕ → ℕ → List ℕ
+chi_row b0 b1 b2 b3 b4 =
+    chi_lane b0 b1 b2 ∷ chi_lane b1 b2 b3 ∷ chi_lane b2 b3 b4 ∷ chi_lane b3 b4 b0 ∷ chi_lane b4 b0 b1 ∷ []
+
+-- lane i of five, rotated by offset i of five
+abbrev pub rotated_lane : List ℕ → List ℕ → ℕ → ℕ
+rotated_lane lanes by i = rotate_left w64 (slice_index lanes i) (slice_index by i)
+
+-- the row that ρ and χ make of the five lanes which π puts into it
+unfoldable pub row_of : List ℕ → List ℕ → List ℕ
+row_of lanes by =
+    chi_row (rotated_lane lanes by 0) (rotated_lane lanes by 1) (rotated_lane lanes by 2) (rotated_lane lanes by 3)
+    (rotated_lane lanes by 4)

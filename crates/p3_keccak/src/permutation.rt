@@ -1,0 +1,115 @@
+//! Keccak-f[1600] (FIPS 202, 3): a permutation of a state of 25 lanes, each of 64 bits.
+ghost use Rattle.std.specs.Prelude.{◌≡◌, ◌<◌};
+ghost use Rattle.p3_keccak.specs.{Keccak.{keccak_f, round}, Rows.{row_of, theta_effects}};
+
+// RC of each round (3.2.5).
+const ROUND_CONSTANTS: [u64; 24] = [
+    0x0000_0000_0000_0001,
+    0x0000_0000_0000_8082,
+    0x8000_0000_0000_808a,
+    0x8000_0000_8000_8000,
+    0x0000_0000_0000_808b,
+    0x0000_0000_8000_0001,
+    0x8000_0000_8000_8081,
+    0x8000_0000_0000_8009,
+    0x0000_0000_0000_008a,
+    0x0000_0000_0000_0088,
+    0x0000_0000_8000_8009,
+    0x0000_0000_8000_000a,
+    0x0000_0000_8000_808b,
+    0x8000_0000_0000_008b,
+    0x8000_0000_0000_8089,
+    0x8000_0000_0000_8003,
+    0x8000_0000_0000_8002,
+    0x8000_0000_0000_0080,
+    0x0000_0000_0000_800a,
+    0x8000_0000_8000_000a,
+    0x8000_0000_8000_8081,
+    0x8000_0000_0000_8080,
+    0x0000_0000_8000_0001,
+    0x8000_0000_8000_8008,
+];
+
+// What θ adds to the lanes at each x (3.2.1).
+#[inline(always)]
+fn theta_effects(a: [u64; 25]) -> [u64; 5]
+    ensures { result ≡ theta_effects a }
+{
+    let c0 = a[0] ^ a[5] ^ a[10] ^ a[15] ^ a[20];
+    let c1 = a[1] ^ a[6] ^ a[11] ^ a[16] ^ a[21];
+    let c2 = a[2] ^ a[7] ^ a[12] ^ a[17] ^ a[22];
+    let c3 = a[3] ^ a[8] ^ a[13] ^ a[18] ^ a[23];
+    let c4 = a[4] ^ a[9] ^ a[14] ^ a[19] ^ a[24];
+    [
+        c4 ^ c1.rotate_left(1),
+        c0 ^ c2.rotate_left(1),
+        c1 ^ c3.rotate_left(1),
+        c2 ^ c4.rotate_left(1),
+        c3 ^ c0.rotate_left(1),
+    ]
+}
+
+// One row of a round's result, from the lanes that π puts there: ρ rotates each by its offset, and χ mixes the row.
+#[inline(always)]
+fn row(lanes: [u64; 5], by: [u32; 5]) -> [u64; 5]
+    ensures { result ≡ row_of lanes by }
+{
+    let b0 = lanes[0].rotate_left(by[0]);
+    let b1 = lanes[1].rotate_left(by[1]);
+    let b2 = lanes[2].rotate_left(by[2]);
+    let b3 = lanes[3].rotate_left(by[3]);
+    let b4 = lanes[4].rotate_left(by[4]);
+    [
+        b0 ^ (!b1 & b2),
+        b1 ^ (!b2 & b3),
+        b2 ^ (!b3 & b4),
+        b3 ^ (!b4 & b0),
+        b4 ^ (!b0 & b1),
+    ]
+}
+
+// One round (3.3): θ, then ρ, π and χ row by row, and ι. The offsets of ρ are reduced modulo 64.
+#[inline(always)]
+fn round(a: [u64; 25], index: usize) -> [u64; 25]
+    requires { index < 24 }
+    ensures { result ≡ round a index }
+{
+    let [d0, d1, d2, d3, d4] = theta_effects(a);
+    let [e0, e1, e2, e3, e4] = row(
+        [a[0] ^ d0, a[6] ^ d1, a[12] ^ d2, a[18] ^ d3, a[24] ^ d4],
+        [0, 44, 43, 21, 14],
+    );
+    let [f0, f1, f2, f3, f4] = row(
+        [a[3] ^ d3, a[9] ^ d4, a[10] ^ d0, a[16] ^ d1, a[22] ^ d2],
+        [28, 20, 3, 45, 61],
+    );
+    let [g0, g1, g2, g3, g4] = row(
+        [a[1] ^ d1, a[7] ^ d2, a[13] ^ d3, a[19] ^ d4, a[20] ^ d0],
+        [1, 6, 25, 8, 18],
+    );
+    let [h0, h1, h2, h3, h4] = row(
+        [a[4] ^ d4, a[5] ^ d0, a[11] ^ d1, a[17] ^ d2, a[23] ^ d3],
+        [27, 36, 10, 15, 56],
+    );
+    let [i0, i1, i2, i3, i4] = row(
+        [a[2] ^ d2, a[8] ^ d3, a[14] ^ d4, a[15] ^ d0, a[21] ^ d1],
+        [62, 55, 39, 41, 2],
+    );
+    let e0 = e0 ^ ROUND_CONSTANTS[index];
+    [
+        e0, e1, e2, e3, e4, f0, f1, f2, f3, f4, g0, g1, g2, g3, g4, h0, h1, h2, h3, h4, i0, i1, i2,
+        i3, i4,
+    ]
+}
+
+/// The state after Keccak-f[1600], which is 24 rounds (FIPS 202, 3.4).
+pub(crate) fn keccak_f(state: [u64; 25]) -> [u64; 25]
+    ensures { result ≡ keccak_f state }
+{
+    let mut a = state;
+    'rounds: for index in 0..24 {
+        let next = round(a, index);
+        a = next;
+    }
+    a
+}

@@ -1,0 +1,2 @@
+mod HashValues
+mod InLanes

@@ -1,0 +1,13 @@
+//! SHA-256 of four messages of one length at once, each in a lane of its own.
+//!
+//! The kit's `sha2` hashes one message after another. Here word `i` of each of four messages stands in one
+//! vector, and each operation of the standard (FIPS 180-4) is made on all four at once. That each digest is
+//! the one of `sha2` is proved.
+#![tactic(auto)]
+
+mod compression;
+mod digests;
+mod padding;
+mod words;
+
+pub use digests::four_digests;

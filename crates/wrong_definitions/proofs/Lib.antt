@@ -1,0 +1,9 @@
+pub mod AcceptedAnswers
+pub mod Bytes
+pub mod Chunks
+pub mod LawfulSteps
+pub mod Patterns
+pub mod Renderings
+pub mod StepLaws
+pub mod Steps
+pub mod World
