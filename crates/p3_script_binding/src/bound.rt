@@ -31,8 +31,8 @@ pub fn equal_symbols_have_equal_values<S: Suite>()
 /// types, and so is what each of these steps absorbed, unless the alternate renderings of the patterns differ and share a
 /// digest. The same is so of two proofs that provers made.
 ///
-/// So a challenge binds all that came before it, unless the hash function or the permutation of the challenger collides:
-/// that different symbols give different challenges is what it is trusted for.
+/// So what was fed before a challenge is bound. That different symbols lead to different challenges is what the
+/// challenger's hash function or permutation is trusted for: a short challenge alone, of 31 bits say, binds nothing.
 ///
 /// Conditions: those of [`binding`]; that the proofs are bytes, which slices and vectors are; and that the scripts' opaque
 /// values are of their type.
