@@ -49,7 +49,7 @@ module _ {S Symbol I F EF O Ac : Type 0} (Su U C K D G It St Sy : Type 0) (rules
       Told (step.PublicScalarsBounded l xs max) value.Nothing (step.PublicScalarsBounded m ys most) value.Nothing
       (SameList xs.items ys.items)
 
-  -- an element of the extension that the proof does not carry, and a list of such
+  -- an element of the extension that the proof does not carry; a list of such, and one after its count
   abbrev pub ElementsAreTold : Type 0
   ElementsAreTold = (l m : Label) (a b : EF) →
       Told (step.ObserveExtension l a) value.Nothing (step.ObserveExtension m b) value.Nothing (a ≡ b)
@@ -59,12 +59,35 @@ module _ {S Symbol I F EF O Ac : Type 0} (Su U C K D G It St Sy : Type 0) (rules
       Told (step.ObserveExtensions l xs) value.Nothing (step.ObserveExtensions m ys) value.Nothing
       (SameList xs.items ys.items)
 
-  -- a value that the challenger alone knows
+  abbrev pub CountedElementListsAreTold : Type 0
+  CountedElementListsAreTold = (l m : Label) (xs ys : Vec EF Global) (max most : ℕ) →
+      Told (step.ObserveExtensionsBounded l xs max) value.Nothing (step.ObserveExtensionsBounded m ys most) value.Nothing
+      (SameList xs.items ys.items)
+
+  -- a value of the type that the challenger itself knows how to observe
   abbrev pub OpaqueValuesAreTold : Type 0
   OpaqueValuesAreTold = (l m : Label) (a b : O) →
       Told (step.Opaque l a) value.Nothing (step.Opaque m b) value.Nothing (a ≡ b)
 
-  -- what the proof carries: a salt; a message
+  -- what the proof carries: a scalar; a list of scalars, and one after its count, with their lengths
+  abbrev pub ScalarsAreTold : Type 0
+  ScalarsAreTold = (l m : Label) (a b : F) →
+      Told (step.Scalar l) (value.Scalar a) (step.Scalar m) (value.Scalar b) (a ≡ b)
+
+  abbrev pub ScalarListsAreTold : Type 0
+  ScalarListsAreTold = (l m : Label) (len n : ℕ) (xs ys : List F) →
+      Told (step.Scalars l len) (value.Scalars xs) (step.Scalars m n) (value.Scalars ys) (SameList xs ys)
+
+  abbrev pub CountedScalarListsAreTold : Type 0
+  CountedScalarListsAreTold = (l m : Label) (max most : ℕ) (xs ys : List F) →
+      Told (step.ScalarsBounded l max) (value.Scalars xs) (step.ScalarsBounded m most) (value.Scalars ys) (SameList xs ys)
+
+  -- an element of the extension
+  abbrev pub SentElementsAreTold : Type 0
+  SentElementsAreTold = (l m : Label) (a b : EF) →
+      Told (step.Extension l) (value.Extension a) (step.Extension m) (value.Extension b) (a ≡ b)
+
+  -- a salt; a message, and one after its count
   abbrev pub SaltsAreTold : Type 0
   SaltsAreTold = (l m : Label) (len n : ℕ) (a b : List ℕ) →
       Told (step.Salt l len) (value.Bytes a) (step.Salt m n) (value.Bytes b) (a ≡ b)
@@ -72,6 +95,10 @@ module _ {S Symbol I F EF O Ac : Type 0} (Su U C K D G It St Sy : Type 0) (rules
   abbrev pub MessagesAreTold : Type 0
   MessagesAreTold = (l m : Label) (len n : ℕ) (a b : List ℕ) →
       Told (step.Bytes l len) (value.Bytes a) (step.Bytes m n) (value.Bytes b) (a ≡ b)
+
+  abbrev pub CountedMessagesAreTold : Type 0
+  CountedMessagesAreTold = (l m : Label) (max most : ℕ) (a b : List ℕ) →
+      Told (step.BytesBounded l max) (value.Bytes a) (step.BytesBounded m most) (value.Bytes b) (a ≡ b)
 
   -- the witness of at least one bit, which the proof carries, or the caller
   abbrev pub WitnessesAreTold : Type 0

@@ -1,7 +1,9 @@
 //! What each kind of step absorbs: a caller that cites, for one step after another, that equal symbols bind.
 ghost use Rattle.binding_callers.specs.OnePlace.{PublicValuesAreTold, PublicListsAreTold, ElementsAreTold};
 ghost use Rattle.binding_callers.specs.OnePlace.{CountedPublicListsAreTold, ElementListsAreTold, SaltsAreTold};
-ghost use Rattle.binding_callers.specs.OnePlace.{OpaqueValuesAreTold, MessagesAreTold, WitnessesAreTold};
+ghost use Rattle.binding_callers.specs.OnePlace.{CountedElementListsAreTold, OpaqueValuesAreTold, ScalarsAreTold};
+ghost use Rattle.binding_callers.specs.OnePlace.{ScalarListsAreTold, CountedScalarListsAreTold, SentElementsAreTold};
+ghost use Rattle.binding_callers.specs.OnePlace.{MessagesAreTold, CountedMessagesAreTold, WitnessesAreTold};
 ghost use Rattle.binding_callers.specs.OnePlace.{CarriedWitnessesAreTold};
 ghost use Rattle.p3_challenger.specs.Reading.{IsPrefixCodeOn};
 
@@ -14,10 +16,13 @@ use p3_challenger::{CanObserve, Sponge};
 /// symbols, as [`binding`] has them, and one place at which a step of this kind stands in both. Then its value is the same
 /// in both, unless the alternate renderings of the two patterns differ and share a digest:
 ///
-/// - a public value, and a public list with its length, sent after its count or not;
-/// - an element of the extension that the proof does not carry, and a list of such with its length;
+/// - a public value, and a public list with its length, after its count or not;
+/// - an element of the extension that the proof does not carry, and a list of such with its length, after its count or
+///   not;
 /// - an opaque value;
-/// - a salt, and a message of bytes;
+/// - a scalar that the proof carries, a list of such with its length, after its count or not, and an element of the
+///   extension;
+/// - a salt, and a message of bytes, after its count or not;
 /// - the witness of at least one bit, which the proof carries, or the caller.
 ///
 /// Conditions: those of [`binding`].
@@ -40,14 +45,32 @@ pub fn symbols_tell_each_value<S: Suite>()
     ensures element_list { let rules = ⟦<S as Meaning>⟧.rules S.Field.DIMENSION in
         ElementListsAreTold S S.Unit S.Challenger S.Codec S.Digest S.Group S.Unit.Item
         S.Challenger.State S.Challenger.Symbol rules }
+    ensures counted_element_list { let rules = ⟦<S as Meaning>⟧.rules S.Field.DIMENSION in
+        CountedElementListsAreTold S S.Unit S.Challenger S.Codec S.Digest S.Group S.Unit.Item
+        S.Challenger.State S.Challenger.Symbol rules }
     ensures opaque_value { let rules = ⟦<S as Meaning>⟧.rules S.Field.DIMENSION in
         OpaqueValuesAreTold S S.Unit S.Challenger S.Codec S.Digest S.Group S.Unit.Item
+        S.Challenger.State S.Challenger.Symbol rules }
+    ensures scalar { let rules = ⟦<S as Meaning>⟧.rules S.Field.DIMENSION in
+        ScalarsAreTold S S.Unit S.Challenger S.Codec S.Digest S.Group S.Unit.Item
+        S.Challenger.State S.Challenger.Symbol rules }
+    ensures scalar_list { let rules = ⟦<S as Meaning>⟧.rules S.Field.DIMENSION in
+        ScalarListsAreTold S S.Unit S.Challenger S.Codec S.Digest S.Group S.Unit.Item
+        S.Challenger.State S.Challenger.Symbol rules }
+    ensures counted_scalar_list { let rules = ⟦<S as Meaning>⟧.rules S.Field.DIMENSION in
+        CountedScalarListsAreTold S S.Unit S.Challenger S.Codec S.Digest S.Group S.Unit.Item
+        S.Challenger.State S.Challenger.Symbol rules }
+    ensures sent_element { let rules = ⟦<S as Meaning>⟧.rules S.Field.DIMENSION in
+        SentElementsAreTold S S.Unit S.Challenger S.Codec S.Digest S.Group S.Unit.Item
         S.Challenger.State S.Challenger.Symbol rules }
     ensures salt { let rules = ⟦<S as Meaning>⟧.rules S.Field.DIMENSION in
         SaltsAreTold S S.Unit S.Challenger S.Codec S.Digest S.Group S.Unit.Item
         S.Challenger.State S.Challenger.Symbol rules }
     ensures message { let rules = ⟦<S as Meaning>⟧.rules S.Field.DIMENSION in
         MessagesAreTold S S.Unit S.Challenger S.Codec S.Digest S.Group S.Unit.Item
+        S.Challenger.State S.Challenger.Symbol rules }
+    ensures counted_message { let rules = ⟦<S as Meaning>⟧.rules S.Field.DIMENSION in
+        CountedMessagesAreTold S S.Unit S.Challenger S.Codec S.Digest S.Group S.Unit.Item
         S.Challenger.State S.Challenger.Symbol rules }
     ensures witness { let rules = ⟦<S as Meaning>⟧.rules S.Field.DIMENSION in
         WitnessesAreTold S S.Unit S.Challenger S.Codec S.Digest S.Group S.Unit.Item

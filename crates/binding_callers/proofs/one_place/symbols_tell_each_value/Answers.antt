@@ -26,14 +26,39 @@ returns-clause-element_list g c l m xs ys =
     told _ _ c.binding.ensures.equal_symbols_bind _ _ _ _
     (lists-tell _ g.met.S.Extension.BasedVectorSpace.same_coefficients xs.items ys.items)
 
+pub returns-clause-counted_element_list : goal.returns-clause-counted_element_list
+returns-clause-counted_element_list g c l m xs ys max most =
+    told _ _ c.binding.ensures.equal_symbols_bind _ _ _ _
+    (lists-tell _ g.met.S.Extension.BasedVectorSpace.same_coefficients xs.items ys.items)
+
 pub returns-clause-opaque_value : goal.returns-clause-opaque_value
 returns-clause-opaque_value g c l m a b = told _ _ c.binding.ensures.equal_symbols_bind _ _ _ _ (λ e. cc)
+
+pub returns-clause-scalar : goal.returns-clause-scalar
+returns-clause-scalar g c l m a b =
+    told _ _ c.binding.ensures.equal_symbols_bind _ _ _ _ (element-tells alone alone-same a b)
+
+pub returns-clause-scalar_list : goal.returns-clause-scalar_list
+returns-clause-scalar_list g c l m len n xs ys =
+    told _ _ c.binding.ensures.equal_symbols_bind _ _ _ _ (lists-tell alone alone-same xs ys)
+
+pub returns-clause-counted_scalar_list : goal.returns-clause-counted_scalar_list
+returns-clause-counted_scalar_list g c l m max most xs ys =
+    told _ _ c.binding.ensures.equal_symbols_bind _ _ _ _ (lists-tell alone alone-same xs ys)
+
+pub returns-clause-sent_element : goal.returns-clause-sent_element
+returns-clause-sent_element g c l m a b =
+    told _ _ c.binding.ensures.equal_symbols_bind _ _ _ _
+    (element-tells _ g.met.S.Extension.BasedVectorSpace.same_coefficients a b)
 
 pub returns-clause-salt : goal.returns-clause-salt
 returns-clause-salt g c l m len n a b = told _ _ c.binding.ensures.equal_symbols_bind _ _ _ _ (λ e. cc)
 
 pub returns-clause-message : goal.returns-clause-message
 returns-clause-message g c l m len n a b = told _ _ c.binding.ensures.equal_symbols_bind _ _ _ _ (λ e. cc)
+
+pub returns-clause-counted_message : goal.returns-clause-counted_message
+returns-clause-counted_message g c l m max most a b = told _ _ c.binding.ensures.equal_symbols_bind _ _ _ _ (λ e. cc)
 
 pub returns-clause-witness : goal.returns-clause-witness
 returns-clause-witness g c l m bits n a b within =
