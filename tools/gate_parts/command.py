@@ -23,6 +23,7 @@ The repository's test command. It runs, at the top of the repository,
   tools/misuse                    wrong programs that must not compile: they let go of what must be spent
   tools/links                     that each relative link of each page leads somewhere
   tools/words                     that no text has a word that the table of words says not to use
+  tools/self-test                 that these five pass what is right and fail what is wrong
   tools/wrong-bodies --self-test  that the next command holds the right edits for refused, where tools/ changed since that passed
   tools/wrong-bodies              wrong bodies, which the prover must refuse: those whose refusal is not on record as the text is
                                   now, and a sample of the others
@@ -52,6 +53,7 @@ def main(words):
                 Part("tools/misuse", [f"{ROOT}/tools/misuse"]),
                 Part("tools/links", [f"{ROOT}/tools/links"]),
                 Part("tools/words", [f"{ROOT}/tools/words"]),
+                Part("tools/self-test", [f"{ROOT}/tools/self-test"]),
                 Part("tools/wrong-bodies --self-test", [f"{ROOT}/tools/wrong-bodies", "--self-test"]),
             ]
             for it in others:

@@ -1,6 +1,5 @@
 pub mod DemoPattern
 pub mod DemoRuns
-pub mod FirstLemmas
 pub mod InputLemmas
 pub mod ScriptLemmas
 pub mod ArgumentLemmas

@@ -2,7 +2,5 @@ pub mod Arguments
 pub mod Demo
 pub mod DemoScript
 pub mod DemoTypes
-pub mod First
 pub mod Program
 pub mod Report
-pub mod Scalar

@@ -7,11 +7,12 @@ use Rattle.sha2.specs.Sha256.{sha256}
 use Rattle.p3_challenger.specs.{HashState.{HashState, function_of}, HashCalls.with_pending, Sha256Hasher.Sha256Hasher}
 use Rattle.p3_challenger.specs.TranscriptError.{TranscriptError, TheVariants.{BadProofShape, Challenger, OutOfMemory}}
 use Rattle.p3_field.specs.BabyBearResidues.{BabyBear}
-use Rattle.transcript_program.specs.{Demo.demo_text, Scalar.{number, wire}, declared.arguments.Request.Request}
+use Rattle.first_transcript.specs.{First.IsRun, Scalar.{number, wire}}
+use Rattle.transcript_program.specs.{Demo.demo_text, declared.arguments.Request.Request}
 use Rattle.transcript_program.specs.declared.arguments.Request.TheVariants.{First, DemoPattern, Prove, Verify}
 use Rattle.transcript_program.specs.declared.program.Answer.{Answer, TheVariants.{Done, Proof, Refused, NoInput, Usage}}
 use Rattle.transcript_program.specs.DemoScript.{IsDemoProof, RefusesDemoProof, IsDemoReport, RefusesDemoReport}
-use Rattle.transcript_program.specs.{First.IsRun, DemoTypes.DemoRules, Arguments.Asks}
+use Rattle.transcript_program.specs.{DemoTypes.DemoRules, Arguments.Asks}
 use Rattle.p3_challenger.specs.ChallengerError.TheVariants as challenger
 
 abbrev pub usage_line : List ℕ

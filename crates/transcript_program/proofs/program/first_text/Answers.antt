@@ -1,7 +1,7 @@
 use Rattle.std.proofs.Common.{◌≡◌, ℕ, List, [], sym, ap, ◌∙◌, subst}
 use Rattle.sha2.specs.Sha256.{sha256}
 use Rattle.p3_challenger.specs.{HashState.{HashState, function_of}, HashCalls.with_pending, Sha256Hasher.Sha256Hasher}
-use Rattle.transcript_program.specs.{Scalar.wire, First.IsRun, Program.lines}
+use Rattle.{first_transcript.specs.{Scalar.wire, First.IsRun}, transcript_program.specs.Program.lines}
 use Rattle.transcript_program.proofs.program.first_text.Goals as goal
 
 abbrev fresh_with : List ℕ → HashState ℕ Sha256Hasher

@@ -1,10 +1,10 @@
-use Rattle.p3_challenger.specs.{BytesToField.{challenge_of, draw_bytes}, HashState.{function_of, sampled}}
-use Rattle.p3_challenger.specs.{HashState.after_sampled, Sampling.{unrefused_draw, in_row}}
-use Rattle.p3_challenger.specs.SamplingLaws.{made_of-refuses, in_row-not_refused}
-use Rattle.p3_field.specs.BabyBearResidues.{residues}
+use Rattle.p3_challenger_core.specs.{Sampling.{unrefused_draw, in_row}, SamplingLaws.{made_of-refuses, in_row-not_refused}}
+use Rattle.{p3_codecs.specs.BytesToField.{challenge_of, draw_bytes}, p3_hash_challenger.specs.HashState.{function_of, sampled}}
+use Rattle.p3_hash_challenger.specs.HashState.{after_sampled}
+use Rattle.p3_small_primes.specs.BabyBearResidues.{residues}
 use Rattle.std.specs.Prelude.{Some}
-use Rattle.transcript_program.specs.Scalar.{width}
-use Rattle.transcript_program.proofs.first.draw.Goals as goal
+use Rattle.first_transcript.specs.Scalar.{width}
+use Rattle.first_transcript.proofs.draw.Goals as goal
 
 pub unreachable-requires : goal.unreachable-requires
 unreachable-requires g c =

@@ -1,8 +1,8 @@
 -- The scalar of the first path: an element of the field of order 15 * 2 ^ 27 + 1, in four bytes.
 use Rattle.std.specs.Prelude.{ℕ, List, Option, Result}
-use Rattle.p3_challenger.specs.{Observation.observed_all, Sampling.unrefused_draw, BytesToField.drawn_bytes}
-use Rattle.p3_field.specs.BabyBearResidues.{BabyBear, residues}
-use Rattle.p3_challenger.specs.Scalar as scalar
+use Rattle.{p3_challenger_core.specs.{Observation.observed_all, Sampling.unrefused_draw}, p3_codecs.specs.BytesToField.drawn_bytes}
+use Rattle.p3_small_primes.specs.BabyBearResidues.{BabyBear, residues}
+use Rattle.p3_fs_core.specs.Scalar as scalar
 
 -- the order of the field
 abbrev pub order : ℕ

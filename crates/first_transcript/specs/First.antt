@@ -1,10 +1,10 @@
 -- The first path: one scalar is sent and one is drawn.
 use Rattle.std.specs.Prelude.{◌≡◌, ℕ, ◌==◌, List, length, codes, nat_lt, Option, Some, Result, Ok, Err, if◌then◌else◌}
-use Rattle.p3_challenger.specs.{HashCalls.HashFunction, HashState.{HashState, observed, sampled, after_sampled}}
-use Rattle.p3_challenger.specs.{Errors.IsBadShape, TranscriptError.{TranscriptError, TheVariants.OutOfMemory}}
-use Rattle.p3_field.specs.BabyBearResidues.{BabyBear}
-use Rattle.transcript_program.specs.Scalar.{width, read}
-use Rattle.transcript_program.specs.Scalar as scalar
+use Rattle.p3_hash_challenger.specs.{HashCalls.HashFunction, HashState.{HashState, observed, sampled, after_sampled}}
+use Rattle.p3_fs_core.specs.{Errors.IsBadShape, declared.error.TranscriptError.{TranscriptError, TheVariants.OutOfMemory}}
+use Rattle.p3_small_primes.specs.BabyBearResidues.{BabyBear}
+use Rattle.first_transcript.specs.Scalar.{width, read}
+use Rattle.first_transcript.specs.Scalar as scalar
 
 -- the scalar that is drawn, and the challenger after it
 abbrev pub drawn_scalar : {H : Type 0} → (H → HashFunction ℕ) → HashState ℕ H → Option BabyBear

@@ -1,10 +1,10 @@
 -- Lemmas on the first path.
 use Rattle.std.proofs.Common.{◌≡◌, ℕ, ◌==◌, List, length, drop, take, Bool, true, false, if◌then◌else◌, nat_lt, Ok, Err}
 use Rattle.std.proofs.Common.{sym, ap, ◌∙◌}
-use Rattle.p3_challenger.specs.{BigEndian.big_endian, Scalar.{not_enough_bytes, outside_range}, Errors.Decodes}
-use Rattle.p3_field.specs.BabyBearResidues.{BabyBear, residues}
-use Rattle.transcript_program.specs.{Scalar.{order, width, read}, First.{read_whole, nothing_after, too_short}}
-use Rattle.transcript_program.specs.First.{trailing_bytes}
+use Rattle.p3_fs_core.specs.{BigEndian.big_endian, Scalar.{not_enough_bytes, outside_range}, Errors.Decodes}
+use Rattle.p3_small_primes.specs.BabyBearResidues.{BabyBear, residues}
+use Rattle.first_transcript.specs.{Scalar.{order, width, read}, First.{read_whole, nothing_after, too_short}}
+use Rattle.first_transcript.specs.First.{trailing_bytes}
 
 whole_by : (short canonical : Bool) (y : BabyBear) (rest : List ℕ) (value : BabyBear) → length rest ≡ 0 →
     Decodes (if short then Err not_enough_bytes else if canonical then Ok (y, rest) else Err outside_range) (Ok value) →

@@ -1,10 +1,10 @@
 use Rattle.std.proofs.Common.{◌≡◌, [], length, drop, Option, Some, Result, Ok, arith, refl, sym, ap, ◌∙◌, length-drop}
-use Rattle.p3_challenger.specs.{HashState.{observed, function_of}, TranscriptError.TranscriptError}
-use Rattle.p3_field.specs.BabyBearResidues.{BabyBear}
-use Rattle.transcript_program.specs.{Scalar.width, First.{drawn_scalar, after_scalar, read_whole}}
-use Rattle.transcript_program.proofs.FirstLemmas.{read_whole-decoded}
-use Rattle.transcript_program.specs.Scalar as scalar
-use Rattle.transcript_program.proofs.first.verify.Goals as goal
+use Rattle.{p3_hash_challenger.specs.HashState.{observed, function_of}, p3_fs_core.specs.declared.error.TranscriptError.TranscriptError}
+use Rattle.p3_small_primes.specs.BabyBearResidues.{BabyBear}
+use Rattle.first_transcript.specs.{Scalar.width, First.{drawn_scalar, after_scalar, read_whole}}
+use Rattle.first_transcript.proofs.FirstLemmas.{read_whole-decoded}
+use Rattle.first_transcript.specs.Scalar as scalar
+use Rattle.first_transcript.proofs.verify.Goals as goal
 
 -- the proof is, whole, the scalar that was decoded
 pub returns-clause-exact : goal.returns-clause-exact
