@@ -1,7 +1,7 @@
 -- A digest under Keccak-256 has 32 places, and each is a byte.
-use Rattle.std.{specs.Prelude.{◌≡◌, ℕ, zero, suc, ◌+◌, ◌*◌, ◌<◌, List, [], ◌∷◌, ◌++◌, length, slice_index, refl}, proofs.Common.{lit<, arith, length-append}}
+use Rattle.std.{specs.Prelude.{◌≡◌, ℕ, zero, suc, ◌*◌, ◌<◌, List, [], ◌∷◌, ◌++◌, length, slice_index, refl}, proofs.Common.{lit<, arith, length-append}}
 use Rattle.std.{proofs.Math.Nat.mod-lt, specs.Int.{to_le_bytes, w64}}
-use Rattle.p3_keccak.specs.Keccak.{keccak256, lane_bytes, absorbed, padded}
+use Rattle.p3_keccak.specs.Keccak.{keccak256, lane_bytes}
 use Rattle.p3_symmetric.specs.Digests.{IsDigest}
 
 lane_bytes-length : (a : List ℕ) (n : ℕ) → length (lane_bytes a n) ≡ n * 8

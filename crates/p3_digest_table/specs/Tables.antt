@@ -1,0 +1,27 @@
+-- A table of texts, each with the digest that it is given.
+use Rattle.std.specs.Prelude.{◌≡◌, ℕ, ◌==◌, ◌&&◌, ◌⊎◌, Bool, true, List, [], ◌∷◌, Option, Some, None, bytes_eq, if◌then◌else◌, length, nat_lt, unwrap_or}
+use Rattle.p3_digest_table.specs.declared.known_digest.KnownDigest.{KnownDigest}
+
+-- the digest that the first line with this text gives it
+abbrev pub found : List KnownDigest → List ℕ → Option (List ℕ)
+found [] text = None
+found (line ∷ lines) text = if bytes_eq line.text.now text then Some line.digest else found lines text
+
+-- the digest of a text by a table, or else another one
+abbrev pub digest_by : List KnownDigest → List ℕ → List ℕ → List ℕ
+digest_by lines other text = unwrap_or (found lines text) other
+
+-- a digest stands in a table
+abbrev pub IsGiven : List KnownDigest → List ℕ → Type 0
+IsGiven [] digest = ⊥
+IsGiven (line ∷ lines) digest = (line.digest ≡ digest) ⊎ IsGiven lines digest
+
+-- whether each number is a byte
+abbrev pub are_bytes : List ℕ → Bool
+are_bytes [] = true
+are_bytes (number ∷ numbers) = nat_lt number 256 && are_bytes numbers
+
+-- whether each digest of a table is 32 bytes
+abbrev pub are_digests : List KnownDigest → Bool
+are_digests [] = true
+are_digests (line ∷ lines) = (length line.digest == 32 && are_bytes line.digest) && are_digests lines

@@ -1,0 +1,10 @@
+//! A line of a table of digests.
+
+/// A text, and the digest that a table gives it.
+#[derive(Clone, Copy, Debug, PartialEq, Eq)]
+pub struct KnownDigest {
+    /// The bytes of the text.
+    pub text: &'static [u8],
+    /// Its digest.
+    pub digest: [u8; 32],
+}

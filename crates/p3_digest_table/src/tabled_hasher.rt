@@ -1,0 +1,55 @@
+//! Digests from a table, and from a hash function where the table has none.
+ghost use Rattle.std.specs.Prelude.{◌≡◌, ◌⊎◌, ℕ, List};
+ghost use Rattle.p3_digest_table.specs.Tables.{found, digest_by, IsGiven};
+ghost use Rattle.p3_digest_table.specs.TableLaws.{digest_by-is_digest};
+
+use crate::{DigestTable, KnownDigest};
+use p3_symmetric::DigestHasher;
+use std::marker::PhantomData;
+
+/// A hash function of bytes that its type alone gives: the digest of a text is the one that the table `T` has for it,
+/// and where the table has none, that of the hash function `H`. It takes no memory.
+///
+/// It is for texts that another program writes otherwise, while what they digest to there is known: the digests of
+/// the identities of algebras. Two texts with one digest are two that `H` takes to one, or this digest is one of the
+/// table's ([`shared_digests`]). So for a table to cost nothing, its digests must be different ones, and none of them
+/// the digest under `H` of another text that is hashed.
+///
+/// Not in the Rust crate.
+pub struct TabledHasher<T, H>(PhantomData<(T, H)>);
+
+impl<T: DigestTable, H: DigestHasher> DigestHasher for TabledHasher<T, H> {
+    ghost digest_of = { λ message. digest_by T.lines (H.digest_of message) message };
+
+    ghost digests = { λ message. digest_by-is_digest T.lines (H.digest_of message) message T.digests (H.digests message) };
+
+    fn digest(message: &[u8]) -> [u8; 32]
+        ensures { result ≡ digest_by T.lines (H.digest_of message.now) message.now }
+    {
+        match find(T::lines(), message) {
+            Some(digest) => digest,
+            None => H::digest(message),
+        }
+    }
+}
+
+/// Two texts that have one digest by a table and a hash function have one under the hash function alone, or their
+/// digest is one that the table gives.
+///
+/// A law: the body is empty, and a caller cites the clause.
+pub fn shared_digests<T: DigestTable, H: DigestHasher>()
+    ensures { (a b : List ℕ) → digest_by T.lines (H.digest_of a) a ≡ digest_by T.lines (H.digest_of b) b →
+        (H.digest_of a ≡ H.digest_of b) ⊎ IsGiven T.lines (digest_by T.lines (H.digest_of a) a) }
+{}
+
+// The digest that the first line with a text gives it.
+fn find(lines: &[KnownDigest], text: &[u8]) -> Option<[u8; 32]>
+    ensures { result ≡ found lines.now text.now }
+{
+    'lines: for line in lines {
+        if line.text == text {
+            return Some(line.digest);
+        }
+    }
+    None
+}
