@@ -21,6 +21,7 @@ The repository's test command. It runs, at the top of the repository,
   tools/memory                    each request of four programs for memory refused in turn
   tools/explained                 the program tealmuze on what the Rust crate answered, on hostile proofs and on bad files
   tools/misuse                    wrong programs that must not compile: they let go of what must be spent
+  tools/constants                 that the constants of Poseidon2 are those of their generator
   tools/links                     that each relative link of each page leads somewhere
   tools/words                     that no text has a word that the table of words says not to use
   tools/self-test                 that these five pass what is right and fail what is wrong
@@ -51,6 +52,7 @@ def main(words):
                 Part("tools/memory", [f"{ROOT}/tools/memory"]),
                 Part("tools/explained", [f"{ROOT}/tools/explained"]),
                 Part("tools/misuse", [f"{ROOT}/tools/misuse"]),
+                Part("tools/constants", [f"{ROOT}/tools/constants"]),
                 Part("tools/links", [f"{ROOT}/tools/links"]),
                 Part("tools/words", [f"{ROOT}/tools/words"]),
                 Part("tools/self-test", [f"{ROOT}/tools/self-test"]),

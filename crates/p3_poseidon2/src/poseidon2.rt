@@ -1,0 +1,87 @@
+//! The permutation.
+ghost use Rattle.std.specs.Prelude.{◌≡◌, ℕ, ◌<◌, ◌%◌, map, ⊤};
+ghost use Rattle.p3_poseidon2.specs.{Poseidon2.permuted, Layers.IsDegree};
+
+use crate::layers::mix_external;
+use crate::rounds::{play_externals, play_internals};
+use p3_field_core::PrimeCharacteristicRing;
+use p3_lanes::PackedValue;
+use std::alloc::AllocError;
+
+/// The permutation Poseidon2 of `WIDTH` cells of the field `F`: S-boxes of degree `DEGREE`, four external rounds, `INTERNAL`
+/// internal ones, and four external ones. It holds its constants, and is copied with them.
+///
+/// It permutes states of the sets that have an alias here, as [`Poseidon2BabyBear16`](crate::Poseidon2BabyBear16): those of
+/// the alias' default constants, or of [others](Poseidon2::new).
+///
+/// Meant to be Plonky3's `Poseidon2`, whose layers are type parameters.
+#[derive(Debug)]
+pub struct Poseidon2<F, const WIDTH: usize, const DEGREE: u64, const INTERNAL: usize> {
+    diagonal: [F; WIDTH],
+    initial: [[F; WIDTH]; 4],
+    internal: [F; INTERNAL],
+    terminal: [[F; WIDTH]; 4],
+    pub ghost some: { 0 < WIDTH },
+    pub ghost blocks: { WIDTH % 4 ≡ 0 },
+    pub ghost degree: { IsDegree DEGREE },
+}
+
+impl<F: Copy, const WIDTH: usize, const DEGREE: u64, const INTERNAL: usize> Clone
+    for Poseidon2<F, WIDTH, DEGREE, INTERNAL> {
+    ghost is_clone = { λ x y. y ≡ x };
+
+    ghost is_infallible = { λ _. ⊤ };
+
+    fn clone(&self) -> Result<Self, AllocError> {
+        Ok(*self)
+    }
+}
+
+impl<F: Copy, const WIDTH: usize, const DEGREE: u64, const INTERNAL: usize> Copy
+    for Poseidon2<F, WIDTH, DEGREE, INTERNAL> {}
+
+impl<
+    F: PrimeCharacteristicRing,
+    const WIDTH: usize,
+    const DEGREE: u64,
+    const INTERNAL: usize,
+> Poseidon2<F, WIDTH, DEGREE, INTERNAL> {
+    /// The permutation of these constants: of the first four external rounds, the internal ones and the last four external
+    /// ones. The internal matrix is 1 everywhere, and on the diagonal `diagonal` more.
+    ///
+    /// The width is a multiple of 4 and not 0, and the degree 3 or 7. That the matrix has an inverse is not asked.
+    pub fn new(
+        diagonal: [F; WIDTH],
+        initial: [[F; WIDTH]; 4],
+        internal: [F; INTERNAL],
+        terminal: [[F; WIDTH]; 4],
+    ) -> Self
+        requires some { 0 < WIDTH }
+        requires blocks { WIDTH % 4 ≡ 0 }
+        requires degree { IsDegree DEGREE }
+        ensures diagonal { result.diagonal ≡ diagonal }
+        ensures initial { result.initial ≡ initial }
+        ensures internal { result.internal ≡ internal }
+        ensures terminal { result.terminal ≡ terminal }
+    {
+        Poseidon2 {
+            diagonal,
+            initial,
+            internal,
+            terminal,
+        }
+    }
+
+    // Permutes states side by side: each lane as the definition says.
+    #[inline(always)]
+    pub(crate) fn permute_cells<V: PackedValue<F>>(&self, state: &mut [V; WIDTH])
+        ensures { (l : ℕ) → l < V.WIDTH → map (V.in_lane l) state.new
+            ≡ permuted F.residues WIDTH DEGREE self.now.diagonal self.now.initial self.now.internal
+            self.now.terminal (map (V.in_lane l) state.old) }
+    {
+        mix_external::<F, V, WIDTH>(state);
+        play_externals::<F, V, WIDTH, DEGREE, 4>(&self.initial, state);
+        play_internals::<F, V, WIDTH, DEGREE, INTERNAL>(&self.diagonal, &self.internal, state);
+        play_externals::<F, V, WIDTH, DEGREE, 4>(&self.terminal, state);
+    }
+}

@@ -1,0 +1,1 @@
+"""What `tools/constants` is made of: Poseidon2 and its constants, by Python's standard library alone."""
