@@ -12,7 +12,10 @@ use std::alloc::Global;
 use std::env;
 
 fn main(rt: HostRuntime) -> Result<()> {
-    let word = env::args(&rt)?.skip(1).next().context("usage: first NUMBER")?;
+    let word = env::args(&rt)?
+        .skip(1)
+        .next()
+        .context("usage: first NUMBER")?;
     let value = scalar(word.as_str())?;
     let alloc = rt.alloc();
     let run = prove(alloc, fresh(alloc), value)?;
@@ -30,6 +33,7 @@ fn fresh(alloc: Global) -> HashChallenger<u8, Sha256Hasher, 32> {
 
 // The scalar of a decimal number.
 fn scalar(word: &str) -> Result<BabyBear> {
-    BabyBear::from_canonical_u32_checked(word.parse()?)
-        .context("a number at or above the order of the field")
+    BabyBear::from_canonical_u32_checked(word.parse()?).context(
+        "a number at or above the order of the field",
+    )
 }

@@ -2,6 +2,7 @@
 //!
 //! It stands on no more than it calls: a hash challenger, and the encoding of scalars.
 #![tactic(auto)]
+
 ghost use Rattle.std.specs.Prelude.{◌≡◌, Some, IfOk, IfErr, MatchResult};
 ghost use Rattle.{p3_hash_challenger.specs.HashState.{HashState, function_of}, p3_fs_core.specs.Errors.IsBadShape};
 ghost use Rattle.p3_small_primes.specs.BabyBearResidues.{BabyBear};
