@@ -1,6 +1,6 @@
 // A pattern of the Rust crate's own tests, with the digest that its BabyBear's identity has.
-ghost use Rattle.std.specs.Prelude.{refl};
-ghost use Rattle.conformance_keccak.specs.declared.rendering.TheConstants.{LINES};
+ghost use Rattle.std.specs.Prelude.{◌∷◌, [], codes, refl};
+ghost use Rattle.conformance_keccak.specs.declared.rendering.TheConstants.{BABY_BEAR};
 
 use anyhow::Result;
 use p3_digest_table::{DigestTable, KnownDigest, TabledHasher};
@@ -16,17 +16,19 @@ type Hasher = TabledHasher<Identities, Keccak256Hasher>;
 // The digests that the identities of the Rust crate's fields have, by the texts that stand here for them.
 struct Identities;
 
+// What the Rust crate's BabyBear digests to.
+const BABY_BEAR: [u8; 32] = [
+    0xcf, 0xa3, 0x53, 0xfe, 0x66, 0xee, 0xea, 0xe7, 0x60, 0x02, 0x54, 0xa6, 0x80, 0x73, 0xd5, 0x71,
+    0x25, 0xab, 0xac, 0x38, 0x20, 0xfd, 0xe7, 0xa3, 0xe3, 0x2c, 0x84, 0x48, 0x2b, 0x82, 0x64, 0x69,
+];
+
 const LINES: [KnownDigest; 1] = [KnownDigest {
     text: b"prime:2013265921",
-    digest: [
-        0xcf, 0xa3, 0x53, 0xfe, 0x66, 0xee, 0xea, 0xe7, 0x60, 0x02, 0x54, 0xa6, 0x80, 0x73, 0xd5,
-        0x71, 0x25, 0xab, 0xac, 0x38, 0x20, 0xfd, 0xe7, 0xa3, 0xe3, 0x2c, 0x84, 0x48, 0x2b, 0x82,
-        0x64, 0x69,
-    ],
+    digest: BABY_BEAR,
 }];
 
 impl DigestTable for Identities {
-    ghost lines = { LINES };
+    ghost lines = { record { text = codes "prime:2013265921"; digest = BABY_BEAR } ∷ [] };
 
     ghost digests = { refl };
 
@@ -36,7 +38,12 @@ impl DigestTable for Identities {
 }
 
 fn step(kind: Kind, label: Label) -> Interaction {
-    Interaction::algebra::<BabyBear, BabyBear, Hasher>(Hierarchy::Atomic, kind, label, Length::Scalar)
+    Interaction::algebra::<BabyBear, BabyBear, Hasher>(
+        Hierarchy::Atomic,
+        kind,
+        label,
+        Length::Scalar,
+    )
 }
 
 /// A protocol with one challenge.

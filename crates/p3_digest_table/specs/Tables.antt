@@ -2,17 +2,26 @@
 use Rattle.std.specs.Prelude.{◌≡◌, ℕ, ◌==◌, ◌&&◌, ◌⊎◌, Bool, true, List, [], ◌∷◌, Option, Some, None, bytes_eq, if◌then◌else◌, length, nat_lt, unwrap_or}
 use Rattle.p3_digest_table.specs.declared.known_digest.KnownDigest.{KnownDigest}
 
+-- a line of a table
+pub record Line : Type 0 where
+  pub text : List ℕ
+  pub digest : List ℕ
+
+-- the line that a value of the program is
+abbrev pub line_of : KnownDigest → Line
+line_of known = record { text = known.text.now; digest = known.digest }
+
 -- the digest that the first line with this text gives it
-abbrev pub found : List KnownDigest → List ℕ → Option (List ℕ)
+abbrev pub found : List Line → List ℕ → Option (List ℕ)
 found [] text = None
-found (line ∷ lines) text = if bytes_eq line.text.now text then Some line.digest else found lines text
+found (line ∷ lines) text = if bytes_eq line.text text then Some line.digest else found lines text
 
 -- the digest of a text by a table, or else another one
-abbrev pub digest_by : List KnownDigest → List ℕ → List ℕ → List ℕ
+abbrev pub digest_by : List Line → List ℕ → List ℕ → List ℕ
 digest_by lines other text = unwrap_or (found lines text) other
 
 -- a digest stands in a table
-abbrev pub IsGiven : List KnownDigest → List ℕ → Type 0
+abbrev pub IsGiven : List Line → List ℕ → Type 0
 IsGiven [] digest = ⊥
 IsGiven (line ∷ lines) digest = (line.digest ≡ digest) ⊎ IsGiven lines digest
 
@@ -22,6 +31,6 @@ are_bytes [] = true
 are_bytes (number ∷ numbers) = nat_lt number 256 && are_bytes numbers
 
 -- whether each digest of a table is 32 bytes
-abbrev pub are_digests : List KnownDigest → Bool
+abbrev pub are_digests : List Line → Bool
 are_digests [] = true
 are_digests (line ∷ lines) = (length line.digest == 32 && are_bytes line.digest) && are_digests lines

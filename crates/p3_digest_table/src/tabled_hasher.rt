@@ -1,6 +1,6 @@
 //! Digests from a table, and from a hash function where the table has none.
-ghost use Rattle.std.specs.Prelude.{◌≡◌, ◌⊎◌, ℕ, List};
-ghost use Rattle.p3_digest_table.specs.Tables.{found, digest_by, IsGiven};
+ghost use Rattle.std.specs.Prelude.{◌≡◌, ◌⊎◌, ℕ, List, map};
+ghost use Rattle.p3_digest_table.specs.Tables.{found, digest_by, line_of, IsGiven};
 ghost use Rattle.p3_digest_table.specs.TableLaws.{digest_by-is_digest};
 
 use crate::{DigestTable, KnownDigest};
@@ -44,7 +44,7 @@ pub fn shared_digests<T: DigestTable, H: DigestHasher>()
 
 // The digest that the first line with a text gives it.
 fn find(lines: &[KnownDigest], text: &[u8]) -> Option<[u8; 32]>
-    ensures { result ≡ found lines.now text.now }
+    ensures { result ≡ found (map line_of lines.now) text.now }
 {
     'lines: for line in lines {
         if line.text == text {
