@@ -11,8 +11,9 @@ mod states;
 
 use anyhow::{Context, Result, bail};
 use p3_poseidon2::{
-    default_babybear_poseidon2_16, default_babybear_poseidon2_24, default_goldilocks_poseidon2_12,
-    default_goldilocks_poseidon2_8, default_koalabear_poseidon2_16, default_koalabear_poseidon2_24,
+    default_babybear_poseidon2_16, default_babybear_poseidon2_24, default_goldilocks_poseidon2_8,
+    default_goldilocks_poseidon2_12, default_koalabear_poseidon2_16,
+    default_koalabear_poseidon2_24,
 };
 use states::disagreement;
 use std::process::ExitCode;

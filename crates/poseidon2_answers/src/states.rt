@@ -7,11 +7,11 @@ use p3_lanes::{LanePermutation, PackedField, PackedValue};
 use p3_symmetric::CryptographicPermutation;
 
 /// What is otherwise, if anything is: what these cells become, or what turned cells become in some lane.
-pub fn disagreement<F: PrimeField64 + PackedField, P: LanePermutation<F, WIDTH>, const WIDTH: usize>(
-    permutation: P,
-    cells: &str,
-    answer: &str,
-) -> Result<Option<&'static str>>
+pub fn disagreement<
+    F: PrimeField64 + PackedField,
+    P: LanePermutation<F, WIDTH>,
+    const WIDTH: usize,
+>(permutation: P, cells: &str, answer: &str) -> Result<Option<&'static str>>
     requires room { WIDTH * type_size F.row < 2 ^ 63 }
     requires lanes { WIDTH * type_size F.Packing.row < 2 ^ 63 }
 {
@@ -29,7 +29,10 @@ pub fn disagreement<F: PrimeField64 + PackedField, P: LanePermutation<F, WIDTH>,
 }
 
 // Reads the cells of a line.
-fn read_cells<F: PrimeField64, const WIDTH: usize>(text: &str, cells: &mut [F; WIDTH]) -> Result<()> {
+fn read_cells<F: PrimeField64, const WIDTH: usize>(
+    text: &str,
+    cells: &mut [F; WIDTH],
+) -> Result<()> {
     let mut tokens = text.split(' ');
     for i in 0..WIDTH {
         let number: u64 = tokens.next().context("too few")?.parse()?;
@@ -85,10 +88,11 @@ fn turned<F: PrimeField64, const WIDTH: usize>(cells: &[F; WIDTH], places: usize
 }
 
 // What a permutation makes of the cells in lanes, in each turned round by as many places as its number says.
-fn permuted_in_lanes<F: PrimeField64 + PackedField, P: LanePermutation<F, WIDTH>, const WIDTH: usize>(
-    permutation: &P,
-    cells: &[F; WIDTH],
-) -> [F::Packing; WIDTH]
+fn permuted_in_lanes<
+    F: PrimeField64 + PackedField,
+    P: LanePermutation<F, WIDTH>,
+    const WIDTH: usize,
+>(permutation: &P, cells: &[F; WIDTH]) -> [F::Packing; WIDTH]
     requires { WIDTH * type_size F.Packing.row < 2 ^ 63 }
 {
     let mut state = [F::Packing::broadcast(F::ZERO); WIDTH];
