@@ -1,8 +1,8 @@
 //! The program `poseidon2_answers`: permutes the states that its file lists by Poseidon2, alone and in lanes, and compares
 //! them with the answers that stand there.
 //!
-//! The file `states.txt` lies in the folder that it runs in. The first lines, which begin with `#`, say where its answers are
-//! from. Each other line is `SET | CELLS | ANSWER`: a set by its module in `p3_poseidon2`, the cells of a state, and what they
+//! The file `states.txt` lies in the folder that it runs in, or in the one that its argument names. The first lines, which
+//! begin with `#`, say where its answers are from. Each other line is `SET | CELLS | ANSWER`: a set by its module in `p3_poseidon2`, the cells of a state, and what they
 //! become. In lanes the cells stand turned round, by another number of places in each, and become there what they become
 //! alone.
 #![tactic(auto)]
@@ -11,15 +11,22 @@ mod states;
 
 use anyhow::{Context, Result, bail};
 use p3_poseidon2::{
-    default_babybear_poseidon2_16, default_babybear_poseidon2_24, default_goldilocks_poseidon2_12,
-    default_goldilocks_poseidon2_8, default_koalabear_poseidon2_16, default_koalabear_poseidon2_24,
+    default_babybear_poseidon2_16, default_babybear_poseidon2_24, default_goldilocks_poseidon2_8,
+    default_goldilocks_poseidon2_12, default_koalabear_poseidon2_16,
+    default_koalabear_poseidon2_24,
 };
 use states::disagreement;
-use std::fs;
 use std::process::ExitCode;
+use std::{env, fs};
 
 fn main(rt: HostRuntime) -> Result<ExitCode> {
-    let text = fs::read_to_string(&rt, "states.txt").context("states.txt")?;
+    let argument = env::args(&rt)?.nth(1);
+    let folder = match &argument {
+        Some(word) => word.as_str(),
+        None => ".",
+    };
+    let path = format!(in rt.alloc(); "{folder}/states.txt")?;
+    let text = fs::read_to_string(&rt, path.as_str()).context(path.as_str())?;
     let mut number = 0usize;
     let mut states = 0usize;
     for line in text.lines() {

@@ -7,43 +7,58 @@ use p3_lanes::{LanePermutation, PackedField, PackedValue};
 use p3_symmetric::CryptographicPermutation;
 
 /// What is otherwise, if anything is: what these cells become, or what turned cells become in some lane.
-pub fn disagreement<F: PrimeField64 + PackedField, P: LanePermutation<F, WIDTH>, const WIDTH: usize>(
-    permutation: P,
-    cells: &str,
-    answer: &str,
-) -> Result<Option<&'static str>>
+pub fn disagreement<
+    F: PrimeField64 + PackedField,
+    P: LanePermutation<F, WIDTH>,
+    const WIDTH: usize,
+>(permutation: P, cells: &str, answer: &str) -> Result<Option<&'static str>>
     requires room { WIDTH * type_size F.row < 2 ^ 63 }
     requires lanes { WIDTH * type_size F.Packing.row < 2 ^ 63 }
 {
-    let cells = parse_cells::<F, WIDTH>(cells).context("cells")?;
-    let answer = parse_cells::<F, WIDTH>(answer).context("answer")?;
-    if !are_equal(&permuted(&permutation, cells), &answer) {
+    let mut state = [F::ZERO; WIDTH];
+    let mut expected = [F::ZERO; WIDTH];
+    read_cells(cells, &mut state).context("cells")?;
+    read_cells(answer, &mut expected).context("answer")?;
+    if !are_equal(&permuted(&permutation, state), &expected) {
         return Ok(Some("another answer"));
     }
-    let in_lanes = permuted_in_lanes::<F, P, WIDTH>(&permutation, &cells);
-    for lane in 0..F::Packing::WIDTH {
-        let alone = permuted(&permutation, turned(&cells, lane));
-        if !are_equal(&in_lane::<F, WIDTH>(&in_lanes, lane), &alone) {
-            return Ok(Some("another answer in a lane"));
-        }
+    if !lanes_agree::<F, P, WIDTH>(&permutation, state) {
+        return Ok(Some("another answer in a lane"));
     }
     Ok(None)
 }
 
-// The cells of a line.
-fn parse_cells<F: PrimeField64, const WIDTH: usize>(text: &str) -> Result<[F; WIDTH]>
-    requires { WIDTH * type_size F.row < 2 ^ 63 }
-{
-    let mut cells = [F::ZERO; WIDTH];
+// Reads the cells of a line.
+fn read_cells<F: PrimeField64, const WIDTH: usize>(
+    text: &str,
+    cells: &mut [F; WIDTH],
+) -> Result<()> {
     let mut tokens = text.split(' ');
     for i in 0..WIDTH {
-        let number = tokens.next().context("too few")?.parse()?;
+        let number: u64 = tokens.next().context("too few")?.parse()?;
         cells[i] = F::from_canonical_checked(number).context("no canonical number")?;
     }
     if tokens.next().is_some() {
         bail!("too many");
     }
-    Ok(cells)
+    Ok(())
+}
+
+// Whether the permutation makes of turned cells in each lane what it makes of them alone.
+fn lanes_agree<F: PrimeField64 + PackedField, P: LanePermutation<F, WIDTH>, const WIDTH: usize>(
+    permutation: &P,
+    cells: [F; WIDTH],
+) -> bool
+    requires lanes { WIDTH * type_size F.Packing.row < 2 ^ 63 }
+{
+    let in_lanes = permuted_in_lanes::<F, P, WIDTH>(permutation, &cells);
+    for lane in 0..F::Packing::WIDTH {
+        let alone = permuted(permutation, turned(&cells, lane));
+        if !are_equal(&in_lane::<F, WIDTH>(&in_lanes, lane), &alone) {
+            return false;
+        }
+    }
+    true
 }
 
 // What a permutation makes of a state.
@@ -73,10 +88,11 @@ fn turned<F: PrimeField64, const WIDTH: usize>(cells: &[F; WIDTH], places: usize
 }
 
 // What a permutation makes of the cells in lanes, in each turned round by as many places as its number says.
-fn permuted_in_lanes<F: PrimeField64 + PackedField, P: LanePermutation<F, WIDTH>, const WIDTH: usize>(
-    permutation: &P,
-    cells: &[F; WIDTH],
-) -> [F::Packing; WIDTH]
+fn permuted_in_lanes<
+    F: PrimeField64 + PackedField,
+    P: LanePermutation<F, WIDTH>,
+    const WIDTH: usize,
+>(permutation: &P, cells: &[F; WIDTH]) -> [F::Packing; WIDTH]
     requires { WIDTH * type_size F.Packing.row < 2 ^ 63 }
 {
     let mut state = [F::Packing::broadcast(F::ZERO); WIDTH];
