@@ -8,36 +8,17 @@ use p3_challenger::{
     HashChallenger, MultiField32Challenger, SerializingChallenger32, SerializingChallenger64,
 };
 use p3_field::{BabyBear, F257, Goldilocks};
-use p3_keccak::Keccak256Hasher;
-use p3_symmetric::{CryptographicHasher, DigestHasher, Hash, Sha256Hasher, Turn};
+use p3_symmetric::{Hash, Sha256Hasher, Turn};
 use std::alloc::Global;
 use test_suites::{HashSuite, MultiFieldSuite, Serializing32Suite, Serializing64Suite};
 
 // How many groups of bytes a draw of an element tries at most.
 const DRAW_LIMIT: u64 = 1000;
 
-/// A hash function that its type alone gives, for challengers and for digests.
-pub trait ByteHasher: CryptographicHasher<u8, [u8; 32]> + DigestHasher {
-    /// The hash function.
-    fn hasher() -> Self;
-}
+type Bytes = HashChallenger<u8, Sha256Hasher, 32>;
 
-impl ByteHasher for Sha256Hasher {
-    fn hasher() -> Sha256Hasher {
-        Sha256Hasher
-    }
-}
-
-impl ByteHasher for Keccak256Hasher {
-    fn hasher() -> Keccak256Hasher {
-        Keccak256Hasher
-    }
-}
-
-type Bytes<H> = HashChallenger<u8, H, 32>;
-
-fn bytes<H: ByteHasher>(alloc: Global) -> Bytes<H> {
-    HashChallenger::new(Vec::new(alloc), H::hasher())
+fn bytes(alloc: Global) -> Bytes {
+    HashChallenger::new(Vec::new(alloc), Sha256Hasher)
 }
 
 fn accept_all(token: &str) -> Result<AcceptAll> {
@@ -47,8 +28,8 @@ fn accept_all(token: &str) -> Result<AcceptAll> {
     }
 }
 
-impl<H: ByteHasher, D: DigestHasher> World for HashSuite<H, D> {
-    fn fresh(alloc: Global) -> Result<Bytes<H>> {
+impl World for HashSuite {
+    fn fresh(alloc: Global) -> Result<Bytes> {
         Ok(bytes(alloc))
     }
 
@@ -63,8 +44,8 @@ impl<H: ByteHasher, D: DigestHasher> World for HashSuite<H, D> {
     }
 }
 
-impl<H: ByteHasher, D: DigestHasher> World for Serializing32Suite<H, D> {
-    fn fresh(alloc: Global) -> Result<SerializingChallenger32<BabyBear, Bytes<H>>> {
+impl World for Serializing32Suite {
+    fn fresh(alloc: Global) -> Result<SerializingChallenger32<BabyBear, Bytes>> {
         Ok(SerializingChallenger32::new(bytes(alloc), DRAW_LIMIT))
     }
 
@@ -79,8 +60,8 @@ impl<H: ByteHasher, D: DigestHasher> World for Serializing32Suite<H, D> {
     }
 }
 
-impl<H: ByteHasher, D: DigestHasher> World for Serializing64Suite<H, D> {
-    fn fresh(alloc: Global) -> Result<SerializingChallenger64<Goldilocks, Bytes<H>>> {
+impl World for Serializing64Suite {
+    fn fresh(alloc: Global) -> Result<SerializingChallenger64<Goldilocks, Bytes>> {
         Ok(SerializingChallenger64::new(bytes(alloc), DRAW_LIMIT))
     }
 

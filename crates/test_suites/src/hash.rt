@@ -4,18 +4,14 @@ use p3_challenger::HashChallenger;
 use p3_challenger::fs::BytesToFieldCodec;
 use p3_challenger::fs::script::{AcceptAll, Plain, Suite};
 use p3_field::{BabyBear, Coeffs};
-use p3_symmetric::{CryptographicHasher, DigestHasher, Sha256Hasher};
-use std::marker::PhantomData;
+use p3_symmetric::Sha256Hasher;
 
-/// Scripts over `HashChallenger` of bytes, whose scalars are of `BabyBear` and sent as bytes. The extension has degree 4,
-/// opaque values are arrays of 32 bytes, and there are the plain steps alone.
-///
-/// The challenger hashes with `H`, and patterns and algebras are digested with `D`.
-pub struct HashSuite<H = Sha256Hasher, D = H> {
-    hashers: PhantomData<(H, D)>,
-}
+/// Scripts over `HashChallenger` of bytes with SHA-256, whose scalars are of `BabyBear` and sent as bytes. The extension
+/// has degree 4, opaque values are arrays of 32 bytes, and there are the plain steps alone.
+#[derive(Clone, Copy, Debug)]
+pub struct HashSuite;
 
-impl<H: CryptographicHasher<u8, [u8; 32]>, D: DigestHasher> Suite for HashSuite<H, D> {
+impl Suite for HashSuite {
     ghost use Rattle.std.specs.{Prelude.{◌≡◌, length}, List.each_same};
 
     type Field = BabyBear;
@@ -26,13 +22,13 @@ impl<H: CryptographicHasher<u8, [u8; 32]>, D: DigestHasher> Suite for HashSuite<
 
     type Opaque = [u8; 32];
 
-    type Challenger = HashChallenger<u8, H, 32>;
+    type Challenger = HashChallenger<u8, Sha256Hasher, 32>;
 
     type Codec = BytesToFieldCodec<BabyBear>;
 
     type Accept = AcceptAll;
 
-    type Digest = D;
+    type Digest = Sha256Hasher;
 
     type Group = Plain;
 

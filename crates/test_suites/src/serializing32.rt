@@ -4,18 +4,14 @@ use p3_challenger::fs::script::{AcceptAll, Both, Suite};
 use p3_challenger::fs::{FieldToFieldCodec, FieldUnit};
 use p3_challenger::{HashChallenger, SerializingChallenger32};
 use p3_field::{BabyBear, Coeffs};
-use p3_symmetric::{CryptographicHasher, DigestHasher, Hash, Sha256Hasher};
-use std::marker::PhantomData;
+use p3_symmetric::{Hash, Sha256Hasher};
 
 /// Scripts over `SerializingChallenger32` of `BabyBear` on a `HashChallenger` of bytes. The extension has degree 4,
 /// opaque values are digests of 32 bytes, and there are steps of every kind.
-///
-/// The challenger hashes with `H`, and patterns and algebras are digested with `D`.
-pub struct Serializing32Suite<H = Sha256Hasher, D = H> {
-    hashers: PhantomData<(H, D)>,
-}
+#[derive(Clone, Copy, Debug)]
+pub struct Serializing32Suite;
 
-impl<H: CryptographicHasher<u8, [u8; 32]>, D: DigestHasher> Suite for Serializing32Suite<H, D> {
+impl Suite for Serializing32Suite {
     ghost use Rattle.std.{proofs.Common.lit<, specs.List.each_same};
     ghost use Rattle.p3_challenger.specs.{HashValueLaws.values-injective, Digests.values_of, Reading.AreBytes};
 
@@ -27,13 +23,13 @@ impl<H: CryptographicHasher<u8, [u8; 32]>, D: DigestHasher> Suite for Serializin
 
     type Opaque = Hash<BabyBear, u8, 32>;
 
-    type Challenger = SerializingChallenger32<BabyBear, HashChallenger<u8, H, 32>>;
+    type Challenger = SerializingChallenger32<BabyBear, HashChallenger<u8, Sha256Hasher, 32>>;
 
     type Codec = FieldToFieldCodec<BabyBear>;
 
     type Accept = AcceptAll;
 
-    type Digest = D;
+    type Digest = Sha256Hasher;
 
     type Group = Both;
 

@@ -4,18 +4,14 @@ use p3_challenger::fs::script::{AcceptAll, Both, Suite};
 use p3_challenger::fs::{FieldToFieldCodec, FieldUnit};
 use p3_challenger::{HashChallenger, SerializingChallenger64};
 use p3_field::Goldilocks;
-use p3_symmetric::{CryptographicHasher, DigestHasher, Hash, Sha256Hasher};
-use std::marker::PhantomData;
+use p3_symmetric::{Hash, Sha256Hasher};
 
 /// Scripts over `SerializingChallenger64` of `Goldilocks` on a `HashChallenger` of bytes. The field is its own extension,
 /// opaque values are digests of four words of 64 bits, and there are steps of every kind.
-///
-/// The challenger hashes with `H`, and patterns and algebras are digested with `D`.
-pub struct Serializing64Suite<H = Sha256Hasher, D = H> {
-    hashers: PhantomData<(H, D)>,
-}
+#[derive(Clone, Copy, Debug)]
+pub struct Serializing64Suite;
 
-impl<H: CryptographicHasher<u8, [u8; 32]>, D: DigestHasher> Suite for Serializing64Suite<H, D> {
+impl Suite for Serializing64Suite {
     ghost use Rattle.std.{proofs.Common.lit<, specs.List.each_same};
     ghost use Rattle.p3_challenger.specs.{Bytes.AreWords, HashValueLaws.values-injective, Digests.values_of};
 
@@ -27,13 +23,13 @@ impl<H: CryptographicHasher<u8, [u8; 32]>, D: DigestHasher> Suite for Serializin
 
     type Opaque = Hash<Goldilocks, u64, 4>;
 
-    type Challenger = SerializingChallenger64<Goldilocks, HashChallenger<u8, H, 32>>;
+    type Challenger = SerializingChallenger64<Goldilocks, HashChallenger<u8, Sha256Hasher, 32>>;
 
     type Codec = FieldToFieldCodec<Goldilocks>;
 
     type Accept = AcceptAll;
 
-    type Digest = D;
+    type Digest = Sha256Hasher;
 
     type Group = Both;
 
