@@ -1,5 +1,6 @@
 // Calls on each challenger.
-use anyhow::{Result, bail};
+use crate::calls::{check_witness, copy, grind, observe, observe_slice, sample};
+use anyhow::Result;
 use p3_challenger::{
     CanCopy, CanObserve, CanSample, ChallengerError, DuplexChallenger, GrindingChallenger,
     HashChallenger, MultiField32Challenger, SerializingChallenger32, SerializingChallenger64,
@@ -17,86 +18,94 @@ type MultiField = MultiField32Challenger<F257, BabyBear, Turn<2>, 3, 2>;
 // How many groups of bytes a draw tries at most.
 const DRAW_LIMIT: u64 = 1000;
 
-// How much work is asked for, in bits.
-const BITS: usize = 3;
-
 /// Makes the calls, and prints what they answer.
 pub fn show(rt: &HostRuntime) -> Result<()> {
-    let alloc = rt.alloc();
-    show_bytes(rt, &mut bytes(alloc))?;
-    show_work(
-        rt,
-        "duplex",
-        &mut Duplex::new(Turn, DRAW_LIMIT),
-        &[F257::ONE, F257::ZERO],
-    )?;
-    let short = SerializingChallenger32::new(bytes(alloc), DRAW_LIMIT);
-    show_short(rt, short)?;
-    let long = SerializingChallenger64::new(bytes(alloc), DRAW_LIMIT);
-    show_long(rt, long)?;
-    show_work(
-        rt,
-        "multi-field",
-        &mut MultiField::new(Turn)?,
-        &[F257::ONE, F257::ZERO],
-    )
+    show_bytes(rt, bytes(rt.alloc()))?;
+    show_duplex(rt)?;
+    show_short(rt)?;
+    show_long(rt)?;
+    show_multi_field(rt)
 }
 
 fn bytes(alloc: Global) -> Bytes {
     HashChallenger::new(Vec::new(alloc), Sha256Hasher)
 }
 
-fn show_short(
-    rt: &HostRuntime,
-    mut challenger: SerializingChallenger32<BabyBear, Bytes>,
-) -> Result<()> {
-    show_work(rt, "serializing 32", &mut challenger, &[BabyBear::ONE])
+fn show_duplex(rt: &HostRuntime) -> Result<()> {
+    let challenger = Duplex::new(Turn, DRAW_LIMIT);
+    show_work(rt, "duplex", challenger, &[F257::ONE, F257::ZERO])
 }
 
-fn show_long(
-    rt: &HostRuntime,
-    mut challenger: SerializingChallenger64<Goldilocks, Bytes>,
-) -> Result<()> {
-    show_work(rt, "serializing 64", &mut challenger, &[Goldilocks::ONE])
+fn show_short(rt: &HostRuntime) -> Result<()> {
+    let challenger: SerializingChallenger32<BabyBear, Bytes> = SerializingChallenger32::new(
+        bytes(rt.alloc()),
+        DRAW_LIMIT,
+    );
+    show_work(rt, "serializing 32", challenger, &[BabyBear::ONE])
 }
 
-// Observes bytes, copies the challenger, and draws from both.
-fn show_bytes(rt: &HostRuntime, challenger: &mut Bytes) -> Result<()> {
-    again!(ChallengerError::OutOfMemory, challenger.observe(7))?;
-    again!(
-        ChallengerError::OutOfMemory,
-        challenger.observe_slice(&[1, 2, 3])
-    )?;
-    let mut copy = again!(ChallengerError::OutOfMemory, challenger.copy())?;
-    let drawn: u8 = again!(ChallengerError::OutOfMemory, challenger.sample())?;
-    let of_copy: u8 = again!(ChallengerError::OutOfMemory, copy.sample())?;
+fn show_long(rt: &HostRuntime) -> Result<()> {
+    let challenger: SerializingChallenger64<Goldilocks, Bytes> = SerializingChallenger64::new(
+        bytes(rt.alloc()),
+        DRAW_LIMIT,
+    );
+    show_work(rt, "serializing 64", challenger, &[Goldilocks::ONE])
+}
+
+fn show_multi_field(rt: &HostRuntime) -> Result<()> {
+    let challenger = MultiField::new(Turn)?;
+    show_work(rt, "multi-field", challenger, &[F257::ONE, F257::ZERO])
+}
+
+fn show_bytes<C: CanCopy + CanObserve<u8> + CanSample<u8>>(
+    rt: &HostRuntime,
+    mut challenger: C,
+) -> Result<()> {
+    let (drawn, of_copy) = draw_bytes(&mut challenger)?;
     println!(rt; "hash: {drawn} {of_copy}")?;
     Ok(())
 }
 
-// Observes scalars, copies the challenger, searches for a witness, checks it on the copy, and draws from both.
+// Observes bytes, copies the challenger, and draws from both.
+fn draw_bytes<C: CanCopy + CanObserve<u8> + CanSample<u8>>(
+    challenger: &mut C,
+) -> Result<(u8, u8), ChallengerError> {
+    observe(challenger, 7)?;
+    observe_slice(challenger, &[1, 2, 3])?;
+    let mut copy = copy(challenger)?;
+    let drawn = sample(challenger)?;
+    Ok((drawn, sample(&mut copy)?))
+}
+
 fn show_work<C: CanCopy + GrindingChallenger + CanSample<C::Witness>>(
     rt: &HostRuntime,
     name: &str,
-    challenger: &mut C,
+    mut challenger: C,
     values: &[C::Witness],
 ) -> Result<()> {
-    if BITS > C::max_bits() {
-        bail!("more bits than a draw has");
-    }
-    again!(
-        ChallengerError::OutOfMemory,
-        challenger.observe_slice(values)
-    )?;
-    let mut copy = again!(ChallengerError::OutOfMemory, challenger.copy())?;
-    let found = again!(ChallengerError::OutOfMemory, challenger.grind(BITS))?;
-    let passes = again!(
-        ChallengerError::OutOfMemory,
-        copy.check_witness(BITS, found)
-    )?;
-    let drawn = again!(ChallengerError::OutOfMemory, challenger.sample())?.as_canonical_u64();
-    let of_copy = again!(ChallengerError::OutOfMemory, copy.sample())?.as_canonical_u64();
-    let found = found.as_canonical_u64();
+    let (found, passes, drawn, of_copy) = work(&mut challenger, values)?;
     println!(rt; "{name}: {found} {passes} {drawn} {of_copy}")?;
     Ok(())
+}
+
+// Observes scalars, copies the challenger, searches for a witness, checks it on the copy, and draws from both. The answer
+// has numbers in place of scalars.
+fn work<C: CanCopy + GrindingChallenger + CanSample<C::Witness>>(
+    challenger: &mut C,
+    values: &[C::Witness],
+) -> Result<(u64, bool, u64, u64), ChallengerError> {
+    observe_slice(challenger, values)?;
+    let mut copy = copy(challenger)?;
+    let found = grind(challenger)?;
+    let passes = check_witness(&mut copy, found)?;
+    let drawn = draw(challenger)?;
+    Ok((found.as_canonical_u64(), passes, drawn, draw(&mut copy)?))
+}
+
+// The number of a scalar that is drawn.
+fn draw<C: GrindingChallenger + CanSample<C::Witness>>(
+    challenger: &mut C,
+) -> Result<u64, ChallengerError> {
+    let scalar: C::Witness = sample(challenger)?;
+    Ok(scalar.as_canonical_u64())
 }

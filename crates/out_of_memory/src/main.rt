@@ -5,7 +5,8 @@
 //! memory, and ends.
 #![tactic(auto)]
 
-// Makes a call, and once more where memory ran out.
+// Makes a call, and once more where memory ran out. It is used in small functions alone: each makes one call, or the next
+// ones would be proved twice.
 macro_rules! again {
     ($refusal:pat, $call:expr) => {
         match $call {
@@ -15,6 +16,7 @@ macro_rules! again {
     };
 }
 
+mod calls;
 mod challengers;
 mod patterns;
 

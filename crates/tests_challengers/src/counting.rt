@@ -26,6 +26,13 @@ impl Calls {
             messages: Cell::new(0),
         }
     }
+
+    /// Begins to count anew.
+    pub fn forget(&self) {
+        self.single.set(0);
+        self.batches.set(0);
+        self.messages.set(0);
+    }
 }
 
 fn add(count: &Cell<u32>, more: u32) {

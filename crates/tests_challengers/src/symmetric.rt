@@ -31,22 +31,22 @@ fn three(x: u64, y: u64, z: u64) -> [F257; 3] {
 }
 
 #[test]
-fn a_digest_holds_its_values(rt: HostRuntime) {
+fn digests_and_caps_hold_their_values(rt: HostRuntime) -> Result<(), Fail> {
     let digest: Hash<Marker, u8, 3> = digest_from([5, 6, 7]);
-    assert_eq!(rt; digest.as_ref(), &[5, 6, 7]);
     let empty: Hash<Marker, u8, 0> = digest_from([]);
-    assert_eq!(rt; empty.as_ref().len(), 0);
-    let digest: Hash<Marker, F257, 3> = digest_from(three(5, 6, 7));
-    assert!(rt; same_digest(&digest, &digest_from(three(5, 6, 264))));
-    assert!(rt; !same_digest(&digest, &digest_from(three(5, 6, 8))));
-}
-
-#[test]
-fn a_cap_holds_its_roots(rt: HostRuntime) -> Result<(), Fail> {
-    let roots = vec![in rt.alloc(); [5u8, 6], [7, 8], [9, 10]]?;
-    let cap: MerkleCap<Marker, [u8; 2]> = MerkleCap::new(roots);
-    assert_eq!(rt; cap.roots(), [[5, 6], [7, 8], [9, 10]].as_slice());
-    let none: MerkleCap<Marker, [u8; 2]> = MerkleCap::new(Vec::new(rt.alloc()));
-    assert_eq!(rt; none.roots().len(), 0);
+    let elements: Hash<Marker, F257, 3> = digest_from(three(5, 6, 7));
+    let cap: MerkleCap<Marker, [u8; 2]> = MerkleCap::new(vec![in rt.alloc();
+        [5u8, 6],
+        [7, 8],
+        [9, 10],
+    ]?);
+    let hold = [
+        digest.as_ref() == &[5, 6, 7],
+        empty.as_ref().is_empty(),
+        same_digest(&elements, &digest_from(three(5, 6, 264))),
+        !same_digest(&elements, &digest_from(three(5, 6, 8))),
+        cap.roots() == [[5, 6], [7, 8], [9, 10]].as_slice(),
+    ];
+    assert_eq!(rt; hold, [true; 5]);
     Ok(())
 }

@@ -1,36 +1,20 @@
-ghost use Rattle.std.specs.Prelude.{◌≤◌};
-
-use crate::support::{draws, grind, holds, observe_one};
+// Proof of work where the draw limit is 1: of uniform bits, and where no witness passes.
+use crate::support::{draws, grind, observe_one};
 use p3_challenger_core::{CanSample, ChallengerError};
 use p3_duplex::DuplexChallenger;
 use p3_field::F257;
-use p3_grinding::{CanCopy, GrindingChallenger, UniformGrindingChallenger};
-use p3_hash_challenger::HashChallenger;
-use p3_serializing::SerializingChallenger32;
+use p3_grinding::{CanCopy, UniformGrindingChallenger};
 use p3_symmetric::Turn;
-use p3_test_support::{LengthHasher, element, length_challenger};
+use p3_test_support::element;
 use std::process::Abort;
-use std::test::Fail;
 
-type Sponge<const K: usize> = DuplexChallenger<F257, Turn<K>, 3, 2>;
-
-type Serializing = SerializingChallenger32<F257, HashChallenger<u8, LengthHasher, 32>>;
-
-fn fresh<const K: usize>(draw_limit: u64) -> Sponge<K>
-    requires { 1 ≤ draw_limit }
-{
-    DuplexChallenger::new(Turn, draw_limit)
-}
-
-// A search and a check, each of as many uniform bits as may be asked for.
+// A search and a check, each of 8 uniform bits.
 
 fn grind_uniform<C: UniformGrindingChallenger<Witness = F257>>(
-    rt: &impl Abort,
     challenger: &mut C,
-    bits: usize,
     resample: bool,
 ) -> Result<F257, ChallengerError> {
-    assert!(rt; bits <= C::max_bits());
+    let bits = C::max_bits().min(8);
     if resample {
         challenger.grind_uniform(bits)
     } else {
@@ -39,13 +23,11 @@ fn grind_uniform<C: UniformGrindingChallenger<Witness = F257>>(
 }
 
 fn passes_uniform<C: UniformGrindingChallenger<Witness = F257>>(
-    rt: &impl Abort,
     challenger: &mut C,
-    bits: usize,
     witness: u64,
     resample: bool,
 ) -> Result<bool, ChallengerError> {
-    assert!(rt; bits <= C::max_bits());
+    let bits = C::max_bits().min(8);
     if resample {
         challenger.check_witness_uniform(bits, element(witness))
     } else {
@@ -53,68 +35,47 @@ fn passes_uniform<C: UniformGrindingChallenger<Witness = F257>>(
     }
 }
 
-// What challengers do stands in generic functions, which are proved from their bounds alone.
-
-// Whether no witness is found, and these numbers are drawn next, as they would have been before.
-fn finds_none<C: GrindingChallenger<Witness = F257> + CanSample<F257>>(
-    rt: &impl Abort,
-    challenger: &mut C,
-    bits: usize,
-    next: &[u64],
-) -> Result<bool, ChallengerError> {
-    let none = grind(rt, challenger, bits) == Err(ChallengerError::NoWitness);
-    Ok(none && draws(challenger, next)?)
-}
-
+// Whether a search finds the witness after which 0 is drawn. After the one before it, the largest element is.
 fn finds_uniform_witness<C: CanCopy + UniformGrindingChallenger<Witness = F257> + CanSample<F257>>(
-    rt: &impl Abort,
     challenger: &C,
     resample: bool,
 ) -> Result<bool, ChallengerError> {
     let mut copy = challenger.copy()?;
-    let found = grind_uniform(rt, &mut copy, 8, resample)? == element(255);
-    Ok(found && draws(&mut copy, &[2, 4])?)
+    let found = grind_uniform(&mut copy, resample)?;
+    Ok(found == element(255) && draws(&mut copy, &[2, 4])?)
 }
 
-fn finds_uniform_witnesses<
-    C: CanCopy + UniformGrindingChallenger<Witness = F257> + CanSample<F257>,
->(rt: &impl Abort, challenger: &C) -> Result<bool, ChallengerError> {
-    let again = finds_uniform_witness(rt, challenger, true)?;
-    let or_fails = finds_uniform_witness(rt, challenger, false)?;
-    let mut copy = challenger.copy()?;
-    let plain = grind(rt, &mut copy, 8)? == element(254) && draws(&mut copy, &[2, 4])?;
-    Ok(again && or_fails && plain)
-}
-
+// Whether a check meets the limit where another value may be drawn, and fails where none may.
 fn meets_the_limit<C: CanCopy + UniformGrindingChallenger<Witness = F257>>(
-    rt: &impl Abort,
     challenger: &C,
 ) -> Result<bool, ChallengerError> {
-    let found = grind_uniform(rt, &mut challenger.copy()?, 8, true)? == element(255);
-    let limit = Err(ChallengerError::DrawLimit);
-    let met = passes_uniform(rt, &mut challenger.copy()?, 8, 254, true) == limit;
-    let rejected = !passes_uniform(rt, &mut challenger.copy()?, 8, 254, false)?;
-    Ok(found && met && rejected)
+    let mut copy = challenger.copy()?;
+    let met = passes_uniform(&mut copy, 254, true) == Err(ChallengerError::DrawLimit);
+    let mut copy = challenger.copy()?;
+    Ok(met && !passes_uniform(&mut copy, 254, false)?)
+}
+
+// Whether no witness is found once 5 is observed, and what is drawn next is what would have been before.
+fn finds_none<C: CanCopy + UniformGrindingChallenger<Witness = F257> + CanSample<F257>>(
+    challenger: &C,
+) -> Result<bool, ChallengerError> {
+    let mut copy = challenger.copy()?;
+    observe_one(&mut copy, element(5))?;
+    let none = grind(&mut copy, 3) == Err(ChallengerError::NoWitness);
+    Ok(none && draws(&mut copy, &[7, 2, 4])?)
+}
+
+fn works<C: CanCopy + UniformGrindingChallenger<Witness = F257> + CanSample<F257>>(
+    challenger: &C,
+) -> Result<bool, ChallengerError> {
+    let again = finds_uniform_witness(challenger, true)?;
+    let or_fails = finds_uniform_witness(challenger, false)?;
+    let limited = meets_the_limit(challenger)?;
+    Ok(again && or_fails && limited && finds_none(challenger)?)
 }
 
 #[test]
-fn no_witness_leaves_the_challenger(rt: HostRuntime) -> Result<(), Fail> {
-    assert!(rt; holds(&rt, finds_none(&rt, &mut fresh::<1>(10), 1, &[2, 1, 5, 3])));
-    let mut pending = fresh::<1>(10);
-    assert!(rt; observe_one(&mut pending, element(5)).is_ok());
-    assert!(rt; holds(&rt, finds_none(&rt, &mut pending, 3, &[3, 1, 10])));
-    let five = length_challenger(rt.alloc(), 5)?;
-    let mut serializing: Serializing = SerializingChallenger32::new(five, 10);
-    assert!(rt; holds(&rt, finds_none(&rt, &mut serializing, 1, &[63])));
-    Ok(())
-}
-
-#[test]
-fn uniform_work_draws_again_or_fails(rt: HostRuntime) {
-    assert!(rt; holds(&rt, finds_uniform_witnesses(&rt, &fresh::<2>(2))));
-}
-
-#[test]
-fn uniform_check_may_meet_the_limit(rt: HostRuntime) {
-    assert!(rt; holds(&rt, meets_the_limit(&rt, &fresh::<2>(1))));
+fn work_is_found_or_refused(rt: HostRuntime) {
+    let challenger: DuplexChallenger<F257, Turn<2>, 3, 2> = DuplexChallenger::new(Turn, 1);
+    assert!(rt; works(&challenger) == Ok(true));
 }

@@ -14,12 +14,14 @@ use p3_challenger::{CanObserve, CanSample, ChallengerError, Sponge};
 use p3_field::{F257, PrimeField64};
 use std::test::Fail;
 
-// Two elements, which stand in so many lists. (a vector of vectors is no opaque value: a contract sees where it stands
-// in memory, so that its clone is another value)
+/// Two elements, which stand in so many lists. (a vector of vectors is no opaque value: a contract sees where it stands
+/// in memory, so that its clone is another value)
 #[derive(Clone, Copy, Debug, PartialEq, Eq)]
-struct Lists {
-    elements: [F257; 2],
-    count: usize,
+pub struct Lists {
+    /// The elements, in order.
+    pub elements: [F257; 2],
+    /// The number of lists.
+    pub count: usize,
 }
 
 impl CanObserve<Lists> for World {

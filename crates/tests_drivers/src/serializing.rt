@@ -6,13 +6,13 @@ use p3_challenger::fs::{
     Kind, Label, Length, ProverState, SymmetricSteps, TranscriptError, VerifierState,
 };
 use p3_challenger::{
-    CanObserve, CanSample, CanSampleBits, CanSampleUniformBits, HashChallenger,
+    CanObserve, CanSample, CanSampleBits, CanSampleUniformBits, ChallengerError, HashChallenger,
     SerializingChallenger32,
 };
 use p3_field::{BabyBear, BasedVectorSpace, Coeffs, PrimeCharacteristicRing, PrimeField64};
 use p3_symmetric::Sha256Hasher;
 use std::alloc::{AllocError, Global};
-use std::test::Fail;
+use std::process::Abort;
 
 // An element of the extension.
 type Wide = Coeffs<BabyBear, 4>;
@@ -32,10 +32,6 @@ const DRAWN: [u64; 15] = [
 
 // What the challenger draws next.
 const NEXT: [u64; 2] = [186768178, 1985032048];
-
-fn serializing(alloc: Global) -> Serializing {
-    SerializingChallenger32::new(HashChallenger::new(Vec::new(alloc), Sha256Hasher), 1000)
-}
 
 fn element(kind: Kind, label: Label, length: Length) -> Interaction {
     Interaction::algebra::<BabyBear, Wide, Sha256Hasher>(Hierarchy::Atomic, kind, label, length)
@@ -65,34 +61,43 @@ fn separator(alloc: Global) -> Result<Separator, TranscriptError> {
     DomainSeparator::new(alloc, 0, b"symmetric-steps", pattern)
 }
 
-// Observes 7, and 9 in the extension, and gives the numbers of all that is drawn.
-fn play<S: SymmetricSteps>(driver: &mut S, alloc: Global) -> Result<Vec<u64>, TranscriptError>
+// ---- by either side
+
+// Observes 7, and 9 in the extension.
+fn observe<S: SymmetricSteps>(driver: &mut S) -> Result<(), TranscriptError>
 where
-    S::Challenger: CanObserve<BabyBear> + CanSample<BabyBear> + CanSampleUniformBits<BabyBear>,
+    S::Challenger: CanObserve<BabyBear> + CanSample<BabyBear>,
 {
-    let mut numbers = Vec::new(alloc);
     driver.begin_protocol::<()>("block")?;
     driver.observe_opaque("commitment", BabyBear::from_u32(7))?;
     let nine = Wide::from(BabyBear::from_u32(9));
     driver.observe_extension::<BabyBear, Wide, Coefficients>("value", &nine)?;
-    let point = driver.challenge_extension::<BabyBear, Wide, Coefficients>("point")?;
-    push_numbers(&mut numbers, point.as_inner())?;
-    let is_new = |candidate: &Wide, kept: &[Wide]| !kept.contains(candidate);
-    let points = driver.challenge_extensions_rejecting::<BabyBear, Wide, Coefficients, _>(
-        "points", 2, &is_new, 8,
-    )?;
-    for point in points {
-        push_numbers(&mut numbers, point.as_inner())?;
-    }
-    draw_indices(driver, &mut numbers)?;
-    driver.end_protocol::<()>("block")?;
-    Ok(numbers)
+    Ok(())
 }
 
 // Adds the numbers of an element's coefficients.
 fn push_numbers(numbers: &mut Vec<u64>, element: &Wide) -> Result<(), AllocError> {
     for coefficient in element.as_basis_coefficients_slice() {
         numbers.push(coefficient.as_canonical_u64())?;
+    }
+    Ok(())
+}
+
+fn draw_points<S: SymmetricSteps>(
+    driver: &mut S,
+    numbers: &mut Vec<u64>,
+) -> Result<(), TranscriptError>
+where
+    S::Challenger: CanObserve<BabyBear> + CanSample<BabyBear>,
+{
+    let point = driver.challenge_extension::<BabyBear, Wide, Coefficients>("point")?;
+    push_numbers(numbers, point.as_inner())?;
+    let is_new = |candidate: &Wide, kept: &[Wide]| !kept.contains(candidate);
+    let points = driver.challenge_extensions_rejecting::<BabyBear, Wide, Coefficients, _>(
+        "points", 2, &is_new, 8,
+    )?;
+    for point in points {
+        push_numbers(numbers, point.as_inner())?;
     }
     Ok(())
 }
@@ -111,27 +116,64 @@ where
     Ok(())
 }
 
-// The numbers of the next two elements.
-fn next(challenger: &mut Serializing) -> Result<[u64; 2], TranscriptError> {
-    let first: BabyBear = challenger.sample()?;
-    let second: BabyBear = challenger.sample()?;
-    Ok([first.as_canonical_u64(), second.as_canonical_u64()])
+// Gives the numbers of all that is drawn.
+fn play<S: SymmetricSteps>(driver: &mut S, alloc: Global) -> Result<Vec<u64>, TranscriptError>
+where
+    S::Challenger: CanObserve<BabyBear> + CanSample<BabyBear> + CanSampleUniformBits<BabyBear>,
+{
+    let mut numbers = Vec::new(alloc);
+    observe(driver)?;
+    draw_points(driver, &mut numbers)?;
+    draw_indices(driver, &mut numbers)?;
+    driver.end_protocol::<()>("block")?;
+    Ok(numbers)
+}
+
+// ---- by both
+
+// Whether this was drawn, and the numbers of the next two elements are these.
+fn drew_all<C: CanSample<BabyBear>>(
+    drawn: &[u64],
+    challenger: &mut C,
+) -> Result<bool, ChallengerError> {
+    let first = challenger.sample()?.as_canonical_u64();
+    let second = challenger.sample()?.as_canonical_u64();
+    Ok(drawn == DRAWN.as_slice() && [first, second] == NEXT)
+}
+
+fn proves(
+    alloc: Global,
+    challenger: Serializing,
+    separator: &Separator,
+) -> Result<bool, TranscriptError> {
+    let mut prover = ProverState::new(alloc, challenger, separator)?;
+    let proved = play(&mut prover, alloc);
+    let (narg, mut challenger) = prover.finish()?;
+    Ok(narg.is_empty() && drew_all(proved?.as_slice(), &mut challenger)?)
+}
+
+fn verifies(
+    alloc: Global,
+    challenger: Serializing,
+    separator: &Separator,
+) -> Result<bool, TranscriptError> {
+    let mut verifier = VerifierState::new(alloc, challenger, separator, b"")?;
+    let verified = play(&mut verifier, alloc);
+    let mut challenger = verifier.finish()?;
+    Ok(drew_all(verified?.as_slice(), &mut challenger)?)
+}
+
+fn serializing(alloc: Global) -> Serializing {
+    SerializingChallenger32::new(HashChallenger::new(Vec::new(alloc), Sha256Hasher), 1000)
+}
+
+fn plays(alloc: Global) -> Result<bool, TranscriptError> {
+    let separator = separator(alloc)?;
+    let proved = proves(alloc, serializing(alloc), &separator)?;
+    Ok(proved && verifies(alloc, serializing(alloc), &separator)?)
 }
 
 #[test]
-fn one_body_plays_both_sides_over_a_serializing_challenger(rt: HostRuntime) -> Result<(), Fail> {
-    let alloc = rt.alloc();
-    let separator = separator(alloc)?;
-    let mut prover = ProverState::new(alloc, serializing(alloc), &separator)?;
-    let proved = play(&mut prover, alloc);
-    let (narg, mut challenger) = prover.finish()?;
-    assert_eq!(rt; proved?.as_slice(), DRAWN.as_slice());
-    assert_eq!(rt; narg.len(), 0);
-    assert_eq!(rt; next(&mut challenger)?, NEXT);
-    let mut verifier = VerifierState::new(alloc, serializing(alloc), &separator, b"")?;
-    let verified = play(&mut verifier, alloc);
-    let mut challenger = verifier.finish()?;
-    assert_eq!(rt; verified?.as_slice(), DRAWN.as_slice());
-    assert_eq!(rt; next(&mut challenger)?, NEXT);
-    Ok(())
+fn one_body_plays_both_sides_over_a_serializing_challenger(rt: HostRuntime) {
+    assert!(rt; plays(rt.alloc()) == Ok(true));
 }

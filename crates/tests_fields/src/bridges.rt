@@ -1,14 +1,7 @@
 // Packing and digits, through the bound and at each bridge.
 ghost use Rattle.std.specs.Prelude.{◌<◌};
 
-use p3_field::{
-    BabyBear, F257, FieldBridge, Goldilocks, KoalaBear, PrimeCharacteristicRing, PrimeField64,
-};
-
-// The number of the element that packs values.
-fn packed_number<F: PrimeField64, PF: PrimeField64 + FieldBridge<F, PF>>(values: &[F]) -> u64 {
-    PF::pack(values).as_canonical_u64()
-}
+use p3_field::{BabyBear, F257, FieldBridge, Goldilocks, KoalaBear, PrimeField64};
 
 // The digit at a place of the element of a number.
 fn digit_number<F: PrimeField64, PF: PrimeField64 + FieldBridge<F, PF>>(
@@ -20,43 +13,42 @@ fn digit_number<F: PrimeField64, PF: PrimeField64 + FieldBridge<F, PF>>(
     PF::digit(PF::from_u64(number), place).as_canonical_u64()
 }
 
-// How many are packed and drawn, and the bits of each.
-fn counts<F: PrimeField64, PF: PrimeField64 + FieldBridge<F, PF>>() -> (usize, usize, u32) {
-    (PF::absorb_num(), PF::squeeze_num(), PF::RADIX_BITS)
+// How many are packed and drawn, and the bits of each; the number that the first values pack to; and the first two digits
+// of the element of a number.
+fn bridge<F: PrimeField64, PF: PrimeField64 + FieldBridge<F, PF>>(
+    values: [u64; 3],
+    count: usize,
+    number: u64,
+) -> [u64; 6] {
+    let [first, second, third] = values;
+    let scalars = [F::from_u64(first), F::from_u64(second), F::from_u64(third)];
+    let packed = PF::pack(&scalars[..count.min(3)]);
+    [
+        PF::absorb_num() as u64,
+        PF::squeeze_num() as u64,
+        u64::from(PF::RADIX_BITS),
+        packed.as_canonical_u64(),
+        digit_number::<F, PF>(number, 0),
+        digit_number::<F, PF>(number, 1),
+    ]
 }
 
 #[test]
-fn counts_of_bridges(rt: HostRuntime) {
-    assert_eq!(rt; counts::<BabyBear, Goldilocks>(), (2, 1, 31));
-    assert_eq!(rt; counts::<F257, BabyBear>(), (3, 2, 9));
-    assert_eq!(rt; counts::<BabyBear, BabyBear>(), (1, 1, 31));
-    assert_eq!(rt; counts::<KoalaBear, Goldilocks>(), (2, 1, 31));
-    assert_eq!(rt; counts::<KoalaBear, KoalaBear>(), (1, 1, 31));
-}
-
-#[test]
-fn packed_scalars(rt: HostRuntime) {
-    let scalars = [F257::ONE, F257::from_u64(2), F257::from_u64(3)];
-    assert_eq!(rt; packed_number::<F257, BabyBear>(&scalars), 787457);
-    assert_eq!(rt; packed_number::<F257, BabyBear>(&scalars[..1]), 1);
-    assert_eq!(rt; packed_number::<F257, BabyBear>(&[]), 0);
-    let values = [BabyBear::ONE, BabyBear::from_u64(2)];
-    assert_eq!(rt; packed_number::<BabyBear, Goldilocks>(&values), 4294967297);
-    assert_eq!(rt; packed_number::<BabyBear, BabyBear>(&values[1..]), 2);
-    let values = [KoalaBear::NEG_ONE, KoalaBear::from_u64(2)];
-    assert_eq!(rt; packed_number::<KoalaBear, Goldilocks>(&values), 6425673728);
-    assert_eq!(rt; packed_number::<KoalaBear, KoalaBear>(&values[1..]), 2);
-}
-
-#[test]
-fn digits_of_elements(rt: HostRuntime) {
-    assert_eq!(rt; digit_number::<F257, BabyBear>(787459, 0), 11);
-    assert_eq!(rt; digit_number::<F257, BabyBear>(787459, 1), 237);
-    assert_eq!(rt; digit_number::<F257, BabyBear>(4, 0), 4);
-    assert_eq!(rt; digit_number::<F257, BabyBear>(4, 1), 0);
-    assert_eq!(rt;
-        digit_number::<BabyBear, Goldilocks>(4294967297, 0),
-        268435455
-    );
-    assert_eq!(rt; digit_number::<BabyBear, Goldilocks>(4294967297, 1), 2);
+fn each_bridge_packs_and_has_digits(rt: HostRuntime) {
+    let last = 2130706432;
+    let bridges = [
+        bridge::<F257, BabyBear>([1, 2, 3], 3, 787459),
+        bridge::<BabyBear, Goldilocks>([1, 2, 0], 2, 4294967297),
+        bridge::<KoalaBear, Goldilocks>([last, 2, 0], 2, 4294967297),
+        bridge::<BabyBear, BabyBear>([2, 0, 0], 1, 4),
+        bridge::<KoalaBear, KoalaBear>([2, 0, 0], 0, last),
+    ];
+    let expected = [
+        [3, 2, 9, 787457, 11, 237],
+        [2, 1, 31, 4294967297, 268435455, 2],
+        [2, 1, 31, 6425673728, 33554431, 2],
+        [1, 1, 31, 2, 4, 0],
+        [1, 1, 31, 0, last, 0],
+    ];
+    assert_eq!(rt; bridges, expected);
 }

@@ -1,8 +1,7 @@
-// Sums, differences and products in lanes against the plain operations and arithmetic of whole
-// numbers, and what is put into lanes and taken out of them.
+// Sums, differences, products and negations against arithmetic of whole numbers in 128 bits, one at a time and in lanes;
+// and what is put into lanes and taken out of them.
 ghost use Rattle.std.specs.Prelude.{◌<◌};
 
-use crate::arithmetic::{edges_below, strewn};
 use p3_field::{BabyBear, F257, Goldilocks, KoalaBear, PrimeField64};
 use p3_lanes::{PackedField, PackedValue};
 
@@ -17,68 +16,46 @@ enum Pairs {
     Strewn,
 }
 
-#[test]
-fn operations_in_lanes(rt: HostRuntime) {
-    assert_eq!(rt; disagreement::<F257>(257, Pairs::All, 257 * 257), None);
-    assert_eq!(rt;
-        disagreement::<BabyBear>(2013265921, Pairs::OfEdges, 169),
-        None
-    );
-    assert_eq!(rt;
-        disagreement::<BabyBear>(2013265921, Pairs::Strewn, 100_000),
-        None
-    );
-    assert_eq!(rt;
-        disagreement::<KoalaBear>(2130706433, Pairs::OfEdges, 169),
-        None
-    );
-    assert_eq!(rt;
-        disagreement::<KoalaBear>(2130706433, Pairs::Strewn, 100_000),
-        None
-    );
-    assert_eq!(rt;
-        disagreement::<Goldilocks>(18446744069414584321, Pairs::OfEdges, 169),
-        None
-    );
-    assert_eq!(rt;
-        disagreement::<Goldilocks>(18446744069414584321, Pairs::Strewn, 100_000),
-        None
-    );
-}
+// The elements in eight lanes, 0 where there are fewer: 0 to 7 in order, but for a 100 in the place of 1.
+const IN_FOUR: [u64; 8] = [0, 100, 2, 3, 0, 0, 0, 0];
+
+const IN_EIGHT: [u64; 8] = [0, 100, 2, 3, 4, 5, 6, 7];
 
 #[test]
-fn elements_in_and_out_of_lanes(rt: HostRuntime) {
-    assert_eq!(rt; counts_of_lanes(), [4, 8, 8, 4]);
-    let rows = [
-        (everywhere::<F257>(256), [256, 256, 256, 256, 0, 0, 0, 0]),
-        (everywhere::<KoalaBear>(2), [2, 2, 2, 2, 2, 2, 2, 2]),
-        (everywhere::<BabyBear>(7), [7, 7, 7, 7, 7, 7, 7, 7]),
+fn each_field_has_lanes(rt: HostRuntime) {
+    let seen = [
+        (disagreement::<F257>(257), replaced::<F257>()),
+        (disagreement::<BabyBear>(2013265921), replaced::<BabyBear>()),
         (
-            everywhere::<Goldilocks>(1 << 32),
-            [1 << 32, 1 << 32, 1 << 32, 1 << 32, 0, 0, 0, 0],
+            disagreement::<KoalaBear>(2130706433),
+            replaced::<KoalaBear>(),
         ),
-        (replaced::<F257>(0), [100, 1, 2, 3, 0, 0, 0, 0]),
-        (replaced::<F257>(2), [0, 1, 100, 3, 0, 0, 0, 0]),
-        (replaced::<F257>(3), [0, 1, 2, 100, 0, 0, 0, 0]),
-        (replaced::<BabyBear>(0), [100, 1, 2, 3, 4, 5, 6, 7]),
-        (replaced::<BabyBear>(5), [0, 1, 2, 3, 4, 100, 6, 7]),
-        (replaced::<KoalaBear>(7), [0, 1, 2, 3, 4, 5, 6, 100]),
-        (replaced::<Goldilocks>(1), [0, 100, 2, 3, 0, 0, 0, 0]),
-        (replaced::<Goldilocks>(3), [0, 1, 2, 100, 0, 0, 0, 0]),
+        (
+            disagreement::<Goldilocks>(18446744069414584321),
+            replaced::<Goldilocks>(),
+        ),
     ];
-    for (i, (numbers, expected)) in rows.into_iter().enumerate() {
-        assert_eq!(rt; numbers, expected, "row {i}");
-    }
+    let expected = [
+        (None, IN_FOUR),
+        (None, IN_EIGHT),
+        (None, IN_EIGHT),
+        (None, IN_FOUR),
+    ];
+    assert_eq!(rt; seen, expected);
 }
 
-// How many lanes each field has.
-fn counts_of_lanes() -> [usize; 4] {
-    [
-        <F257 as PackedField>::Packing::WIDTH,
-        <BabyBear as PackedField>::Packing::WIDTH,
-        <KoalaBear as PackedField>::Packing::WIDTH,
-        <Goldilocks as PackedField>::Packing::WIDTH,
-    ]
+// The first of all pairs, where there are not too many, and else of edges and of strewn numbers, on which the lanes do not
+// have what the plain operations and whole numbers give.
+fn disagreement<F: PrimeField64 + PackedField>(order: u64) -> Option<(u64, u64)>
+    requires { 4 < order }
+{
+    if order < 1000 {
+        return disagreement_among::<F>(order, Pairs::All, order.saturating_mul(order));
+    }
+    match disagreement_among::<F>(order, Pairs::OfEdges, 169) {
+        None => disagreement_among::<F>(order, Pairs::Strewn, 100_000),
+        found => found,
+    }
 }
 
 // The numbers in the lanes, and 0 where there are no lanes.
@@ -92,24 +69,19 @@ fn numbers_in<F: PrimeField64 + PackedField>(lanes: F::Packing) -> [u64; 8] {
     numbers
 }
 
-// The same number in each lane.
-fn everywhere<F: PrimeField64 + PackedField>(number: u64) -> [u64; 8] {
-    numbers_in::<F>(F::Packing::broadcast(F::from_u64(number)))
-}
-
 // Each lane has its own place, but for one that has 100.
-fn replaced<F: PrimeField64 + PackedField>(place: usize) -> [u64; 8] {
+fn replaced<F: PrimeField64 + PackedField>() -> [u64; 8] {
     let places = F::Packing::from_fn(|lane| F::from_u64(lane as u64));
-    let lanes = if place < F::Packing::WIDTH {
-        places.with_lane(place, F::from_u8(100))
+    let lanes = if 1 < F::Packing::WIDTH {
+        places.with_lane(1, F::from_u8(100))
     } else {
         places
     };
     numbers_in::<F>(lanes)
 }
 
-// The first pair on which the lanes do not have what the plain operations and whole numbers give.
-fn disagreement<F: PrimeField64 + PackedField>(
+// The first of so many pairs on which they do not.
+fn disagreement_among<F: PrimeField64 + PackedField>(
     order: u64,
     pairs: Pairs,
     count: u64,
@@ -138,20 +110,23 @@ fn disagreement<F: PrimeField64 + PackedField>(
     None
 }
 
-// Whether these are the sum, the difference and the product of two numbers, as the plain operations
-// and as whole numbers have them.
+// Whether these are the sum, the difference and the product of two numbers, as the plain operations and as whole numbers
+// have them, and whether the second one is negated as whole numbers are.
 fn agrees<F: PrimeField64>(left: u64, right: u64, order: u64, results: (F, F, F)) -> bool
     requires { 0 < order }
 {
     let (x, y) = (F::from_u64(left), F::from_u64(right));
     let (a, b, n) = (u128::from(left), u128::from(right), u128::from(order));
+    let negated = n - b % n;
     let (sum, difference, product) = results;
     sum == x + y
         && difference == x - y
         && product == x * y
         && u128::from(sum.as_canonical_u64()) == (a + b) % n
-        && u128::from(difference.as_canonical_u64()) == (a + (n - b % n)) % n
+        && u128::from(difference.as_canonical_u64()) == (a + negated) % n
         && u128::from(product.as_canonical_u64()) == a * b % n
+        && u128::from((F::ZERO - y).as_canonical_u64()) == negated % n
+        && u128::from((y * F::NEG_ONE).as_canonical_u64()) == negated % n
 }
 
 // The pair at a place.
@@ -172,4 +147,31 @@ fn pair_at(pairs: Pairs, order: u64, place: u64) -> (u64, u64)
             (strewn(twice) % order, strewn(twice.wrapping_add(1)) % order)
         }
     }
+}
+
+// Numbers near the ends, the middle and the powers of 2.
+fn edges_below(order: u64) -> [u64; 13]
+    requires { 4 < order }
+{
+    [
+        0,
+        1,
+        2,
+        order / 2,
+        order / 2 + 1,
+        order - 2,
+        order - 1,
+        0x7fff_ffff % order,
+        0x8000_0000 % order,
+        0xffff_ffff % order,
+        0x1_0000_0000 % order,
+        0x8000_0000_0000_0000 % order,
+        0xffff_ffff_ffff_ffff % order,
+    ]
+}
+
+fn strewn(number: u64) -> u64 {
+    let mixed = number.wrapping_mul(0x9e37_79b9_7f4a_7c15);
+    let mixed = (mixed ^ (mixed >> 30)).wrapping_mul(0xbf58_476d_1ce4_e5b9);
+    mixed ^ (mixed >> 31)
 }

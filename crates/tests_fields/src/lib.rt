@@ -2,8 +2,6 @@
 #![tactic(auto)]
 
 #[cfg(test)]
-mod arithmetic;
-#[cfg(test)]
 mod bridges;
 #[cfg(test)]
 mod lanes;

@@ -145,112 +145,97 @@ fn number<F: PrimeField64>(x: F) -> u64
     x.as_canonical_u64()
 }
 
-#[test]
-fn through_bounds(rt: HostRuntime) {
-    assert_eq!(rt; number(double(F257::from_u64(129))), 1);
-    assert_eq!(rt; number(plus_number(F257::NEG_ONE, 258)), 0);
-    assert_eq!(rt;
-        number(double(Goldilocks::from_u64(18446744069414584320))),
-        18446744069414584319
-    );
-    let values = [BabyBear::NEG_ONE, BabyBear::from_u64(5), BabyBear::ONE];
-    assert_eq!(rt; number(total(&values)), 5);
-    assert_eq!(rt;
-        number(difference_from_one(BabyBear::from_u64(3))),
-        2013265919
-    );
-    assert_eq!(rt; number(product_with_minus_one(F257::from_u64(3))), 254);
-    assert_eq!(rt; number_of(round_trip(F257::from_u64(3))), 3);
-    assert_eq!(rt; number(default_of::<F257>()), 0);
-    assert_eq!(rt; number(default_of::<BabyBear>()), 0);
-    assert_eq!(rt; number(default_of::<Goldilocks>()), 0);
+// What generic code makes of a few elements, by their numbers.
+fn numbers<F: ScalarField>() -> [u64; 10] {
+    let (three, last) = (F::from_u64(3), F::NEG_ONE);
+    [
+        number(double(last)),
+        number(plus_number(last, 258)),
+        number(total(&[last, F::from_u64(5), F::ONE])),
+        number(difference_from_one(three)),
+        number(product_with_minus_one(three)),
+        number_of(round_trip(three)),
+        number(default_of::<F>()),
+        number(own_coefficient(last)),
+        number(added_and_taken(three, last)),
+        coefficient_count::<F>() as u64,
+    ]
 }
 
 #[test]
-fn canonical_numbers_of_32_bits(rt: HostRuntime) {
-    assert_eq!(rt; number(short_round_trip(BabyBear::NEG_ONE)), 2013265920);
-    assert_eq!(rt; canonical::<BabyBear>(2013265920), Some(BabyBear::NEG_ONE));
-    assert_eq!(rt; canonical::<BabyBear>(2013265921), None);
-    assert_eq!(rt; canonical::<F257>(256), Some(F257::NEG_ONE));
-    assert_eq!(rt; canonical::<F257>(u32::MAX), None);
+fn generic_code_runs_at_each_field(rt: HostRuntime) {
+    let seen = [
+        numbers::<F257>(),
+        numbers::<BabyBear>(),
+        numbers::<KoalaBear>(),
+        numbers::<Goldilocks>(),
+    ];
+    let (bb, kb, gl) = (2013265921, 2130706433, 18446744069414584321);
+    let expected = [
+        [255, 0, 5, 255, 254, 3, 0, 256, 3, 1],
+        [bb - 2, 257, 5, bb - 2, bb - 3, 3, 0, bb - 1, 3, 1],
+        [kb - 2, 257, 5, kb - 2, kb - 3, 3, 0, kb - 1, 3, 1],
+        [gl - 2, 257, 5, gl - 2, gl - 3, 3, 0, gl - 1, 3, 1],
+    ];
+    assert_eq!(rt; seen, expected);
+}
+
+// Whether this is the largest number of an element.
+fn is_last<F: PrimeField32>(last: u32) -> bool {
+    canonical::<F>(last) == Some(F::NEG_ONE)
+        && canonical::<F>(last.wrapping_add(1)).is_none()
+        && short_round_trip(F::NEG_ONE) == F::NEG_ONE
 }
 
 #[test]
-fn a_field_is_one_coefficient(rt: HostRuntime) {
-    assert_eq!(rt; coefficient_count::<BabyBear>(), 1);
-    assert_eq!(rt; coefficient_count::<F257>(), 1);
-    assert_eq!(rt; coefficient_count::<Goldilocks>(), 1);
-    assert_eq!(rt;
-        number(own_coefficient(Goldilocks::NEG_ONE)),
-        18446744069414584320
-    );
-    assert_eq!(rt;
-        number(added_and_taken(F257::from_u64(3), F257::NEG_ONE)),
-        3
-    );
-}
-
-#[test]
-fn elements_are_ordered_as_their_numbers(rt: HostRuntime) {
-    assert!(rt; is_below(Goldilocks::ONE, Goldilocks::NEG_ONE));
-    assert!(rt; !is_below(Goldilocks::NEG_ONE, Goldilocks::ONE));
-    assert!(rt; !is_below(Goldilocks::ONE, Goldilocks::ONE));
-    assert!(rt; BabyBear::from_u64(2013265919) < BabyBear::NEG_ONE);
-}
-
-#[test]
-fn bounds_of_uniform_bits(rt: HostRuntime) {
-    assert_eq!(rt; BabyBear::MAX_SINGLE_SAMPLE_BITS, 27);
-    assert_eq!(rt; whole_bound::<BabyBear>(0), 2013265921);
-    assert_eq!(rt; whole_bound::<BabyBear>(4), 2013265920);
-    assert_eq!(rt; whole_bound::<BabyBear>(27), 2013265920);
-    assert_eq!(rt; whole_bound::<BabyBear>(30), 1073741824);
-    assert_eq!(rt; whole_bound::<BabyBear>(31), 0);
-    assert_eq!(rt; KoalaBear::MAX_SINGLE_SAMPLE_BITS, 24);
-    assert_eq!(rt; whole_bound::<KoalaBear>(24), 2130706432);
-    assert_eq!(rt; whole_bound::<KoalaBear>(25), 2113929216);
-    assert_eq!(rt; Goldilocks::MAX_SINGLE_SAMPLE_BITS, 32);
-    assert_eq!(rt; whole_bound::<Goldilocks>(32), 18446744069414584320);
-    assert_eq!(rt; whole_bound::<Goldilocks>(63), 9223372036854775808);
-    assert_eq!(rt; whole_bound::<Goldilocks>(64), 0);
-    assert_eq!(rt; F257::MAX_SINGLE_SAMPLE_BITS, 8);
-    assert_eq!(rt; whole_bound::<F257>(8), 256);
-    assert_eq!(rt; whole_bound::<F257>(9), 0);
-    assert_eq!(rt; whole_bound::<F257>(usize::MAX), 0);
-}
-
-#[test]
-fn copies_are_clones(rt: HostRuntime) -> Result<(), Fail> {
-    let x = Coeffs::new([F257::ONE, F257::NEG_ONE]);
-    assert_eq!(rt; x.clone()?, x);
-    assert!(rt; F257::ONE < F257::NEG_ONE);
-    Ok(())
+fn canonical_numbers_and_bounds_of_uniform_bits(rt: HostRuntime) {
+    let last = [
+        is_last::<F257>(256),
+        is_last::<BabyBear>(2013265920),
+        is_last::<KoalaBear>(2130706432),
+    ];
+    assert_eq!(rt; last, [true; 3]);
+    let bounds = [
+        whole_bound::<F257>(9),
+        whole_bound::<BabyBear>(30),
+        whole_bound::<KoalaBear>(25),
+        whole_bound::<Goldilocks>(63),
+    ];
+    assert_eq!(rt; bounds, [0, 1073741824, 2113929216, 9223372036854775808]);
 }
 
 #[test]
 fn comparisons(rt: HostRuntime) {
-    assert!(rt; same(F257::from_u64(300), F257::from_u64(43)));
-    assert!(rt; !same(F257::ZERO, F257::ONE));
-    assert!(rt; same(BabyBear::from_u64(2013265921), BabyBear::ZERO));
-    assert!(rt; !same(Goldilocks::ONE, Goldilocks::NEG_ONE));
     let (one, two) = (BabyBear::ONE, BabyBear::from_u64(2));
     let x: Coeffs<BabyBear, 4> = element_of(two);
-    assert!(rt; same_element(x, x.with_coefficient(0, two)));
-    assert!(rt; !same_element(x, x.with_coefficient(3, one)));
-    assert!(rt; same_coefficients(Coeffs::new([one, two]), Coeffs::new([one, two])));
-    assert!(rt; !same_coefficients(Coeffs::new([one, two]), Coeffs::new([two, one])));
+    let hold = [
+        same(F257::from_u64(300), F257::from_u64(43)),
+        same(BabyBear::from_u64(2013265921), BabyBear::ZERO),
+        same_element(x, x.with_coefficient(0, two)),
+        same_coefficients(Coeffs::new([one, two]), Coeffs::new([one, two])),
+        is_below(Goldilocks::ONE, Goldilocks::NEG_ONE),
+        F257::ONE < F257::NEG_ONE,
+        BabyBear::from_u64(2013265919) < BabyBear::NEG_ONE,
+    ];
+    let do_not = [
+        same(Goldilocks::ONE, Goldilocks::NEG_ONE),
+        same_element(x, x.with_coefficient(3, one)),
+        same_coefficients(Coeffs::new([one, two]), Coeffs::new([two, one])),
+        is_below(Goldilocks::NEG_ONE, Goldilocks::ONE),
+        is_below(Goldilocks::ONE, Goldilocks::ONE),
+    ];
+    assert_eq!(rt; (hold, do_not), ([true; 7], [false; 5]));
 }
 
 #[test]
 fn elements_are_shown_by_the_names_of_their_fields(rt: HostRuntime) -> Result<(), Fail> {
-    let shown = format!(in rt.alloc(); "{:?} {:?}", F257::NEG_ONE, BabyBear::ONE)?;
-    assert_eq!(rt; shown.as_str(), "F257 { value: 256 } BabyBear { value: 1 }");
-    let shown = format!(in rt.alloc(); "{:?}", KoalaBear::NEG_ONE)?;
-    assert_eq!(rt; shown.as_str(), "KoalaBear { value: 2130706432 }");
-    let shown = format!(in rt.alloc(); "{:?}", Coeffs::new([F257::ONE]))?;
+    let coefficients = Coeffs::new([F257::ONE]).clone()?;
+    let elements = (F257::NEG_ONE, BabyBear::ONE, KoalaBear::NEG_ONE);
+    let shown = format!(in rt.alloc(); "{elements:?} {coefficients:?}")?;
     assert_eq!(rt;
         shown.as_str(),
-        "Coeffs { coefficients: [F257 { value: 1 }] }"
+        "(F257 { value: 256 }, BabyBear { value: 1 }, KoalaBear { value: 2130706432 }) \
+         Coeffs { coefficients: [F257 { value: 1 }] }"
     );
     Ok(())
 }

@@ -1,21 +1,18 @@
 // A large table of another field, against a fold into new tables.
-ghost use Rattle.std.specs.Prelude.{◌≡◌, ◌^◌, length, vec_len, IfOk};
+ghost use Rattle.std.specs.Prelude.{◌≡◌, ◌^◌, vec_len, IfOk};
 
-use p3_challenger::HashChallenger;
-use p3_challenger::fs::{
-    BytesToFieldCodec, DomainSeparator, PatternState, ProverState, TranscriptError, VerifierState,
-};
+use crate::sides::{prove_table, verify_proof};
+use p3_challenger::fs::{BytesToFieldCodec, TranscriptError};
+use p3_challenger::{CanObserve, CanSample, HashChallenger};
 use p3_field::{BabyBear, PrimeCharacteristicRing};
-use p3_sumcheck::{declare, prove, sum, verify};
+use p3_sumcheck::sum;
 use p3_symmetric::Sha256Hasher;
 use std::alloc::{AllocError, Global};
-use std::test::Fail;
+use std::process::Abort;
 
 type Challenger = HashChallenger<u8, Sha256Hasher, 32>;
 
 type Large = BytesToFieldCodec<BabyBear>;
-
-type Separator = DomainSeparator<u8, Sha256Hasher>;
 
 // A table folded at one place after another, each time into a new table.
 fn folded_plainly(
@@ -45,54 +42,26 @@ fn squares(alloc: Global) -> Result<Vec<BabyBear>, AllocError>
         .collect(alloc)
 }
 
-// The proof of a table, the point, and its value there.
-fn proved(
+// Whether the verifier of the proof has the prover's point and value, and the value is that of the table folded plainly.
+fn agree<C: CanObserve<u8> + CanSample<u8> + Drop>(
     alloc: Global,
-    separator: &Separator,
-    table: Vec<BabyBear>,
-    rounds: usize,
-) -> Result<(Vec<u8>, Vec<BabyBear>, BabyBear), TranscriptError>
-    requires { length table.items ≡ 2 ^ rounds }
-{
-    let challenger = HashChallenger::new(Vec::new(alloc), Sha256Hasher);
-    let mut prover = ProverState::new(alloc, challenger, separator)?;
-    let sent = prove::<BabyBear, u8, Challenger, Sha256Hasher, Large>(alloc, table, &mut prover);
-    let proof = prover.finalize();
-    let (point, value) = sent?;
-    Ok((proof?, point, value))
-}
-
-// The separator of so many rounds.
-fn rounds_alone(alloc: Global, rounds: usize) -> Result<Separator, TranscriptError> {
-    let mut recorder = PatternState::<u8>::new(alloc);
-    let declared = declare::<BabyBear, u8, Sha256Hasher>(&mut recorder, rounds);
-    let pattern = declared.and(recorder.finalize())?;
-    DomainSeparator::new(alloc, 1, b"large", pattern)
+    mine: C,
+    theirs: C,
+) -> Result<bool, TranscriptError> {
+    let table = squares(alloc)?;
+    let claim = sum(&table);
+    let (proof, point, value) = prove_table::<BabyBear, u8, C, Large>(alloc, mine, table, ROUNDS)?;
+    let folded = folded_plainly(alloc, squares(alloc)?, &point)?;
+    let is_folded = folded.as_slice() == [value].as_slice();
+    match verify_proof::<BabyBear, u8, C, Large>(alloc, theirs, claim, ROUNDS, &proof) {
+        Ok((read, last)) => Ok(is_folded && read.as_slice() == point.as_slice() && last == value),
+        Err(_) => Ok(false),
+    }
 }
 
 #[test]
-fn a_large_table_is_proved_and_verified(rt: HostRuntime) -> Result<(), Fail> {
-    let alloc = rt.alloc();
-    let separator = rounds_alone(alloc, ROUNDS)?;
-    let table = squares(alloc)?;
-    let claim = sum(&table);
-    let (proof, point, value) = proved(alloc, &separator, table, ROUNDS)?;
-    assert_eq!(rt;
-        folded_plainly(alloc, squares(alloc)?, &point)?.as_slice(),
-        [value].as_slice()
-    );
-    let challenger = HashChallenger::new(Vec::new(alloc), Sha256Hasher);
-    let mut verifier = VerifierState::new(alloc, challenger, &separator, &proof)?;
-    let read = verify::<BabyBear, u8, Challenger, Sha256Hasher, Large>(
-        alloc,
-        claim,
-        ROUNDS,
-        &mut verifier,
-    );
-    let end = verifier.finalize();
-    let (read_point, last) = read?;
-    end?;
-    assert_eq!(rt; read_point.as_slice(), point.as_slice());
-    assert_eq!(rt; last, value);
-    Ok(())
+fn a_large_table_is_proved_and_verified(rt: HostRuntime) {
+    let mine: Challenger = HashChallenger::new(Vec::new(rt.alloc()), Sha256Hasher);
+    let theirs: Challenger = HashChallenger::new(Vec::new(rt.alloc()), Sha256Hasher);
+    assert!(rt; agree(rt.alloc(), mine, theirs) == Ok(true));
 }

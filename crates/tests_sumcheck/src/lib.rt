@@ -4,4 +4,6 @@
 #[cfg(test)]
 mod large_table;
 #[cfg(test)]
+mod sides;
+#[cfg(test)]
 mod small_tables;

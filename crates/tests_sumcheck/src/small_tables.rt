@@ -1,16 +1,13 @@
 // The rows of the small world, worked out by hand.
 ghost use Rattle.std.specs.Prelude.{◌≡◌, ◌^◌, length, vec_len, IfOk};
 
-use p3_challenger::DuplexChallenger;
-use p3_challenger::fs::{
-    DomainSeparator, FieldToFieldCodec, FieldUnit, PatternState, ProverState, TranscriptError,
-    VerifierState,
-};
+use crate::sides::{prove_table, verify_proof};
+use p3_challenger::fs::{FieldToFieldCodec, FieldUnit, TranscriptError};
+use p3_challenger::{CanCopy, CanObserve, CanSample, DuplexChallenger};
 use p3_field::{F257, PrimeCharacteristicRing, PrimeField64};
-use p3_sumcheck::{SumcheckError, declare, prove, verify};
-use p3_symmetric::{Sha256Hasher, Turn};
+use p3_symmetric::Turn;
 use std::alloc::{AllocError, Global};
-use std::test::Fail;
+use std::process::Abort;
 
 // The small world: a duplex challenger of three cells, of which two are the rate. Right after the seed, whatever the
 // pattern is, it draws 2, 6, 8, 132, 134, 6.
@@ -20,47 +17,56 @@ type Alphabet = FieldUnit<F257>;
 
 type Scalars = FieldToFieldCodec<F257>;
 
-type Separator = DomainSeparator<Alphabet, Sha256Hasher>;
-
-fn world() -> World {
-    DuplexChallenger::new(Turn, 10)
+// A claim, a number of rounds and a proof, and what is answered.
+struct Row {
+    claim: u64,
+    rounds: usize,
+    proof: &'static [u8],
+    // The point and the last claim, or why the proof is refused.
+    answer: &'static str,
 }
+
+const ROWS: [Row; 6] = [
+    Row {
+        claim: 10,
+        rounds: 2,
+        proof: &[0, 3, 0, 7, 0, 11, 0, 12],
+        answer: "5 13 24",
+    },
+    Row {
+        claim: 11,
+        rounds: 2,
+        proof: &[0, 3, 0, 7, 0, 11, 0, 12],
+        answer: "the values of round 0 do not add to the claim",
+    },
+    Row {
+        claim: 10,
+        rounds: 2,
+        proof: &[0, 3, 0, 7, 0, 11, 0, 13],
+        answer: "the values of round 1 do not add to the claim",
+    },
+    Row {
+        claim: 10,
+        rounds: 2,
+        proof: &[0, 3],
+        answer: "bad proof shape: step declares more values than the wire holds",
+    },
+    Row {
+        claim: 9,
+        rounds: 0,
+        proof: &[],
+        answer: "9",
+    },
+    Row {
+        claim: 10,
+        rounds: 1,
+        proof: &[0, 3, 0, 7],
+        answer: "5 23",
+    },
+];
 
 fn element(number: u64) -> F257 {
     F257::from_u64(number)
-}
-
-// Claim, number of rounds and proof; and what is answered: the point and the last claim, or why it is refused.
-const ROWS: [(u64, usize, &[u8], &str); 6] = [
-    (10, 2, &[0, 3, 0, 7, 0, 11, 0, 12], "5 13 24"),
-    (
-        11,
-        2,
-        &[0, 3, 0, 7, 0, 11, 0, 12],
-        "the values of round 0 do not add to the claim",
-    ),
-    (
-        10,
-        2,
-        &[0, 3, 0, 7, 0, 11, 0, 13],
-        "the values of round 1 do not add to the claim",
-    ),
-    (
-        10,
-        2,
-        &[0, 3],
-        "bad proof shape: step declares more values than the wire holds",
-    ),
-    (9, 0, &[], "9"),
-    (10, 1, &[0, 3, 0, 7], "5 23"),
-];
-
-// The separator of so many rounds.
-fn rounds_alone(alloc: Global, rounds: usize) -> Result<Separator, TranscriptError> {
-    let mut recorder = PatternState::<Alphabet>::new(alloc);
-    let declared = declare::<F257, Alphabet, Sha256Hasher>(&mut recorder, rounds);
-    let pattern = declared.and(recorder.finalize())?;
-    DomainSeparator::new(alloc, 1, b"world", pattern)
 }
 
 // The elements of numbers.
@@ -80,64 +86,71 @@ fn told(alloc: Global, point: &[F257], value: F257) -> Result<String, AllocError
     Ok(text)
 }
 
-// What is answered to a proof.
-fn verified(
+// What is answered to the proof of a row.
+fn answer<C: CanCopy + CanObserve<F257> + CanSample<F257>>(
     alloc: Global,
-    claim: u64,
-    rounds: usize,
-    proof: &[u8],
-) -> Result<(Vec<F257>, F257), SumcheckError> {
-    let separator = rounds_alone(alloc, rounds)?;
-    let mut verifier = VerifierState::new(alloc, world(), &separator, proof)?;
-    let read = verify::<F257, Alphabet, World, Sha256Hasher, Scalars>(
+    fresh: &C,
+    row: &Row,
+) -> Result<String, TranscriptError> {
+    let answered = verify_proof::<F257, Alphabet, C, Scalars>(
         alloc,
-        element(claim),
-        rounds,
-        &mut verifier,
+        fresh.copy()?,
+        element(row.claim),
+        row.rounds,
+        row.proof,
     );
-    let end = verifier.finalize();
-    let read = read?;
-    end?;
-    Ok(read)
-}
-
-#[test]
-fn proofs_of_the_small_world_are_answered(rt: HostRuntime) -> Result<(), Fail> {
-    let alloc = rt.alloc();
-    for (claim, rounds, proof, answer) in ROWS {
-        let text = match verified(alloc, claim, rounds, proof) {
-            Ok((point, value)) => told(alloc, &point, value)?,
-            Err(error) => error.to_string(alloc)?,
-        };
-        assert_eq!(rt; text.as_str(), answer);
+    match answered {
+        Ok((point, value)) => Ok(told(alloc, &point, value)?),
+        Err(error) => Ok(error.to_string(alloc)?),
     }
-    Ok(())
 }
 
-// The proof of a table, and what is told of it.
-fn proved(
+fn answers_each<C: CanCopy + CanObserve<F257> + CanSample<F257>>(
     alloc: Global,
+    fresh: &C,
+) -> Result<bool, TranscriptError> {
+    for row in &ROWS {
+        if answer(alloc, fresh, row)?.as_str() != row.answer {
+            return Ok(false);
+        }
+    }
+    Ok(true)
+}
+
+// Whether this is the proof of a table, and what is told of it.
+fn proves<C: CanCopy + CanObserve<F257> + CanSample<F257>>(
+    alloc: Global,
+    fresh: &C,
     numbers: &[u64],
     rounds: usize,
-) -> Result<(Vec<u8>, String), TranscriptError>
+    expected: (&[u8], &str),
+) -> Result<bool, TranscriptError>
     requires { length numbers.now ≡ 2 ^ rounds }
 {
     let table = elements(alloc, numbers)?;
-    let separator = rounds_alone(alloc, rounds)?;
-    let mut prover = ProverState::new(alloc, world(), &separator)?;
-    let sent = prove::<F257, Alphabet, World, Sha256Hasher, Scalars>(alloc, table, &mut prover);
-    let proof = prover.finalize();
-    let (point, value) = sent?;
-    Ok((proof?, told(alloc, &point, value)?))
+    let (proof, point, value) = prove_table::<F257, Alphabet, C, Scalars>(
+        alloc,
+        fresh.copy()?,
+        table,
+        rounds,
+    )?;
+    let text = told(alloc, &point, value)?;
+    Ok(proof.as_slice() == expected.0 && text.as_str() == expected.1)
+}
+
+fn proves_each<C: CanCopy + CanObserve<F257> + CanSample<F257>>(
+    alloc: Global,
+    fresh: &C,
+) -> Result<bool, TranscriptError> {
+    let four = (ROWS[0].proof, ROWS[0].answer);
+    let of_four = proves(alloc, fresh, &[1, 2, 3, 4], 2, four)?;
+    let of_one = proves(alloc, fresh, &[9], 0, (b"", "9"))?;
+    Ok(of_four && of_one)
 }
 
 #[test]
-fn tables_of_the_small_world_are_proved(rt: HostRuntime) -> Result<(), Fail> {
-    let (proof, text) = proved(rt.alloc(), &[1, 2, 3, 4], 2)?;
-    assert_eq!(rt; proof.as_slice(), [0, 3, 0, 7, 0, 11, 0, 12].as_slice());
-    assert_eq!(rt; text.as_str(), "5 13 24");
-    let (proof, text) = proved(rt.alloc(), &[9], 0)?;
-    assert!(rt; proof.is_empty());
-    assert_eq!(rt; text.as_str(), "9");
-    Ok(())
+fn tables_of_the_small_world_are_proved_and_verified(rt: HostRuntime) {
+    let fresh: World = DuplexChallenger::new(Turn, 10);
+    assert!(rt; answers_each(rt.alloc(), &fresh) == Ok(true));
+    assert!(rt; proves_each(rt.alloc(), &fresh) == Ok(true));
 }
