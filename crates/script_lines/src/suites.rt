@@ -1,25 +1,28 @@
 // The other worlds: a suite over each other challenger and each alphabet.
 use crate::world::World;
 use anyhow::{Result, bail};
-use conformance_tokens::symbol::symbols;
+use conformance_tokens::symbol::{Symbol, symbols};
 use conformance_tokens::tokens::parse_row;
 use p3_challenger::fs::script::AcceptAll;
 use p3_challenger::{
-    HashChallenger, MultiField32Challenger, SerializingChallenger32, SerializingChallenger64,
+    DuplexChallenger, HashChallenger, MultiField32Challenger, SerializingChallenger32,
+    SerializingChallenger64,
 };
 use p3_field::{BabyBear, F257, Goldilocks};
+use p3_keccak::Keccak256Hasher;
+use p3_poseidon2::{
+    Poseidon2BabyBear16, Poseidon2Goldilocks8, default_babybear_poseidon2_16,
+    default_goldilocks_poseidon2_8,
+};
 use p3_symmetric::{Hash, Sha256Hasher, Turn};
 use std::alloc::Global;
-use test_suites::{HashSuite, MultiFieldSuite, Serializing32Suite, Serializing64Suite};
+use test_suites::{
+    BabyBearPoseidon2Suite, GoldilocksPoseidon2Suite, HashSuite, MultiFieldPoseidon2Suite,
+    MultiFieldSuite, Serializing32Suite, Serializing64Suite,
+};
 
-// How many groups of bytes a draw of an element tries at most.
+// How many candidates a draw of an element tries at most.
 const DRAW_LIMIT: u64 = 1000;
-
-type Bytes = HashChallenger<u8, Sha256Hasher, 32>;
-
-fn bytes(alloc: Global) -> Bytes {
-    HashChallenger::new(Vec::new(alloc), Sha256Hasher)
-}
 
 fn accept_all(token: &str) -> Result<AcceptAll> {
     match token {
@@ -28,54 +31,90 @@ fn accept_all(token: &str) -> Result<AcceptAll> {
     }
 }
 
-impl World for HashSuite {
-    fn fresh(alloc: Global) -> Result<Bytes> {
-        Ok(bytes(alloc))
-    }
-
-    fn opaque(alloc: Global, tokens: &str) -> Result<[u8; 32]> {
-        let mut value = [0; 32];
-        hex::decode_to_slice(tokens, &mut value)?;
-        Ok(value)
-    }
-
-    fn rule(token: &str) -> Result<AcceptAll> {
-        accept_all(token)
-    }
+// The 32 bytes of these hexadecimal digits.
+fn digest_of_bytes(tokens: &str) -> Result<[u8; 32]> {
+    let mut value = [0; 32];
+    hex::decode_to_slice(tokens, &mut value)?;
+    Ok(value)
 }
 
-impl World for Serializing32Suite {
-    fn fresh(alloc: Global) -> Result<SerializingChallenger32<BabyBear, Bytes>> {
-        Ok(SerializingChallenger32::new(bytes(alloc), DRAW_LIMIT))
-    }
-
-    fn opaque(_alloc: Global, tokens: &str) -> Result<Hash<BabyBear, u8, 32>> {
-        let mut value = [0; 32];
-        hex::decode_to_slice(tokens, &mut value)?;
-        Ok(Hash::from(value))
-    }
-
-    fn rule(token: &str) -> Result<AcceptAll> {
-        accept_all(token)
-    }
+// A digest of so many elements.
+fn digest<T: Symbol, const N: usize>(alloc: Global, tokens: &str) -> Result<[T; N]> {
+    let numbers = parse_row(alloc, tokens)?;
+    let elements: Vec<T> = symbols(alloc, numbers.as_slice())?;
+    Ok(<[T; N]>::try_from(elements.as_slice())?)
 }
 
-impl World for Serializing64Suite {
-    fn fresh(alloc: Global) -> Result<SerializingChallenger64<Goldilocks, Bytes>> {
-        Ok(SerializingChallenger64::new(bytes(alloc), DRAW_LIMIT))
-    }
+// The worlds of the suite over bytes, where this function hashes. That of any hash function would not know how large
+// its challenger is.
+macro_rules! world_of_bytes {
+    ($hasher:ident) => {
+        impl World for HashSuite<$hasher> {
+            fn fresh(alloc: Global) -> Result<HashChallenger<u8, $hasher, 32>> {
+                Ok(HashChallenger::new(Vec::new(alloc), $hasher))
+            }
 
-    fn opaque(alloc: Global, tokens: &str) -> Result<Hash<Goldilocks, u64, 4>> {
-        match parse_row(alloc, tokens)?.as_slice() {
-            &[a, b, c, d] => Ok(Hash::from([a, b, c, d])),
-            _ => bail!("no digest of four words"),
+            fn opaque(_alloc: Global, tokens: &str) -> Result<[u8; 32]> {
+                digest_of_bytes(tokens)
+            }
+
+            fn rule(token: &str) -> Result<AcceptAll> {
+                accept_all(token)
+            }
         }
-    }
-
-    fn rule(token: &str) -> Result<AcceptAll> {
-        accept_all(token)
-    }
+    };
 }
+
+// The worlds of the suites over serialized elements, where the first function hashes in the challenger, and the second
+// patterns and identities.
+macro_rules! worlds_of_serialized {
+    ($hasher:ident, $digest:ident) => {
+        impl World for Serializing32Suite<$hasher, $digest> {
+            fn fresh(
+                alloc: Global,
+            ) -> Result<SerializingChallenger32<BabyBear, HashChallenger<u8, $hasher, 32>>> {
+                let inner = HashChallenger::new(Vec::new(alloc), $hasher);
+                Ok(SerializingChallenger32::new(inner, DRAW_LIMIT))
+            }
+
+            fn opaque(_alloc: Global, tokens: &str) -> Result<Hash<BabyBear, u8, 32>> {
+                Ok(Hash::from(digest_of_bytes(tokens)?))
+            }
+
+            fn rule(token: &str) -> Result<AcceptAll> {
+                accept_all(token)
+            }
+        }
+
+        impl World for Serializing64Suite<$hasher, $digest> {
+            fn fresh(
+                alloc: Global,
+            ) -> Result<SerializingChallenger64<Goldilocks, HashChallenger<u8, $hasher, 32>>> {
+                let inner = HashChallenger::new(Vec::new(alloc), $hasher);
+                Ok(SerializingChallenger64::new(inner, DRAW_LIMIT))
+            }
+
+            fn opaque(alloc: Global, tokens: &str) -> Result<Hash<Goldilocks, u64, 4>> {
+                let words = parse_row(alloc, tokens)?;
+                Ok(Hash::from(<[u64; 4]>::try_from(words.as_slice())?))
+            }
+
+            fn rule(token: &str) -> Result<AcceptAll> {
+                accept_all(token)
+            }
+        }
+    };
+}
+
+world_of_bytes!(Sha256Hasher);
+
+world_of_bytes!(Keccak256Hasher);
+
+worlds_of_serialized!(Sha256Hasher, Sha256Hasher);
+
+worlds_of_serialized!(Keccak256Hasher, Keccak256Hasher);
+
+worlds_of_serialized!(Sha256Hasher, Keccak256Hasher);
 
 impl World for MultiFieldSuite {
     fn fresh(_alloc: Global) -> Result<MultiField32Challenger<F257, BabyBear, Turn<2>, 3, 2>> {
@@ -83,12 +122,51 @@ impl World for MultiFieldSuite {
     }
 
     fn opaque(alloc: Global, tokens: &str) -> Result<Hash<F257, BabyBear, 2>> {
-        let numbers = parse_row(alloc, tokens)?;
-        let tokens: Vec<BabyBear> = symbols(alloc, numbers.as_slice())?;
-        match tokens.as_slice() {
-            &[a, b] => Ok(Hash::from([a, b])),
-            _ => bail!("no digest of two words"),
-        }
+        Ok(Hash::from(digest(alloc, tokens)?))
+    }
+
+    fn rule(token: &str) -> Result<AcceptAll> {
+        accept_all(token)
+    }
+}
+
+impl World for BabyBearPoseidon2Suite {
+    fn fresh(_alloc: Global) -> Result<DuplexChallenger<BabyBear, Poseidon2BabyBear16, 16, 8>> {
+        Ok(DuplexChallenger::new(default_babybear_poseidon2_16(), DRAW_LIMIT))
+    }
+
+    fn opaque(alloc: Global, tokens: &str) -> Result<Hash<BabyBear, BabyBear, 8>> {
+        Ok(Hash::from(digest(alloc, tokens)?))
+    }
+
+    fn rule(token: &str) -> Result<AcceptAll> {
+        accept_all(token)
+    }
+}
+
+impl World for GoldilocksPoseidon2Suite {
+    fn fresh(_alloc: Global) -> Result<DuplexChallenger<Goldilocks, Poseidon2Goldilocks8, 8, 4>> {
+        Ok(DuplexChallenger::new(default_goldilocks_poseidon2_8(), DRAW_LIMIT))
+    }
+
+    fn opaque(alloc: Global, tokens: &str) -> Result<Hash<Goldilocks, Goldilocks, 4>> {
+        Ok(Hash::from(digest(alloc, tokens)?))
+    }
+
+    fn rule(token: &str) -> Result<AcceptAll> {
+        accept_all(token)
+    }
+}
+
+impl World for MultiFieldPoseidon2Suite {
+    fn fresh(
+        _alloc: Global,
+    ) -> Result<MultiField32Challenger<BabyBear, Goldilocks, Poseidon2Goldilocks8, 8, 4>> {
+        Ok(MultiField32Challenger::new(default_goldilocks_poseidon2_8())?)
+    }
+
+    fn opaque(alloc: Global, tokens: &str) -> Result<Hash<BabyBear, Goldilocks, 4>> {
+        Ok(Hash::from(digest(alloc, tokens)?))
     }
 
     fn rule(token: &str) -> Result<AcceptAll> {

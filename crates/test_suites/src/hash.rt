@@ -1,17 +1,21 @@
-//! A suite over `HashChallenger` of bytes.
+//! Suites over `HashChallenger` of bytes.
 
 use p3_challenger::HashChallenger;
 use p3_challenger::fs::BytesToFieldCodec;
 use p3_challenger::fs::script::{AcceptAll, Plain, Suite};
 use p3_field::{BabyBear, Coeffs};
+use crate::byte_hasher::ByteHasher;
 use p3_symmetric::Sha256Hasher;
+use std::marker::PhantomData;
 
-/// Scripts over `HashChallenger` of bytes with SHA-256, whose scalars are of `BabyBear` and sent as bytes. The extension
-/// has degree 4, opaque values are arrays of 32 bytes, and there are the plain steps alone.
-#[derive(Clone, Copy, Debug)]
-pub struct HashSuite;
+/// Scripts over `HashChallenger` of bytes with the hash function `H`, whose scalars are of `BabyBear` and sent as bytes.
+/// The extension has degree 4, opaque values are arrays of 32 bytes, and there are the plain steps alone. Patterns and
+/// identities are hashed by `H` too.
+pub struct HashSuite<H = Sha256Hasher> {
+    hasher: PhantomData<H>,
+}
 
-impl Suite for HashSuite {
+impl<H: ByteHasher> Suite for HashSuite<H> {
     ghost use Rattle.std.specs.{Prelude.{◌≡◌, length}, List.each_same};
 
     type Field = BabyBear;
@@ -22,13 +26,13 @@ impl Suite for HashSuite {
 
     type Opaque = [u8; 32];
 
-    type Challenger = HashChallenger<u8, Sha256Hasher, 32>;
+    type Challenger = HashChallenger<u8, H, 32>;
 
     type Codec = BytesToFieldCodec<BabyBear>;
 
     type Accept = AcceptAll;
 
-    type Digest = Sha256Hasher;
+    type Digest = H;
 
     type Group = Plain;
 

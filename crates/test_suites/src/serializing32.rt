@@ -1,17 +1,21 @@
-//! A suite over `SerializingChallenger32`.
+//! Suites over `SerializingChallenger32`.
 
+use crate::byte_hasher::ByteHasher;
 use p3_challenger::fs::script::{AcceptAll, Both, Suite};
 use p3_challenger::fs::{FieldToFieldCodec, FieldUnit};
 use p3_challenger::{HashChallenger, SerializingChallenger32};
 use p3_field::{BabyBear, Coeffs};
-use p3_symmetric::{Hash, Sha256Hasher};
+use p3_symmetric::{DigestHasher, Hash, Sha256Hasher};
+use std::marker::PhantomData;
 
-/// Scripts over `SerializingChallenger32` of `BabyBear` on a `HashChallenger` of bytes. The extension has degree 4,
-/// opaque values are digests of 32 bytes, and there are steps of every kind.
-#[derive(Clone, Copy, Debug)]
-pub struct Serializing32Suite;
+/// Scripts over `SerializingChallenger32` of `BabyBear` on a `HashChallenger` of bytes with the hash function `H`. The
+/// extension has degree 4, opaque values are digests of 32 bytes, and there are steps of every kind. Patterns and
+/// identities are hashed by `D`.
+pub struct Serializing32Suite<H = Sha256Hasher, D = H> {
+    hashers: PhantomData<(H, D)>,
+}
 
-impl Suite for Serializing32Suite {
+impl<H: ByteHasher, D: DigestHasher> Suite for Serializing32Suite<H, D> {
     ghost use Rattle.std.{proofs.Common.lit<, specs.List.each_same};
     ghost use Rattle.p3_challenger.specs.{HashValueLaws.values-injective, Digests.values_of, Reading.AreBytes};
 
@@ -23,13 +27,13 @@ impl Suite for Serializing32Suite {
 
     type Opaque = Hash<BabyBear, u8, 32>;
 
-    type Challenger = SerializingChallenger32<BabyBear, HashChallenger<u8, Sha256Hasher, 32>>;
+    type Challenger = SerializingChallenger32<BabyBear, HashChallenger<u8, H, 32>>;
 
     type Codec = FieldToFieldCodec<BabyBear>;
 
     type Accept = AcceptAll;
 
-    type Digest = Sha256Hasher;
+    type Digest = D;
 
     type Group = Both;
 
