@@ -23,47 +23,66 @@ pub trait Worlds {
 
 /// Plays the lines of these files, and says what came of them. The status is 0 where all agree.
 pub fn compare_files<W: Worlds>(rt: &HostRuntime, files: &[&str]) -> Result<ExitCode> {
-    let mut words = env::args(rt)?.skip(1);
-    let folder = match words.next() {
-        Some(folder) => folder,
-        None => String::from_str(rt.alloc(), ".")?,
+    let words = Words::read(rt)?;
+    let mut changes = Changes {
+        rng: Xoshiro256PlusPlus::seed_from_u64(words.seed.unwrap_or(SEED)),
+        count: words.count.unwrap_or(CHANGES),
+        tally: Tally::new(rt.alloc()),
     };
-    let seed = number_or(words.next(), SEED)?;
-    let asked = words.next();
-    let shows = asked.is_some();
-    let count = number_or(asked, CHANGES)?;
-    let rng = Xoshiro256PlusPlus::seed_from_u64(seed);
-    let tally = Tally::new(rt.alloc());
-    let mut changes = Changes { rng, count, tally };
     let mut agree = true;
     for file in files {
-        agree = play_and_tell::<W>(rt, folder.as_str(), file, &mut changes, shows)? && agree;
+        agree = play_and_tell::<W>(rt, &words, file, &mut changes)? && agree;
     }
     Ok(ExitCode::from(if agree { 0 } else { 1 }))
 }
 
-// The number of a word, or this one without a word.
-fn number_or(word: Option<String>, other: u64) -> Result<u64> {
+// The words of a program: the folder of its files, from what proofs are changed, and how often each one is.
+#[derive(Drop)]
+struct Words {
+    folder: String,
+    seed: Option<u64>,
+    count: Option<u64>,
+}
+
+impl Words {
+    fn read(rt: &HostRuntime) -> Result<Words> {
+        let mut words = env::args(rt)?.skip(1);
+        let (folder, seed, count) = (words.next(), words.next(), words.next());
+        Ok(Words {
+            seed: number(&seed)?,
+            count: number(&count)?,
+            folder: match folder {
+                Some(folder) => folder,
+                None => String::from_str(rt.alloc(), ".")?,
+            },
+        })
+    }
+}
+
+// The number of a word, if there is one.
+fn number(word: &Option<String>) -> Result<Option<u64>> {
     match word {
-        Some(word) => Ok(word.as_str().parse()?),
-        None => Ok(other),
+        Some(word) => Ok(Some(word.as_str().parse()?)),
+        None => Ok(None),
     }
 }
 
 // Plays the lines of a file, and says what came of them. Gives whether all agree.
 fn play_and_tell<W: Worlds>(
     rt: &HostRuntime,
-    folder: &str,
+    words: &Words,
     file: &str,
     changes: &mut Changes,
-    shows: bool,
 ) -> Result<bool> {
+    let folder = words.folder.as_str();
     let path = format!(in rt.alloc(); "{folder}/{file}.txt")?;
-    let text = fs::read_to_string(rt, path.as_str()).context(path.as_str())?;
     changes.tally = Tally::new(rt.alloc());
-    let outcome = play_file::<W>(rt.alloc(), text.as_str(), changes).context(path.as_str())?;
+    let outcome = play_file::<W>(rt, path.as_str(), changes).context(path.as_str())?;
     tell(rt, file, &outcome)?;
-    tell_changes(rt, file, &changes.tally, shows)?;
+    tell_changes(rt, file, &changes.tally)?;
+    if words.count.is_some() {
+        tell_reasons(rt, &changes.tally)?;
+    }
     Ok(outcome.differing.is_empty())
 }
 
@@ -85,34 +104,38 @@ fn tell(rt: &HostRuntime, file: &str, outcome: &Outcome) -> Result<()> {
     Ok(())
 }
 
-// Says how many changed proofs there were; and of how many what became, where that is asked for.
-fn tell_changes(rt: &HostRuntime, file: &str, tally: &Tally, shows: bool) -> Result<()> {
+// Says how many changed proofs there were.
+fn tell_changes(rt: &HostRuntime, file: &str, tally: &Tally) -> Result<()> {
     let total = tally.total();
     println!(rt;
         "{file}: {total} changed proofs, each refused or the encoding of what was received"
     )?;
-    if shows {
-        let accepted = tally.accepted;
-        println!(rt; "accepted: {accepted}")?;
-        for (reason, count) in &tally.refused {
-            println!(rt; "{reason}: {count}")?;
-        }
+    Ok(())
+}
+
+// Says what became of how many changed proofs.
+fn tell_reasons(rt: &HostRuntime, tally: &Tally) -> Result<()> {
+    let accepted = tally.accepted;
+    println!(rt; "accepted: {accepted}")?;
+    for (reason, count) in &tally.refused {
+        println!(rt; "{reason}: {count}")?;
     }
     Ok(())
 }
 
 // Plays each line of a file, and changes its proof.
-fn play_file<W: Worlds>(alloc: Global, text: &str, changes: &mut Changes) -> Result<Outcome> {
+fn play_file<W: Worlds>(rt: &HostRuntime, path: &str, changes: &mut Changes) -> Result<Outcome> {
+    let text = fs::read_to_string(rt, path)?;
     let mut outcome = Outcome {
         lines: 0,
         steps: 0,
-        differing: Vec::new(alloc),
+        differing: Vec::new(rt.alloc()),
     };
     let mut number = 0usize;
-    for text in text.lines() {
+    for text in text.as_str().lines() {
         number = number.saturating_add(1);
         if !text.starts_with('#') {
-            play_text::<W>(alloc, text, number, changes, &mut outcome).context(format_args!(
+            play_text::<W>(rt.alloc(), text, number, changes, &mut outcome).context(format_args!(
                 "line {number}"
             ))?;
         }

@@ -69,12 +69,9 @@ pub fn try_changes<S: World>(
     let Ok(Ok(proved)) = prove_steps::<S>(alloc, S::fresh(alloc)?, separator, steps, sent) else {
         return Ok(());
     };
-    let carried = proved.carried.as_slice();
     for _ in 0..changes.count {
-        let mut narg = Vec::new(alloc);
-        narg.extend_from_slice(proved.narg.as_slice())?;
-        let width = element_width::<S>();
-        change(&mut changes.rng, &mut narg, S::Field::ORDER_U64, width)?;
+        let narg = changed::<S>(alloc, &mut changes.rng, proved.narg.as_slice())?;
+        let carried = proved.carried.as_slice();
         judge(
             alloc,
             separator,
@@ -85,6 +82,14 @@ pub fn try_changes<S: World>(
         )?;
     }
     Ok(())
+}
+
+// A changed copy of a proof.
+fn changed<S: World>(alloc: Global, rng: &mut Xoshiro256PlusPlus, proof: &[u8]) -> Result<Vec<u8>> {
+    let mut narg = Vec::new(alloc);
+    narg.extend_from_slice(proof)?;
+    change(rng, &mut narg, S::Field::ORDER_U64, element_width::<S>())?;
+    Ok(narg)
 }
 
 // Verifies a changed proof.

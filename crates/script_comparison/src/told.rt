@@ -40,57 +40,64 @@ pub fn refused(alloc: Global, fault: &Fault) -> Result<String> {
     }
 }
 
-/// The numbers that were drawn, with spaces between; those of one element's coefficients with commas.
-pub fn drawn<S: World>(alloc: Global, challenges: &[Drawn<S>]) -> Result<String> {
-    let mut text = String::new(alloc);
+/// Adds the numbers that were drawn, with spaces between; those of one element's coefficients with commas.
+pub fn push_drawn<S: World>(text: &mut String, challenges: &[Drawn<S>]) -> Result<()> {
+    let start = text.len();
     for challenge in challenges {
         match challenge {
-            Drawn::Scalars(elements) => {
-                for element in elements {
-                    push_word(&mut text, ' ', element.as_canonical_u64())?;
-                }
-            }
+            Drawn::Scalars(elements) => push_scalars::<S>(text, start, elements.as_slice())?,
             Drawn::Extensions(elements) => {
                 for element in elements {
-                    push_extension::<S>(&mut text, element)?;
+                    push_extension::<S>(text, start, element)?;
                 }
             }
             Drawn::Bits(bits) => {
                 for number in bits {
-                    push_word(&mut text, ' ', *number as u64)?;
+                    push_word(text, start, ' ', *number as u64)?;
                 }
             }
         }
     }
-    Ok(text)
+    Ok(())
 }
 
 // Adds the coefficients of an element, with commas between.
-fn push_extension<S: World>(text: &mut String, element: &S::Extension) -> Result<()> {
+fn push_extension<S: World>(text: &mut String, start: usize, element: &S::Extension) -> Result<()> {
     let mut separator = ' ';
     for coefficient in element.as_basis_coefficients_slice() {
-        push_word(text, separator, coefficient.as_canonical_u64())?;
+        push_word(text, start, separator, coefficient.as_canonical_u64())?;
         separator = ',';
     }
     Ok(())
 }
 
-// Adds a number, after this letter where it is not the first.
-fn push_word(text: &mut String, separator: char, number: u64) -> Result<()> {
-    if !text.is_empty() {
+// Adds the numbers of scalars, with spaces between.
+fn push_scalars<S: World>(text: &mut String, start: usize, scalars: &[S::Field]) -> Result<()> {
+    for scalar in scalars {
+        push_word(text, start, ' ', scalar.as_canonical_u64())?;
+    }
+    Ok(())
+}
+
+// Adds a number, after this letter where it is not the first of those that begin at the start.
+fn push_word(text: &mut String, start: usize, separator: char, number: u64) -> Result<()> {
+    if text.len() > start {
         text.push(separator)?;
     }
     write!(text, "{number}")?;
     Ok(())
 }
 
-/// The numbers of scalars, with spaces between.
-pub fn numbers<S: World>(alloc: Global, scalars: &[S::Field]) -> Result<String> {
-    let mut text = String::new(alloc);
-    for scalar in scalars {
-        push_word(&mut text, ' ', scalar.as_canonical_u64())?;
-    }
-    Ok(text)
+/// Adds the numbers of scalars, with spaces between.
+pub fn push_numbers<S: World>(text: &mut String, scalars: &[S::Field]) -> Result<()> {
+    let start = text.len();
+    push_scalars::<S>(text, start, scalars)
+}
+
+/// Adds bytes in hexadecimal.
+pub fn push_bytes(alloc: Global, text: &mut String, bytes: &[u8]) -> Result<()> {
+    text.push_str(hex::encode(alloc, bytes)?.as_str())?;
+    Ok(())
 }
 
 /// ` ; received VALUES`, with strokes between: numbers, or bytes in hexadecimal after `0x`.
@@ -98,23 +105,24 @@ pub fn received<S: World>(alloc: Global, values: &[Received<'_, S>]) -> Result<S
     let mut text = String::from_str(alloc, " ; received")?;
     for (i, value) in values.iter().enumerate() {
         text.push_str(if i == 0 { " " } else { " / " })?;
-        text.push_str(value_text(alloc, value)?.as_str())?;
+        push_value(alloc, &mut text, value)?;
     }
     Ok(text)
 }
 
-fn value_text<S: World>(alloc: Global, value: &Received<'_, S>) -> Result<String> {
+fn push_value<S: World>(alloc: Global, text: &mut String, value: &Received<'_, S>) -> Result<()> {
     match value {
         Received::Bytes(bytes) => {
-            let digits = hex::encode(alloc, *bytes)?;
-            Ok(format!(in alloc; "0x{digits}")?)
+            text.push_str("0x")?;
+            push_bytes(alloc, text, *bytes)
         }
-        Received::Scalar(scalar) | Received::Witness(scalar) => numbers::<S>(alloc, &[*scalar]),
-        Received::Scalars(scalars) => numbers::<S>(alloc, scalars.as_slice()),
+        Received::Scalar(scalar) | Received::Witness(scalar) => {
+            push_numbers::<S>(text, &[*scalar])
+        }
+        Received::Scalars(scalars) => push_numbers::<S>(text, scalars.as_slice()),
         Received::Extension(element) => {
-            let mut text = String::new(alloc);
-            push_extension::<S>(&mut text, element)?;
-            Ok(text)
+            let start = text.len();
+            push_extension::<S>(text, start, element)
         }
     }
 }

@@ -1,5 +1,5 @@
 // A whole script by one call on each side.
-use crate::told::{Told, drawn, numbers, received, refused};
+use crate::told::{Told, push_bytes, push_drawn, push_numbers, received, refused};
 use anyhow::Result;
 use p3_challenger::fs::script::{Fault, Proved, Verified};
 use script_lines::playing::{prove_steps, verify_steps};
@@ -33,19 +33,36 @@ impl<S: World> Written<S> {
 
     /// Of a prover that has played all steps, whose challenger draws so many scalars then.
     pub fn proved(alloc: Global, mut proved: Proved<S>, next: usize) -> Result<Written<S>> {
-        let wire = hex::encode(alloc, proved.narg.as_slice())?;
-        let draws = drawn::<S>(alloc, proved.challenges.as_slice())?;
-        let witnesses = numbers::<S>(alloc, proved.witnesses.as_slice())?;
-        let state = S::state(alloc, &mut proved.challenger, next)?;
-        let text = format!(in alloc;
-            "wire {wire} ; draws {draws} ; witnesses {witnesses} ; {state}"
-        )?;
+        let text = proved_text(alloc, &mut proved, next)?;
         Ok(Written {
             told: Told::plain(alloc, text),
             narg: proved.narg,
             carried: proved.carried,
         })
     }
+}
+
+fn proved_text<S: World>(alloc: Global, proved: &mut Proved<S>, next: usize) -> Result<String> {
+    let mut text = String::from_str(alloc, "wire ")?;
+    push_bytes(alloc, &mut text, proved.narg.as_slice())?;
+    text.push_str(" ; draws ")?;
+    push_drawn::<S>(&mut text, proved.challenges.as_slice())?;
+    text.push_str(" ; witnesses ")?;
+    push_numbers::<S>(&mut text, proved.witnesses.as_slice())?;
+    text.push_str(" ; ")?;
+    push_state::<S>(alloc, &mut text, &mut proved.challenger, next)?;
+    Ok(text)
+}
+
+// Adds what the challenger draws then.
+fn push_state<S: World>(
+    alloc: Global,
+    text: &mut String,
+    challenger: &mut S::Challenger,
+    next: usize,
+) -> Result<()> {
+    text.push_str(S::state(alloc, challenger, next)?.as_str())?;
+    Ok(())
 }
 
 /// Plays the script by `prove`.
@@ -82,10 +99,19 @@ pub fn accepted<S: World>(
     mut verified: Verified<'_, S>,
     next: usize,
 ) -> Result<Told> {
-    let draws = drawn::<S>(alloc, verified.challenges.as_slice())?;
-    let state = S::state(alloc, &mut verified.challenger, next)?;
-    Ok(Told {
-        text: format!(in alloc; "accepted {draws} {state}")?,
-        more: received::<S>(alloc, verified.received.as_slice())?,
-    })
+    let text = accepted_text(alloc, &mut verified, next)?;
+    let more = received::<S>(alloc, verified.received.as_slice())?;
+    Ok(Told { text, more })
+}
+
+fn accepted_text<S: World>(
+    alloc: Global,
+    verified: &mut Verified<'_, S>,
+    next: usize,
+) -> Result<String> {
+    let mut text = String::from_str(alloc, "accepted ")?;
+    push_drawn::<S>(&mut text, verified.challenges.as_slice())?;
+    text.push(' ')?;
+    push_state::<S>(alloc, &mut text, &mut verified.challenger, next)?;
+    Ok(text)
 }
