@@ -49,11 +49,12 @@ impl Tally {
     }
 }
 
-/// From what proofs are changed, and how often each one is.
+/// From what proofs are changed, how often each one is, and what became of them.
 #[derive(Drop)]
 pub struct Changes {
     pub rng: Xoshiro256PlusPlus,
     pub count: u64,
+    pub tally: Tally,
 }
 
 /// Proves the script, and verifies so many changes of its proof. The error is a change of which the verdict is neither of the
@@ -63,7 +64,6 @@ pub fn try_changes<S: World>(
     separator: &SeparatorOf<S>,
     script: &Steps<S>,
     changes: &mut Changes,
-    tally: &mut Tally,
 ) -> Result<()> {
     let (steps, sent) = (script.steps.as_slice(), script.sent.as_slice());
     let Ok(Ok(proved)) = prove_steps::<S>(alloc, S::fresh(alloc)?, separator, steps, sent) else {
@@ -75,7 +75,14 @@ pub fn try_changes<S: World>(
         narg.extend_from_slice(proved.narg.as_slice())?;
         let width = element_width::<S>();
         change(&mut changes.rng, &mut narg, S::Field::ORDER_U64, width)?;
-        judge(alloc, separator, steps, carried, narg.as_slice(), tally)?;
+        judge(
+            alloc,
+            separator,
+            steps,
+            carried,
+            narg.as_slice(),
+            &mut changes.tally,
+        )?;
     }
     Ok(())
 }

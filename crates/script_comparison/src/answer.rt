@@ -1,5 +1,5 @@
 // A script on both sides, each in both ways.
-use crate::hostile::{Changes, Tally, try_changes};
+use crate::hostile::{Changes, try_changes};
 use crate::proving::prove_by_steps;
 use crate::told::Told;
 use crate::verifying::verify_by_steps;
@@ -21,12 +21,7 @@ pub struct Answered {
 
 /// Plays the script of a line with a prover, and then with a verifier of the proof as the line changes it; and judges
 /// changes of the proof.
-pub fn play<S: World>(
-    alloc: Global,
-    line: &Line<'_>,
-    changes: &mut Changes,
-    tally: &mut Tally,
-) -> Result<Answered> {
+pub fn play<S: World>(alloc: Global, line: &Line<'_>, changes: &mut Changes) -> Result<Answered> {
     let mut script = Script::<S>::parse(alloc, line)?;
     let steps = script.played.steps.len();
     if !admitted(script.played.steps.as_slice()) {
@@ -35,7 +30,7 @@ pub fn play<S: World>(
     }
     let separator = script.separator(alloc, line)?;
     let text = both_sides(alloc, line, &separator, &mut script)?;
-    try_changes(alloc, &separator, &script.played, changes, tally)?;
+    try_changes(alloc, &separator, &script.played, changes)?;
     Ok(Answered { text, steps })
 }
 
