@@ -1,14 +1,15 @@
 // A protocol, as its file has it.
-use crate::entry::Entry;
-use crate::numbers::bytes;
 use crate::steps::parse_step;
 use anyhow::{Context, Result, bail};
-use p3_challenger::fs::script::{Step, Suite};
+use p3_challenger::fs::script::{Fault, Step, Suite};
 use p3_challenger::fs::{DomainSeparator, InteractionPattern};
 use script_lines::alone::{is_admitted, only};
 use script_lines::recording::record;
 use script_lines::world::{SeparatorOf, World};
 use std::alloc::Global;
+use tealmuze_text::entry::Entry;
+use tealmuze_text::numbers::bytes;
+use tealmuze_text::refusal::RefusalShown;
 
 /// What a file calls a step.
 #[derive(Clone, Copy, Debug)]
@@ -49,6 +50,25 @@ impl<'a, S: World> Protocol<'a, S> {
             names,
         })
     }
+}
+
+/// The refusal that a fault is of the steps of these names, at this byte of the proof if one is known.
+pub fn refusal<'a>(
+    alloc: Global,
+    names: &[Name<'a>],
+    fault: &Fault,
+    byte: Option<usize>,
+) -> Result<RefusalShown<'a>> {
+    let error = &fault.error;
+    let reason = format!(in alloc; "{error}")?;
+    let name = names.get(fault.position).copied();
+    Ok(RefusalShown {
+        step: fault.position,
+        kind: name.map(|name| name.kind),
+        label: name.map(|name| name.label),
+        byte,
+        reason,
+    })
 }
 
 fn parse_named<'a, S: World>(alloc: Global, value: &'a toml::Value) -> Result<(Step<S>, Name<'a>)> {
