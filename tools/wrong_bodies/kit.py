@@ -1,47 +1,15 @@
-"""The kit's own Python code, found from the command `rt` on the PATH."""
+"""The kit's own Python code, as `tools/rt` has it."""
 import importlib.machinery
 import importlib.util
 import os
-import shutil
-import sys
-import threading
 
+TOOLS = os.path.dirname(os.path.dirname(os.path.realpath(__file__)))
+LOADER = importlib.machinery.SourceFileLoader("tools_rt", f"{TOOLS}/rt")
+COMMAND = importlib.util.module_from_spec(importlib.util.spec_from_loader("tools_rt", LOADER))
+LOADER.exec_module(COMMAND)
 
-def loaded(name, path):
-    """Returns the Python file as a module of this name."""
-    loader = importlib.machinery.SourceFileLoader(name, path)
-    module = importlib.util.module_from_spec(importlib.util.spec_from_loader(name, loader))
-    sys.modules[name] = module
-    loader.exec_module(module)
-    return module
-
-
-def folder():
-    """Returns the folder in which the kit's commands stand."""
-    command = shutil.which("rt")
-    if not command:
-        sys.exit("the command rt is not on the PATH: it is the Rattle kit's")
-    return os.path.dirname(os.path.realpath(command))
-
-
+loaded = COMMAND.loaded
 # What `rt` knows of crates: their folders, their libraries, and how rattle is called on them.
-rtlib = loaded("rtlib", f"{folder()}/rtlib.py")
-STAMPS = threading.local()
-
-
-def stamp_once(crate, made=rtlib.Crate.stamp):
-    """As rtlib's stamp of a crate, which reads a library's files once for each way that leads to it; this reads them once."""
-    if getattr(STAMPS, "seen", None) is None:
-        STAMPS.seen = {}
-        try:
-            return stamp_once(crate)
-        finally:
-            STAMPS.seen = None
-    if crate.folder not in STAMPS.seen:
-        STAMPS.seen[crate.folder] = made(crate)
-    return STAMPS.seen[crate.folder]
-
-
-rtlib.Crate.stamp = stamp_once
+rtlib = COMMAND.rt.rtlib
 # Where the functions of a crate's source begin and end.
-bodies = loaded("rt_plant_bodies", f"{folder()}/rt-plant-bodies")
+bodies = loaded("rt_plant_bodies", f"{COMMAND.folder()}/rt-plant-bodies")

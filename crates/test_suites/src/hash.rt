@@ -1,10 +1,10 @@
 //! Suites over `HashChallenger` of bytes.
 
+use crate::byte_hasher::ByteHasher;
 use p3_challenger::HashChallenger;
 use p3_challenger::fs::BytesToFieldCodec;
 use p3_challenger::fs::script::{AcceptAll, Plain, Suite};
 use p3_field::{BabyBear, Coeffs};
-use crate::byte_hasher::ByteHasher;
 use p3_symmetric::Sha256Hasher;
 use std::marker::PhantomData;
 

@@ -4,6 +4,8 @@
 #[cfg(test)]
 mod counting;
 #[cfg(test)]
+mod plain;
+#[cfg(test)]
 mod printed;
 #[cfg(test)]
 mod searches;
