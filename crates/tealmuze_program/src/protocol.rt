@@ -35,13 +35,7 @@ impl<'a, S: World> Protocol<'a, S> {
     /// Reads a protocol. The error says what is wrong and where, or that memory ran out.
     pub fn parse(alloc: Global, file: Entry<'a>) -> Result<Protocol<'a, S>> {
         file.only(&["suite", "name", "version", "instance", "steps"])?;
-        let mut steps = Vec::new(alloc);
-        let mut names = Vec::new(alloc);
-        for (place, value) in file.list("steps")?.iter().enumerate() {
-            let (step, name) = parse_named(alloc, value).context(format_args!("steps[{place}]"))?;
-            steps.push(step)?;
-            names.push(name)?;
-        }
+        let (steps, names) = parse_steps(alloc, file.list("steps")?)?;
         check_admitted(steps.as_slice())?;
         let separator = parse_separator::<S>(alloc, file, steps.as_slice())?;
         Ok(Protocol {
@@ -79,6 +73,21 @@ fn parse_named<'a, S: World>(alloc: Global, value: &'a toml::Value) -> Result<(S
         label: entry.text("label")?,
     };
     Ok((step, name))
+}
+
+// The steps, and what the file calls each of them.
+fn parse_steps<'a, S: World>(
+    alloc: Global,
+    list: &'a [toml::Value],
+) -> Result<(Vec<Step<S>>, Vec<Name<'a>>)> {
+    let mut steps = Vec::new(alloc);
+    let mut names = Vec::new(alloc);
+    for (place, value) in list.iter().enumerate() {
+        let (step, name) = parse_named(alloc, value).context(format_args!("steps[{place}]"))?;
+        steps.push(step)?;
+        names.push(name)?;
+    }
+    Ok((steps, names))
 }
 
 // Refuses steps of which the suite does not play one.
