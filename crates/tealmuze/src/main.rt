@@ -1,11 +1,12 @@
 //! The program `tealmuze`: plays the transcript of a protocol that stands in a file. `docs/TEALMUZE.md` is its manual, and
-//! [`tealmuze_program`] what it answers.
+//! [`tealmuze_program`] what it answers, to what [`tealmuze_text`] reads.
 #![tactic(auto)]
 
 use anyhow::{Context, Result};
 use std::io::Write;
 use std::process::ExitCode;
 use std::{env, fs, io};
+use tealmuze_text::command;
 
 // The exit status where the input is bad.
 const BAD_INPUT: u8 = 2;
@@ -28,14 +29,14 @@ fn run(rt: &HostRuntime) -> Result<u8> {
         .iter()
         .map(|argument| argument.as_str())
         .collect(alloc)?;
-    let matches = match tealmuze_program::parse(alloc, words.as_slice()) {
+    let matches = match command::parse(alloc, words.as_slice()) {
         Ok(matches) => matches,
         Err(error) => {
             error.print(rt)?;
             return Ok(error.exit_code() as u8);
         }
     };
-    let request = tealmuze_program::request_of(alloc, &matches)?;
+    let request = command::request_of(alloc, &matches)?;
     let file = fs::read_to_string(rt, request.file).context(request.file)?;
     let second = match request.second {
         Some(path) => fs::read(rt, path).context(path)?,

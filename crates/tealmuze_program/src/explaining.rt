@@ -2,15 +2,17 @@
 ghost use Rattle.std.specs.Prelude.{◌≡◌, ◌+◌, ◌++◌, IfOk, IfSome, OnOk, None, [], flat_map, length};
 
 use crate::fault::fault_byte;
-use crate::shown::{Shown, drawn, known, received};
-use crate::suites::HashesBytes;
+use crate::shown::{drawn, known, received};
+use crate::suites::Told;
 use anyhow::{Result, bail};
 use p3_challenger::fs::script::{Answer, Fault, Received, Step, Suite, verifier_step};
-use p3_challenger::fs::{TranscriptError, VerifierState};
+use p3_challenger::fs::{Codec, TranscriptError, VerifierState};
 use p3_field::PrimeField64;
 use script_lines::alone::{is_admitted, is_carried, only};
 use script_lines::world::SeparatorOf;
 use std::alloc::Global;
+use tealmuze_text::proofs::copied;
+use tealmuze_text::shown::Shown;
 
 type VerifierOf<'n, S> = VerifierState<
     'n,
@@ -28,8 +30,8 @@ pub struct Row<'n> {
     pub read: &'n [u8],
     /// The value that it received, or that both sides know.
     pub value: Option<Shown>,
-    /// The bytes that it fed the challenger.
-    pub fed: Vec<u8>,
+    /// The bytes that it fed the challenger, where that keeps them.
+    pub fed: Option<Vec<u8>>,
     /// What it drew.
     pub drawn: Option<Shown>,
 }
@@ -37,8 +39,8 @@ pub struct Row<'n> {
 /// What became of a proof.
 #[derive(Drop)]
 pub struct Explained<'n> {
-    /// The bytes that the separator fed the challenger.
-    pub seed: Vec<u8>,
+    /// The bytes that the separator fed the challenger, where that keeps them.
+    pub seed: Option<Vec<u8>>,
     /// What the steps did, in order, up to the one that was refused.
     pub rows: Vec<Row<'n>>,
     /// The bytes that they left.
@@ -48,7 +50,7 @@ pub struct Explained<'n> {
 }
 
 /// Plays a proof step by step on a verifier. The error is that the steps cannot be played, or that memory ran out.
-pub fn explain<'n, S: HashesBytes>(
+pub fn explain<'n, S: Told>(
     alloc: Global,
     separator: &SeparatorOf<S>,
     steps: &[Step<S>],
@@ -60,7 +62,7 @@ pub fn explain<'n, S: HashesBytes>(
     ensures stopped { IfOk result (λ e. IfSome e.refused (λ refused. refused.0.position ≡ length e.rows.items)) }
 {
     let mut explained = Explained {
-        seed: Vec::new(alloc),
+        seed: None,
         rows: Vec::new(alloc),
         unread: proof,
         refused: None,
@@ -80,7 +82,7 @@ pub fn explain<'n, S: HashesBytes>(
 }
 
 // Plays the steps up to the first that is refused.
-fn play<'n, S: HashesBytes>(
+fn play<'n, S: Told>(
     alloc: Global,
     verifier: &mut VerifierOf<'n, S>,
     steps: &[Step<S>],
@@ -95,24 +97,26 @@ fn play<'n, S: HashesBytes>(
     ensures stopped { OnOk result
         (IfSome explained.new.refused (λ refused. refused.0.position ≡ length explained.new.rows.items)) }
 {
-    explained.seed = copied(alloc, S::pending(verifier.challenger_mut()))?;
+    explained.seed = waiting::<S>(alloc, verifier.challenger_mut(), 0)?;
     let mut carried = carried.iter();
     for position in 0..steps.len() {
-        let witness = match &steps[position] {
+        let step = &steps[position];
+        let witness = match step {
             Step::ObservePow { .. } => carried.next().copied(),
             _ => None,
         };
-        let pending = S::pending(verifier.challenger_mut()).len();
+        let pending = pending_len::<S>(verifier.challenger_mut());
         let offset = proof.len().saturating_sub(explained.unread.len());
         match play_step(alloc, verifier, &steps[position..=position], witness)? {
             Ok(answer) => {
-                let fed = fed::<S>(alloc, verifier, &steps[position], witness, &answer, pending)?;
+                let challenger = verifier.challenger_mut();
+                let fed = fed::<S>(alloc, challenger, step, witness, &answer, pending)?;
                 let left = verifier.remaining_narg();
-                let value = value_of::<S>(alloc, &steps[position], &answer, witness)?;
+                let value = value_of::<S>(alloc, step, &answer, witness)?;
                 explained.keep::<S>(alloc, answer, value, fed, offset, left)?;
             }
             Err(error) => {
-                let byte = fault_byte(&steps[position], &error, proof, offset);
+                let byte = fault_byte(step, &error, proof, offset);
                 explained.refused = Some((Fault { position, error }, byte));
                 break;
             }
@@ -137,12 +141,12 @@ impl<'n> Explained<'n> {
     }
 
     // Keeps what a step answered, which began to read at `offset` and left so many bytes.
-    fn keep<S: HashesBytes>(
+    fn keep<S: Told>(
         &mut self,
         alloc: Global,
         answer: Answer<'n, S>,
         value: Option<Shown>,
-        fed: Vec<u8>,
+        fed: Option<Vec<u8>>,
         offset: usize,
         left: usize,
     ) -> Result<()>
@@ -169,7 +173,7 @@ impl<'n> Explained<'n> {
 }
 
 // The value of a step: what it received, the witness that the caller carried to it, or what both sides know.
-fn value_of<S: HashesBytes>(
+fn value_of<S: Told>(
     alloc: Global,
     step: &Step<S>,
     answer: &Answer<'_, S>,
@@ -197,45 +201,58 @@ fn play_step<'n, S: Suite>(
     }
 }
 
-// The bytes that a step fed the challenger, of which so many were pending before it.
-fn fed<S: HashesBytes>(
+// The bytes that a step fed the challenger, which had so many pending before it.
+fn fed<S: Told>(
     alloc: Global,
-    verifier: &mut VerifierOf<'_, S>,
+    challenger: &S::Challenger,
     step: &Step<S>,
     carried: Option<S::Field>,
     answer: &Answer<'_, S>,
     pending: usize,
-) -> Result<Vec<u8>> {
-    // Without bits nothing is checked, and nothing observed.
-    let is_checked = match step {
-        Step::Pow { bits, .. } | Step::ObservePow { bits, .. } => *bits > 0,
-        _ => false,
-    };
-    if is_checked {
-        if let Some(Received::Witness(witness)) = &answer.0 {
-            return fed_by_witness::<S>(alloc, witness);
-        }
-        if let Some(witness) = carried {
-            return fed_by_witness::<S>(alloc, &witness);
-        }
+) -> Result<Option<Vec<u8>>> {
+    match (checked_witness::<S>(step, carried, answer), &answer.1) {
+        (Some(witness), _) => fed_by_witness::<S>(alloc, &witness),
+        (None, Some(_)) => waiting::<S>(alloc, challenger, usize::MAX),
+        (None, None) => waiting::<S>(alloc, challenger, pending),
     }
-    if answer.1.is_some() {
-        return Ok(Vec::new(alloc));
+}
+
+// The witness that a step checks. Without bits nothing is checked, and nothing observed.
+fn checked_witness<S: Told>(
+    step: &Step<S>,
+    carried: Option<S::Field>,
+    answer: &Answer<'_, S>,
+) -> Option<S::Field> {
+    match (step, &answer.0) {
+        (Step::Pow { bits, .. }, Some(Received::Witness(witness))) if *bits > 0 => Some(*witness),
+        (Step::ObservePow { bits, .. }, _) if *bits > 0 => carried,
+        _ => None,
     }
-    let after = S::pending(verifier.challenger_mut());
-    copied(alloc, after.get(pending..).unwrap_or(&[]))
 }
 
 // The bytes that a witness feeds. The draw after it hashes them, so they are read off another challenger.
-fn fed_by_witness<S: HashesBytes>(alloc: Global, witness: &S::Field) -> Result<Vec<u8>> {
+fn fed_by_witness<S: Told>(alloc: Global, witness: &S::Field) -> Result<Option<Vec<u8>>> {
     let mut challenger = S::fresh(alloc)?;
-    S::observe_witness(&mut challenger, witness)?;
-    copied(alloc, S::pending(&challenger))
+    S::Codec::observe(&mut challenger, witness)?;
+    waiting::<S>(alloc, &challenger, 0)
 }
 
-/// A copy of bytes.
-pub fn copied(alloc: Global, bytes: &[u8]) -> Result<Vec<u8>> {
-    let mut copy = Vec::with_capacity(alloc, bytes.len())?;
-    copy.extend_from_slice(bytes)?;
-    Ok(copy)
+// What waits in a challenger after so many bytes, if it keeps what it is fed.
+fn waiting<S: Told>(
+    alloc: Global,
+    challenger: &S::Challenger,
+    from: usize,
+) -> Result<Option<Vec<u8>>> {
+    match S::pending(challenger) {
+        Some(bytes) => Ok(Some(copied(alloc, bytes.get(from..).unwrap_or(&[]))?)),
+        None => Ok(None),
+    }
+}
+
+// How many bytes wait in a challenger that keeps them.
+fn pending_len<S: Told>(challenger: &S::Challenger) -> usize {
+    match S::pending(challenger) {
+        Some(bytes) => bytes.len(),
+        None => 0,
+    }
 }

@@ -6,20 +6,14 @@
 #![tactic(auto)]
 
 mod answer;
-mod command;
-mod entry;
+mod elements;
 mod explaining;
 mod explanation;
 mod fault;
-mod labels;
-mod numbers;
 mod protocol;
-mod refusal;
 mod shown;
 mod steps;
 mod suites;
-mod table;
 mod values;
 
-pub use answer::{Answer, respond};
-pub use command::{Command, Request, parse, request_of};
+pub use answer::respond;

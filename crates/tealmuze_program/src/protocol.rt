@@ -1,14 +1,15 @@
 // A protocol, as its file has it.
-use crate::entry::Entry;
-use crate::numbers::bytes;
 use crate::steps::parse_step;
 use anyhow::{Context, Result, bail};
-use p3_challenger::fs::script::{Step, Suite};
+use p3_challenger::fs::script::{Fault, Step, Suite};
 use p3_challenger::fs::{DomainSeparator, InteractionPattern};
 use script_lines::alone::{is_admitted, only};
 use script_lines::recording::record;
 use script_lines::world::{SeparatorOf, World};
 use std::alloc::Global;
+use tealmuze_text::entry::Entry;
+use tealmuze_text::numbers::bytes;
+use tealmuze_text::refusal::RefusalShown;
 
 /// What a file calls a step.
 #[derive(Clone, Copy, Debug)]
@@ -34,13 +35,7 @@ impl<'a, S: World> Protocol<'a, S> {
     /// Reads a protocol. The error says what is wrong and where, or that memory ran out.
     pub fn parse(alloc: Global, file: Entry<'a>) -> Result<Protocol<'a, S>> {
         file.only(&["suite", "name", "version", "instance", "steps"])?;
-        let mut steps = Vec::new(alloc);
-        let mut names = Vec::new(alloc);
-        for (place, value) in file.list("steps")?.iter().enumerate() {
-            let (step, name) = parse_named(alloc, value).context(format_args!("steps[{place}]"))?;
-            steps.push(step)?;
-            names.push(name)?;
-        }
+        let (steps, names) = parse_steps(alloc, file.list("steps")?)?;
         check_admitted(steps.as_slice())?;
         let separator = parse_separator::<S>(alloc, file, steps.as_slice())?;
         Ok(Protocol {
@@ -51,6 +46,25 @@ impl<'a, S: World> Protocol<'a, S> {
     }
 }
 
+/// The refusal that a fault is of the steps of these names, at this byte of the proof if one is known.
+pub fn refusal<'a>(
+    alloc: Global,
+    names: &[Name<'a>],
+    fault: &Fault,
+    byte: Option<usize>,
+) -> Result<RefusalShown<'a>> {
+    let error = &fault.error;
+    let reason = format!(in alloc; "{error}")?;
+    let name = names.get(fault.position).copied();
+    Ok(RefusalShown {
+        step: fault.position,
+        kind: name.map(|name| name.kind),
+        label: name.map(|name| name.label),
+        byte,
+        reason,
+    })
+}
+
 fn parse_named<'a, S: World>(alloc: Global, value: &'a toml::Value) -> Result<(Step<S>, Name<'a>)> {
     let entry = Entry::of(value)?;
     let step = parse_step(alloc, entry)?;
@@ -59,6 +73,21 @@ fn parse_named<'a, S: World>(alloc: Global, value: &'a toml::Value) -> Result<(S
         label: entry.text("label")?,
     };
     Ok((step, name))
+}
+
+// The steps, and what the file calls each of them.
+fn parse_steps<'a, S: World>(
+    alloc: Global,
+    list: &'a [toml::Value],
+) -> Result<(Vec<Step<S>>, Vec<Name<'a>>)> {
+    let mut steps = Vec::new(alloc);
+    let mut names = Vec::new(alloc);
+    for (place, value) in list.iter().enumerate() {
+        let (step, name) = parse_named(alloc, value).context(format_args!("steps[{place}]"))?;
+        steps.push(step)?;
+        names.push(name)?;
+    }
+    Ok((steps, names))
 }
 
 // Refuses steps of which the suite does not play one.

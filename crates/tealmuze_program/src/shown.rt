@@ -1,58 +1,9 @@
-// Values as they are shown, in a table and in JSON.
+// Values of a suite as they are shown.
 use anyhow::Result;
 use p3_challenger::fs::script::{Drawn, Received, Step, Suite};
 use p3_field::{BasedVectorSpace, PrimeField64};
-use serde::Serialize;
 use std::alloc::Global;
-use std::fmt;
-
-/// A value that is sent, observed or drawn.
-#[derive(Debug, Drop, Serialize)]
-#[serde(untagged)]
-pub enum Shown {
-    /// Bytes, in hexadecimal.
-    Bytes(String),
-    /// A scalar by its canonical number.
-    Number(u64),
-    /// Scalars, or the numbers of bits that were drawn.
-    Numbers(Vec<u64>),
-    /// Elements of the extension, each by the numbers of its coefficients.
-    Elements(Vec<Vec<u64>>),
-}
-
-impl fmt::Display for Shown {
-    fn fmt<W: fmt::Write>(&self, f: &mut fmt::Formatter<W>) -> fmt::Result {
-        match self {
-            Shown::Bytes(digits) => f.write_str(digits.as_str()),
-            Shown::Number(number) => write!(f, "{number}"),
-            Shown::Numbers(numbers) => write_numbers(f, ' ', numbers.as_slice()),
-            Shown::Elements(elements) => {
-                for (at, element) in elements.iter().enumerate() {
-                    if at > 0 {
-                        f.write_str(" ")?;
-                    }
-                    write_numbers(f, ',', element.as_slice())?;
-                }
-                Ok(())
-            }
-        }
-    }
-}
-
-// Numbers with this letter between.
-fn write_numbers<W: fmt::Write>(
-    f: &mut fmt::Formatter<W>,
-    between: char,
-    numbers: &[u64],
-) -> fmt::Result {
-    for (at, number) in numbers.iter().enumerate() {
-        if at > 0 {
-            f.write_char(between)?;
-        }
-        write!(f, "{number}")?;
-    }
-    Ok(())
-}
+use tealmuze_text::shown::Shown;
 
 /// The canonical numbers of scalars.
 pub fn numbers<S: Suite>(alloc: Global, scalars: &[S::Field]) -> Result<Vec<u64>> {

@@ -1,13 +1,14 @@
 // The steps of a protocol, as its file has them.
-use crate::entry::Entry;
-use crate::labels::label;
-use crate::numbers::{extension, extensions, scalar, scalars};
-use anyhow::{Context, Result, bail};
+use crate::elements::{extension, extensions, scalar, scalars};
+use anyhow::{Context, Result};
 use conformance_tokens::tokens::look_up;
 use p3_challenger::fs::script::Step;
 use p3_challenger::fs::{Kind, Label};
 use script_lines::world::World;
 use std::alloc::Global;
+use tealmuze_text::entry::Entry;
+use tealmuze_text::labels::label;
+use tealmuze_text::steps::keys_of;
 use toml::Value;
 
 // What a container is of.
@@ -48,27 +49,6 @@ fn parse_named<S: World>(
         }
         "challenge_bits" | "challenge_uniform_bits" => parse_bits(entry, name, label),
         _ => parse_counted(entry, name, label),
-    }
-}
-
-// The keys of a step.
-fn keys_of(name: &str) -> Result<&'static [&'static str]> {
-    match name {
-        "begin" | "end" => Ok(&["type", "label", "kind"]),
-        "salt" | "bytes" | "hint" => Ok(&["type", "label", "len"]),
-        "bytes_bounded" | "hint_bounded" | "scalars_bounded" => Ok(&["type", "label", "max"]),
-        "scalar" | "extension" | "challenge_scalar" | "challenge_extension" => {
-            Ok(&["type", "label"])
-        }
-        "public_scalar" | "observe_extension" | "opaque" => Ok(&["type", "label", "value"]),
-        "public_scalars" | "observe_extensions" => Ok(&["type", "label", "values"]),
-        "public_scalars_bounded" | "observe_extensions_bounded" => {
-            Ok(&["type", "label", "values", "max"])
-        }
-        "scalars" | "challenge_scalars" | "challenge_extensions" => Ok(&["type", "label", "n"]),
-        "challenge_bits" | "challenge_uniform_bits" => Ok(&["type", "label", "width", "n"]),
-        "pow" | "observe_pow" => Ok(&["type", "label", "bits"]),
-        _ => bail!("type: unknown step `{name}`"),
     }
 }
 

@@ -1,21 +1,66 @@
-// The suites that a file can name, all over SHA-256.
-use anyhow::{Result, bail};
+// The suites that a file can name, and what is told of their challengers.
+use anyhow::Result;
 use p3_challenger::fs::BytesToFieldCodec;
 use p3_challenger::fs::script::{AcceptAll, Plain, Suite};
-use p3_challenger::{CanObserve, HashChallenger};
-use p3_field::Goldilocks;
-use p3_symmetric::Sha256Hasher;
+use p3_challenger::{
+    DuplexChallenger, HashChallenger, MultiField32Challenger, SerializingChallenger,
+};
+use p3_field::{FieldBridge, Goldilocks, PrimeField32, PrimeField64};
+use p3_symmetric::{CryptographicHasher, Sha256Hasher};
 use script_lines::world::World;
 use std::alloc::Global;
-use test_suites::{HashSuite, Serializing32Suite, Serializing64Suite};
+use test_suites::HashSuite;
 
-/// A suite whose challenger hashes bytes.
-pub trait HashesBytes: World {
-    /// The bytes that wait to be hashed: a step that draws nothing adds what it feeds at their end.
-    fn pending(challenger: &Self::Challenger) -> &[u8];
+/// A challenger that tells what it keeps of what it was fed.
+pub trait Keeps {
+    /// The bytes that wait to be hashed: a step that draws nothing adds what it feeds at their end. None of a challenger
+    /// that permutes what it is fed into its cells, and so keeps none.
+    fn pending(&self) -> Option<&[u8]>;
+}
 
-    /// Observes a witness as a proof of work does.
-    fn observe_witness(challenger: &mut Self::Challenger, witness: &Self::Field) -> Result<()>;
+impl<H: CryptographicHasher<u8, [u8; 32]>> Keeps for HashChallenger<u8, H, 32> {
+    fn pending(&self) -> Option<&[u8]> {
+        Some(self.input())
+    }
+}
+
+impl<F, C: Keeps, const BYTES: usize> Keeps for SerializingChallenger<F, C, BYTES> {
+    fn pending(&self) -> Option<&[u8]> {
+        self.inner().pending()
+    }
+}
+
+impl<F, P, const WIDTH: usize, const RATE: usize> Keeps for DuplexChallenger<F, P, WIDTH, RATE> {
+    fn pending(&self) -> Option<&[u8]> {
+        None
+    }
+}
+
+impl<
+    F: PrimeField32,
+    C: PrimeField64 + FieldBridge<F, C>,
+    P,
+    const WIDTH: usize,
+    const RATE: usize,
+> Keeps for MultiField32Challenger<F, C, P, WIDTH, RATE> {
+    fn pending(&self) -> Option<&[u8]> {
+        None
+    }
+}
+
+/// A suite of which it is told what each step did.
+pub trait Told: World {
+    /// What waits in the challenger, if it keeps it.
+    fn pending(challenger: &Self::Challenger) -> Option<&[u8]>;
+}
+
+impl<S: World> Told for S
+where
+    S::Challenger: Keeps,
+{
+    fn pending(challenger: &S::Challenger) -> Option<&[u8]> {
+        challenger.pending()
+    }
 }
 
 /// Scripts over `HashChallenger` of bytes with SHA-256, whose scalars are of `Goldilocks` and sent as bytes. The field is
@@ -53,54 +98,14 @@ impl Suite for GoldilocksBytes {
 
 impl World for GoldilocksBytes {
     fn fresh(alloc: Global) -> Result<HashChallenger<u8, Sha256Hasher, 32>> {
-        HashSuite::fresh(alloc)
+        <HashSuite<Sha256Hasher>>::fresh(alloc)
     }
 
     fn opaque(alloc: Global, tokens: &str) -> Result<[u8; 32]> {
-        HashSuite::opaque(alloc, tokens)
+        <HashSuite<Sha256Hasher>>::opaque(alloc, tokens)
     }
 
     fn rule(token: &str) -> Result<AcceptAll> {
-        HashSuite::rule(token)
-    }
-}
-
-impl HashesBytes for HashSuite {
-    fn pending(challenger: &Self::Challenger) -> &[u8] {
-        challenger.input()
-    }
-
-    fn observe_witness(_challenger: &mut Self::Challenger, _witness: &Self::Field) -> Result<()> {
-        bail!("a proof of work over a challenger that has none")
-    }
-}
-
-impl HashesBytes for GoldilocksBytes {
-    fn pending(challenger: &Self::Challenger) -> &[u8] {
-        challenger.input()
-    }
-
-    fn observe_witness(_challenger: &mut Self::Challenger, _witness: &Self::Field) -> Result<()> {
-        bail!("a proof of work over a challenger that has none")
-    }
-}
-
-impl HashesBytes for Serializing32Suite {
-    fn pending(challenger: &Self::Challenger) -> &[u8] {
-        challenger.inner().input()
-    }
-
-    fn observe_witness(challenger: &mut Self::Challenger, witness: &Self::Field) -> Result<()> {
-        Ok(challenger.observe(*witness)?)
-    }
-}
-
-impl HashesBytes for Serializing64Suite {
-    fn pending(challenger: &Self::Challenger) -> &[u8] {
-        challenger.inner().input()
-    }
-
-    fn observe_witness(challenger: &mut Self::Challenger, witness: &Self::Field) -> Result<()> {
-        Ok(challenger.observe(*witness)?)
+        <HashSuite<Sha256Hasher>>::rule(token)
     }
 }

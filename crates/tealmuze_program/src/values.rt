@@ -1,9 +1,10 @@
 // What a prover is handed, as a file has it.
-use crate::numbers::{bytes, extension, items, scalar, scalars};
+use crate::elements::{extension, scalar, scalars};
 use anyhow::{Context, Result, bail};
 use p3_challenger::fs::script::{Sent, Step, Suite};
 use p3_script::{Standing, standing_of};
 use std::alloc::Global;
+use tealmuze_text::numbers::{bytes, items};
 use toml::Value;
 
 /// Reads the values of the steps that send one, in order. The error says what is wrong and where, or that memory ran

@@ -1,11 +1,10 @@
 // What the command line asks for.
 use anyhow::{Context, Result};
 use clap::{Arg, ArgAction, ArgMatches, Error};
-use conformance_tokens::tokens::look_up;
 use std::alloc::{AllocError, Global};
 
 /// What is to be done with a protocol.
-#[derive(Clone, Copy, Debug, PartialEq, Eq)]
+#[derive(Clone, Copy)]
 pub enum Command {
     /// Its pattern is shown, with the digest and the seed.
     Pattern,
@@ -18,7 +17,7 @@ pub enum Command {
 }
 
 /// What the command line asks for.
-#[derive(Debug, Drop)]
+#[derive(Drop)]
 pub struct Request<'a> {
     /// What is to be done.
     pub command: Command,
@@ -34,32 +33,55 @@ pub struct Request<'a> {
     pub carried: Vec<u64>,
 }
 
-/// The commands, by name.
-const COMMANDS: [(&str, Command); 4] = [
-    ("pattern", Command::Pattern),
-    ("prove", Command::Prove),
-    ("verify", Command::Verify),
-    ("explain", Command::Explain),
-];
-
 /// Reads a command line, with the name of the program first. The error is a usage line, or the help that was request for.
 pub fn parse<'a>(alloc: Global, words: &'a [&'a str]) -> Result<ArgMatches<'a>, Error> {
     grammar(alloc)?.try_get_matches_from(words)
 }
 
+// A command as a command line has it: its name, what it is for, and the file that it has beside the protocol's.
+struct Usage {
+    name: &'static str,
+    about: &'static str,
+    second: Option<(&'static str, &'static str)>,
+}
+
+const PATTERN: Usage = Usage {
+    name: "pattern",
+    about: "Shows the pattern, its digest and the seed",
+    second: None,
+};
+
+const PROVE: Usage = Usage {
+    name: "prove",
+    about: "Makes a proof",
+    second: Some(("VALUES", "what the steps send, in TOML")),
+};
+
+const VERIFY: Usage = Usage {
+    name: "verify",
+    about: "Verifies a proof",
+    second: Some(("PROOF", "the proof")),
+};
+
+const EXPLAIN: Usage = Usage {
+    name: "explain",
+    about: "Shows what each step of a proof read, fed and drew",
+    second: Some(("PROOF", "the proof")),
+};
+
 fn grammar<'a>(alloc: Global) -> Result<clap::Command<'a>, AllocError> {
-    let prove = of_file(alloc, "prove", "Makes a proof")?;
-    let prove = prove.arg(path(alloc, "VALUES", "what the steps send, in TOML"))?;
-    let explain = "Shows what each step of a proof read, fed and drew";
-    program(alloc)?
-        .subcommand(of_file(
-            alloc,
-            "pattern",
-            "Shows the pattern, its digest and the seed",
-        )?)?
-        .subcommand(prove)?
-        .subcommand(of_proof(alloc, "verify", "Verifies a proof")?)?
-        .subcommand(of_proof(alloc, "explain", explain)?)
+    let program = with(program(alloc)?, of_file(alloc, &PATTERN))?;
+    let program = with(program, of_file(alloc, &PROVE))?;
+    let program = with(program, of_proof(alloc, &VERIFY))?;
+    with(program, of_proof(alloc, &EXPLAIN))
+}
+
+// The program with one more command, if there is memory for it.
+fn with<'a>(
+    program: clap::Command<'a>,
+    command: Result<clap::Command<'a>, AllocError>,
+) -> Result<clap::Command<'a>, AllocError> {
+    program.subcommand(command?)
 }
 
 // What stands before or after any command.
@@ -72,25 +94,19 @@ fn program<'a>(alloc: Global) -> Result<clap::Command<'a>, AllocError> {
 }
 
 // A command that is about a protocol.
-fn of_file<'a>(
-    alloc: Global,
-    name: &'a str,
-    about: &'a str,
-) -> Result<clap::Command<'a>, AllocError> {
-    clap::Command::new(alloc, name)
-        .about(about)
-        .arg(path(alloc, "FILE", "the protocol, in TOML"))
+fn of_file<'a>(alloc: Global, usage: &Usage) -> Result<clap::Command<'a>, AllocError> {
+    let command = clap::Command::new(alloc, usage.name)
+        .about(usage.about)
+        .arg(path(alloc, "FILE", "the protocol, in TOML"))?;
+    match usage.second {
+        Some((name, help)) => command.arg(path(alloc, name, help)),
+        None => Ok(command),
+    }
 }
 
 // A command that is about a proof.
-fn of_proof<'a>(
-    alloc: Global,
-    name: &'a str,
-    about: &'a str,
-) -> Result<clap::Command<'a>, AllocError> {
-    of_file(alloc, name, about)?
-        .arg(path(alloc, "PROOF", "the proof"))?
-        .arg(carried(alloc))
+fn of_proof<'a>(alloc: Global, usage: &Usage) -> Result<clap::Command<'a>, AllocError> {
+    of_file(alloc, usage)?.arg(carried(alloc))
 }
 
 // A file that a command needs.
@@ -126,13 +142,14 @@ pub fn request_of<'a>(alloc: Global, matches: &ArgMatches<'a>) -> Result<Request
             carried.push(number?)?;
         }
     }
-    let second = match name {
-        "pattern" => None,
-        "prove" => matches.get_str("VALUES"),
-        _ => matches.get_str("PROOF"),
+    let (command, second) = match name {
+        "pattern" => (Command::Pattern, None),
+        "prove" => (Command::Prove, matches.get_str("VALUES")),
+        "verify" => (Command::Verify, matches.get_str("PROOF")),
+        _ => (Command::Explain, matches.get_str("PROOF")),
     };
     Ok(Request {
-        command: look_up(&COMMANDS, name)?,
+        command,
         file: matches.get_str("FILE").context("no file")?,
         second,
         json: matches.get_flag("json"),

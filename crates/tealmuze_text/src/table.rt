@@ -18,12 +18,17 @@ pub fn layout(alloc: Global, lines: &[Line]) -> Result<String> {
     }
     let mut table = String::new(alloc);
     for line in lines {
-        let mut text = String::new(alloc);
-        for (width, cell) in widths.iter().zip(line.iter()) {
-            write!(text, "{:<width$}  ", cell, width = *width)?;
-        }
-        table.push_str(text.trim_end())?;
-        table.push('\n')?;
+        let text = padded(alloc, line, &widths)?;
+        writeln!(table, "{}", text.trim_end())?;
     }
     Ok(table)
+}
+
+// The cells of a line, each as wide as its column.
+fn padded(alloc: Global, line: &Line, widths: &[usize; COLUMNS]) -> Result<String> {
+    let mut text = String::new(alloc);
+    for (width, cell) in widths.iter().zip(line.iter()) {
+        write!(text, "{:<width$}  ", cell, width = *width)?;
+    }
+    Ok(text)
 }

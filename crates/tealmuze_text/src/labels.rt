@@ -2,11 +2,10 @@
 ghost use Rattle.std.specs.Prelude.{◌≡◌, IfOk};
 
 use anyhow::{Context, Result};
-use p3_challenger::fs::Label;
 use std::alloc::Global;
 
 /// The label of this text, which is kept until the program ends: a step's label is a text of the whole program.
-pub fn label(alloc: Global, text: &str) -> Result<Label>
+pub fn label(alloc: Global, text: &str) -> Result<&'static str>
     ensures { IfOk result (λ label. label.now ≡ text.now) }
 {
     let mut bytes = Vec::with_capacity(alloc, text.len())?;

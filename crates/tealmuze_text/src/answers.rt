@@ -1,0 +1,158 @@
+// What the program answers.
+use crate::command::Request;
+use crate::json::{Object, ToJson, list, optional};
+use crate::refusal::RefusalShown;
+use crate::shown::{Lines, Shown};
+use anyhow::Result;
+use std::alloc::Global;
+
+/// What is written, and the exit status.
+#[derive(Drop)]
+pub struct Answer {
+    /// The bytes for standard output.
+    pub output: Vec<u8>,
+    /// 0, or 1 where values or a proof are refused.
+    pub status: u8,
+}
+
+/// What is written: as JSON where that is asked for, and else as this text.
+pub fn written<T: ToJson>(
+    alloc: Global,
+    request: &Request<'_>,
+    shown: &T,
+    text: String,
+    status: u8,
+) -> Result<Answer> {
+    let mut output = text;
+    if request.json {
+        output = shown.json(alloc)?;
+        output.push('\n')?;
+    }
+    Ok(Answer {
+        output: output.into_bytes(),
+        status,
+    })
+}
+
+/// A pattern, its digest, and what the separator feeds.
+#[derive(Drop)]
+pub struct PatternShown {
+    /// The pattern as it is hashed.
+    pub pattern: String,
+    /// Its digest, in hexadecimal.
+    pub digest: String,
+    /// The bytes of the seed, in hexadecimal, where the challenger keeps them.
+    pub seed: Option<String>,
+}
+
+impl PatternShown {
+    /// The pattern, its digest and the seed as text.
+    pub fn text(&self, alloc: Global) -> Result<String> {
+        let PatternShown {
+            pattern, digest, ..
+        } = self;
+        match &self.seed {
+            Some(seed) => Ok(format!(in alloc; "{pattern}digest {digest}\nseed {seed}\n")?),
+            None => Ok(format!(in alloc; "{pattern}digest {digest}\n")?),
+        }
+    }
+}
+
+impl ToJson for PatternShown {
+    fn json(&self, alloc: Global) -> Result<String> {
+        Object::new(alloc)
+            .member("pattern", &self.pattern)
+            .member("digest", &self.digest)
+            .member("seed", &self.seed)
+            .close()
+    }
+}
+
+/// A proof, and what its prover found and drew.
+#[derive(Drop)]
+pub struct ProofShown {
+    /// The proof, in hexadecimal.
+    pub proof: String,
+    /// All witnesses that were found.
+    pub witnesses: Vec<u64>,
+    /// Those of them that the proof does not carry.
+    pub carried: Vec<u64>,
+    /// What was drawn, for each step that draws.
+    pub challenges: Vec<Shown>,
+}
+
+impl ProofShown {
+    /// The proof as text.
+    pub fn text(&self, alloc: Global) -> Result<String> {
+        let proof = &self.proof;
+        Ok(format!(in alloc; "{proof}\n")?)
+    }
+}
+
+impl ToJson for ProofShown {
+    fn json(&self, alloc: Global) -> Result<String> {
+        Object::new(alloc)
+            .member("proof", &self.proof)
+            .member("witnesses", &self.witnesses)
+            .member("carried", &self.carried)
+            .shown("challenges", list(alloc, self.challenges.as_slice()))
+            .close()
+    }
+}
+
+/// Values of which there is no proof.
+#[derive(Drop)]
+pub struct UnprovedShown<'a> {
+    /// Where they are refused.
+    pub refused: RefusalShown<'a>,
+}
+
+impl ToJson for UnprovedShown<'_> {
+    fn json(&self, alloc: Global) -> Result<String> {
+        Object::new(alloc)
+            .shown("refused", self.refused.json(alloc))
+            .close()
+    }
+}
+
+/// What a verifier answers.
+#[derive(Drop)]
+pub struct VerdictShown<'a> {
+    /// Whether the proof is accepted.
+    pub accepted: bool,
+    /// What was received, for each step that reads.
+    pub received: Vec<Shown>,
+    /// What was drawn, for each step that draws.
+    pub challenges: Vec<Shown>,
+    /// Where the proof is refused.
+    pub refused: Option<RefusalShown<'a>>,
+}
+
+impl VerdictShown<'_> {
+    /// The verdict as text: what was received and drawn, or where the proof is refused.
+    pub fn text(&self, alloc: Global) -> Result<String> {
+        if let Some(refused) = &self.refused {
+            return refused.line(alloc);
+        }
+        let received = Lines {
+            word: "received",
+            values: self.received.as_slice(),
+        };
+        let challenges = Lines {
+            word: "challenge",
+            values: self.challenges.as_slice(),
+        };
+        Ok(format!(in alloc; "accepted\n{received}{challenges}")?)
+    }
+}
+
+impl ToJson for VerdictShown<'_> {
+    fn json(&self, alloc: Global) -> Result<String> {
+        Object::new(alloc)
+            .member("accepted", &self.accepted)
+            .shown("received", list(alloc, self.received.as_slice()))
+            .shown("challenges", list(alloc, self.challenges.as_slice()))
+            .shown("refused", optional(alloc, &self.refused))
+            .close()
+    }
+}

@@ -1,0 +1,16 @@
+//! What the program `tealmuze` reads and writes, whatever a suite is: the command line, the tables of a file, and the
+//! answers as text or as JSON.
+#![tactic(auto)]
+
+pub mod answers;
+pub mod command;
+pub mod entry;
+pub mod explanation;
+mod json;
+pub mod labels;
+pub mod numbers;
+pub mod proofs;
+pub mod refusal;
+pub mod shown;
+pub mod steps;
+mod table;
