@@ -47,8 +47,8 @@ pub enum Observation<T> {
     BaseAsAlgebraElement(T),
     /// Values in a row.
     Row(RowKind, Vec<T>),
-    /// An array or several, by the rows of their values.
-    Arrays(ArraysKind, Vec<Vec<T>>),
+    /// An array or several, by the rows of their numbers.
+    Arrays(ArraysKind, Parts, Vec<Vec<u64>>),
     /// `ov v.. / v..`: a list of lists.
     Lists(Vec<Vec<T>>),
     /// `observe-bytes HEX`: a byte string, in the challenger's alphabet.
@@ -80,6 +80,18 @@ pub enum ArraysKind {
     Cap,
     /// `ocr v.. / v..`: such a cap by reference.
     CapByReference,
+}
+
+/// What the numbers of arrays are.
+#[derive(Clone, Copy)]
+pub enum Parts {
+    /// What the challenger's digests consist of: its symbols, or of one of two fields its cells. An array of `oa` has
+    /// symbols.
+    OfChallenger,
+    /// `oh8`, `oc8`, `oc8r`: bytes, on a challenger that serializes.
+    Bytes,
+    /// `oh64`, `oc64`, `oc64r`: words of 64 bits, on such a challenger.
+    Words,
 }
 
 /// What is drawn.
@@ -120,11 +132,17 @@ const ROWS: [(&str, RowKind); 3] = [
     ("oes", RowKind::AlgebraSlice),
 ];
 
-const ARRAYS: [(&str, ArraysKind); 4] = [
-    ("oa", ArraysKind::Array),
-    ("oh", ArraysKind::Digest),
-    ("oc", ArraysKind::Cap),
-    ("ocr", ArraysKind::CapByReference),
+const ARRAYS: [(&str, (ArraysKind, Parts)); 10] = [
+    ("oa", (ArraysKind::Array, Parts::OfChallenger)),
+    ("oh", (ArraysKind::Digest, Parts::OfChallenger)),
+    ("oc", (ArraysKind::Cap, Parts::OfChallenger)),
+    ("ocr", (ArraysKind::CapByReference, Parts::OfChallenger)),
+    ("oh8", (ArraysKind::Digest, Parts::Bytes)),
+    ("oc8", (ArraysKind::Cap, Parts::Bytes)),
+    ("oc8r", (ArraysKind::CapByReference, Parts::Bytes)),
+    ("oh64", (ArraysKind::Digest, Parts::Words)),
+    ("oc64", (ArraysKind::Cap, Parts::Words)),
+    ("oc64r", (ArraysKind::CapByReference, Parts::Words)),
 ];
 
 impl<T: Symbol> ChallengerCall<T> {
@@ -166,12 +184,13 @@ impl<T: Symbol> Observation<T> {
                 let row = symbols(alloc, parse_row(alloc, words)?.as_slice())?;
                 Ok(Observation::Row(look_up(&ROWS, name)?, row))
             }
+            "ov" => {
+                let lists = rows_of_symbols(alloc, parse_rows(alloc, words)?.as_slice())?;
+                Ok(Observation::Lists(lists))
+            }
             _ => {
-                let rows = rows_of_symbols(alloc, parse_rows(alloc, words)?.as_slice())?;
-                match name {
-                    "ov" => Ok(Observation::Lists(rows)),
-                    _ => Ok(Observation::Arrays(look_up(&ARRAYS, name)?, rows)),
-                }
+                let (kind, parts) = look_up(&ARRAYS, name)?;
+                Ok(Observation::Arrays(kind, parts, parse_rows(alloc, words)?))
             }
         }
     }

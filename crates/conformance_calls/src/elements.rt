@@ -57,7 +57,7 @@ fn observe_on<F: Extended, C: FieldChallenger<F>>(
             let coefficients = symbols::<F>(alloc, coefficients.as_slice())?;
             observe_through_codec(challenger, coefficients.as_slice())
         }
-        Observation::Arrays(_, _) | Observation::Lists(_) => bail!("rows are arrays"),
+        Observation::Arrays(_, _, _) | Observation::Lists(_) => bail!("rows are arrays"),
     }
 }
 

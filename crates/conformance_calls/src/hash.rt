@@ -1,5 +1,5 @@
 use crate::candidates::least_candidate;
-use crate::challenger_call::{ArraysKind, ChallengerCall, Draw, Form, Observation, RowKind};
+use crate::challenger_call::{ArraysKind, ChallengerCall, Draw, Form, Observation, Parts, RowKind};
 use crate::digests::{cap, observe_digests};
 use crate::replay::{Replayed, first_difference};
 use crate::subject::{
@@ -9,7 +9,7 @@ use crate::symmetric::digest_of;
 use anyhow::{Context, Result, bail};
 use conformance_tokens::answer;
 use conformance_tokens::line::Step;
-use conformance_tokens::symbol::{Extended, numbers_of, symbols};
+use conformance_tokens::symbol::{Extended, numbers_of, rows_of_symbols, symbols};
 use conformance_tokens::tokens::split_name;
 use p3_challenger::fs::{BytesToFieldCodec, ExtensionFieldCodec};
 use p3_challenger::{CanObserve, CanSample, HashChallenger};
@@ -53,7 +53,7 @@ impl<H: CryptographicHasher<u8, [u8; 32]>> Replayed for Hashing<H> {
     fn answer(&mut self, alloc: Global, call: &str) -> Result<String> {
         let call = ChallengerCall::<u8>::parse(alloc, call)?;
         match call {
-            ChallengerCall::Observe(form, Observation::Arrays(kind, rows)) => {
+            ChallengerCall::Observe(form, Observation::Arrays(kind, Parts::OfChallenger, rows)) => {
                 observe_rows(alloc, self, form, kind, rows.as_slice())?;
                 answer::nothing(alloc)
             }
@@ -84,9 +84,10 @@ fn observe_rows<H: CryptographicHasher<u8, [u8; 32]>>(
     subject: &mut Hashing<H>,
     form: Form,
     kind: ArraysKind,
-    rows: &[Vec<u8>],
+    rows: &[Vec<u64>],
 ) -> Result<()> {
-    let (first, rest) = rows.split_first().context("no array")?;
+    let rows = rows_of_symbols::<u8>(alloc, rows)?;
+    let (first, rest) = rows.as_slice().split_first().context("no array")?;
     with_array!(first.as_slice(), first => observe_arrays(alloc, subject, form, kind, first, rest))
 }
 
