@@ -155,20 +155,18 @@ impl<T: Symbol> ChallengerCall<T> {
             "clone-draw" => Ok(ChallengerCall::CloneDraw),
             "permute" => Ok(ChallengerCall::Permute),
             "digest" => Ok(ChallengerCall::Digest(hex::decode(alloc, words)?)),
-            "slice" => {
-                let observation = Observation::parse(alloc, words)?;
-                Ok(ChallengerCall::Observe(Form::SliceOfOne, observation))
-            }
+            "slice" => ChallengerCall::observe(alloc, Form::SliceOfOne, words),
             "fw" => Ok(ChallengerCall::FindWitness(Search::parse(alloc, words)?)),
             "u" | "ue" | "g" | "gu" | "gue" | "c" | "cu" | "cue" => {
                 Ok(ChallengerCall::Work(WorkCall::parse(name, words)?))
             }
-            _ if name.starts_with('o') => {
-                let observation = Observation::parse(alloc, text)?;
-                Ok(ChallengerCall::Observe(Form::Alone, observation))
-            }
+            _ if name.starts_with('o') => ChallengerCall::observe(alloc, Form::Alone, text),
             _ => Ok(ChallengerCall::Draw(Draw::parse(name, words)?)),
         }
+    }
+
+    fn observe(alloc: Global, form: Form, text: &str) -> Result<ChallengerCall<T>> {
+        Ok(ChallengerCall::Observe(form, Observation::parse(alloc, text)?))
     }
 }
 
@@ -176,24 +174,33 @@ impl<T: Symbol> Observation<T> {
     fn parse(alloc: Global, text: &str) -> Result<Observation<T>> {
         let (name, words) = split_name(text);
         match name {
-            "o" => Ok(Observation::Value(T::of_number(words.parse()?)?)),
-            "ob" => Ok(Observation::BaseAsAlgebraElement(T::of_number(words.parse()?)?)),
+            "o" => Ok(Observation::Value(parse_symbol(words)?)),
+            "ob" => Ok(Observation::BaseAsAlgebraElement(parse_symbol(words)?)),
             "observe-bytes" => Ok(Observation::Bytes(hex::decode(alloc, words)?)),
             "observe-element" => Ok(Observation::Element(parse_row(alloc, words)?)),
             "os" | "oe" | "oes" => {
-                let row = symbols(alloc, parse_row(alloc, words)?.as_slice())?;
-                Ok(Observation::Row(look_up(&ROWS, name)?, row))
+                let kind = look_up(&ROWS, name)?;
+                Ok(Observation::Row(kind, parse_symbols(alloc, words)?))
             }
-            "ov" => {
-                let lists = rows_of_symbols(alloc, parse_rows(alloc, words)?.as_slice())?;
-                Ok(Observation::Lists(lists))
-            }
+            "ov" => Ok(Observation::Lists(parse_lists(alloc, words)?)),
             _ => {
                 let (kind, parts) = look_up(&ARRAYS, name)?;
                 Ok(Observation::Arrays(kind, parts, parse_rows(alloc, words)?))
             }
         }
     }
+}
+
+fn parse_symbol<T: Symbol>(word: &str) -> Result<T> {
+    T::of_number(word.parse()?)
+}
+
+fn parse_symbols<T: Symbol>(alloc: Global, words: &str) -> Result<Vec<T>> {
+    symbols(alloc, parse_row(alloc, words)?.as_slice())
+}
+
+fn parse_lists<T: Symbol>(alloc: Global, words: &str) -> Result<Vec<Vec<T>>> {
+    rows_of_symbols(alloc, parse_rows(alloc, words)?.as_slice())
 }
 
 impl Draw {

@@ -1,7 +1,7 @@
 use crate::challenger_call::{ArraysKind, ChallengerCall, Draw, Form, Observation, Parts};
 use crate::digests::{cap, observe_digests};
 use crate::elements::answer_elements;
-use crate::replay::{Replayed, first_difference};
+use crate::replay::{Replayed, answer_made, first_difference};
 use crate::subject::{DRAW_LIMIT, Subject, Way, finalized, observe};
 use crate::symmetric::permuted;
 use crate::work::{WorkCall, uniform_bits, uniform_work};
@@ -88,12 +88,11 @@ impl<F: Extended + PackedField, P: LanePermutation<F, W>, const W: usize, const 
         let call = ChallengerCall::<F>::parse(alloc, call)?;
         match call {
             ChallengerCall::Observe(form, Observation::Arrays(kind, Parts::OfChallenger, rows)) => {
-                observe_rows(alloc, self, form, kind, rows.as_slice())?;
-                answer::nothing(alloc)
+                let made = observe_rows(alloc, self, form, kind, rows.as_slice());
+                answer_made(alloc, made)
             }
             ChallengerCall::Observe(form, Observation::Lists(lists)) => {
-                observe(alloc, self, form, lists)?;
-                answer::nothing(alloc)
+                answer_made(alloc, observe(alloc, self, form, lists))
             }
             ChallengerCall::CloneDraw => clone_draw(alloc, &self.challenger),
             ChallengerCall::Finalize => digest(alloc, &self.challenger),
@@ -140,11 +139,10 @@ fn observe_arrays<
 ) -> Result<()> {
     match kind {
         ArraysKind::Array if rest.is_empty() => observe(alloc, subject, form, first),
-        ArraysKind::CapByReference => {
+        _ => {
             let lent = cap::<F, F, N>(alloc, first, rest)?;
-            observe(alloc, subject, form, &lent)
+            observe_digests::<F, F, _, N>(alloc, subject, form, kind, first, rest, &lent)
         }
-        _ => observe_digests::<F, F, _, N>(alloc, subject, form, kind, first, rest),
     }
 }
 

@@ -2,7 +2,7 @@
 use crate::challenger_call::{ArraysKind, ChallengerCall, Form, Observation, Parts};
 use crate::digests::{cap, observe_digests};
 use crate::elements::answer_elements;
-use crate::replay::{Replayed, first_difference};
+use crate::replay::{Replayed, answer_made, first_difference};
 use crate::subject::{Subject, Way, finalized, observe};
 use anyhow::{Context, Result, bail};
 use conformance_tokens::answer;
@@ -148,12 +148,11 @@ fn answer_any<
 ) -> Result<String> {
     match call {
         ChallengerCall::Observe(form, Observation::Arrays(kind, Parts::OfChallenger, rows)) => {
-            observe_rows(alloc, subject, form, kind, rows.as_slice())?;
-            answer::nothing(alloc)
+            let made = observe_rows(alloc, subject, form, kind, rows.as_slice());
+            answer_made(alloc, made)
         }
         ChallengerCall::Observe(form, Observation::Lists(lists)) => {
-            observe(alloc, subject, form, lists)?;
-            answer::nothing(alloc)
+            answer_made(alloc, observe(alloc, subject, form, lists))
         }
         _ => answer_elements(alloc, subject, call),
     }
@@ -247,13 +246,8 @@ fn observe_cells<
     first: [PF; N],
     rest: &[Vec<PF>],
 ) -> Result<()> {
-    match kind {
-        ArraysKind::CapByReference => {
-            let lent = cap::<F, PF, N>(alloc, first, rest)?;
-            observe(alloc, subject, form, &lent)
-        }
-        _ => observe_digests::<F, PF, _, N>(alloc, subject, form, kind, first, rest),
-    }
+    let lent = cap::<F, PF, N>(alloc, first, rest)?;
+    observe_digests::<F, PF, _, N>(alloc, subject, form, kind, first, rest, &lent)
 }
 
 // The digest of a clone, in the place of the row.

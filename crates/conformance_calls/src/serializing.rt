@@ -2,8 +2,8 @@
 use crate::challenger_call::{ArraysKind, ChallengerCall, Form, Observation, Parts};
 use crate::digests::{cap, observe_digests};
 use crate::elements::answer_elements;
-use crate::replay::{Replayed, first_difference};
-use crate::subject::{DRAW_LIMIT, Subject, Way, finalized, observe};
+use crate::replay::{Replayed, answer_made, first_difference};
+use crate::subject::{DRAW_LIMIT, Subject, Way, finalized};
 use crate::work::{WorkCall, uniform_bits};
 use anyhow::{Context, Result, bail};
 use conformance_tokens::answer;
@@ -88,8 +88,8 @@ impl<
         let call = ChallengerCall::<F>::parse(alloc, call)?;
         match call {
             ChallengerCall::Observe(form, Observation::Arrays(kind, parts, rows)) => {
-                observe_rows(alloc, self, form, kind, parts, rows.as_slice())?;
-                answer::nothing(alloc)
+                let made = observe_rows(alloc, self, form, kind, parts, rows.as_slice());
+                answer_made(alloc, made)
             }
             _ => answer_any(alloc, self, call),
         }
@@ -165,13 +165,8 @@ fn observe_byte_arrays<
     first: [u8; N],
     rest: &[Vec<u8>],
 ) -> Result<()> {
-    match kind {
-        ArraysKind::CapByReference => {
-            let lent = cap::<F, u8, N>(alloc, first, rest)?;
-            observe(alloc, subject, form, &lent)
-        }
-        _ => observe_digests::<F, u8, _, N>(alloc, subject, form, kind, first, rest),
-    }
+    let lent = cap::<F, u8, N>(alloc, first, rest)?;
+    observe_digests::<F, u8, _, N>(alloc, subject, form, kind, first, rest, &lent)
 }
 
 fn observe_words<
@@ -202,11 +197,6 @@ fn observe_word_arrays<
     first: [u64; N],
     rest: &[Vec<u64>],
 ) -> Result<()> {
-    match kind {
-        ArraysKind::CapByReference => {
-            let lent = cap::<F, u64, N>(alloc, first, rest)?;
-            observe(alloc, subject, form, &lent)
-        }
-        _ => observe_digests::<F, u64, _, N>(alloc, subject, form, kind, first, rest),
-    }
+    let lent = cap::<F, u64, N>(alloc, first, rest)?;
+    observe_digests::<F, u64, _, N>(alloc, subject, form, kind, first, rest, &lent)
 }
