@@ -62,20 +62,28 @@ impl CodecCall {
     fn parse(alloc: Global, text: &str) -> Result<CodecCall> {
         let (name, words) = split_name(text);
         let (values, bytes) = split_name(words);
-        let bytes = hex::decode(alloc, bytes)?;
-        if name == "unit" {
-            return match values {
-                "u8" => Ok(CodecCall::UnitOfBytes(bytes)),
-                _ => Ok(CodecCall::UnitOf(look_up(&FIELDS, values)?, bytes)),
-            };
+        match (name, values) {
+            ("unit", "u8") => Ok(CodecCall::UnitOfBytes(hex::decode(alloc, bytes)?)),
+            ("unit", _) => {
+                let field = look_up(&FIELDS, values)?;
+                Ok(CodecCall::UnitOf(field, hex::decode(alloc, bytes)?))
+            }
+            _ => {
+                let algebra = look_up(&ALGEBRAS, values)?;
+                Ok(CodecCall::OfAlgebra(algebra, ElementCall::parse(alloc, name, bytes)?))
+            }
         }
-        let algebra = look_up(&ALGEBRAS, values)?;
+    }
+}
+
+impl ElementCall {
+    fn parse(alloc: Global, name: &str, bytes: &str) -> Result<ElementCall> {
         match name {
-            "draw" => Ok(CodecCall::OfAlgebra(algebra, ElementCall::Draw(bytes))),
-            "enc" => Ok(CodecCall::OfAlgebra(algebra, ElementCall::Encode(bytes))),
-            "dec" => Ok(CodecCall::OfAlgebra(algebra, ElementCall::Decode(bytes))),
-            "wire-len" => Ok(CodecCall::OfAlgebra(algebra, ElementCall::WireLen)),
-            "security-bits" => Ok(CodecCall::OfAlgebra(algebra, ElementCall::SecurityBits)),
+            "draw" => Ok(ElementCall::Draw(hex::decode(alloc, bytes)?)),
+            "enc" => Ok(ElementCall::Encode(hex::decode(alloc, bytes)?)),
+            "dec" => Ok(ElementCall::Decode(hex::decode(alloc, bytes)?)),
+            "wire-len" => Ok(ElementCall::WireLen),
+            "security-bits" => Ok(ElementCall::SecurityBits),
             _ => bail!("an unknown call"),
         }
     }
@@ -84,49 +92,53 @@ impl CodecCall {
 impl Replayed for Codecs {
     fn answer(&mut self, alloc: Global, call: &str) -> Result<String> {
         match CodecCall::parse(alloc, call)? {
-            CodecCall::OfAlgebra(algebra, call) => match self {
-                Codecs::OfBytes => through_bytes(alloc, algebra, &call),
-                Codecs::OfElements => through_elements(alloc, algebra, &call),
-            },
+            CodecCall::OfAlgebra(algebra, call) => through_algebra(alloc, *self, algebra, &call),
             CodecCall::UnitOfBytes(bytes) => encoded::<u8, u8>(alloc, bytes.as_slice()),
-            CodecCall::UnitOf(field, bytes) => match field {
-                FieldName::BabyBear => {
-                    encoded::<FieldUnit<BabyBear>, BabyBear>(alloc, bytes.as_slice())
-                }
-                FieldName::KoalaBear => {
-                    encoded::<FieldUnit<KoalaBear>, KoalaBear>(alloc, bytes.as_slice())
-                }
-                FieldName::Goldilocks => {
-                    encoded::<FieldUnit<Goldilocks>, Goldilocks>(alloc, bytes.as_slice())
-                }
-                FieldName::F257 => encoded::<FieldUnit<F257>, F257>(alloc, bytes.as_slice()),
-            },
+            CodecCall::UnitOf(field, bytes) => symbols_of(alloc, field, bytes.as_slice()),
         }
     }
 }
 
-fn through_bytes(alloc: Global, algebra: AlgebraName, call: &ElementCall) -> Result<String> {
+// What the codec of an algebra answers.
+fn through_algebra(
+    alloc: Global,
+    codecs: Codecs,
+    algebra: AlgebraName,
+    call: &ElementCall,
+) -> Result<String> {
     match algebra {
-        AlgebraName::Scalars(FieldName::BabyBear) => {
-            drawn_or_through::<BabyBear, BabyBear, BytesToFieldCodec<BabyBear>>(alloc, call)
-        }
-        AlgebraName::Scalars(FieldName::KoalaBear) => {
-            drawn_or_through::<KoalaBear, KoalaBear, BytesToFieldCodec<KoalaBear>>(alloc, call)
-        }
-        AlgebraName::Scalars(FieldName::Goldilocks) => {
-            drawn_or_through::<Goldilocks, Goldilocks, BytesToFieldCodec<Goldilocks>>(alloc, call)
-        }
-        AlgebraName::Scalars(FieldName::F257) => {
-            drawn_or_through::<F257, F257, BytesToFieldCodec<F257>>(alloc, call)
-        }
-        AlgebraName::Four => {
-            drawn_or_through::<BabyBear, Four, ByBytes<BabyBear, Four>>(alloc, call)
-        }
+        AlgebraName::Scalars(FieldName::BabyBear) => of_scalars::<BabyBear>(alloc, codecs, call),
+        AlgebraName::Scalars(FieldName::KoalaBear) => of_scalars::<KoalaBear>(alloc, codecs, call),
+        AlgebraName::Scalars(FieldName::Goldilocks) => of_scalars::<Goldilocks>(
+            alloc, codecs, call,
+        ),
+        AlgebraName::Scalars(FieldName::F257) => of_scalars::<F257>(alloc, codecs, call),
+        AlgebraName::Four => of_extension::<BabyBear, Four>(alloc, codecs, call),
         AlgebraName::FourOfKoalaBear => {
-            drawn_or_through::<KoalaBear, FourOfKoalaBear, ByBytes<KoalaBear, FourOfKoalaBear>>(
-                alloc, call,
-            )
+            of_extension::<KoalaBear, FourOfKoalaBear>(alloc, codecs, call)
         }
+    }
+}
+
+fn of_scalars<F: PrimeField64 + Symbol>(
+    alloc: Global,
+    codecs: Codecs,
+    call: &ElementCall,
+) -> Result<String> {
+    match codecs {
+        Codecs::OfBytes => drawn_or_through::<F, F, BytesToFieldCodec<F>>(alloc, call),
+        Codecs::OfElements => through::<F, F, FieldToFieldCodec<F>, Cells<F>>(alloc, call),
+    }
+}
+
+fn of_extension<F: PrimeField64 + Symbol, A: BasedVectorSpace<F>>(
+    alloc: Global,
+    codecs: Codecs,
+    call: &ElementCall,
+) -> Result<String> {
+    match codecs {
+        Codecs::OfBytes => drawn_or_through::<F, A, ByBytes<F, A>>(alloc, call),
+        Codecs::OfElements => through::<F, A, ByElements<F, A>, Cells<F>>(alloc, call),
     }
 }
 
@@ -146,37 +158,6 @@ fn drawn_or_through<'a, F: PrimeField64 + Symbol, A: BasedVectorSpace<F>, K: Cod
     Ok(format!(in alloc; "{numbers} left {}", supply.left().len())?)
 }
 
-fn through_elements(alloc: Global, algebra: AlgebraName, call: &ElementCall) -> Result<String> {
-    match algebra {
-        AlgebraName::Scalars(FieldName::BabyBear) => {
-            through::<BabyBear, BabyBear, FieldToFieldCodec<BabyBear>, Cells<BabyBear>>(alloc, call)
-        }
-        AlgebraName::Scalars(FieldName::KoalaBear) => {
-            through::<KoalaBear, KoalaBear, FieldToFieldCodec<KoalaBear>, Cells<KoalaBear>>(
-                alloc, call,
-            )
-        }
-        AlgebraName::Scalars(FieldName::Goldilocks) => through::<
-            Goldilocks,
-            Goldilocks,
-            FieldToFieldCodec<Goldilocks>,
-            Cells<Goldilocks>,
-        >(alloc, call),
-        AlgebraName::Scalars(FieldName::F257) => {
-            through::<F257, F257, FieldToFieldCodec<F257>, Cells<F257>>(alloc, call)
-        }
-        AlgebraName::Four => {
-            through::<BabyBear, Four, ByElements<BabyBear, Four>, Cells<BabyBear>>(alloc, call)
-        }
-        AlgebraName::FourOfKoalaBear => through::<
-            KoalaBear,
-            FourOfKoalaBear,
-            ByElements<KoalaBear, FourOfKoalaBear>,
-            Cells<KoalaBear>,
-        >(alloc, call),
-    }
-}
-
 // What a codec answers.
 fn through<F: PrimeField64 + Symbol, A: BasedVectorSpace<F>, K: Codec<C, A>, C: Sponge>(
     alloc: Global,
@@ -185,18 +166,24 @@ fn through<F: PrimeField64 + Symbol, A: BasedVectorSpace<F>, K: Codec<C, A>, C: 
     match call {
         ElementCall::WireLen => Ok(K::wire_len().to_string(alloc)?),
         ElementCall::SecurityBits => Ok(K::SECURITY_BITS.to_string(alloc)?),
-        ElementCall::Encode(numbers) => {
-            let element: A = element_of(coefficients::<F>(alloc, numbers.as_slice())?.as_slice())?;
-            let mut wire = Vec::new(alloc);
-            K::encode(&element, &mut wire)?;
-            Ok(hex::encode(alloc, wire.as_slice())?)
-        }
+        ElementCall::Encode(numbers) => encoding::<F, A, K, C>(alloc, numbers.as_slice()),
         ElementCall::Decode(bytes) => match K::decode(bytes.as_slice()) {
             Ok(element) => answer::numbers(alloc, coefficients_of(alloc, &element)?.as_slice()),
             Err(error) => Ok(error.to_string(alloc)?),
         },
         ElementCall::Draw(_) => bail!("no bytes to draw from"),
     }
+}
+
+// How the element of these numbers is encoded.
+fn encoding<F: PrimeField64, A: BasedVectorSpace<F>, K: Codec<C, A>, C: Sponge>(
+    alloc: Global,
+    numbers: &[u8],
+) -> Result<String> {
+    let element: A = element_of(coefficients::<F>(alloc, numbers)?.as_slice())?;
+    let mut wire = Vec::new(alloc);
+    K::encode(&element, &mut wire)?;
+    Ok(hex::encode(alloc, wire.as_slice())?)
 }
 
 // The elements of canonical numbers of 8 bytes each.
@@ -210,6 +197,16 @@ fn coefficients<F: PrimeField64>(alloc: Global, numbers: &[u8]) -> Result<Vec<F>
         found.push(element.context("a value that is no canonical number")?)?;
     }
     Ok(found)
+}
+
+// The elements that a byte string is, or why it is none.
+fn symbols_of(alloc: Global, field: FieldName, bytes: &[u8]) -> Result<String> {
+    match field {
+        FieldName::BabyBear => encoded::<FieldUnit<BabyBear>, BabyBear>(alloc, bytes),
+        FieldName::KoalaBear => encoded::<FieldUnit<KoalaBear>, KoalaBear>(alloc, bytes),
+        FieldName::Goldilocks => encoded::<FieldUnit<Goldilocks>, Goldilocks>(alloc, bytes),
+        FieldName::F257 => encoded::<FieldUnit<F257>, F257>(alloc, bytes),
+    }
 }
 
 // The symbols that a byte string is, or why it is none.

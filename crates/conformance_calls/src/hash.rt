@@ -1,7 +1,7 @@
 use crate::candidates::least_candidate;
-use crate::challenger_call::{ArraysKind, ChallengerCall, Draw, Form, Observation, RowKind};
+use crate::challenger_call::{ArraysKind, ChallengerCall, Draw, Form, Observation, Parts, RowKind};
 use crate::digests::{cap, observe_digests};
-use crate::replay::{Replayed, first_difference};
+use crate::replay::{Replayed, answer_made, first_difference};
 use crate::subject::{
     Subject, Way, draw_element, draw_symbols, finalized, observe, observe_bytes, observe_element,
 };
@@ -9,7 +9,7 @@ use crate::symmetric::digest_of;
 use anyhow::{Context, Result, bail};
 use conformance_tokens::answer;
 use conformance_tokens::line::Step;
-use conformance_tokens::symbol::{Extended, numbers_of, symbols};
+use conformance_tokens::symbol::{Extended, numbers_of, rows_of_symbols, symbols};
 use conformance_tokens::tokens::split_name;
 use p3_challenger::fs::{BytesToFieldCodec, ExtensionFieldCodec};
 use p3_challenger::{CanObserve, CanSample, HashChallenger};
@@ -53,19 +53,15 @@ impl<H: CryptographicHasher<u8, [u8; 32]>> Replayed for Hashing<H> {
     fn answer(&mut self, alloc: Global, call: &str) -> Result<String> {
         let call = ChallengerCall::<u8>::parse(alloc, call)?;
         match call {
-            ChallengerCall::Observe(form, Observation::Arrays(kind, rows)) => {
-                observe_rows(alloc, self, form, kind, rows.as_slice())?;
-                answer::nothing(alloc)
+            ChallengerCall::Observe(form, Observation::Arrays(kind, Parts::OfChallenger, rows)) => {
+                let made = observe_rows(alloc, self, form, kind, rows.as_slice());
+                answer_made(alloc, made)
             }
             ChallengerCall::Observe(form, Observation::Lists(lists)) => {
-                observe(alloc, self, form, lists)?;
-                answer::nothing(alloc)
+                answer_made(alloc, observe(alloc, self, form, lists))
             }
             ChallengerCall::CloneDraw => clone_draw(alloc, &self.challenger),
-            ChallengerCall::Finalize => {
-                let digest = finalized(self.challenger.clone()?);
-                Ok(hex::encode(alloc, &digest[..])?)
-            }
+            ChallengerCall::Finalize => digest(alloc, &self.challenger),
             ChallengerCall::Digest(bytes) => {
                 let digest = digest_of(*self.challenger.hasher(), bytes.as_slice());
                 Ok(hex::encode(alloc, &digest[..])?)
@@ -84,9 +80,10 @@ fn observe_rows<H: CryptographicHasher<u8, [u8; 32]>>(
     subject: &mut Hashing<H>,
     form: Form,
     kind: ArraysKind,
-    rows: &[Vec<u8>],
+    rows: &[Vec<u64>],
 ) -> Result<()> {
-    let (first, rest) = rows.split_first().context("no array")?;
+    let rows = rows_of_symbols::<u8>(alloc, rows)?;
+    let (first, rest) = rows.as_slice().split_first().context("no array")?;
     with_array!(first.as_slice(), first => observe_arrays(alloc, subject, form, kind, first, rest))
 }
 
@@ -101,12 +98,20 @@ fn observe_arrays<H: CryptographicHasher<u8, [u8; 32]>, const N: usize>(
 ) -> Result<()> {
     match kind {
         ArraysKind::Array if rest.is_empty() => observe(alloc, subject, form, first),
-        ArraysKind::CapByReference => {
+        _ => {
             let lent = cap::<u8, u8, N>(alloc, first, rest)?;
-            observe(alloc, subject, form, &lent)
+            observe_digests::<u8, u8, _, N>(alloc, subject, form, kind, first, rest, &lent)
         }
-        _ => observe_digests::<u8, u8, _, N>(alloc, subject, form, kind, first, rest),
     }
+}
+
+// The digest of a clone.
+fn digest<H: CryptographicHasher<u8, [u8; 32]>>(
+    alloc: Global,
+    challenger: &HashChallenger<u8, H, 32>,
+) -> Result<String> {
+    let digest = finalized(challenger.clone()?);
+    Ok(hex::encode(alloc, &digest[..])?)
 }
 
 // What a clone draws.
@@ -128,9 +133,10 @@ fn answer_bytes<F: Extended, C: CanObserve<u8> + CanSample<u8>>(
     call: ChallengerCall<u8>,
 ) -> Result<String> {
     match call {
-        ChallengerCall::Observe(_, observation) => {
-            with_challenger!(subject, challenger => observe_on::<F, _>(alloc, challenger, observation))?;
-            answer::nothing(alloc)
+        ChallengerCall::Observe(Form::Alone, observation) => {
+            let made =
+                with_challenger!(subject, challenger => observe_on::<F, _>(alloc, challenger, observation));
+            answer_made(alloc, made)
         }
         ChallengerCall::Draw(draw) => {
             let numbers =

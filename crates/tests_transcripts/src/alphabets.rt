@@ -1,4 +1,4 @@
-use p3_codecs::{FieldUnit, Unit};
+use p3_codecs::{EXTRA_BYTES, FieldUnit, MIN_CHALLENGE_SECURITY_BITS, Unit};
 use p3_field::BabyBear;
 use p3_fs_core::TranscriptField;
 use p3_test_support::RecordingChallenger;
@@ -22,4 +22,9 @@ fn alphabets_of_one_field_are_equal(rt: HostRuntime) {
     let copy = alphabet;
     assert_eq!(rt; alphabet, copy);
     assert_eq!(rt; alphabet.cmp(&copy), Ordering::Equal);
+}
+
+#[test]
+fn a_draw_is_nearly_uniform(rt: HostRuntime) {
+    assert_eq!(rt; (EXTRA_BYTES, MIN_CHALLENGE_SECURITY_BITS), (16, 128));
 }

@@ -1,5 +1,5 @@
-//! Tests of typed transcripts: codecs, alphabets, steps, patterns, separators, of the program, and of
-//! generic callers.
+//! Tests of typed transcripts: alphabets, steps, patterns, separators, of the program, and of generic callers. What rows
+//! can say of them is in `conformance`.
 #![tactic(auto)]
 
 #[cfg(test)]
@@ -7,22 +7,14 @@ mod alphabets;
 #[cfg(test)]
 mod callers;
 #[cfg(test)]
-mod codecs;
-#[cfg(test)]
 mod domain_separator;
 #[cfg(test)]
 mod errors;
 #[cfg(test)]
-mod interactions;
+mod patterns;
 #[cfg(test)]
 mod program;
 #[cfg(test)]
-mod program_scripts;
-#[cfg(test)]
 mod recorders;
-#[cfg(test)]
-mod sequences;
-#[cfg(test)]
-mod shown;
 #[cfg(test)]
 mod steps;

@@ -1,14 +1,9 @@
-use p3_challenger_core::{CanSample, ChallengerError};
-use p3_field::{BabyBear, PrimeCharacteristicRing};
+// The program where it fails to read or to write, and what it tells. What else it answers is in the rows of `conformance`.
+use p3_challenger_core::ChallengerError;
 use p3_fs_core::TranscriptError;
-use p3_hash_challenger::HashChallenger;
-use p3_symmetric::Sha256Hasher;
-use std::alloc::Global;
 use std::io;
-use std::io::Write;
-use std::test::Fail;
+use std::io::{ErrorKind, Read, Write};
 use transcript_program as program;
-use transcript_program::first;
 
 // A writer that takes so many bytes and then fails.
 #[derive(Drop)]
@@ -19,7 +14,7 @@ struct Failing {
 impl Write for Failing {
     fn write(&mut self, buf: &[u8]) -> io::Result<usize> {
         if self.room == 0 {
-            return Err(io::Error::from(io::ErrorKind::Other));
+            return Err(io::Error::from(ErrorKind::Other));
         }
         let taken = buf.len().min(self.room);
         self.room -= taken;
@@ -31,20 +26,79 @@ impl Write for Failing {
     }
 }
 
-fn fresh(alloc: Global) -> HashChallenger<u8, Sha256Hasher, 32> {
-    HashChallenger::new(Vec::new(alloc), Sha256Hasher)
-}
+// What `prove 9 0011223344556677 ""` writes, as it was worked out apart from this code, by a program of the definitions:
+// the salt, no values, the witness 1019, and an empty note.
+const PROOF: [u8; 14] = [
+    0x00, 0x11, 0x22, 0x33, 0x44, 0x55, 0x66, 0x77, 0, 0, 0, 3, 0xfb, 0,
+];
 
 #[test]
 fn a_failed_write_gives_status_1(rt: HostRuntime) {
-    for room in [0usize, 5, 20, 64] {
-        let mut input: &[u8] = b"";
-        let mut writer = Failing { room };
-        let status = program::run(rt.alloc(), &["first", "7"], &mut input, &mut writer);
-        assert_eq!(rt; status, if room == 64 { 0 } else { 1 }, "room for {room}");
-        let mut writer = Failing { room: room / 2 };
-        let status = program::run(rt.alloc(), &["last"], &mut input, &mut writer);
-        assert_eq!(rt; status, 1, "room for {room}");
+    let rows: [(&[&str], usize, u8); 10] = [
+        (&["first", "7"], 0, 1),
+        (&["first", "7"], 5, 1),
+        (&["first", "7"], 20, 1),
+        (&["first", "7"], 64, 0),
+        (&["last"], 0, 1),
+        (&["last"], 2, 1),
+        (&["last"], 10, 1),
+        (&["last"], 32, 1),
+        (&["verify", "9"], 0, 1),
+        (&["prove", "9", "0011223344556677", ""], 0, 1),
+    ];
+    for (words, room, wanted) in &rows {
+        let mut reader = PROOF.as_slice();
+        let mut writer = Failing { room: *room };
+        let status = program::run(rt.alloc(), words, &mut reader, &mut writer);
+        assert_eq!(rt; status, *wanted, "{words:?}, room for {room}");
+    }
+}
+
+// A reader that gives so many bytes, one in each read, and then ends or fails. It counts its reads.
+#[derive(Drop)]
+struct Trickle {
+    left: usize,
+    fails_with: Option<ErrorKind>,
+    reads: usize,
+}
+
+impl Read for Trickle {
+    fn read(&mut self, buf: &mut [u8]) -> io::Result<usize> {
+        self.reads = self.reads.saturating_add(1);
+        if self.left > 0 && !buf.is_empty() {
+            self.left -= 1;
+            buf[0] = 7;
+            return Ok(1);
+        }
+        match self.fails_with {
+            Some(kind) => Err(io::Error::from(kind)),
+            None => Ok(0),
+        }
+    }
+}
+
+#[test]
+fn a_failed_read_gives_status_1(rt: HostRuntime) {
+    let unread = "refused: input\n";
+    let over = "refused: message length exceeds declared maximum\n";
+    let rows: [(usize, Option<ErrorKind>, usize, &str); 6] = [
+        (0, Some(ErrorKind::Other), 1, unread),
+        (14, Some(ErrorKind::Other), 15, unread),
+        (100, Some(ErrorKind::UnexpectedEof), 101, unread),
+        (1, Some(ErrorKind::Interrupted), 1048576, unread),
+        (1048576, None, 1048576, unread),
+        (1048575, None, 1048576, over),
+    ];
+    for (left, fails_with, reads, told) in &rows {
+        let mut reader = Trickle {
+            left: *left,
+            fails_with: *fails_with,
+            reads: 0,
+        };
+        let mut output = Vec::new(rt.alloc());
+        let status = program::run(rt.alloc(), &["verify", "9"], &mut reader, &mut output);
+        assert_eq!(rt; (status, reader.reads), (1, *reads), "{left}");
+        assert_eq!(rt; output.as_slice(), told.as_bytes(), "{left}");
     }
 }
 
@@ -73,9 +127,13 @@ fn each_error_has_its_reason(rt: HostRuntime) {
     for (error, want) in &reasons {
         assert_eq!(rt; program::reason(error), *want);
     }
-    let no_text = io::Error::from(io::ErrorKind::InvalidData);
+}
+
+#[test]
+fn arguments_that_are_no_text_get_the_usage_line(rt: HostRuntime) {
+    let no_text = io::Error::from(ErrorKind::InvalidData);
     assert!(rt; matches!(program::answer_unread(&no_text), program::Answer::Usage));
-    let no_memory = io::Error::from(io::ErrorKind::OutOfMemory);
+    let no_memory = io::Error::from(ErrorKind::OutOfMemory);
     let refused = program::answer_unread(&no_memory);
     assert!(rt;
         matches!(
@@ -83,23 +141,4 @@ fn each_error_has_its_reason(rt: HostRuntime) {
             program::Answer::Refused(TranscriptError::OutOfMemory)
         )
     );
-}
-
-#[test]
-fn verify_accepts_what_prove_sent(rt: HostRuntime) -> Result<(), Fail> {
-    let alloc = rt.alloc();
-    let value = BabyBear::from_u64(2013265920);
-    let mut run = first::prove(alloc, fresh(alloc), value)?;
-    assert_eq!(rt; run.wire.as_slice(), [0x78u8, 0, 0, 0].as_slice());
-    let mut read = first::verify(fresh(alloc), run.wire.as_slice())?;
-    assert_eq!(rt; read.value, value);
-    assert_eq!(rt; read.challenge, run.challenge);
-    for i in 0..40 {
-        assert_eq!(rt;
-            run.challenger.sample()?,
-            read.challenger.sample()?,
-            "draw {i}"
-        );
-    }
-    Ok(())
 }

@@ -1,4 +1,4 @@
-use p3_fs_core::{Hierarchy, Kind, Length, TypeTag};
+use p3_fs_core::{Hierarchy, Interaction, Kind, Length, TypeTag};
 
 const BASIS: [u8; 32] = [
     0x00, 0x01, 0x0a, 0x10, 0x9f, 0xa0, 0xf9, 0xff, 0x00, 0x00, 0x00, 0x00, 0x00, 0x00, 0x00, 0x00,
@@ -28,7 +28,7 @@ fn algebra(modulus: u64, degree: usize, basis: [u8; 32]) -> TypeTag {
 }
 
 #[test]
-fn order_of_hierarchies_kinds_and_lengths_is_that_of_the_variants(rt: HostRuntime) {
+fn hierarchies_kinds_and_lengths_are_ordered_as_their_variants(rt: HostRuntime) {
     let hierarchies = [Hierarchy::Atomic, Hierarchy::Begin, Hierarchy::End];
     let kinds = [
         Kind::Protocol,
@@ -47,13 +47,11 @@ fn order_of_hierarchies_kinds_and_lengths_is_that_of_the_variants(rt: HostRuntim
         Length::Bounded(0),
         Length::Bounded(1),
     ];
-    assert!(rt; is_strictly_increasing(&hierarchies));
-    assert!(rt; is_strictly_increasing(&kinds));
-    assert!(rt; is_strictly_increasing(&lengths));
+    assert!(rt; are_in_order(&hierarchies) && are_in_order(&kinds) && are_in_order(&lengths));
 }
 
 #[test]
-fn order_of_tags_is_that_of_the_variants_and_then_of_the_fields(rt: HostRuntime) {
+fn tags_are_ordered_as_their_variants_and_then_by_their_fields(rt: HostRuntime) {
     let tower = TypeTag::BinaryTower {
         bits: 8,
         degree: 1,
@@ -73,14 +71,30 @@ fn order_of_tags_is_that_of_the_variants_and_then_of_the_fields(rt: HostRuntime)
         TypeTag::Bits { width: 9 },
         TypeTag::UniformBits { width: 8 },
     ];
-    assert!(rt; is_strictly_increasing(&tags));
+    assert!(rt; are_in_order(&tags));
 }
 
-// Each value is below every later one, and equal to itself alone.
-fn is_strictly_increasing<T: Ord>(values: &[T]) -> bool {
+#[test]
+fn steps_are_ordered_part_by_part(rt: HostRuntime) {
+    let steps = [
+        Interaction::bytes(Hierarchy::Atomic, Kind::Public, "a", Length::Fixed(2)),
+        Interaction::bytes(Hierarchy::Atomic, Kind::Message, "a", Length::Fixed(1)),
+        Interaction::bytes(Hierarchy::Atomic, Kind::Message, "a", Length::Fixed(2)),
+        Interaction::opaque(Hierarchy::Atomic, Kind::Message, "a", Length::Fixed(1)),
+        Interaction::bytes(Hierarchy::Atomic, Kind::Message, "ab", Length::Fixed(1)),
+        Interaction::bytes(Hierarchy::Atomic, Kind::Message, "b", Length::None),
+        Interaction::marker::<()>(Hierarchy::Begin, Kind::Protocol, "a"),
+        Interaction::marker::<u8>(Hierarchy::Begin, Kind::Protocol, "a"),
+        Interaction::marker::<()>(Hierarchy::End, Kind::Protocol, "a"),
+    ];
+    assert!(rt; are_in_order(&steps));
+}
+
+/// Each value is below every later one, and equal to itself alone.
+pub fn are_in_order<T: Ord>(values: &[T]) -> bool {
     for (i, x) in values.iter().enumerate() {
         for (j, y) in values.iter().enumerate() {
-            if (x < y) != (i < j) || (x == y) != (i == j) {
+            if x.cmp(y) != i.cmp(&j) || (x < y) != (i < j) || (x == y) != (i == j) {
                 return false;
             }
         }
