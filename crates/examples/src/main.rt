@@ -11,7 +11,8 @@ use p3_challenger::fs::{
     VerifierState,
 };
 use p3_challenger::{CanObserve, HashChallenger, SerializingChallenger32};
-use p3_field::{BabyBear, Coeffs, Goldilocks, PrimeCharacteristicRing};
+use p3_field::{BabyBear, Coeffs, PrimeCharacteristicRing};
+use p3_poseidon2::default_babybear_poseidon2_16;
 use p3_symmetric::{MerkleCap, Sha256Hasher};
 use std::alloc::Global;
 use uses::commit_phase::{Challenges, Demands};
@@ -44,31 +45,34 @@ fn show_protocol(rt: &HostRuntime) -> anyhow::Result<()> {
     Ok(())
 }
 
-// A script is proved, and the proof verified: from the same numbers, and from one of them alone. The bytes and the draws
-// that are expected were computed by a model of this protocol apart from the library, of some 60 lines of Python.
+// A script is proved over Poseidon2, and the proof verified: from the same numbers, and from one of them alone. The bytes
+// and the draws that are expected are those of the Rust crate's prover and verifier, over a Poseidon2 in Rust.
 fn show_demo_script(rt: &HostRuntime) -> anyhow::Result<()> {
     let alloc = rt.alloc();
     let separator = demo_script::separator(alloc)?;
-    let (seven, eight) = (Goldilocks::from_u64(7), Goldilocks::from_u64(8));
-    let values = vec![in alloc; Goldilocks::ONE, Goldilocks::from_u64(2)]?;
+    let permutation = default_babybear_poseidon2_16();
+    let (seven, eight) = (BabyBear::from_u64(7), BabyBear::from_u64(8));
+    let values = vec![in alloc; BabyBear::ONE, BabyBear::from_u64(2)]?;
     let sent = [
         Sent::Bytes(hex::decode(alloc, "0011223344556677")?),
         Sent::Scalars(values),
         Sent::Bytes(hex::decode(alloc, "6869")?),
     ];
     let inputs = vec![in alloc; seven, eight]?;
-    let agreed = demo_script::prove_and_verify(alloc, &separator, inputs, &sent)?;
+    let agreed = demo_script::prove_and_verify(alloc, permutation, &separator, inputs, &sent)?;
     let agreed = agreed.context("values that the steps do not have")?;
     let proof = hex::encode(alloc, agreed.proved.narg.as_slice())?;
     println!(rt; "demo script: {proof}")?;
     for drawn in &agreed.drawn {
         match drawn {
-            Drawn::Scalars(scalars) | Drawn::Extensions(scalars) => println!(rt; "{scalars:?}")?,
+            Drawn::Scalars(scalars) => println!(rt; "{scalars:?}")?,
+            Drawn::Extensions(elements) => println!(rt; "{elements:?}")?,
             Drawn::Bits(numbers) => println!(rt; "{numbers:?}")?,
         }
     }
     let fewer = vec![in alloc; seven]?;
-    let other = demo_script::verify(alloc, &separator, fewer, agreed.proved.narg.as_slice());
+    let narg = agreed.proved.narg.as_slice();
+    let other = demo_script::verify(alloc, permutation, &separator, fewer, narg);
     if let Err(fault) = other {
         println!(rt;
             "a number fewer: refused at {}, {}",

@@ -2,26 +2,30 @@
 use Rattle.std.specs.{declared.alloc.Global.Global, Borrow.Bor, Prelude.{◌≡◌, ℕ, List, [], ◌∷◌, Vec, codes}}
 use Rattle.p3_challenger.specs.{Sha256Hasher.Sha256Hasher, FieldUnit.FieldUnit, Both.Both}
 use Rattle.p3_challenger.specs.{FieldToFieldCodec.FieldToFieldCodec, AcceptAll.AcceptAll, Hash.Hash}
-use Rattle.p3_challenger.specs.{HashCalls.with_pending, HashState.HashState, SerializingState.SerializingState}
-use Rattle.p3_field.specs.Goldilocks.{Goldilocks}
+use Rattle.p3_challenger.specs.{DuplexCalls.fresh, DuplexState.DuplexState}
+use Rattle.p3_field.specs.{Coeffs.Coeffs, BabyBearResidues.{BabyBear, residues}}
+use Rattle.p3_poseidon2.specs.declared.poseidon2.Poseidon2.{Poseidon2}
 use Rattle.uses.specs.declared.demo_script.Demo.{Demo}
 use Rattle.p3_challenger.specs.Kind.TheVariants as kind
 use Rattle.p3_challenger.specs.Step as script
 use Rattle.p3_challenger.specs.Step.TheVariants as step
 
--- a challenger of scalars over the bytes of SHA-256
-abbrev pub ScriptChallenger : Type 0
-ScriptChallenger = SerializingState (HashState ℕ Sha256Hasher)
+-- Poseidon2 of sixteen cells, and a challenger over it
+abbrev pub Permutation : Type 0
+Permutation = Poseidon2 BabyBear 16 7 13
 
--- one that observed nothing, with a limit of 1000 candidates for a scalar
-abbrev pub fresh_challenger : ScriptChallenger
-fresh_challenger = record { inner = record { sponge = with_pending []; hasher = record {} }; draw_limit = 1000 }
+abbrev pub ScriptChallenger : Type 0
+ScriptChallenger = DuplexState BabyBear Permutation
+
+-- one that observed nothing, with a limit of 1000 candidates for uniform bits
+abbrev pub fresh_challenger : Permutation → ScriptChallenger
+fresh_challenger permutation = record { sponge = fresh residues 16; permutation = permutation; draw_limit = 1000 }
 
 -- a step of the script
 abbrev pub ScriptStep : Type 0
 ScriptStep =
-    script.Step Demo Goldilocks Goldilocks (FieldUnit Goldilocks) (Hash Goldilocks ℕ 32) ScriptChallenger
-    (FieldToFieldCodec Goldilocks) AcceptAll Sha256Hasher Both Goldilocks ScriptChallenger ℕ
+    script.Step Demo BabyBear (Coeffs BabyBear 4) (FieldUnit BabyBear) (Hash BabyBear BabyBear 8) ScriptChallenger
+    (FieldToFieldCodec BabyBear) AcceptAll Sha256Hasher Both BabyBear ScriptChallenger BabyBear
 
 -- a label, which says this
 pub record Labelled (text : List ℕ) : Type 0 where
@@ -29,7 +33,7 @@ pub record Labelled (text : List ℕ) : Type 0 where
   pub says : label.now ≡ text
 
 -- the steps with these numbers
-pub record AreDemoSteps (inputs : Vec Goldilocks Global) (steps : List ScriptStep) : Type 0 where
+pub record AreDemoSteps (inputs : Vec BabyBear Global) (steps : List ScriptStep) : Type 0 where
   pub opener : Labelled (codes "demo")
   pub numbers : Labelled (codes "inputs")
   pub salt : Labelled (codes "salt")

@@ -1,4 +1,5 @@
-//! A protocol as a script: the types that play it, its steps as data, and a call for each side.
+//! A protocol as a script over a sponge: the types that play it, its steps as data, and a call for each side. The sponge
+//! has sixteen cells of `BabyBear`, eight of them the rate, and Poseidon2 permutes them.
 //!
 //! Both sides know a list of at most four numbers. The prover sends a salt and at most four values, and finds a witness
 //! for 8 bits of work. Then a challenge is drawn, the prover sends a note that no challenge depends on, and two places
@@ -18,8 +19,9 @@ use p3_challenger::fs::{
     DomainSeparator, FieldToFieldCodec, FieldUnit, Hierarchy, Interaction, InteractionPattern,
     Kind, Length, TranscriptError, script,
 };
-use p3_challenger::{HashChallenger, SerializingChallenger64, Sponge};
-use p3_field::Goldilocks;
+use p3_challenger::{DuplexChallenger, Sponge};
+use p3_field::{BabyBear, Coeffs};
+use p3_poseidon2::Poseidon2BabyBear16;
 use p3_symmetric::{Hash, Sha256Hasher};
 use std::alloc::Global;
 
@@ -29,19 +31,19 @@ pub struct Demo;
 
 impl Suite for Demo {
     ghost use Rattle.std.{proofs.Common.lit<, specs.List.each_same};
-    ghost use Rattle.p3_challenger.specs.{HashValueLaws.values-injective, Digests.values_of, Reading.AreBytes};
+    ghost use Rattle.p3_challenger.specs.{HashValueLaws.values-injective, Digests.values_of};
 
-    type Field = Goldilocks;
+    type Field = BabyBear;
 
-    type Extension = Goldilocks;
+    type Extension = Coeffs<BabyBear, 4>;
 
-    type Unit = FieldUnit<Goldilocks>;
+    type Unit = FieldUnit<BabyBear>;
 
-    type Opaque = Hash<Goldilocks, u8, 32>;
+    type Opaque = Hash<BabyBear, BabyBear, 8>;
 
     type Challenger = Challenger;
 
-    type Codec = FieldToFieldCodec<Goldilocks>;
+    type Codec = FieldToFieldCodec<BabyBear>;
 
     type Accept = AcceptAll;
 
@@ -49,7 +51,7 @@ impl Suite for Demo {
 
     type Group = Both;
 
-    ghost is_own = { λ digest. AreBytes (values_of digest) };
+    ghost is_own = { λ _. Unit {0} };
 
     ghost alphabet = { lit< tt };
 
@@ -57,23 +59,23 @@ impl Suite for Demo {
         (each_same (values_of digest) (values_of copy) told.whole) };
 }
 
-/// A challenger of scalars, over the bytes of SHA-256.
-pub type Challenger = SerializingChallenger64<Goldilocks, HashChallenger<u8, Sha256Hasher, 32>>;
+/// A challenger of scalars, over Poseidon2.
+pub type Challenger = DuplexChallenger<BabyBear, Poseidon2BabyBear16, 16, 8>;
 
 /// What binds a transcript to the protocol: its version, its name and its pattern.
-pub type Separator = DomainSeparator<FieldUnit<Goldilocks>, Sha256Hasher>;
+pub type Separator = DomainSeparator<FieldUnit<BabyBear>, Sha256Hasher>;
 
-// How many groups of bytes a draw of a scalar tries at most.
+// How many elements a draw of uniform bits tries at most.
 const DRAW_LIMIT: u64 = 1000;
 
-fn challenger(alloc: Global) -> Challenger
-    ensures { result ≡ fresh_challenger }
+fn challenger(permutation: Poseidon2BabyBear16) -> Challenger
+    ensures { result ≡ fresh_challenger permutation }
 {
-    SerializingChallenger64::from_hasher(Vec::new(alloc), Sha256Hasher, DRAW_LIMIT)
+    DuplexChallenger::new(permutation, DRAW_LIMIT)
 }
 
 /// The steps of the protocol, for these numbers.
-pub fn steps(inputs: Vec<Goldilocks>) -> [Step<Demo>; 9]
+pub fn steps(inputs: Vec<BabyBear>) -> [Step<Demo>; 9]
     ensures steps { AreDemoSteps inputs result }
     ensures admitted { AreAdmitted (play_of (⟦<Demo as Meaning>⟧.rules 1)) result }
     ensures carried { carried_count (play_of (⟦<Demo as Meaning>⟧.rules 1)) result ≡ 0 }
@@ -121,7 +123,7 @@ pub fn steps(inputs: Vec<Goldilocks>) -> [Step<Demo>; 9]
 /// The pattern of these steps, and its separator. In practice the only error is out of memory.
 pub fn separator(alloc: Global) -> Result<Separator, TranscriptError> {
     let (leaf, kind) = (Hierarchy::Atomic, Kind::Protocol);
-    let inputs = Interaction::algebra::<Goldilocks, Goldilocks, Sha256Hasher>(
+    let inputs = Interaction::algebra::<BabyBear, BabyBear, Sha256Hasher>(
         leaf,
         Kind::Public,
         "inputs",
@@ -159,27 +161,28 @@ pub struct Agreed {
 /// the bytes of a note. The errors are those of [`script::prove`], and out of memory.
 pub fn prove_and_verify(
     alloc: Global,
+    permutation: Poseidon2BabyBear16,
     separator: &Separator,
-    inputs: Vec<Goldilocks>,
+    inputs: Vec<BabyBear>,
     sent: &[Sent<Demo>],
 ) -> Result<Option<Agreed>, Fault>
     ensures proved { IfOk result (λ agreed. IfSome agreed (λ a. (steps : List _) × AreDemoSteps inputs steps
-        × IsProvedScript (⟦<Demo as Meaning>⟧.rules 1) (script_of fresh_challenger separator.now steps)
+        × IsProvedScript (⟦<Demo as Meaning>⟧.rules 1) (script_of (fresh_challenger permutation) separator.now steps)
         (values_sent sent.now) ⟦<Challenger as Sponge>⟧.state a.proved)) }
     ensures accepted { IfOk result (λ agreed. IfSome agreed (λ a. (steps : List _) × AreDemoSteps inputs steps
-        × IsAcceptedProof (⟦<Demo as Meaning>⟧.rules 1) (script_of fresh_challenger separator.now steps)
+        × IsAcceptedProof (⟦<Demo as Meaning>⟧.rules 1) (script_of (fresh_challenger permutation) separator.now steps)
         ⟦<Challenger as Sponge>⟧.state a.proved a.drawn.items a.challenger)) }
     ensures other { IfOk result (λ agreed. agreed ≡ None → (steps : List _) × AreDemoSteps inputs steps
         × (AreHanded (play_of (⟦<Demo as Meaning>⟧.rules 1)) steps (values_sent sent.now) → ⊥)) }
     ensures refused { IfErr result (λ fault. (steps : List _) × AreDemoSteps inputs steps
-        × (IsRefusedScript (⟦<Demo as Meaning>⟧.rules 1) (script_of fresh_challenger separator.now steps)
+        × (IsRefusedScript (⟦<Demo as Meaning>⟧.rules 1) (script_of (fresh_challenger permutation) separator.now steps)
         (values_sent sent.now) fault ⊎ (fault.error ≡ OutOfMemory))) }
 {
     let steps = steps(inputs);
     if !sent_matches(&steps, sent) {
         return Ok(None);
     }
-    let (prover, verifier) = (challenger(alloc), challenger(alloc));
+    let (prover, verifier) = (challenger(permutation), challenger(permutation));
     let (proved, drawn, challenger) = script::prove_and_verify::<Demo>(
         alloc, prover, verifier, separator, &steps, sent,
     )?;
@@ -194,17 +197,25 @@ pub fn prove_and_verify(
 /// a witness that passes, and of nothing more; where it is refused and memory is not out, there are no such values.
 pub fn verify<'a>(
     alloc: Global,
+    permutation: Poseidon2BabyBear16,
     separator: &Separator,
-    inputs: Vec<Goldilocks>,
+    inputs: Vec<BabyBear>,
     proof: &'a [u8],
 ) -> Result<Verified<'a, Demo>, Fault>
     ensures accepted { IfOk result (λ verified. (steps : List _) × AreDemoSteps inputs steps
-        × IsVerifiedScript (⟦<Demo as Meaning>⟧.rules 1) (script_of fresh_challenger separator.now steps)
+        × IsVerifiedScript (⟦<Demo as Meaning>⟧.rules 1) (script_of (fresh_challenger permutation) separator.now steps)
         proof.now [] ⟦<Challenger as Sponge>⟧.state verified) }
     ensures refused { IfErr result (λ fault. (steps : List _) × AreDemoSteps inputs steps
-        × IsRefusedProof (⟦<Demo as Meaning>⟧.rules 1) (script_of fresh_challenger separator.now steps)
+        × IsRefusedProof (⟦<Demo as Meaning>⟧.rules 1) (script_of (fresh_challenger permutation) separator.now steps)
         proof.now [] fault) }
 {
     let steps = steps(inputs);
-    script::verify::<Demo>(alloc, challenger(alloc), separator, &steps, &[], proof)
+    script::verify::<Demo>(
+        alloc,
+        challenger(permutation),
+        separator,
+        &steps,
+        &[],
+        proof,
+    )
 }

@@ -1,4 +1,5 @@
-//! A permutation of one's own, for a [`DuplexChallenger`](p3_challenger::DuplexChallenger).
+//! A permutation of one's own, for a [`DuplexChallenger`](p3_challenger::DuplexChallenger), where it is not to be the
+//! Poseidon2 of `p3_poseidon2`.
 //!
 //! What a challenger needs is one method and one line of contract: which function of the cells the permutation is. That
 //! it is hard to invert, or a permutation at all, no contract says; it is the word of who brings it. Where witnesses are
