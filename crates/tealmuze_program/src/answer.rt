@@ -220,7 +220,14 @@ fn verdict<'n, S: Told>(
     let carried = witnesses::<S>(alloc, request, steps)?;
     let challenger = S::fresh(alloc)?;
     let separator = &protocol.separator;
-    verify_steps::<S>(alloc, challenger, separator, steps, carried.as_slice(), proof)
+    verify_steps::<S>(
+        alloc,
+        challenger,
+        separator,
+        steps,
+        carried.as_slice(),
+        proof,
+    )
 }
 
 // The witnesses that are carried beside the proof: as many as the steps have.

@@ -49,7 +49,9 @@ impl PatternShown {
     /// The pattern, its digest and the seed as text.
     pub fn text(&self, alloc: Global) -> Result<String> {
         let PatternShown {
-            pattern, digest, ..
+            pattern,
+            digest,
+            ..
         } = self;
         match &self.seed {
             Some(seed) => Ok(format!(in alloc; "{pattern}digest {digest}\nseed {seed}\n")?),

@@ -10,7 +10,12 @@ const KEYS: [(&[&str], &[&str]); 9] = [
         &["type", "label", "max"],
     ),
     (
-        &["scalar", "extension", "challenge_scalar", "challenge_extension"],
+        &[
+            "scalar",
+            "extension",
+            "challenge_scalar",
+            "challenge_extension",
+        ],
         &["type", "label"],
     ),
     (
