@@ -45,76 +45,125 @@ fn digest<T: Symbol, const N: usize>(alloc: Global, tokens: &str) -> Result<[T; 
     Ok(<[T; N]>::try_from(elements.as_slice())?)
 }
 
-// The worlds of the suite over bytes, where this function hashes. That of any hash function would not know how large
-// its challenger is.
-macro_rules! world_of_bytes {
-    ($hasher:ident) => {
-        impl World for HashSuite<$hasher> {
-            fn fresh(alloc: Global) -> Result<HashChallenger<u8, $hasher, 32>> {
-                Ok(HashChallenger::new(Vec::new(alloc), $hasher))
-            }
-
-            fn opaque(_alloc: Global, tokens: &str) -> Result<[u8; 32]> {
-                digest_of_bytes(tokens)
-            }
-
-            fn rule(token: &str) -> Result<AcceptAll> {
-                accept_all(token)
-            }
-        }
-    };
+// A digest of four words.
+fn digest_of_words(alloc: Global, tokens: &str) -> Result<[u64; 4]> {
+    let words = parse_row(alloc, tokens)?;
+    Ok(<[u64; 4]>::try_from(words.as_slice())?)
 }
 
-// The worlds of the suites over serialized elements, where the first function hashes in the challenger, and the second
-// patterns and identities.
-macro_rules! worlds_of_serialized {
-    ($hasher:ident, $digest:ident) => {
-        impl World for Serializing32Suite<$hasher, $digest> {
-            fn fresh(
-                alloc: Global,
-            ) -> Result<SerializingChallenger32<BabyBear, HashChallenger<u8, $hasher, 32>>> {
-                let inner = HashChallenger::new(Vec::new(alloc), $hasher);
-                Ok(SerializingChallenger32::new(inner, DRAW_LIMIT))
-            }
+// A world for each hash function: that of any one would not know how large its challenger is.
+impl World for HashSuite<Sha256Hasher> {
+    fn fresh(alloc: Global) -> Result<HashChallenger<u8, Sha256Hasher, 32>> {
+        Ok(HashChallenger::new(Vec::new(alloc), Sha256Hasher))
+    }
 
-            fn opaque(_alloc: Global, tokens: &str) -> Result<Hash<BabyBear, u8, 32>> {
-                Ok(Hash::from(digest_of_bytes(tokens)?))
-            }
+    fn opaque(_alloc: Global, tokens: &str) -> Result<[u8; 32]> {
+        digest_of_bytes(tokens)
+    }
 
-            fn rule(token: &str) -> Result<AcceptAll> {
-                accept_all(token)
-            }
-        }
-
-        impl World for Serializing64Suite<$hasher, $digest> {
-            fn fresh(
-                alloc: Global,
-            ) -> Result<SerializingChallenger64<Goldilocks, HashChallenger<u8, $hasher, 32>>> {
-                let inner = HashChallenger::new(Vec::new(alloc), $hasher);
-                Ok(SerializingChallenger64::new(inner, DRAW_LIMIT))
-            }
-
-            fn opaque(alloc: Global, tokens: &str) -> Result<Hash<Goldilocks, u64, 4>> {
-                let words = parse_row(alloc, tokens)?;
-                Ok(Hash::from(<[u64; 4]>::try_from(words.as_slice())?))
-            }
-
-            fn rule(token: &str) -> Result<AcceptAll> {
-                accept_all(token)
-            }
-        }
-    };
+    fn rule(token: &str) -> Result<AcceptAll> {
+        accept_all(token)
+    }
 }
 
-world_of_bytes!(Sha256Hasher);
+impl World for HashSuite<Keccak256Hasher> {
+    fn fresh(alloc: Global) -> Result<HashChallenger<u8, Keccak256Hasher, 32>> {
+        Ok(HashChallenger::new(Vec::new(alloc), Keccak256Hasher))
+    }
 
-world_of_bytes!(Keccak256Hasher);
+    fn opaque(_alloc: Global, tokens: &str) -> Result<[u8; 32]> {
+        digest_of_bytes(tokens)
+    }
 
-worlds_of_serialized!(Sha256Hasher, Sha256Hasher);
+    fn rule(token: &str) -> Result<AcceptAll> {
+        accept_all(token)
+    }
+}
 
-worlds_of_serialized!(Keccak256Hasher, Keccak256Hasher);
+impl World for Serializing32Suite<Sha256Hasher, Sha256Hasher> {
+    fn fresh(
+        alloc: Global,
+    ) -> Result<SerializingChallenger32<BabyBear, HashChallenger<u8, Sha256Hasher, 32>>> {
+        let inner = HashChallenger::new(Vec::new(alloc), Sha256Hasher);
+        Ok(SerializingChallenger32::new(inner, DRAW_LIMIT))
+    }
 
-worlds_of_serialized!(Sha256Hasher, Keccak256Hasher);
+    fn opaque(_alloc: Global, tokens: &str) -> Result<Hash<BabyBear, u8, 32>> {
+        Ok(Hash::from(digest_of_bytes(tokens)?))
+    }
+
+    fn rule(token: &str) -> Result<AcceptAll> {
+        accept_all(token)
+    }
+}
+
+impl World for Serializing32Suite<Keccak256Hasher, Keccak256Hasher> {
+    fn fresh(
+        alloc: Global,
+    ) -> Result<SerializingChallenger32<BabyBear, HashChallenger<u8, Keccak256Hasher, 32>>> {
+        let inner = HashChallenger::new(Vec::new(alloc), Keccak256Hasher);
+        Ok(SerializingChallenger32::new(inner, DRAW_LIMIT))
+    }
+
+    fn opaque(_alloc: Global, tokens: &str) -> Result<Hash<BabyBear, u8, 32>> {
+        Ok(Hash::from(digest_of_bytes(tokens)?))
+    }
+
+    fn rule(token: &str) -> Result<AcceptAll> {
+        accept_all(token)
+    }
+}
+
+impl World for Serializing32Suite<Sha256Hasher, Keccak256Hasher> {
+    fn fresh(
+        alloc: Global,
+    ) -> Result<SerializingChallenger32<BabyBear, HashChallenger<u8, Sha256Hasher, 32>>> {
+        let inner = HashChallenger::new(Vec::new(alloc), Sha256Hasher);
+        Ok(SerializingChallenger32::new(inner, DRAW_LIMIT))
+    }
+
+    fn opaque(_alloc: Global, tokens: &str) -> Result<Hash<BabyBear, u8, 32>> {
+        Ok(Hash::from(digest_of_bytes(tokens)?))
+    }
+
+    fn rule(token: &str) -> Result<AcceptAll> {
+        accept_all(token)
+    }
+}
+
+impl World for Serializing64Suite<Sha256Hasher, Sha256Hasher> {
+    fn fresh(
+        alloc: Global,
+    ) -> Result<SerializingChallenger64<Goldilocks, HashChallenger<u8, Sha256Hasher, 32>>> {
+        let inner = HashChallenger::new(Vec::new(alloc), Sha256Hasher);
+        Ok(SerializingChallenger64::new(inner, DRAW_LIMIT))
+    }
+
+    fn opaque(alloc: Global, tokens: &str) -> Result<Hash<Goldilocks, u64, 4>> {
+        Ok(Hash::from(digest_of_words(alloc, tokens)?))
+    }
+
+    fn rule(token: &str) -> Result<AcceptAll> {
+        accept_all(token)
+    }
+}
+
+impl World for Serializing64Suite<Keccak256Hasher, Keccak256Hasher> {
+    fn fresh(
+        alloc: Global,
+    ) -> Result<SerializingChallenger64<Goldilocks, HashChallenger<u8, Keccak256Hasher, 32>>> {
+        let inner = HashChallenger::new(Vec::new(alloc), Keccak256Hasher);
+        Ok(SerializingChallenger64::new(inner, DRAW_LIMIT))
+    }
+
+    fn opaque(alloc: Global, tokens: &str) -> Result<Hash<Goldilocks, u64, 4>> {
+        Ok(Hash::from(digest_of_words(alloc, tokens)?))
+    }
+
+    fn rule(token: &str) -> Result<AcceptAll> {
+        accept_all(token)
+    }
+}
 
 impl World for MultiFieldSuite {
     fn fresh(_alloc: Global) -> Result<MultiField32Challenger<F257, BabyBear, Turn<2>, 3, 2>> {
