@@ -23,15 +23,13 @@ pub fn cap<M, T: Copy, const N: usize>(
     Ok(MerkleCap::new(roots))
 }
 
-/// Observes an array as a digest, or it and the others as a cap: by value, or the cap that is lent.
+/// Observes an array as a digest, or it and the others as a cap. (A cap by reference is for the caller, who knows the
+/// challenger.)
 #[tactic(auto, using(crate::proofs::Layouts::digest_fits))]
 pub fn observe_digests<
-    'a,
     M,
     T: Copy,
-    C: CanObserve<Hash<M, T, N>>
-        + CanObserve<MerkleCap<M, [T; N]>>
-        + CanObserve<&'a MerkleCap<M, [T; N]>>,
+    C: CanObserve<Hash<M, T, N>> + CanObserve<MerkleCap<M, [T; N]>>,
     const N: usize,
 >(
     alloc: Global,
@@ -40,7 +38,6 @@ pub fn observe_digests<
     kind: ArraysKind,
     first: [T; N],
     rest: &[Vec<T>],
-    lent: &'a MerkleCap<M, [T; N]>,
 ) -> Result<()> {
     match kind {
         ArraysKind::Digest if rest.is_empty() => {
@@ -50,7 +47,6 @@ pub fn observe_digests<
             let cap = cap::<M, T, N>(alloc, first, rest)?;
             observe(alloc, subject, form, cap)
         }
-        ArraysKind::CapByReference => observe(alloc, subject, form, lent),
         _ => bail!("no digest"),
     }
 }

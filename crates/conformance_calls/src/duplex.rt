@@ -139,10 +139,11 @@ fn observe_arrays<
 ) -> Result<()> {
     match kind {
         ArraysKind::Array if rest.is_empty() => observe(alloc, subject, form, first),
-        _ => {
+        ArraysKind::CapByReference => {
             let lent = cap::<F, F, N>(alloc, first, rest)?;
-            observe_digests::<F, F, _, N>(alloc, subject, form, kind, first, rest, &lent)
+            observe(alloc, subject, form, &lent)
         }
+        _ => observe_digests::<F, F, _, N>(alloc, subject, form, kind, first, rest),
     }
 }
 

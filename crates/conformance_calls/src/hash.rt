@@ -98,10 +98,11 @@ fn observe_arrays<H: CryptographicHasher<u8, [u8; 32]>, const N: usize>(
 ) -> Result<()> {
     match kind {
         ArraysKind::Array if rest.is_empty() => observe(alloc, subject, form, first),
-        _ => {
+        ArraysKind::CapByReference => {
             let lent = cap::<u8, u8, N>(alloc, first, rest)?;
-            observe_digests::<u8, u8, _, N>(alloc, subject, form, kind, first, rest, &lent)
+            observe(alloc, subject, form, &lent)
         }
+        _ => observe_digests::<u8, u8, _, N>(alloc, subject, form, kind, first, rest),
     }
 }
 

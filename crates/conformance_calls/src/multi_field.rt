@@ -246,8 +246,13 @@ fn observe_cells<
     first: [PF; N],
     rest: &[Vec<PF>],
 ) -> Result<()> {
-    let lent = cap::<F, PF, N>(alloc, first, rest)?;
-    observe_digests::<F, PF, _, N>(alloc, subject, form, kind, first, rest, &lent)
+    match kind {
+        ArraysKind::CapByReference => {
+            let lent = cap::<F, PF, N>(alloc, first, rest)?;
+            observe(alloc, subject, form, &lent)
+        }
+        _ => observe_digests::<F, PF, _, N>(alloc, subject, form, kind, first, rest),
+    }
 }
 
 // The digest of a clone, in the place of the row.

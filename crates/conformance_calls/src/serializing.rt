@@ -3,7 +3,7 @@ use crate::challenger_call::{ArraysKind, ChallengerCall, Form, Observation, Part
 use crate::digests::{cap, observe_digests};
 use crate::elements::answer_elements;
 use crate::replay::{Replayed, answer_made, first_difference};
-use crate::subject::{DRAW_LIMIT, Subject, Way, finalized};
+use crate::subject::{DRAW_LIMIT, Subject, Way, finalized, observe};
 use crate::work::{WorkCall, uniform_bits};
 use anyhow::{Context, Result, bail};
 use conformance_tokens::answer;
@@ -165,8 +165,13 @@ fn observe_byte_arrays<
     first: [u8; N],
     rest: &[Vec<u8>],
 ) -> Result<()> {
-    let lent = cap::<F, u8, N>(alloc, first, rest)?;
-    observe_digests::<F, u8, _, N>(alloc, subject, form, kind, first, rest, &lent)
+    match kind {
+        ArraysKind::CapByReference => {
+            let lent = cap::<F, u8, N>(alloc, first, rest)?;
+            observe(alloc, subject, form, &lent)
+        }
+        _ => observe_digests::<F, u8, _, N>(alloc, subject, form, kind, first, rest),
+    }
 }
 
 fn observe_words<
@@ -197,6 +202,11 @@ fn observe_word_arrays<
     first: [u64; N],
     rest: &[Vec<u64>],
 ) -> Result<()> {
-    let lent = cap::<F, u64, N>(alloc, first, rest)?;
-    observe_digests::<F, u64, _, N>(alloc, subject, form, kind, first, rest, &lent)
+    match kind {
+        ArraysKind::CapByReference => {
+            let lent = cap::<F, u64, N>(alloc, first, rest)?;
+            observe(alloc, subject, form, &lent)
+        }
+        _ => observe_digests::<F, u64, _, N>(alloc, subject, form, kind, first, rest),
+    }
 }
