@@ -33,7 +33,7 @@ pub struct Request<'a> {
     pub carried: Vec<u64>,
 }
 
-/// Reads a command line, with the name of the program first. The error is a usage line, or the help that was request for.
+/// Reads a command line, with the name of the program first. The error is a usage line, or the help that was asked for.
 pub fn parse<'a>(alloc: Global, words: &'a [&'a str]) -> Result<ArgMatches<'a>, Error> {
     grammar(alloc)?.try_get_matches_from(words)
 }

@@ -2,7 +2,7 @@
 use anyhow::{Result, bail};
 
 // The keys of each step, by its type.
-const KEYS: [(&[&str], &[&str]); 9] = [
+const KEYS: [(&[&str], &[&str]); 10] = [
     (&["begin", "end"], &["type", "label", "kind"]),
     (&["salt", "bytes", "hint"], &["type", "label", "len"]),
     (
@@ -38,6 +38,7 @@ const KEYS: [(&[&str], &[&str]); 9] = [
         &["challenge_bits", "challenge_uniform_bits"],
         &["type", "label", "width", "n"],
     ),
+    (&["pow", "observe_pow"], &["type", "label", "bits"]),
 ];
 
 /// The keys that a step of this type has.
