@@ -2,16 +2,15 @@
 // counts the seed also makes the driver, which renders the pattern, hashes it and observes the seed.
 ghost use Rattle.std.specs.Prelude.{◌≤◌};
 
-use crate::duplex::Duplex;
 use crate::hash::{Chain, new_chain};
-use crate::timing::{Lap, least, least_lap, nanoseconds_since};
+use crate::timing::{Lap, Shortest, nanoseconds_since};
 use anyhow::Result;
 use p3_challenger::fs::{
     BytesToFieldCodec, Codec, DomainSeparator, FieldToFieldCodec, FieldUnit, Hierarchy,
     Interaction, InteractionPattern, Kind, Length, ProverState, TranscriptError, Unit,
     VerifierState,
 };
-use p3_challenger::{CanObserve, Sponge};
+use p3_challenger::{CanCopy, CanObserve, DuplexChallenger, Sponge};
 use p3_field::{BabyBear, PrimeCharacteristicRing, PrimeField64};
 use p3_symmetric::{Sha256Hasher, Turn};
 use std::alloc::Global;
@@ -22,6 +21,8 @@ type Separator<U> = DomainSeparator<U, Sha256Hasher>;
 type Prover<C, U> = ProverState<C, U, Sha256Hasher>;
 
 type Verifier<'a, C, U> = VerifierState<'a, C, U, Sha256Hasher>;
+
+type Duplex = DuplexChallenger<BabyBear, Turn<1>, 16, 8>;
 
 type Bytes = BytesToFieldCodec<BabyBear>;
 
@@ -70,100 +71,97 @@ const SCRIPTS: [Script; 4] = [
     },
 ];
 
-/// A challenger of which a new one is made for each run.
-trait Fresh {
-    fn fresh(alloc: Global) -> Self;
+// How long a driver took from its making to its end, and how long its steps alone.
+#[derive(Clone, Copy)]
+struct Times {
+    whole: f64,
+    alone: f64,
 }
 
-impl Fresh for Chain {
-    fn fresh(alloc: Global) -> Self {
-        new_chain(alloc)
+// The least of a side's times.
+#[derive(Clone, Copy)]
+struct Side {
+    whole: Shortest,
+    alone: Shortest,
+}
+
+impl Side {
+    fn new() -> Side {
+        Side {
+            whole: Shortest::new(),
+            alone: Shortest::new(),
+        }
+    }
+
+    fn take(&mut self, times: Times, operations: u32, left: u64) {
+        let Times { whole, alone } = times;
+        self.whole.take(Lap {
+            nanoseconds: whole,
+            operations,
+            left,
+        });
+        self.alone.take(Lap {
+            nanoseconds: alone,
+            operations,
+            left,
+        });
+    }
+
+    fn print(&self, rt: &HostRuntime, name: &str, script: &Script) -> Result<u64> {
+        self.whole.print(rt, name, script.whole)?;
+        self.alone.print(rt, name, script.alone)
     }
 }
 
-impl Fresh for Duplex {
-    fn fresh(_alloc: Global) -> Self {
-        Duplex::new(Turn, 1)
-    }
-}
-
-/// Times both drivers over a hash, and their steps over a duplex sponge too, and gives a sum of what they leave.
-pub fn measure(rt: &HostRuntime, runs: u32) -> Result<u64> {
+/// Times both drivers over a hash and over a duplex sponge, and gives a sum of what they leave.
+pub fn measure_all(rt: &HostRuntime, runs: u32) -> Result<u64> {
     let mut sum = 0u64;
     for script in &SCRIPTS {
-        let hash = measure_hash(rt, runs, script)?;
-        let duplex = measure_duplex(rt, runs, script)?;
+        let hash = over_hash(rt, runs, script)?;
+        let duplex = over_duplex(rt, runs, script)?;
         sum = sum.wrapping_add(hash).wrapping_add(duplex);
     }
     Ok(sum)
 }
 
-fn measure_hash(rt: &HostRuntime, runs: u32, script: &Script) -> Result<u64> {
-    let separator = separator::<u8>(rt.alloc(), script)?;
-    let whole = measure_whole::<Chain, u8, Bytes>(rt, runs, &separator, script)?;
-    let steps = measure_steps::<Chain, u8, Bytes>(rt, "", runs, &separator, script)?;
-    Ok(whole.wrapping_add(steps))
+fn over_hash(rt: &HostRuntime, runs: u32, script: &Script) -> Result<u64> {
+    let names = ("prover, ", "verifier, ");
+    measure::<Chain, u8, Bytes>(rt, names, runs, &new_chain(rt.alloc()), script)
 }
 
-fn measure_duplex(rt: &HostRuntime, runs: u32, script: &Script) -> Result<u64> {
-    let separator = separator::<Symbols>(rt.alloc(), script)?;
-    measure_steps::<Duplex, Symbols, Elements>(rt, "duplex ", runs, &separator, script)
+fn over_duplex(rt: &HostRuntime, runs: u32, script: &Script) -> Result<u64> {
+    let names = ("duplex prover, ", "duplex verifier, ");
+    measure::<Duplex, Symbols, Elements>(rt, names, runs, &Duplex::new(Turn, 1), script)
 }
 
-fn measure_whole<C: Sponge + CanObserve<U::Item> + Fresh + Drop, U: Unit, Cdc: Codec<C, BabyBear>>(
+fn measure<C: Sponge + CanObserve<U::Item> + CanCopy, U: Unit, Cdc: Codec<C, BabyBear>>(
     rt: &HostRuntime,
+    names: (&str, &str),
     runs: u32,
-    separator: &Separator<U>,
+    challenger: &C,
     script: &Script,
 ) -> Result<u64>
     requires alphabet { U.is_alphabet }
     requires secure { 128 ≤ Cdc.SECURITY_BITS }
 {
-    let alloc = rt.alloc();
-    let proof = prove::<C, U, Cdc>(alloc, separator, script)?;
-    let narg = proof.as_slice();
-    let name = format!(in alloc; "prover, {}", script.whole)?;
-    let sent = least(
-        rt,
-        name.as_str(),
-        runs,
-        script.steps,
-        || Ok(()),
-        |_| prove::<C, U, Cdc>(alloc, separator, script),
-    )?;
-    let name = format!(in alloc; "verifier, {}", script.whole)?;
-    let received = least(
-        rt,
-        name.as_str(),
-        runs,
-        script.steps,
-        || Ok(()),
-        |_| verify::<C, U, Cdc>(alloc, separator, narg, script),
-    )?;
-    Ok(sent.wrapping_add(received))
-}
-
-fn measure_steps<C: Sponge + CanObserve<U::Item> + Fresh + Drop, U: Unit, Cdc: Codec<C, BabyBear>>(
-    rt: &HostRuntime,
-    challenger: &str,
-    runs: u32,
-    separator: &Separator<U>,
-    script: &Script,
-) -> Result<u64>
-    requires alphabet { U.is_alphabet }
-    requires secure { 128 ≤ Cdc.SECURITY_BITS }
-{
-    let alloc = rt.alloc();
-    let proof = prove::<C, U, Cdc>(alloc, separator, script)?;
-    let narg = proof.as_slice();
-    let name = format!(in alloc; "{challenger}prover, {}", script.alone)?;
-    let sent = least_lap(rt, name.as_str(), runs, script.steps, || {
-        lap_of_prover::<C, U, Cdc>(rt, separator, script)
-    })?;
-    let name = format!(in alloc; "{challenger}verifier, {}", script.alone)?;
-    let received = least_lap(rt, name.as_str(), runs, script.steps, || {
-        lap_of_verifier::<C, U, Cdc>(rt, separator, narg, script)
-    })?;
+    let separator = separator::<U>(rt.alloc(), script)?;
+    let mut prover = Side::new();
+    let mut verifier = Side::new();
+    for _ in 0..runs {
+        let (times, proof) = time_prover::<C, U, Cdc>(rt, challenger, &separator, script)?;
+        prover.take(times, script.steps, proof.len() as u64);
+        let (times, sum) = time_verifier::<C, U, Cdc>(
+            rt,
+            challenger,
+            &separator,
+            proof.as_slice(),
+            script,
+        )?;
+        verifier.take(times, script.steps, sum);
+    }
+    let (prover_name, verifier_name) = names;
+    let sent = prover.print(rt, prover_name, script)?;
+    let received = verifier.print(rt, verifier_name, script)?;
     Ok(sent.wrapping_add(received))
 }
 
@@ -191,61 +189,23 @@ pub fn separator<U>(alloc: Global, script: &Script) -> Result<Separator<U>> {
 }
 
 // Plays the script, and gives the bytes of the proof.
-fn prove<C: Sponge + CanObserve<U::Item> + Fresh + Drop, U: Unit, Cdc: Codec<C, BabyBear>>(
-    alloc: Global,
-    separator: &Separator<U>,
-    script: &Script,
-) -> Result<Vec<u8>>
-    requires alphabet { U.is_alphabet }
-    requires secure { 128 ≤ Cdc.SECURITY_BITS }
-{
-    let mut prover = Prover::new(alloc, C::fresh(alloc), separator)?;
-    match send::<C, U, Cdc>(&mut prover, script) {
-        Ok(()) => Ok(prover.finalize()?),
-        Err(refused) => {
-            prover.abort();
-            Err(refused.into())
-        }
-    }
-}
-
-// Reads a proof of the script whole, and gives a sum of what is received.
-fn verify<C: Sponge + CanObserve<U::Item> + Fresh + Drop, U: Unit, Cdc: Codec<C, BabyBear>>(
-    alloc: Global,
-    separator: &Separator<U>,
-    narg: &[u8],
-    script: &Script,
-) -> Result<u64>
-    requires alphabet { U.is_alphabet }
-    requires secure { 128 ≤ Cdc.SECURITY_BITS }
-{
-    let mut verifier = Verifier::new(alloc, C::fresh(alloc), separator, narg)?;
-    match receive::<C, U, Cdc>(&mut verifier, script) {
-        Ok(sum) => {
-            verifier.finalize()?;
-            Ok(sum)
-        }
-        Err(refused) => {
-            verifier.abort();
-            Err(refused.into())
-        }
-    }
-}
-
-// Plays the script, of which the steps alone are timed.
-fn lap_of_prover<C: Sponge + CanObserve<U::Item> + Fresh + Drop, U: Unit, Cdc: Codec<C, BabyBear>>(
+fn time_prover<C: Sponge + CanObserve<U::Item> + CanCopy, U: Unit, Cdc: Codec<C, BabyBear>>(
     rt: &HostRuntime,
+    challenger: &C,
     separator: &Separator<U>,
     script: &Script,
-) -> Result<Lap>
+) -> Result<(Times, Vec<u8>)>
     requires alphabet { U.is_alphabet }
     requires secure { 128 ≤ Cdc.SECURITY_BITS }
 {
-    let mut prover = Prover::new(rt.alloc(), C::fresh(rt.alloc()), separator)?;
+    let challenger = challenger.copy()?;
+    let start = Instant::now(rt)?;
+    let mut prover = Prover::new(rt.alloc(), challenger, separator)?;
     match timed_send::<C, U, Cdc>(rt, &mut prover, script) {
-        Ok(nanoseconds) => {
-            let left = prover.finalize()?.len() as u64;
-            Ok(Lap { nanoseconds, left })
+        Ok(alone) => {
+            let proof = prover.finalize()?;
+            let whole = nanoseconds_since(rt, start)?;
+            Ok((Times { whole, alone }, proof))
         }
         Err(error) => {
             prover.abort();
@@ -254,19 +214,25 @@ fn lap_of_prover<C: Sponge + CanObserve<U::Item> + Fresh + Drop, U: Unit, Cdc: C
     }
 }
 
-fn lap_of_verifier<
-    C: Sponge + CanObserve<U::Item> + Fresh + Drop,
-    U: Unit,
-    Cdc: Codec<C, BabyBear>,
->(rt: &HostRuntime, separator: &Separator<U>, narg: &[u8], script: &Script) -> Result<Lap>
+// Reads a proof of the script whole, and gives a sum of what is received.
+fn time_verifier<C: Sponge + CanObserve<U::Item> + CanCopy, U: Unit, Cdc: Codec<C, BabyBear>>(
+    rt: &HostRuntime,
+    challenger: &C,
+    separator: &Separator<U>,
+    narg: &[u8],
+    script: &Script,
+) -> Result<(Times, u64)>
     requires alphabet { U.is_alphabet }
     requires secure { 128 ≤ Cdc.SECURITY_BITS }
 {
-    let mut verifier = Verifier::new(rt.alloc(), C::fresh(rt.alloc()), separator, narg)?;
+    let challenger = challenger.copy()?;
+    let start = Instant::now(rt)?;
+    let mut verifier = Verifier::new(rt.alloc(), challenger, separator, narg)?;
     match timed_receive::<C, U, Cdc>(rt, &mut verifier, script) {
-        Ok(lap) => {
+        Ok((alone, sum)) => {
             verifier.finalize()?;
-            Ok(lap)
+            let whole = nanoseconds_since(rt, start)?;
+            Ok((Times { whole, alone }, sum))
         }
         Err(error) => {
             verifier.abort();
@@ -291,16 +257,16 @@ fn timed_receive<C: Sponge + Drop, U, Cdc: Codec<C, BabyBear>>(
     rt: &HostRuntime,
     verifier: &mut Verifier<'_, C, U>,
     script: &Script,
-) -> Result<Lap>
+) -> Result<(f64, u64)>
     requires { 128 ≤ Cdc.SECURITY_BITS }
 {
     let start = Instant::now(rt)?;
-    let left = receive::<C, U, Cdc>(verifier, script)?;
-    let nanoseconds = nanoseconds_since(rt, start)?;
-    Ok(Lap { nanoseconds, left })
+    let sum = receive::<C, U, Cdc>(verifier, script)?;
+    Ok((nanoseconds_since(rt, start)?, sum))
 }
 
 // The prover's steps: the value that is sent is the number of the step.
+#[inline(never)]
 fn send<C: Sponge + Drop, U, Cdc: Codec<C, BabyBear>>(
     prover: &mut Prover<C, U>,
     script: &Script,
@@ -318,6 +284,7 @@ fn send<C: Sponge + Drop, U, Cdc: Codec<C, BabyBear>>(
 }
 
 // The verifier's steps, and a sum of what is received.
+#[inline(never)]
 fn receive<C: Sponge + Drop, U, Cdc: Codec<C, BabyBear>>(
     verifier: &mut Verifier<'_, C, U>,
     script: &Script,

@@ -3,11 +3,11 @@
 #![tactic(auto)]
 
 mod calls;
+mod challengers;
 mod drivers;
-mod duplex;
 mod hash;
-mod multi_field;
 mod patterns;
+mod permutations;
 mod scripts;
 mod seeds;
 mod sumcheck;
@@ -33,19 +33,22 @@ fn main(rt: HostRuntime) -> Result<()> {
         .next()
         .and_then(|word| word.as_str().parse::<u32>().ok())
         .unwrap_or(RUNS);
+    measure_all(&rt, runs)
+}
+
+// Times everything, and prints the sum of what the runs left: so nothing of what makes it can be left out.
+fn measure_all(rt: &HostRuntime, runs: u32) -> Result<()> {
     let text: Vec<u8> = (0..MEBIBYTE).map(|i| (i % 251) as u8).collect(rt.alloc())?;
-    let duplex = duplex::measure(&rt, runs)?;
-    let hash = hash::measure(&rt, runs, text.as_slice())?;
-    let multi_field = multi_field::measure(&rt, runs)?;
-    let seeds = seeds::measure(&rt, runs, text.as_slice())?;
-    let patterns = patterns::measure(&rt, runs)?;
-    let drivers = drivers::measure(&rt, runs)?;
-    let scripts = scripts::measure(&rt, runs)?;
-    let sumcheck = sumcheck::measure(&rt, runs)?;
-    let work = work::measure(&rt, runs)?;
-    // The sums are shown so that nothing of what makes them can be left out.
+    let challengers = challengers::measure_all(rt, runs)?;
+    let hash = hash::measure_all(rt, runs, text.as_slice())?;
+    let permutations = permutations::measure_all(rt, runs)?;
+    let seeds = seeds::measure_all(rt, runs, text.as_slice())?;
+    let patterns = patterns::measure_all(rt, runs)?;
+    let drivers = drivers::measure_all(rt, runs)?;
+    let scripts = scripts::measure_all(rt, runs)?;
+    let sumcheck = sumcheck::measure_all(rt, runs)?;
     println!(rt;
-        "sums: {duplex} {hash} {multi_field} {seeds} {patterns} {drivers} {scripts} {sumcheck} {work}"
+        "sums: {challengers} {hash} {permutations} {seeds} {patterns} {drivers} {scripts} {sumcheck}"
     )?;
     Ok(())
 }

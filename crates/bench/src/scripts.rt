@@ -2,19 +2,46 @@
 // row is to be held against the driver's own of the same steps, with the seed.
 use crate::drivers::{MESSAGES, separator};
 use crate::hash::new_chain;
-use crate::timing::least;
+use crate::timing::{Lap, Row, Timed, measure, nanoseconds_since};
 use anyhow::{Result, bail};
 use p3_challenger::fs::DomainSeparator;
 use p3_challenger::fs::script::{Sent, Step, admitted, carried_len, prove, sent_matches, verify};
 use p3_field::{BabyBear, PrimeCharacteristicRing};
 use p3_symmetric::Sha256Hasher;
 use std::alloc::Global;
+use std::time::Instant;
 use test_suites::HashSuite;
 
 type Separator = DomainSeparator<u8, Sha256Hasher>;
 
+// What is played, and the bytes of its proof.
+#[derive(Clone, Copy)]
+struct Played<'a> {
+    separator: &'a Separator,
+    steps: &'a [Step<HashSuite>],
+    sent: &'a [Sent<HashSuite>],
+    narg: &'a [u8],
+}
+
+#[derive(Clone, Copy)]
+enum Side {
+    Prover,
+    Verifier,
+}
+
+const SIDES: [Row<Side>; 2] = [
+    Row {
+        name: "script prover, 10^4 scalar steps with seed",
+        timed: Side::Prover,
+    },
+    Row {
+        name: "script verifier, 10^4 scalar steps with seed",
+        timed: Side::Verifier,
+    },
+];
+
 /// Times both sides of a script, and gives a sum of what they leave.
-pub fn measure(rt: &HostRuntime, runs: u32) -> Result<u64> {
+pub fn measure_all(rt: &HostRuntime, runs: u32) -> Result<u64> {
     let alloc = rt.alloc();
     let separator = separator::<u8>(alloc, &MESSAGES)?;
     let mut steps: Vec<Step<HashSuite>> = Vec::new(alloc);
@@ -25,24 +52,36 @@ pub fn measure(rt: &HostRuntime, runs: u32) -> Result<u64> {
     }
     let (steps, sent) = (steps.as_slice(), sent.as_slice());
     let proof = proof_of(alloc, &separator, steps, sent)?;
-    let narg = proof.as_slice();
-    let proved = least(
-        rt,
-        "script prover, 10^4 scalar steps with seed",
-        runs,
-        MESSAGES.steps,
-        || Ok(()),
-        |_| proof_of(alloc, &separator, steps, sent),
-    )?;
-    let verified = least(
-        rt,
-        "script verifier, 10^4 scalar steps with seed",
-        runs,
-        MESSAGES.steps,
-        || Ok(()),
-        |_| number_received(alloc, &separator, steps, narg),
-    )?;
-    Ok(proved.wrapping_add(verified))
+    let played = Played {
+        separator: &separator,
+        steps,
+        sent,
+        narg: proof.as_slice(),
+    };
+    measure(rt, runs, &played, "", &SIDES)
+}
+
+impl Timed<Played<'_>> for Side {
+    fn lap(&self, rt: &HostRuntime, played: &Played<'_>) -> Result<Lap> {
+        let start = Instant::now(rt)?;
+        let left = match *self {
+            Side::Prover => proof_of(
+                rt.alloc(),
+                played.separator,
+                played.steps,
+                played.sent,
+            )?.len(),
+            Side::Verifier => {
+                number_received(rt.alloc(), played.separator, played.steps, played.narg)?
+            }
+        };
+        let nanoseconds = nanoseconds_since(rt, start)?;
+        Ok(Lap {
+            nanoseconds,
+            operations: MESSAGES.steps,
+            left: left as u64,
+        })
+    }
 }
 
 // The bytes of the proof that a script gives.
@@ -64,10 +103,10 @@ fn number_received(
     separator: &Separator,
     steps: &[Step<HashSuite>],
     narg: &[u8],
-) -> Result<u64> {
+) -> Result<usize> {
     if !admitted(steps) || carried_len(steps) != 0 {
         bail!("steps that are not played here, or not without carried witnesses");
     }
     let verified = verify::<HashSuite>(alloc, new_chain(alloc), separator, steps, &[], narg)?;
-    Ok(verified.received.len() as u64)
+    Ok(verified.received.len())
 }

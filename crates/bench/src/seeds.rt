@@ -1,117 +1,93 @@
 // How long it takes to absorb the seed of a transcript.
-ghost use Rattle.std.specs.Prelude.{◌<◌};
-
-use crate::calls::next_draw;
-use crate::duplex::Duplex;
-use crate::hash::{Chain, new_chain};
-use crate::patterns;
-use crate::timing::least;
+use crate::hash::new_chain;
+use crate::patterns::container;
+use crate::timing::{Lap, Shortest, nanoseconds_since};
 use anyhow::Result;
-use p3_challenger::fs::{DomainSeparator, FieldUnit, InteractionPattern};
-use p3_challenger::{CanObserve, CanSample, DuplexChallenger};
-use p3_field::{BabyBear, Goldilocks, PrimeField64};
+use p3_challenger::fs::{DomainSeparator, FieldUnit, InteractionPattern, TranscriptError, Unit};
+use p3_challenger::{CanCopy, CanObserve, DuplexChallenger};
+use p3_field::{BabyBear, Goldilocks};
 use p3_symmetric::{Sha256Hasher, Turn};
-use std::alloc::Global;
-
-const MEBIBYTE: u32 = 1 << 20;
-
-const CONTAINER: u32 = 10;
-
-/// Times the seed of an instance of 1 MiB in each alphabet, and that of a small pattern, and gives a sum of what
-/// they leave.
-pub fn measure(rt: &HostRuntime, runs: u32, text: &[u8]) -> Result<u64> {
-    let baby = measure_baby(rt, runs, text)?;
-    let goldilocks = measure_goldilocks(rt, runs, text)?;
-    let bytes = measure_bytes(rt, runs, text)?;
-    let small = measure_small(rt, runs)?;
-    Ok(
-        [goldilocks, bytes, small]
-            .iter()
-            .fold(baby, |sum: u64, part| sum.wrapping_add(*part)),
-    )
-}
-
-fn measure_baby(rt: &HostRuntime, runs: u32, text: &[u8]) -> Result<u64> {
-    let alloc = rt.alloc();
-    let separator = separator::<FieldUnit<BabyBear>>(
-        alloc,
-        InteractionPattern::empty(alloc),
-        text,
-    )?;
-    least(
-        rt,
-        "seed 1MiB FieldUnit<BabyBear> duplex per byte",
-        runs,
-        MEBIBYTE,
-        || Ok(Duplex::new(Turn, 1)),
-        |duplex| seed(&separator, duplex),
-    )
-}
-
-fn measure_goldilocks(rt: &HostRuntime, runs: u32, text: &[u8]) -> Result<u64> {
-    let alloc = rt.alloc();
-    let empty = InteractionPattern::empty(alloc);
-    let separator = separator::<FieldUnit<Goldilocks>>(alloc, empty, text)?;
-    least(
-        rt,
-        "seed 1MiB FieldUnit<Goldilocks> duplex per byte",
-        runs,
-        MEBIBYTE,
-        || Ok(Large::new(Turn, 1)),
-        |duplex| seed(&separator, duplex),
-    )
-}
-
-fn measure_bytes(rt: &HostRuntime, runs: u32, text: &[u8]) -> Result<u64> {
-    let alloc = rt.alloc();
-    let separator = separator::<u8>(alloc, InteractionPattern::empty(alloc), text)?;
-    least(
-        rt,
-        "seed 1MiB u8 hash per byte",
-        runs,
-        MEBIBYTE,
-        || Ok(new_chain(alloc)),
-        |chain| seed_bytes(&separator, chain),
-    )
-}
-
-fn measure_small(rt: &HostRuntime, runs: u32) -> Result<u64> {
-    let alloc = rt.alloc();
-    let pattern = patterns::pattern_of(patterns::container(alloc, CONTAINER)?)?;
-    let separator = separator::<FieldUnit<BabyBear>>(alloc, pattern, b"")?;
-    least(
-        rt,
-        "seed of 10-step pattern, whole",
-        runs.saturating_mul(200),
-        1,
-        || Ok(Duplex::new(Turn, 1)),
-        |duplex| seed(&separator, duplex),
-    )
-}
-
-type Large = DuplexChallenger<Goldilocks, Turn<1>, 16, 8>;
+use std::time::Instant;
 
 type Separator<U> = DomainSeparator<U, Sha256Hasher>;
 
-fn separator<U>(alloc: Global, pattern: InteractionPattern, chunk: &[u8]) -> Result<Separator<U>> {
-    let mut separator = Separator::<U>::new(alloc, 1, b"bench", pattern)?;
-    separator.instance(chunk)?;
-    Ok(separator)
+type Duplex<F> = DuplexChallenger<F, Turn<1>, 16, 8>;
+
+type Symbols<F> = FieldUnit<F>;
+
+/// Times the seed of an instance of 1 MiB in each alphabet, and that of a small pattern, and gives a sum of what
+/// they leave.
+pub fn measure_all(rt: &HostRuntime, runs: u32, text: &[u8]) -> Result<u64> {
+    let duplex = Duplex::<BabyBear>::new(Turn, 1);
+    let large = Duplex::<Goldilocks>::new(Turn, 1);
+    let chain = new_chain(rt.alloc());
+    let empty = InteractionPattern::empty(rt.alloc());
+    let name = "seed 1MiB FieldUnit<BabyBear> duplex per byte";
+    measure::<Symbols<BabyBear>, _>(rt, runs, name, empty, text, &duplex)?;
+    let empty = InteractionPattern::empty(rt.alloc());
+    let name = "seed 1MiB FieldUnit<Goldilocks> duplex per byte";
+    measure::<Symbols<Goldilocks>, _>(rt, runs, name, empty, text, &large)?;
+    let empty = InteractionPattern::empty(rt.alloc());
+    measure::<u8, _>(rt, runs, "seed 1MiB u8 hash per byte", empty, text, &chain)?;
+    let small = InteractionPattern::new(container(rt.alloc(), 10)?)?;
+    let often = runs.saturating_mul(200);
+    measure::<Symbols<BabyBear>, _>(
+        rt,
+        often,
+        "seed of 10-step pattern, whole",
+        small,
+        b"",
+        &duplex,
+    )
 }
 
-// Absorbs the seed, and shows something of what it left.
-fn seed<F: PrimeField64, C: CanObserve<F> + CanSample<F> + Drop>(
-    separator: &Separator<FieldUnit<F>>,
-    mut challenger: C,
+// A byte of the text is an operation; where there is none, the whole seed is.
+fn measure<U: Unit, C: CanObserve<U::Item> + CanCopy>(
+    rt: &HostRuntime,
+    runs: u32,
+    name: &str,
+    pattern: InteractionPattern,
+    text: &[u8],
+    challenger: &C,
 ) -> Result<u64>
-    requires { 256 < F.residues.order }
+    requires { U.is_alphabet }
 {
-    separator.seed(&mut challenger)?;
-    next_draw(challenger)
+    let mut separator = Separator::<U>::new(rt.alloc(), 1, b"bench", pattern)?;
+    separator.instance(text)?;
+    let operations = u32::try_from(text.len()).unwrap_or(0).max(1);
+    let mut shortest = Shortest::new();
+    for _ in 0..runs {
+        shortest.take(lap::<U, C>(rt, &separator, challenger, operations)?);
+    }
+    shortest.print(rt, name, "")
 }
 
-// The bytes are pending, and nothing is hashed.
-fn seed_bytes(separator: &Separator<u8>, mut chain: Chain) -> Result<Chain> {
-    separator.seed(&mut chain)?;
-    Ok(chain)
+fn lap<U: Unit, C: CanObserve<U::Item> + CanCopy>(
+    rt: &HostRuntime,
+    separator: &Separator<U>,
+    challenger: &C,
+    operations: u32,
+) -> Result<Lap>
+    requires { U.is_alphabet }
+{
+    let mut challenger = challenger.copy()?;
+    let start = Instant::now(rt)?;
+    observe_seed::<U, C>(separator, &mut challenger)?;
+    let nanoseconds = nanoseconds_since(rt, start)?;
+    Ok(Lap {
+        nanoseconds,
+        operations,
+        left: 0,
+    })
+}
+
+// It is compiled for itself, so that nothing is known of the challenger, and of what it leaves nothing left out.
+#[inline(never)]
+fn observe_seed<U: Unit, C: CanObserve<U::Item>>(
+    separator: &Separator<U>,
+    challenger: &mut C,
+) -> Result<(), TranscriptError>
+    requires { U.is_alphabet }
+{
+    separator.seed(challenger)
 }

@@ -2,13 +2,14 @@
 ghost use Rattle.std.specs.Prelude.{◌≡◌, ◌^◌, length};
 
 use crate::hash::{Chain, new_chain};
-use crate::timing::least;
+use crate::timing::{Lap, Row, Timed, measure, nanoseconds_since};
 use anyhow::{Result, bail};
 use p3_challenger::fs::{BytesToFieldCodec, DomainSeparator, PatternState, ProverState};
 use p3_field::{BabyBear, PrimeCharacteristicRing};
 use p3_sumcheck::{declare, prove};
 use p3_symmetric::Sha256Hasher;
 use std::alloc::Global;
+use std::time::Instant;
 
 type Separator = DomainSeparator<u8, Sha256Hasher>;
 
@@ -16,18 +17,33 @@ const ROUNDS: usize = 20;
 
 const VALUES: u32 = 1 << 20;
 
+// The prover of the sum of the squares.
+#[derive(Clone, Copy)]
+struct OfSquares;
+
+const ROWS: [Row<OfSquares>; 1] = [Row {
+    name: "sumcheck prover, 2^20 values",
+    timed: OfSquares,
+}];
+
 /// Times the prover, and gives a sum of what it leaves.
-pub fn measure(rt: &HostRuntime, runs: u32) -> Result<u64> {
-    let alloc = rt.alloc();
-    let separator = separator(alloc)?;
-    least(
-        rt,
-        "sumcheck prover, 2^20 values",
-        runs,
-        VALUES,
-        || squares(alloc),
-        |table| proof_of_squares(alloc, &separator, table),
-    )
+pub fn measure_all(rt: &HostRuntime, runs: u32) -> Result<u64> {
+    let separator = separator(rt.alloc())?;
+    measure(rt, runs, &separator, "", &ROWS)
+}
+
+impl Timed<Separator> for OfSquares {
+    fn lap(&self, rt: &HostRuntime, separator: &Separator) -> Result<Lap> {
+        let table = squares(rt.alloc())?;
+        let start = Instant::now(rt)?;
+        let left = proof_of_squares(rt.alloc(), separator, table)?.len() as u64;
+        let nanoseconds = nanoseconds_since(rt, start)?;
+        Ok(Lap {
+            nanoseconds,
+            operations: VALUES,
+            left,
+        })
+    }
 }
 
 // The separator of the rounds alone.
