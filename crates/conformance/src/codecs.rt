@@ -106,39 +106,65 @@ fn through_algebra(
     algebra: AlgebraName,
     call: &ElementCall,
 ) -> Result<String> {
+    match codecs {
+        Codecs::OfBytes => through_bytes(alloc, algebra, call),
+        Codecs::OfElements => through_elements(alloc, algebra, call),
+    }
+}
+
+fn through_bytes(alloc: Global, algebra: AlgebraName, call: &ElementCall) -> Result<String> {
     match algebra {
-        AlgebraName::Scalars(FieldName::BabyBear) => of_scalars::<BabyBear>(alloc, codecs, call),
-        AlgebraName::Scalars(FieldName::KoalaBear) => of_scalars::<KoalaBear>(alloc, codecs, call),
-        AlgebraName::Scalars(FieldName::Goldilocks) => of_scalars::<Goldilocks>(
-            alloc, codecs, call,
-        ),
-        AlgebraName::Scalars(FieldName::F257) => of_scalars::<F257>(alloc, codecs, call),
-        AlgebraName::Four => of_extension::<BabyBear, Four>(alloc, codecs, call),
+        AlgebraName::Scalars(FieldName::BabyBear) => {
+            drawn_or_through::<BabyBear, BabyBear, BytesToFieldCodec<BabyBear>>(alloc, call)
+        }
+        AlgebraName::Scalars(FieldName::KoalaBear) => {
+            drawn_or_through::<KoalaBear, KoalaBear, BytesToFieldCodec<KoalaBear>>(alloc, call)
+        }
+        AlgebraName::Scalars(FieldName::Goldilocks) => {
+            drawn_or_through::<Goldilocks, Goldilocks, BytesToFieldCodec<Goldilocks>>(alloc, call)
+        }
+        AlgebraName::Scalars(FieldName::F257) => {
+            drawn_or_through::<F257, F257, BytesToFieldCodec<F257>>(alloc, call)
+        }
+        AlgebraName::Four => {
+            drawn_or_through::<BabyBear, Four, ByBytes<BabyBear, Four>>(alloc, call)
+        }
         AlgebraName::FourOfKoalaBear => {
-            of_extension::<KoalaBear, FourOfKoalaBear>(alloc, codecs, call)
+            drawn_or_through::<KoalaBear, FourOfKoalaBear, ByBytes<KoalaBear, FourOfKoalaBear>>(
+                alloc, call,
+            )
         }
     }
 }
 
-fn of_scalars<F: PrimeField64 + Symbol>(
-    alloc: Global,
-    codecs: Codecs,
-    call: &ElementCall,
-) -> Result<String> {
-    match codecs {
-        Codecs::OfBytes => drawn_or_through::<F, F, BytesToFieldCodec<F>>(alloc, call),
-        Codecs::OfElements => through::<F, F, FieldToFieldCodec<F>, Cells<F>>(alloc, call),
-    }
-}
-
-fn of_extension<F: PrimeField64 + Symbol, A: BasedVectorSpace<F>>(
-    alloc: Global,
-    codecs: Codecs,
-    call: &ElementCall,
-) -> Result<String> {
-    match codecs {
-        Codecs::OfBytes => drawn_or_through::<F, A, ByBytes<F, A>>(alloc, call),
-        Codecs::OfElements => through::<F, A, ByElements<F, A>, Cells<F>>(alloc, call),
+fn through_elements(alloc: Global, algebra: AlgebraName, call: &ElementCall) -> Result<String> {
+    match algebra {
+        AlgebraName::Scalars(FieldName::BabyBear) => {
+            through::<BabyBear, BabyBear, FieldToFieldCodec<BabyBear>, Cells<BabyBear>>(alloc, call)
+        }
+        AlgebraName::Scalars(FieldName::KoalaBear) => {
+            through::<KoalaBear, KoalaBear, FieldToFieldCodec<KoalaBear>, Cells<KoalaBear>>(
+                alloc, call,
+            )
+        }
+        AlgebraName::Scalars(FieldName::Goldilocks) => through::<
+            Goldilocks,
+            Goldilocks,
+            FieldToFieldCodec<Goldilocks>,
+            Cells<Goldilocks>,
+        >(alloc, call),
+        AlgebraName::Scalars(FieldName::F257) => {
+            through::<F257, F257, FieldToFieldCodec<F257>, Cells<F257>>(alloc, call)
+        }
+        AlgebraName::Four => {
+            through::<BabyBear, Four, ByElements<BabyBear, Four>, Cells<BabyBear>>(alloc, call)
+        }
+        AlgebraName::FourOfKoalaBear => through::<
+            KoalaBear,
+            FourOfKoalaBear,
+            ByElements<KoalaBear, FourOfKoalaBear>,
+            Cells<KoalaBear>,
+        >(alloc, call),
     }
 }
 
