@@ -1,14 +1,14 @@
-use crate::challenger_call::{ArraysKind, ChallengerCall, Draw, Form, Observation, Parts};
+use crate::challenger_call::{ArraysKind, ChallengerCall, Draw, Form, Observation};
 use crate::digests::{cap, observe_digests};
 use crate::elements::answer_elements;
-use crate::replay::{Replayed, answer_made, first_difference};
+use crate::replay::{Replayed, first_difference};
 use crate::subject::{DRAW_LIMIT, Subject, Way, finalized, observe};
 use crate::symmetric::permuted;
 use crate::work::{WorkCall, uniform_bits, uniform_work};
 use anyhow::{Context, Result, bail};
 use conformance_tokens::answer;
 use conformance_tokens::line::Step;
-use conformance_tokens::symbol::{Extended, numbers_of, rows_of_symbols};
+use conformance_tokens::symbol::{Extended, numbers_of};
 use p3_challenger::{DuplexChallenger, LanePermutation};
 use p3_field::{BabyBear, F257, Goldilocks, PackedField};
 use p3_symmetric::{CryptographicPermutation, Turn};
@@ -87,12 +87,13 @@ impl<F: Extended + PackedField, P: LanePermutation<F, W>, const W: usize, const 
     fn answer(&mut self, alloc: Global, call: &str) -> Result<String> {
         let call = ChallengerCall::<F>::parse(alloc, call)?;
         match call {
-            ChallengerCall::Observe(form, Observation::Arrays(kind, Parts::OfChallenger, rows)) => {
-                let made = observe_rows(alloc, self, form, kind, rows.as_slice());
-                answer_made(alloc, made)
+            ChallengerCall::Observe(form, Observation::Arrays(kind, rows)) => {
+                observe_rows(alloc, self, form, kind, rows.as_slice())?;
+                answer::nothing(alloc)
             }
             ChallengerCall::Observe(form, Observation::Lists(lists)) => {
-                answer_made(alloc, observe(alloc, self, form, lists))
+                observe(alloc, self, form, lists)?;
+                answer::nothing(alloc)
             }
             ChallengerCall::CloneDraw => clone_draw(alloc, &self.challenger),
             ChallengerCall::Finalize => digest(alloc, &self.challenger),
@@ -114,10 +115,9 @@ fn observe_rows<F: Extended, P: CryptographicPermutation<[F; W]>, const W: usize
     subject: &mut Duplex<F, P, W, R>,
     form: Form,
     kind: ArraysKind,
-    rows: &[Vec<u64>],
+    rows: &[Vec<F>],
 ) -> Result<()> {
-    let rows = rows_of_symbols::<F>(alloc, rows)?;
-    let (first, rest) = rows.as_slice().split_first().context("no array")?;
+    let (first, rest) = rows.split_first().context("no array")?;
     with_array!(first.as_slice(), first => observe_arrays(alloc, subject, form, kind, first, rest))
 }
 

@@ -1,6 +1,5 @@
 // Calls on a challenger of the elements of a field, through its bounds.
-use crate::challenger_call::{ChallengerCall, Draw, Form, Observation, RowKind};
-use crate::replay::answer_made;
+use crate::challenger_call::{ChallengerCall, Draw, Observation, RowKind};
 use crate::subject::{
     Subject, Way, draw_bits, draw_element, draw_extension, draw_symbols, most_bits, observe_bytes,
     observe_element,
@@ -20,8 +19,9 @@ pub fn answer_elements<
     C: FieldChallenger<F> + CanSample<F::Extension> + GrindingChallenger,
 >(alloc: Global, subject: &mut Subject<C>, call: ChallengerCall<F>) -> Result<String> {
     match call {
-        ChallengerCall::Observe(Form::Alone, observation) => {
-            answer_made(alloc, observe_elements(alloc, subject, observation))
+        ChallengerCall::Observe(_, observation) => {
+            observe_elements(alloc, subject, observation)?;
+            answer::nothing(alloc)
         }
         ChallengerCall::Draw(draw) => {
             let numbers = draw_elements(alloc, subject, draw, F::ZERO)?;
@@ -57,7 +57,7 @@ fn observe_on<F: Extended, C: FieldChallenger<F>>(
             let coefficients = symbols::<F>(alloc, coefficients.as_slice())?;
             observe_through_codec(challenger, coefficients.as_slice())
         }
-        Observation::Arrays(_, _, _) | Observation::Lists(_) => bail!("rows are arrays"),
+        Observation::Arrays(_, _) | Observation::Lists(_) => bail!("rows are arrays"),
     }
 }
 

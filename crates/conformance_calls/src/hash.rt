@@ -1,7 +1,7 @@
 use crate::candidates::least_candidate;
-use crate::challenger_call::{ArraysKind, ChallengerCall, Draw, Form, Observation, Parts, RowKind};
+use crate::challenger_call::{ArraysKind, ChallengerCall, Draw, Form, Observation, RowKind};
 use crate::digests::{cap, observe_digests};
-use crate::replay::{Replayed, answer_made, first_difference};
+use crate::replay::{Replayed, first_difference};
 use crate::subject::{
     Subject, Way, draw_element, draw_symbols, finalized, observe, observe_bytes, observe_element,
 };
@@ -9,7 +9,7 @@ use crate::symmetric::digest_of;
 use anyhow::{Context, Result, bail};
 use conformance_tokens::answer;
 use conformance_tokens::line::Step;
-use conformance_tokens::symbol::{Extended, numbers_of, rows_of_symbols, symbols};
+use conformance_tokens::symbol::{Extended, numbers_of, symbols};
 use conformance_tokens::tokens::split_name;
 use p3_challenger::fs::{BytesToFieldCodec, ExtensionFieldCodec};
 use p3_challenger::{CanObserve, CanSample, HashChallenger};
@@ -53,15 +53,19 @@ impl<H: CryptographicHasher<u8, [u8; 32]>> Replayed for Hashing<H> {
     fn answer(&mut self, alloc: Global, call: &str) -> Result<String> {
         let call = ChallengerCall::<u8>::parse(alloc, call)?;
         match call {
-            ChallengerCall::Observe(form, Observation::Arrays(kind, Parts::OfChallenger, rows)) => {
-                let made = observe_rows(alloc, self, form, kind, rows.as_slice());
-                answer_made(alloc, made)
+            ChallengerCall::Observe(form, Observation::Arrays(kind, rows)) => {
+                observe_rows(alloc, self, form, kind, rows.as_slice())?;
+                answer::nothing(alloc)
             }
             ChallengerCall::Observe(form, Observation::Lists(lists)) => {
-                answer_made(alloc, observe(alloc, self, form, lists))
+                observe(alloc, self, form, lists)?;
+                answer::nothing(alloc)
             }
             ChallengerCall::CloneDraw => clone_draw(alloc, &self.challenger),
-            ChallengerCall::Finalize => digest(alloc, &self.challenger),
+            ChallengerCall::Finalize => {
+                let digest = finalized(self.challenger.clone()?);
+                Ok(hex::encode(alloc, &digest[..])?)
+            }
             ChallengerCall::Digest(bytes) => {
                 let digest = digest_of(*self.challenger.hasher(), bytes.as_slice());
                 Ok(hex::encode(alloc, &digest[..])?)
@@ -80,10 +84,9 @@ fn observe_rows<H: CryptographicHasher<u8, [u8; 32]>>(
     subject: &mut Hashing<H>,
     form: Form,
     kind: ArraysKind,
-    rows: &[Vec<u64>],
+    rows: &[Vec<u8>],
 ) -> Result<()> {
-    let rows = rows_of_symbols::<u8>(alloc, rows)?;
-    let (first, rest) = rows.as_slice().split_first().context("no array")?;
+    let (first, rest) = rows.split_first().context("no array")?;
     with_array!(first.as_slice(), first => observe_arrays(alloc, subject, form, kind, first, rest))
 }
 
@@ -106,15 +109,6 @@ fn observe_arrays<H: CryptographicHasher<u8, [u8; 32]>, const N: usize>(
     }
 }
 
-// The digest of a clone.
-fn digest<H: CryptographicHasher<u8, [u8; 32]>>(
-    alloc: Global,
-    challenger: &HashChallenger<u8, H, 32>,
-) -> Result<String> {
-    let digest = finalized(challenger.clone()?);
-    Ok(hex::encode(alloc, &digest[..])?)
-}
-
 // What a clone draws.
 fn clone_draw<H: CryptographicHasher<u8, [u8; 32]>>(
     alloc: Global,
@@ -134,10 +128,9 @@ fn answer_bytes<F: Extended, C: CanObserve<u8> + CanSample<u8>>(
     call: ChallengerCall<u8>,
 ) -> Result<String> {
     match call {
-        ChallengerCall::Observe(Form::Alone, observation) => {
-            let made =
-                with_challenger!(subject, challenger => observe_on::<F, _>(alloc, challenger, observation));
-            answer_made(alloc, made)
+        ChallengerCall::Observe(_, observation) => {
+            with_challenger!(subject, challenger => observe_on::<F, _>(alloc, challenger, observation))?;
+            answer::nothing(alloc)
         }
         ChallengerCall::Draw(draw) => {
             let numbers =

@@ -1,14 +1,14 @@
 // Multi-field challengers.
-use crate::challenger_call::{ArraysKind, ChallengerCall, Form, Observation, Parts};
+use crate::challenger_call::{ArraysKind, ChallengerCall, Form, Observation};
 use crate::digests::{cap, observe_digests};
 use crate::elements::answer_elements;
-use crate::replay::{Replayed, answer_made, first_difference};
+use crate::replay::{Replayed, first_difference};
 use crate::subject::{Subject, Way, finalized, observe};
 use anyhow::{Context, Result, bail};
 use conformance_tokens::answer;
 use conformance_tokens::line::Step;
-use conformance_tokens::symbol::{Extended, Symbol, numbers_of, rows_of_symbols, symbols};
-use conformance_tokens::tokens::split_name;
+use conformance_tokens::symbol::{Extended, Symbol, numbers_of, rows_of_symbols};
+use conformance_tokens::tokens::{look_up, parse_rows, split_name};
 use p3_challenger::MultiField32Challenger;
 use p3_field::{
     BabyBear, F257, FieldBridge, Goldilocks, PrimeCharacteristicRing, PrimeField32, PrimeField64,
@@ -33,6 +33,13 @@ struct TwoFields<
     subject: MultiField<F, PF, P, W, R>,
     row: [PF; R],
 }
+
+// The calls that observe a digest or a cap of words of the greater field.
+const OF_WORDS: [(&str, ArraysKind); 3] = [
+    ("oh", ArraysKind::Digest),
+    ("oc", ArraysKind::Cap),
+    ("ocr", ArraysKind::CapByReference),
+];
 
 /// The first call with another answer, on a new multi-field challenger. The spec is the field of its scalars and that
 /// of its cells, the places that `Turn` turns by, the width and the rate.
@@ -101,7 +108,8 @@ impl<
     const R: usize,
 > Replayed for TwoFields<F, PF, P, W, R> {
     fn answer(&mut self, alloc: Global, call: &str) -> Result<String> {
-        match call {
+        let (name, words) = split_name(call);
+        match name {
             "p" => Ok(
                 self.subject
                     .challenger
@@ -110,6 +118,10 @@ impl<
             ),
             "n" => counts(alloc, &self.subject.challenger),
             "f" => digest(alloc, &self.subject.challenger, self.row),
+            "oh" | "oc" | "ocr" => {
+                observe_words(alloc, &mut self.subject, look_up(&OF_WORDS, name)?, words)?;
+                answer::nothing(alloc)
+            }
             _ => answer_any(
                 alloc,
                 &mut self.subject,
@@ -147,112 +159,28 @@ fn answer_any<
     call: ChallengerCall<F>,
 ) -> Result<String> {
     match call {
-        ChallengerCall::Observe(form, Observation::Arrays(kind, Parts::OfChallenger, rows)) => {
-            let made = observe_rows(alloc, subject, form, kind, rows.as_slice());
-            answer_made(alloc, made)
+        ChallengerCall::Observe(_, Observation::Arrays(_, rows)) => {
+            let row = rows.as_slice().first().context("no array")?;
+            with_array!(row.as_slice(), array => observe_array(alloc, subject, array))?;
+            answer::nothing(alloc)
         }
-        ChallengerCall::Observe(form, Observation::Lists(lists)) => {
-            answer_made(alloc, observe(alloc, subject, form, lists))
+        ChallengerCall::Observe(_, Observation::Lists(lists)) => {
+            observe(alloc, subject, Form::Alone, lists)?;
+            answer::nothing(alloc)
         }
         _ => answer_elements(alloc, subject, call),
     }
 }
 
-// Observes an array of scalars, or digests of cells.
-fn observe_rows<
-    F: Symbol + PrimeField32,
-    PF: PrimeField64 + FieldBridge<F, PF> + Symbol,
-    P: CryptographicPermutation<[PF; W]>,
-    const W: usize,
-    const R: usize,
->(
-    alloc: Global,
-    subject: &mut MultiField<F, PF, P, W, R>,
-    form: Form,
-    kind: ArraysKind,
-    rows: &[Vec<u64>],
-) -> Result<()> {
-    match kind {
-        ArraysKind::Array => observe_array(alloc, subject, form, rows),
-        _ => observe_digest_rows(alloc, subject, form, kind, rows),
-    }
-}
-
 fn observe_array<
-    F: Symbol + PrimeField32,
-    PF: PrimeField64 + FieldBridge<F, PF>,
-    P: CryptographicPermutation<[PF; W]>,
-    const W: usize,
-    const R: usize,
->(
-    alloc: Global,
-    subject: &mut MultiField<F, PF, P, W, R>,
-    form: Form,
-    rows: &[Vec<u64>],
-) -> Result<()> {
-    let [row] = rows else { bail!("several arrays") };
-    let row = symbols::<F>(alloc, row.as_slice())?;
-    with_array!(row.as_slice(), array => observe_scalars(alloc, subject, form, array))
-}
-
-fn observe_scalars<
     F: PrimeField32,
     PF: PrimeField64 + FieldBridge<F, PF>,
     P: CryptographicPermutation<[PF; W]>,
     const W: usize,
     const R: usize,
     const N: usize,
->(
-    alloc: Global,
-    subject: &mut MultiField<F, PF, P, W, R>,
-    form: Form,
-    array: [F; N],
-) -> Result<()> {
-    observe(alloc, subject, form, array)
-}
-
-fn observe_digest_rows<
-    F: PrimeField32,
-    PF: PrimeField64 + FieldBridge<F, PF> + Symbol,
-    P: CryptographicPermutation<[PF; W]>,
-    const W: usize,
-    const R: usize,
->(
-    alloc: Global,
-    subject: &mut MultiField<F, PF, P, W, R>,
-    form: Form,
-    kind: ArraysKind,
-    rows: &[Vec<u64>],
-) -> Result<()> {
-    let rows = rows_of_symbols::<PF>(alloc, rows)?;
-    let (first, rest) = rows.as_slice().split_first().context("no array")?;
-    with_array!(first.as_slice(), first => observe_cells(alloc, subject, form, kind, first, rest))
-}
-
-// Observes a digest, or several of one length as a cap.
-#[tactic(auto, using(crate::proofs::Layouts::digest_fits))]
-fn observe_cells<
-    F: PrimeField32,
-    PF: PrimeField64 + FieldBridge<F, PF>,
-    P: CryptographicPermutation<[PF; W]>,
-    const W: usize,
-    const R: usize,
-    const N: usize,
->(
-    alloc: Global,
-    subject: &mut MultiField<F, PF, P, W, R>,
-    form: Form,
-    kind: ArraysKind,
-    first: [PF; N],
-    rest: &[Vec<PF>],
-) -> Result<()> {
-    match kind {
-        ArraysKind::CapByReference => {
-            let lent = cap::<F, PF, N>(alloc, first, rest)?;
-            observe(alloc, subject, form, &lent)
-        }
-        _ => observe_digests::<F, PF, _, N>(alloc, subject, form, kind, first, rest),
-    }
+>(alloc: Global, subject: &mut MultiField<F, PF, P, W, R>, array: [F; N]) -> Result<()> {
+    observe(alloc, subject, Form::Alone, array)
 }
 
 // The digest of a clone, in the place of the row.
@@ -269,4 +197,46 @@ fn digest<
 ) -> Result<String> {
     row = finalized(challenger.clone());
     answer::numbers(alloc, numbers_of(alloc, &row[..])?.as_slice())
+}
+
+fn observe_words<
+    F: PrimeField32,
+    PF: PrimeField64 + FieldBridge<F, PF> + Symbol,
+    P: CryptographicPermutation<[PF; W]>,
+    const W: usize,
+    const R: usize,
+>(
+    alloc: Global,
+    subject: &mut MultiField<F, PF, P, W, R>,
+    kind: ArraysKind,
+    words: &str,
+) -> Result<()> {
+    let rows = rows_of_symbols::<PF>(alloc, parse_rows(alloc, words)?.as_slice())?;
+    let (first, rest) = rows.as_slice().split_first().context("no array")?;
+    with_array!(first.as_slice(), first => observe_arrays(alloc, subject, kind, first, rest))
+}
+
+// Observes a digest, or several of one length as a cap.
+#[tactic(auto, using(crate::proofs::Layouts::digest_fits))]
+fn observe_arrays<
+    F: PrimeField32,
+    PF: PrimeField64 + FieldBridge<F, PF>,
+    P: CryptographicPermutation<[PF; W]>,
+    const W: usize,
+    const R: usize,
+    const N: usize,
+>(
+    alloc: Global,
+    subject: &mut MultiField<F, PF, P, W, R>,
+    kind: ArraysKind,
+    first: [PF; N],
+    rest: &[Vec<PF>],
+) -> Result<()> {
+    match kind {
+        ArraysKind::CapByReference => {
+            let lent = cap::<F, PF, N>(alloc, first, rest)?;
+            observe(alloc, subject, Form::Alone, &lent)
+        }
+        _ => observe_digests::<F, PF, _, N>(alloc, subject, Form::Alone, kind, first, rest),
+    }
 }

@@ -1,6 +1,5 @@
 // The calls of a line, made in order.
 use anyhow::{Context, Result};
-use conformance_tokens::answer;
 use conformance_tokens::line::Step;
 use std::alloc::Global;
 
@@ -24,10 +23,4 @@ pub fn first_difference<S: Replayed + Drop>(
         }
     }
     Ok(None)
-}
-
-/// The answer of a call without one, once it was made.
-pub fn answer_made(alloc: Global, made: Result<()>) -> Result<String> {
-    made?;
-    answer::nothing(alloc)
 }

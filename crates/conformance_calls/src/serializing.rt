@@ -1,15 +1,15 @@
 // Challengers of the elements of a field over a hash challenger.
-use crate::challenger_call::{ArraysKind, ChallengerCall, Form, Observation, Parts};
+use crate::challenger_call::{ArraysKind, ChallengerCall, Form};
 use crate::digests::{cap, observe_digests};
 use crate::elements::answer_elements;
-use crate::replay::{Replayed, answer_made, first_difference};
+use crate::replay::{Replayed, first_difference};
 use crate::subject::{DRAW_LIMIT, Subject, Way, finalized, observe};
 use crate::work::{WorkCall, uniform_bits};
 use anyhow::{Context, Result, bail};
 use conformance_tokens::answer;
 use conformance_tokens::line::Step;
 use conformance_tokens::symbol::{Extended, rows_of_symbols};
-use conformance_tokens::tokens::split_name;
+use conformance_tokens::tokens::{look_up, parse_rows, split_name};
 use p3_challenger::{
     ByteGrindingChallenger, CanFinalizeDigest, HashChallenger, SerializedIn, SerializingChallenger,
 };
@@ -19,6 +19,19 @@ use p3_test_support::{LengthHasher, SumHasher};
 use std::alloc::Global;
 
 type Serializing<F, Inner, const BYTES: usize> = Subject<SerializingChallenger<F, Inner, BYTES>>;
+
+// The calls that observe a digest or a cap of bytes, and those that observe one of words of 64 bits.
+const OF_BYTES: [(&str, ArraysKind); 3] = [
+    ("oh8", ArraysKind::Digest),
+    ("oc8", ArraysKind::Cap),
+    ("oc8r", ArraysKind::CapByReference),
+];
+
+const OF_WORDS: [(&str, ArraysKind); 3] = [
+    ("oh64", ArraysKind::Digest),
+    ("oc64", ArraysKind::Cap),
+    ("oc64r", ArraysKind::CapByReference),
+];
 
 /// The first call with another answer, on a new challenger that takes 4 bytes for an element (`ser32`) or 8 (`ser64`).
 /// The spec is its field, the hash function, and in hexadecimal the initial state where there is one.
@@ -85,13 +98,17 @@ impl<
     const BYTES: usize,
 > Replayed for Serializing<F, Inner, BYTES> {
     fn answer(&mut self, alloc: Global, call: &str) -> Result<String> {
-        let call = ChallengerCall::<F>::parse(alloc, call)?;
-        match call {
-            ChallengerCall::Observe(form, Observation::Arrays(kind, parts, rows)) => {
-                let made = observe_rows(alloc, self, form, kind, parts, rows.as_slice());
-                answer_made(alloc, made)
+        let (name, words) = split_name(call);
+        match name {
+            "oh8" | "oc8" | "oc8r" => {
+                observe_bytes(alloc, self, look_up(&OF_BYTES, name)?, words)?;
+                answer::nothing(alloc)
             }
-            _ => answer_any(alloc, self, call),
+            "oh64" | "oc64" | "oc64r" => {
+                observe_words(alloc, self, look_up(&OF_WORDS, name)?, words)?;
+                answer::nothing(alloc)
+            }
+            _ => answer_any(alloc, self, ChallengerCall::<F>::parse(alloc, call)?),
         }
     }
 }
@@ -117,25 +134,6 @@ fn answer_any<
     }
 }
 
-fn observe_rows<
-    F: SerializedIn<BYTES>,
-    Inner: ByteGrindingChallenger<BYTES, BYTES>,
-    const BYTES: usize,
->(
-    alloc: Global,
-    subject: &mut Serializing<F, Inner, BYTES>,
-    form: Form,
-    kind: ArraysKind,
-    parts: Parts,
-    rows: &[Vec<u64>],
-) -> Result<()> {
-    match parts {
-        Parts::Bytes => observe_bytes(alloc, subject, form, kind, rows),
-        Parts::Words => observe_words(alloc, subject, form, kind, rows),
-        Parts::OfChallenger => bail!("no parts of a digest"),
-    }
-}
-
 fn observe_bytes<
     F: SerializedIn<BYTES>,
     Inner: ByteGrindingChallenger<BYTES, BYTES>,
@@ -143,13 +141,12 @@ fn observe_bytes<
 >(
     alloc: Global,
     subject: &mut Serializing<F, Inner, BYTES>,
-    form: Form,
     kind: ArraysKind,
-    rows: &[Vec<u64>],
+    words: &str,
 ) -> Result<()> {
-    let rows = rows_of_symbols::<u8>(alloc, rows)?;
+    let rows = rows_of_symbols::<u8>(alloc, parse_rows(alloc, words)?.as_slice())?;
     let (first, rest) = rows.as_slice().split_first().context("no array")?;
-    with_array!(first.as_slice(), first => observe_byte_arrays(alloc, subject, form, kind, first, rest))
+    with_array!(first.as_slice(), first => observe_byte_arrays(alloc, subject, kind, first, rest))
 }
 
 fn observe_byte_arrays<
@@ -160,7 +157,6 @@ fn observe_byte_arrays<
 >(
     alloc: Global,
     subject: &mut Serializing<F, Inner, BYTES>,
-    form: Form,
     kind: ArraysKind,
     first: [u8; N],
     rest: &[Vec<u8>],
@@ -168,9 +164,9 @@ fn observe_byte_arrays<
     match kind {
         ArraysKind::CapByReference => {
             let lent = cap::<F, u8, N>(alloc, first, rest)?;
-            observe(alloc, subject, form, &lent)
+            observe(alloc, subject, Form::Alone, &lent)
         }
-        _ => observe_digests::<F, u8, _, N>(alloc, subject, form, kind, first, rest),
+        _ => observe_digests::<F, u8, _, N>(alloc, subject, Form::Alone, kind, first, rest),
     }
 }
 
@@ -181,12 +177,12 @@ fn observe_words<
 >(
     alloc: Global,
     subject: &mut Serializing<F, Inner, BYTES>,
-    form: Form,
     kind: ArraysKind,
-    rows: &[Vec<u64>],
+    words: &str,
 ) -> Result<()> {
-    let (first, rest) = rows.split_first().context("no array")?;
-    with_array!(first.as_slice(), first => observe_word_arrays(alloc, subject, form, kind, first, rest))
+    let rows = parse_rows(alloc, words)?;
+    let (first, rest) = rows.as_slice().split_first().context("no array")?;
+    with_array!(first.as_slice(), first => observe_word_arrays(alloc, subject, kind, first, rest))
 }
 
 fn observe_word_arrays<
@@ -197,7 +193,6 @@ fn observe_word_arrays<
 >(
     alloc: Global,
     subject: &mut Serializing<F, Inner, BYTES>,
-    form: Form,
     kind: ArraysKind,
     first: [u64; N],
     rest: &[Vec<u64>],
@@ -205,8 +200,8 @@ fn observe_word_arrays<
     match kind {
         ArraysKind::CapByReference => {
             let lent = cap::<F, u64, N>(alloc, first, rest)?;
-            observe(alloc, subject, form, &lent)
+            observe(alloc, subject, Form::Alone, &lent)
         }
-        _ => observe_digests::<F, u64, _, N>(alloc, subject, form, kind, first, rest),
+        _ => observe_digests::<F, u64, _, N>(alloc, subject, Form::Alone, kind, first, rest),
     }
 }
