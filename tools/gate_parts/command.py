@@ -20,41 +20,47 @@ The repository's test command. It runs, at the top of the repository,
   rt ci                           every crate proved from nothing, its tests, and its programs as two compilers build them
   tools/memory                    each request of four programs for memory refused in turn
   tools/explained                 the program tealmuze on what the Rust crate answered, on hostile proofs and on bad files
+  tools/bindings                  the static library built, and called from C, Python and Rust
   tools/misuse                    wrong programs that must not compile: they let go of what must be spent
   tools/constants                 that the constants of Poseidon2 are those of their generator
   tools/links                     that each relative link of each page leads somewhere
   tools/words                     that no text has a word that the table of words says not to use
-  tools/self-test                 that these five pass what is right and fail what is wrong
+  tools/pages                     that what pages say of the code is what it writes of it, and that names and numbers are there
+  tools/self-test                 that those of these which decide pass what is right and fail what is wrong
   tools/wrong-bodies --self-test  that the next command holds the right edits for refused, where tools/ changed since that passed
   tools/wrong-bodies              wrong bodies, which the prover must refuse: those whose refusal is not on record as the text is
                                   now, and a sample of the others
 
 each on all processors, and each also where one before it failed. It prints what each part and each crate took, and writes
 that to {TABLE}. The last line is 'N passed, M failed', the counts of the parts added; a part that gives no count is a
-failure. The exit status is 1 where anything failed. It changes no file that git knows. Libraries that rt check built are
-built again when they are next needed."""
+failure, and what --without leaves out the last line says. The exit status is 1 where anything failed. It changes no file that
+git knows. Libraries that rt check built are built again when they are next needed."""
 
 
 def main(words):
     """Runs the gate and returns its exit status."""
-    how = {"usage": "tools/gate [--only-wrong-bodies]", "formatter_class": argparse.RawDescriptionHelpFormatter}
+    how = {"usage": "tools/gate [--only-wrong-bodies] [--without cargo] [--without cc]", "formatter_class": argparse.RawDescriptionHelpFormatter}
     parser = argparse.ArgumentParser(description=USAGE, **how)
     parser.add_argument("--only-wrong-bodies", action="store_true", help="leave out all parts but the last")
+    parser.add_argument("--without", action="append", choices=["cargo", "cc"], default=[], help="leave out what wants this command")
     given = parser.parse_args(words)
+    without = [word for it in given.without for word in ("--without", it)]
     signal.signal(signal.SIGTERM, lambda number, _: sys.exit(128 + number))
     with tempfile.TemporaryDirectory(prefix="gate-") as room:
         bodies = Part("tools/wrong-bodies", [f"{ROOT}/tools/wrong-bodies", "--rows", f"{room}/rows"])
         parts = [bodies]
         if not given.only_wrong_bodies:
-            proofs = Part("rt ci", ["rt", "ci"], is_watched=True)
+            proofs = Part("rt ci", [f"{ROOT}/tools/rt", "ci"], is_watched=True)
             run_marked(proofs)
             others = [
                 Part("tools/memory", [f"{ROOT}/tools/memory"]),
                 Part("tools/explained", [f"{ROOT}/tools/explained"]),
+                Part("tools/bindings", [f"{ROOT}/tools/bindings", *without]),
                 Part("tools/misuse", [f"{ROOT}/tools/misuse"]),
                 Part("tools/constants", [f"{ROOT}/tools/constants"]),
                 Part("tools/links", [f"{ROOT}/tools/links"]),
                 Part("tools/words", [f"{ROOT}/tools/words"]),
+                Part("tools/pages", [f"{ROOT}/tools/pages"]),
                 Part("tools/self-test", [f"{ROOT}/tools/self-test"]),
                 Part("tools/wrong-bodies --self-test", [f"{ROOT}/tools/wrong-bodies", "--self-test"]),
             ]
@@ -65,7 +71,8 @@ def main(words):
         rows = rtlib.text_of(f"{room}/rows") or ""
     report(parts, rows)
     failed = sum(it.failed for it in parts)
-    print(f"{sum(it.passed for it in parts)} passed, {failed} failed")
+    left_out = f"; left out: {', '.join(sorted(set(given.without)))}" if given.without else ""
+    print(f"{sum(it.passed for it in parts)} passed, {failed} failed{left_out}")
     return 1 if failed else 0
 
 

@@ -1,4 +1,4 @@
-"""One part of the gate: a command whose last line is 'N passed, M failed'."""
+"""One part of the gate: a command whose last line is 'N passed, M failed', with what was left out, if anything was."""
 import os
 import re
 import subprocess
@@ -6,7 +6,7 @@ import time
 
 from .watch import Watch
 
-COUNT = re.compile(r"(\d+) passed, (\d+) failed")
+COUNT = re.compile(r"(\d+) passed, (\d+) failed(?:; left out: .*)?")
 
 
 class Part:

@@ -62,20 +62,28 @@ impl CodecCall {
     fn parse(alloc: Global, text: &str) -> Result<CodecCall> {
         let (name, words) = split_name(text);
         let (values, bytes) = split_name(words);
-        let bytes = hex::decode(alloc, bytes)?;
-        if name == "unit" {
-            return match values {
-                "u8" => Ok(CodecCall::UnitOfBytes(bytes)),
-                _ => Ok(CodecCall::UnitOf(look_up(&FIELDS, values)?, bytes)),
-            };
+        match (name, values) {
+            ("unit", "u8") => Ok(CodecCall::UnitOfBytes(hex::decode(alloc, bytes)?)),
+            ("unit", _) => {
+                let field = look_up(&FIELDS, values)?;
+                Ok(CodecCall::UnitOf(field, hex::decode(alloc, bytes)?))
+            }
+            _ => {
+                let algebra = look_up(&ALGEBRAS, values)?;
+                Ok(CodecCall::OfAlgebra(algebra, ElementCall::parse(alloc, name, bytes)?))
+            }
         }
-        let algebra = look_up(&ALGEBRAS, values)?;
+    }
+}
+
+impl ElementCall {
+    fn parse(alloc: Global, name: &str, bytes: &str) -> Result<ElementCall> {
         match name {
-            "draw" => Ok(CodecCall::OfAlgebra(algebra, ElementCall::Draw(bytes))),
-            "enc" => Ok(CodecCall::OfAlgebra(algebra, ElementCall::Encode(bytes))),
-            "dec" => Ok(CodecCall::OfAlgebra(algebra, ElementCall::Decode(bytes))),
-            "wire-len" => Ok(CodecCall::OfAlgebra(algebra, ElementCall::WireLen)),
-            "security-bits" => Ok(CodecCall::OfAlgebra(algebra, ElementCall::SecurityBits)),
+            "draw" => Ok(ElementCall::Draw(hex::decode(alloc, bytes)?)),
+            "enc" => Ok(ElementCall::Encode(hex::decode(alloc, bytes)?)),
+            "dec" => Ok(ElementCall::Decode(hex::decode(alloc, bytes)?)),
+            "wire-len" => Ok(ElementCall::WireLen),
+            "security-bits" => Ok(ElementCall::SecurityBits),
             _ => bail!("an unknown call"),
         }
     }
@@ -84,24 +92,23 @@ impl CodecCall {
 impl Replayed for Codecs {
     fn answer(&mut self, alloc: Global, call: &str) -> Result<String> {
         match CodecCall::parse(alloc, call)? {
-            CodecCall::OfAlgebra(algebra, call) => match self {
-                Codecs::OfBytes => through_bytes(alloc, algebra, &call),
-                Codecs::OfElements => through_elements(alloc, algebra, &call),
-            },
+            CodecCall::OfAlgebra(algebra, call) => through_algebra(alloc, *self, algebra, &call),
             CodecCall::UnitOfBytes(bytes) => encoded::<u8, u8>(alloc, bytes.as_slice()),
-            CodecCall::UnitOf(field, bytes) => match field {
-                FieldName::BabyBear => {
-                    encoded::<FieldUnit<BabyBear>, BabyBear>(alloc, bytes.as_slice())
-                }
-                FieldName::KoalaBear => {
-                    encoded::<FieldUnit<KoalaBear>, KoalaBear>(alloc, bytes.as_slice())
-                }
-                FieldName::Goldilocks => {
-                    encoded::<FieldUnit<Goldilocks>, Goldilocks>(alloc, bytes.as_slice())
-                }
-                FieldName::F257 => encoded::<FieldUnit<F257>, F257>(alloc, bytes.as_slice()),
-            },
+            CodecCall::UnitOf(field, bytes) => symbols_of(alloc, field, bytes.as_slice()),
         }
+    }
+}
+
+// What the codec of an algebra answers.
+fn through_algebra(
+    alloc: Global,
+    codecs: Codecs,
+    algebra: AlgebraName,
+    call: &ElementCall,
+) -> Result<String> {
+    match codecs {
+        Codecs::OfBytes => through_bytes(alloc, algebra, call),
+        Codecs::OfElements => through_elements(alloc, algebra, call),
     }
 }
 
@@ -128,22 +135,6 @@ fn through_bytes(alloc: Global, algebra: AlgebraName, call: &ElementCall) -> Res
             )
         }
     }
-}
-
-// What a codec of bytes answers. It draws from bytes that are given.
-fn drawn_or_through<'a, F: PrimeField64 + Symbol, A: BasedVectorSpace<F>, K: Codec<Supply<'a>, A>>(
-    alloc: Global,
-    call: &'a ElementCall,
-) -> Result<String>
-    requires { 128 ≤ K.SECURITY_BITS }
-{
-    let ElementCall::Draw(bytes) = call else {
-        return through::<F, A, K, Supply<'a>>(alloc, call);
-    };
-    let mut supply = Supply::new(bytes.as_slice());
-    let element = K::sample(&mut supply)?;
-    let numbers = answer::numbers(alloc, coefficients_of(alloc, &element)?.as_slice())?;
-    Ok(format!(in alloc; "{numbers} left {}", supply.left().len())?)
 }
 
 fn through_elements(alloc: Global, algebra: AlgebraName, call: &ElementCall) -> Result<String> {
@@ -177,6 +168,22 @@ fn through_elements(alloc: Global, algebra: AlgebraName, call: &ElementCall) -> 
     }
 }
 
+// What a codec of bytes answers. It draws from bytes that are given.
+fn drawn_or_through<'a, F: PrimeField64 + Symbol, A: BasedVectorSpace<F>, K: Codec<Supply<'a>, A>>(
+    alloc: Global,
+    call: &'a ElementCall,
+) -> Result<String>
+    requires { 128 ≤ K.SECURITY_BITS }
+{
+    let ElementCall::Draw(bytes) = call else {
+        return through::<F, A, K, Supply<'a>>(alloc, call);
+    };
+    let mut supply = Supply::new(bytes.as_slice());
+    let element = K::sample(&mut supply)?;
+    let numbers = answer::numbers(alloc, coefficients_of(alloc, &element)?.as_slice())?;
+    Ok(format!(in alloc; "{numbers} left {}", supply.left().len())?)
+}
+
 // What a codec answers.
 fn through<F: PrimeField64 + Symbol, A: BasedVectorSpace<F>, K: Codec<C, A>, C: Sponge>(
     alloc: Global,
@@ -185,18 +192,24 @@ fn through<F: PrimeField64 + Symbol, A: BasedVectorSpace<F>, K: Codec<C, A>, C: 
     match call {
         ElementCall::WireLen => Ok(K::wire_len().to_string(alloc)?),
         ElementCall::SecurityBits => Ok(K::SECURITY_BITS.to_string(alloc)?),
-        ElementCall::Encode(numbers) => {
-            let element: A = element_of(coefficients::<F>(alloc, numbers.as_slice())?.as_slice())?;
-            let mut wire = Vec::new(alloc);
-            K::encode(&element, &mut wire)?;
-            Ok(hex::encode(alloc, wire.as_slice())?)
-        }
+        ElementCall::Encode(numbers) => encoding::<F, A, K, C>(alloc, numbers.as_slice()),
         ElementCall::Decode(bytes) => match K::decode(bytes.as_slice()) {
             Ok(element) => answer::numbers(alloc, coefficients_of(alloc, &element)?.as_slice()),
             Err(error) => Ok(error.to_string(alloc)?),
         },
         ElementCall::Draw(_) => bail!("no bytes to draw from"),
     }
+}
+
+// How the element of these numbers is encoded.
+fn encoding<F: PrimeField64, A: BasedVectorSpace<F>, K: Codec<C, A>, C: Sponge>(
+    alloc: Global,
+    numbers: &[u8],
+) -> Result<String> {
+    let element: A = element_of(coefficients::<F>(alloc, numbers)?.as_slice())?;
+    let mut wire = Vec::new(alloc);
+    K::encode(&element, &mut wire)?;
+    Ok(hex::encode(alloc, wire.as_slice())?)
 }
 
 // The elements of canonical numbers of 8 bytes each.
@@ -210,6 +223,16 @@ fn coefficients<F: PrimeField64>(alloc: Global, numbers: &[u8]) -> Result<Vec<F>
         found.push(element.context("a value that is no canonical number")?)?;
     }
     Ok(found)
+}
+
+// The elements that a byte string is, or why it is none.
+fn symbols_of(alloc: Global, field: FieldName, bytes: &[u8]) -> Result<String> {
+    match field {
+        FieldName::BabyBear => encoded::<FieldUnit<BabyBear>, BabyBear>(alloc, bytes),
+        FieldName::KoalaBear => encoded::<FieldUnit<KoalaBear>, KoalaBear>(alloc, bytes),
+        FieldName::Goldilocks => encoded::<FieldUnit<Goldilocks>, Goldilocks>(alloc, bytes),
+        FieldName::F257 => encoded::<FieldUnit<F257>, F257>(alloc, bytes),
+    }
 }
 
 // The symbols that a byte string is, or why it is none.

@@ -1,17 +1,15 @@
 // Fields, their algebras and names, through their bounds.
-use crate::names::{ALGEBRAS, AlgebraName, FIELDS, FieldName, Four, FourOfKoalaBear};
+use crate::names::{AlgebraName, FieldName, Four, FourOfKoalaBear};
 use anyhow::{Result, bail};
-use conformance_calls::replay::{Replayed, first_difference};
+use conformance_calls::replay::Replayed;
 use conformance_tokens::answer;
-use conformance_tokens::line::Step;
 use conformance_tokens::symbol::{Symbol, coefficients_of};
 use conformance_tokens::tokens::{look_up, parse_pair, split_name};
 use p3_field::{
-    Algebra, AlgebraIdentity, BabyBear, Coeffs, F257, Field, Goldilocks, KoalaBear, Named,
-    PrimeField, PrimeField32, PrimeField64, UniformSamplingField,
+    Algebra, AlgebraIdentity, BabyBear, BasedVectorSpace, Coeffs, F257, Field, Goldilocks,
+    KoalaBear, Named, PrimeField, PrimeField32, PrimeField64, UniformSamplingField,
 };
 use std::alloc::Global;
-use std::marker::PhantomData;
 
 /// A call on a field. An element is answered by its canonical number.
 #[derive(Clone, Copy)]
@@ -144,122 +142,47 @@ impl AlgebraCall {
     }
 }
 
-// A field, of which calls ask.
-#[derive(Drop)]
-struct OfField<F>(PhantomData<F>);
+/// A field, of which calls ask.
+#[derive(Clone, Copy)]
+pub struct OfField(pub FieldName);
 
-// A field of order below 2^32.
-#[derive(Drop)]
-struct OfField32<F>(PhantomData<F>);
+/// A field of order below 2^32, by its calls of 32 bits.
+#[derive(Clone, Copy)]
+pub struct OfField32(pub FieldName);
 
-// An algebra over a field.
-#[derive(Drop)]
-struct OfAlgebra<F, A>(PhantomData<(F, A)>);
+/// An algebra over a field.
+#[derive(Clone, Copy)]
+pub struct OfAlgebra(pub AlgebraName);
 
 /// A type with a name. The calls are `name`, and `constant` for the same as the constant has it.
-#[derive(Drop)]
-struct OfType<T>(PhantomData<T>);
+#[derive(Clone, Copy)]
+pub struct OfType<'a>(pub &'a str);
 
-/// The first call with another answer, on a field.
-pub fn field_difference(
-    alloc: Global,
-    field: &str,
-    steps: &[Step<'_>],
-) -> Result<Option<(usize, String)>> {
-    match look_up(&FIELDS, field)? {
-        FieldName::BabyBear => first_difference(alloc, OfField::<BabyBear>(PhantomData), steps),
-        FieldName::KoalaBear => first_difference(alloc, OfField::<KoalaBear>(PhantomData), steps),
-        FieldName::Goldilocks => first_difference(alloc, OfField::<Goldilocks>(PhantomData), steps),
-        FieldName::F257 => first_difference(alloc, OfField::<F257>(PhantomData), steps),
-    }
-}
-
-/// The same, by the calls of a field whose order is below 2^32.
-pub fn field32_difference(
-    alloc: Global,
-    field: &str,
-    steps: &[Step<'_>],
-) -> Result<Option<(usize, String)>> {
-    match look_up(&FIELDS, field)? {
-        FieldName::BabyBear => first_difference(alloc, OfField32::<BabyBear>(PhantomData), steps),
-        FieldName::KoalaBear => first_difference(alloc, OfField32::<KoalaBear>(PhantomData), steps),
-        FieldName::F257 => first_difference(alloc, OfField32::<F257>(PhantomData), steps),
-        FieldName::Goldilocks => bail!("an order above 2^32"),
-    }
-}
-
-/// The same, on an algebra.
-pub fn algebra_difference(
-    alloc: Global,
-    algebra: &str,
-    steps: &[Step<'_>],
-) -> Result<Option<(usize, String)>> {
-    match look_up(&ALGEBRAS, algebra)? {
-        AlgebraName::Scalars(FieldName::BabyBear) => {
-            first_difference(alloc, OfAlgebra::<BabyBear, BabyBear>(PhantomData), steps)
-        }
-        AlgebraName::Scalars(FieldName::KoalaBear) => {
-            first_difference(alloc, OfAlgebra::<KoalaBear, KoalaBear>(PhantomData), steps)
-        }
-        AlgebraName::Scalars(FieldName::Goldilocks) => {
-            first_difference(
-                alloc,
-                OfAlgebra::<Goldilocks, Goldilocks>(PhantomData),
-                steps,
-            )
-        }
-        AlgebraName::Scalars(FieldName::F257) => {
-            first_difference(alloc, OfAlgebra::<F257, F257>(PhantomData), steps)
-        }
-        AlgebraName::Four => {
-            first_difference(alloc, OfAlgebra::<BabyBear, Four>(PhantomData), steps)
-        }
-        AlgebraName::FourOfKoalaBear => {
-            first_difference(
-                alloc,
-                OfAlgebra::<KoalaBear, FourOfKoalaBear>(PhantomData),
-                steps,
-            )
-        }
-    }
-}
-
-/// The same, on a type with a name.
-pub fn type_difference(
-    alloc: Global,
-    name: &str,
-    steps: &[Step<'_>],
-) -> Result<Option<(usize, String)>> {
-    match name {
-        "u8" => first_difference(alloc, OfType::<u8>(PhantomData), steps),
-        "usize" => first_difference(alloc, OfType::<usize>(PhantomData), steps),
-        "()" => first_difference(alloc, OfType::<()>(PhantomData), steps),
-        "bb" => first_difference(alloc, OfType::<BabyBear>(PhantomData), steps),
-        "kb" => first_difference(alloc, OfType::<KoalaBear>(PhantomData), steps),
-        "gl" => first_difference(alloc, OfType::<Goldilocks>(PhantomData), steps),
-        "f257" => first_difference(alloc, OfType::<F257>(PhantomData), steps),
-        "bb4" => first_difference(alloc, OfType::<Four>(PhantomData), steps),
-        "kb4" => first_difference(alloc, OfType::<FourOfKoalaBear>(PhantomData), steps),
-        "f257_3" => first_difference(alloc, OfType::<Coeffs<F257, 3>>(PhantomData), steps),
-        _ => bail!("an unknown type"),
-    }
-}
-
-impl<F: UniformSamplingField> Replayed for OfField<F> {
+impl Replayed for OfField {
     fn answer(&mut self, alloc: Global, call: &str) -> Result<String> {
-        let number = match FieldCall::parse(call)? {
-            FieldCall::Constant(constant) => constant_of::<F>(constant)?,
-            FieldCall::Unary(Unary::Checked, n) => match F::from_canonical_checked(n) {
-                Some(element) => element.as_canonical_u64(),
-                None => return Ok(String::from_str(alloc, "none")?),
-            },
-            FieldCall::Unary(Unary::Unique, n) => F::from_u64(n).to_unique_u64(),
-            FieldCall::Unary(Unary::UniformBound, n) => F::sampling_bits_m(usize::try_from(n)?),
-            FieldCall::Unary(unary, n) => element_of::<F>(unary, n)?.as_canonical_u64(),
-            FieldCall::Binary(binary, x, y) => computed::<F>(binary, x, y).as_canonical_u64(),
-        };
-        Ok(number.to_string(alloc)?)
+        let call = FieldCall::parse(call)?;
+        match self.0 {
+            FieldName::BabyBear => of_field::<BabyBear>(alloc, call),
+            FieldName::KoalaBear => of_field::<KoalaBear>(alloc, call),
+            FieldName::Goldilocks => of_field::<Goldilocks>(alloc, call),
+            FieldName::F257 => of_field::<F257>(alloc, call),
+        }
     }
+}
+
+fn of_field<F: UniformSamplingField>(alloc: Global, call: FieldCall) -> Result<String> {
+    let number = match call {
+        FieldCall::Constant(constant) => constant_of::<F>(constant)?,
+        FieldCall::Unary(Unary::Checked, n) => match F::from_canonical_checked(n) {
+            Some(element) => element.as_canonical_u64(),
+            None => return Ok(String::from_str(alloc, "none")?),
+        },
+        FieldCall::Unary(Unary::Unique, n) => F::from_u64(n).to_unique_u64(),
+        FieldCall::Unary(Unary::UniformBound, n) => F::sampling_bits_m(usize::try_from(n)?),
+        FieldCall::Unary(unary, n) => element_of::<F>(unary, n)?.as_canonical_u64(),
+        FieldCall::Binary(binary, x, y) => computed::<F>(binary, x, y).as_canonical_u64(),
+    };
+    Ok(number.to_string(alloc)?)
 }
 
 fn constant_of<F: UniformSamplingField>(constant: Constant) -> Result<u64> {
@@ -296,45 +219,96 @@ fn computed<F: PrimeField64>(binary: Binary, x: u64, y: u64) -> F {
     }
 }
 
-impl<F: PrimeField32> Replayed for OfField32<F> {
+impl Replayed for OfField32 {
     fn answer(&mut self, alloc: Global, call: &str) -> Result<String> {
-        let number = match FieldCall::parse(call)? {
-            FieldCall::Unary(Unary::Canonical, n) => F::from_u64(n).as_canonical_u32(),
-            FieldCall::Unary(Unary::Unique, n) => F::from_u64(n).to_unique_u32(),
-            FieldCall::Constant(Constant::OrderConstant) => F::ORDER_U32,
-            _ => bail!("a call on a field"),
-        };
-        Ok(number.to_string(alloc)?)
-    }
-}
-
-impl<F: PrimeField64 + Symbol, A: AlgebraIdentity<F>> Replayed for OfAlgebra<F, A> {
-    fn answer(&mut self, alloc: Global, call: &str) -> Result<String> {
-        let element: A = match AlgebraCall::parse(call)? {
-            AlgebraCall::Dimension => return Ok((A::DIMENSION as u64).to_string(alloc)?),
-            AlgebraCall::Identity => {
-                return Ok(String::from_str(alloc, str::from_utf8(A::algebra_id())?)?);
-            }
-            AlgebraCall::Zero => A::zero(),
-            AlgebraCall::From(value) => A::from(F::from_u64(value)),
-            AlgebraCall::With(index, value) => {
-                let index = usize::try_from(index)?;
-                if index >= A::DIMENSION {
-                    bail!("no coefficient");
-                }
-                A::zero().with_coefficient(index, F::from_u64(value))
-            }
-        };
-        answer::numbers(alloc, coefficients_of(alloc, &element)?.as_slice())
-    }
-}
-
-impl<T: Named> Replayed for OfType<T> {
-    fn answer(&mut self, alloc: Global, call: &str) -> Result<String> {
-        match call {
-            "name" => Ok(String::from_str(alloc, T::type_name())?),
-            "constant" => Ok(String::from_str(alloc, T::NAME)?),
-            _ => bail!("an unknown call"),
+        let call = FieldCall::parse(call)?;
+        match self.0 {
+            FieldName::BabyBear => of_field32::<BabyBear>(alloc, call),
+            FieldName::KoalaBear => of_field32::<KoalaBear>(alloc, call),
+            FieldName::F257 => of_field32::<F257>(alloc, call),
+            FieldName::Goldilocks => bail!("an order above 2^32"),
         }
+    }
+}
+
+fn of_field32<F: PrimeField32>(alloc: Global, call: FieldCall) -> Result<String> {
+    let number = match call {
+        FieldCall::Unary(Unary::Canonical, n) => F::from_u64(n).as_canonical_u32(),
+        FieldCall::Unary(Unary::Unique, n) => F::from_u64(n).to_unique_u32(),
+        FieldCall::Constant(Constant::OrderConstant) => F::ORDER_U32,
+        _ => bail!("a call on a field"),
+    };
+    Ok(number.to_string(alloc)?)
+}
+
+impl Replayed for OfAlgebra {
+    fn answer(&mut self, alloc: Global, call: &str) -> Result<String> {
+        let call = AlgebraCall::parse(call)?;
+        match self.0 {
+            AlgebraName::Scalars(FieldName::BabyBear) => {
+                of_algebra::<BabyBear, BabyBear>(alloc, call)
+            }
+            AlgebraName::Scalars(FieldName::KoalaBear) => {
+                of_algebra::<KoalaBear, KoalaBear>(alloc, call)
+            }
+            AlgebraName::Scalars(FieldName::Goldilocks) => {
+                of_algebra::<Goldilocks, Goldilocks>(alloc, call)
+            }
+            AlgebraName::Scalars(FieldName::F257) => of_algebra::<F257, F257>(alloc, call),
+            AlgebraName::Four => of_algebra::<BabyBear, Four>(alloc, call),
+            AlgebraName::FourOfKoalaBear => of_algebra::<KoalaBear, FourOfKoalaBear>(alloc, call),
+        }
+    }
+}
+
+fn of_algebra<F: PrimeField64 + Symbol, A: AlgebraIdentity<F>>(
+    alloc: Global,
+    call: AlgebraCall,
+) -> Result<String> {
+    match call {
+        AlgebraCall::Dimension => Ok((A::DIMENSION as u64).to_string(alloc)?),
+        AlgebraCall::Identity => Ok(String::from_str(alloc, str::from_utf8(A::algebra_id())?)?),
+        AlgebraCall::Zero => shown(alloc, A::zero()),
+        AlgebraCall::From(value) => shown(alloc, A::from(F::from_u64(value))),
+        AlgebraCall::With(index, value) => {
+            let index = usize::try_from(index)?;
+            if index >= A::DIMENSION {
+                bail!("no coefficient");
+            }
+            shown(alloc, A::zero().with_coefficient(index, F::from_u64(value)))
+        }
+    }
+}
+
+fn shown<F: PrimeField64 + Symbol, A: BasedVectorSpace<F>>(
+    alloc: Global,
+    element: A,
+) -> Result<String> {
+    answer::numbers(alloc, coefficients_of(alloc, &element)?.as_slice())
+}
+
+impl Replayed for OfType<'_> {
+    fn answer(&mut self, alloc: Global, call: &str) -> Result<String> {
+        match self.0 {
+            "u8" => of_type::<u8>(alloc, call),
+            "usize" => of_type::<usize>(alloc, call),
+            "()" => of_type::<()>(alloc, call),
+            "bb" => of_type::<BabyBear>(alloc, call),
+            "kb" => of_type::<KoalaBear>(alloc, call),
+            "gl" => of_type::<Goldilocks>(alloc, call),
+            "f257" => of_type::<F257>(alloc, call),
+            "bb4" => of_type::<Four>(alloc, call),
+            "kb4" => of_type::<FourOfKoalaBear>(alloc, call),
+            "f257_3" => of_type::<Coeffs<F257, 3>>(alloc, call),
+            _ => bail!("an unknown type"),
+        }
+    }
+}
+
+fn of_type<T: Named>(alloc: Global, call: &str) -> Result<String> {
+    match call {
+        "name" => Ok(String::from_str(alloc, T::type_name())?),
+        "constant" => Ok(String::from_str(alloc, T::NAME)?),
+        _ => bail!("an unknown call"),
     }
 }

@@ -42,8 +42,10 @@ use conformance_calls::challengers;
 use conformance_calls::replay::first_difference;
 use conformance_calls::symmetric::Turning;
 use conformance_tokens::line::{Line, Step};
-use conformance_tokens::tokens;
+use conformance_tokens::tokens::{look_up, split_name};
 use counts::Counts;
+use fields::{OfAlgebra, OfField, OfField32, OfType};
+use names::{ALGEBRAS, FIELDS};
 use patterns::Steps;
 use program::Program;
 use std::alloc::Global;
@@ -67,25 +69,36 @@ const FILES: [&str; 11] = [
 ];
 
 fn main(rt: HostRuntime) -> Result<ExitCode> {
-    let argument = env::args(&rt)?.nth(1);
-    let folder = match &argument {
-        Some(word) => word.as_str(),
-        None => ".",
+    let folder = match env::args(&rt)?.nth(1) {
+        Some(folder) => folder,
+        None => String::from_str(rt.alloc(), ".")?,
     };
-    for name in FILES {
-        let path = format!(in rt.alloc(); "{folder}/{name}.txt")?;
-        let text = fs::read_to_string(&rt, path.as_str()).context(path.as_str())?;
-        match compare(rt.alloc(), text.as_str()).context(path.as_str())? {
-            Outcome::Agree { lines, calls } => {
-                println!(rt; "{name}: {lines} lines, {calls} calls, all agree")?
-            }
-            Outcome::Differs { line, call, answer } => {
-                println!(rt; "{name}: line {line}, call {call} answers {answer}")?;
-                return Ok(ExitCode::from(1));
-            }
+    for name in &FILES {
+        if !agrees(&rt, folder.as_str(), name)? {
+            return Ok(ExitCode::from(1));
         }
     }
     Ok(ExitCode::from(0))
+}
+
+// Replays a file, and prints what came of it.
+fn agrees(rt: &HostRuntime, folder: &str, name: &str) -> Result<bool> {
+    match replayed(rt, folder, name).context(name)? {
+        Outcome::Agree { lines, calls } => {
+            println!(rt; "{name}: {lines} lines, {calls} calls, all agree")?;
+            Ok(true)
+        }
+        Outcome::Differs { line, call, answer } => {
+            println!(rt; "{name}: line {line}, call {call} answers {answer}")?;
+            Ok(false)
+        }
+    }
+}
+
+fn replayed(rt: &HostRuntime, folder: &str, name: &str) -> Result<Outcome> {
+    let path = format!(in rt.alloc(); "{folder}/{name}.txt")?;
+    let text = fs::read_to_string(rt, path.as_str())?;
+    compare(rt.alloc(), text.as_str())
 }
 
 // How a file was replayed: whole, or up to the first call with another answer. A line and a call are
@@ -113,8 +126,7 @@ fn compare(alloc: Global, text: &str) -> Result<Outcome> {
         if text.starts_with('#') {
             continue;
         }
-        let line = Line::parse(alloc, text).context(format_args!("line {number}"))?;
-        let found = difference(alloc, &line).context(format_args!("line {number}"))?;
+        let (steps, found) = replay(alloc, text).context(format_args!("line {number}"))?;
         if let Some((index, answer)) = found {
             return Ok(Outcome::Differs {
                 line: number,
@@ -123,20 +135,26 @@ fn compare(alloc: Global, text: &str) -> Result<Outcome> {
             });
         }
         lines = lines.saturating_add(1);
-        calls = calls.saturating_add(line.steps.len());
+        calls = calls.saturating_add(steps);
     }
     Ok(Outcome::Agree { lines, calls })
 }
 
+// How many calls a line has, and the first one with another answer.
+fn replay(alloc: Global, text: &str) -> Result<(usize, Option<(usize, String)>)> {
+    let line = Line::parse(alloc, text)?;
+    Ok((line.steps.len(), difference(alloc, &line)?))
+}
+
 // The first call of a line with another answer, and its answer.
 fn difference(alloc: Global, line: &Line<'_>) -> Result<Option<(usize, String)>> {
-    let (kind, spec) = tokens::split_name(line.spec);
+    let (kind, spec) = split_name(line.spec);
     let steps = line.steps.as_slice();
     match kind {
-        "field" => fields::field_difference(alloc, spec, steps),
-        "field32" => fields::field32_difference(alloc, spec, steps),
-        "algebra" => fields::algebra_difference(alloc, spec, steps),
-        "type" => fields::type_difference(alloc, spec, steps),
+        "field" => first_difference(alloc, OfField(look_up(&FIELDS, spec)?), steps),
+        "field32" => first_difference(alloc, OfField32(look_up(&FIELDS, spec)?), steps),
+        "algebra" => first_difference(alloc, OfAlgebra(look_up(&ALGEBRAS, spec)?), steps),
+        "type" => first_difference(alloc, OfType(spec), steps),
         "turn" => {
             let places = spec.parse()?;
             first_difference(alloc, Turning { places }, steps)

@@ -182,44 +182,66 @@ impl Steps {
             taker: Taker::Nobody,
         }
     }
+
+    fn push(&mut self, alloc: Global, step: Interaction) -> Result<String> {
+        self.steps.push(step)?;
+        answer::nothing(alloc)
+    }
+
+    // A step of the type of the last one.
+    fn push_same(&mut self, alloc: Global, head: StepHead) -> Result<String> {
+        let last = *self.steps.last().context("no step")?;
+        let step = last.of_same_type(head.hierarchy, head.kind, head.label, head.length);
+        self.push(alloc, step)
+    }
+
+    fn begin(&mut self, alloc: Global, taker: Taker) -> Result<String> {
+        self.taker = taker;
+        answer::nothing(alloc)
+    }
+
+    // Spends what takes steps. The steps are then those that were recorded.
+    fn finish(&mut self, alloc: Global) -> Result<String> {
+        let finished = mem::replace(&mut self.taker, Taker::Nobody).finish();
+        if let Ok(Some(pattern)) = &finished {
+            self.steps = Vec::from_slice(alloc, pattern.interactions())?;
+        }
+        answer::verdict(alloc, finished)
+    }
 }
 
 impl Replayed for Steps {
     fn answer(&mut self, alloc: Global, call: &str) -> Result<String> {
         match PatternCall::parse(call)? {
-            PatternCall::Step(step) => self.steps.push(step)?,
-            PatternCall::SameType(head) => {
-                let last = *self.steps.last().context("no step")?;
-                let step = last.of_same_type(head.hierarchy, head.kind, head.label, head.length);
-                self.steps.push(step)?;
-            }
-            PatternCall::Ask(question) => return asked(alloc, self.steps.as_slice(), question),
-            PatternCall::Record => self.taker = Taker::Recorder(PatternState::new(alloc)),
+            PatternCall::Step(step) => self.push(alloc, step),
+            PatternCall::SameType(head) => self.push_same(alloc, head),
+            PatternCall::Ask(question) => asked(alloc, self.steps.as_slice(), question),
+            PatternCall::Record => self.begin(alloc, Taker::Recorder(PatternState::new(alloc))),
             PatternCall::Play => {
-                let pattern = pattern_of(alloc, self.steps.as_slice())?;
-                self.taker = Taker::Player(PatternPlayer::new(Rc::new(alloc, pattern)?));
+                let player = player_of(alloc, self.steps.as_slice())?;
+                self.begin(alloc, Taker::Player(player))
             }
-            PatternCall::Take(taking) => {
-                let taken = match &mut self.taker {
-                    Taker::Recorder(recorder) => take(recorder, taking)?,
-                    Taker::Player(player) => take(player, taking)?,
-                    Taker::Nobody => bail!("nothing takes steps"),
-                };
-                return answer::verdict(alloc, taken);
-            }
-            PatternCall::At => return place(alloc, &self.taker),
-            PatternCall::Finish => {
-                let taker = mem::replace(&mut self.taker, Taker::Nobody);
-                let finished = taker.finish();
-                if let Ok(Some(pattern)) = &finished {
-                    self.steps = Vec::from_slice(alloc, pattern.interactions())?;
-                }
-                return answer::verdict(alloc, finished);
-            }
-            PatternCall::Abort => self.taker = Taker::Nobody,
+            PatternCall::Take(taking) => taken(alloc, &mut self.taker, taking),
+            PatternCall::At => place(alloc, &self.taker),
+            PatternCall::Finish => self.finish(alloc),
+            PatternCall::Abort => self.begin(alloc, Taker::Nobody),
         }
-        answer::nothing(alloc)
     }
+}
+
+fn player_of(alloc: Global, steps: &[Interaction]) -> Result<PatternPlayer> {
+    let pattern = Rc::new(alloc, pattern_of(alloc, steps)?)?;
+    Ok(PatternPlayer::new(pattern))
+}
+
+// Whether what takes steps takes what a call says.
+fn taken(alloc: Global, taker: &mut Taker, taking: Taking<'_>) -> Result<String> {
+    let taken = match taker {
+        Taker::Recorder(recorder) => take(recorder, taking)?,
+        Taker::Player(player) => take(player, taking)?,
+        Taker::Nobody => bail!("nothing takes steps"),
+    };
+    answer::verdict(alloc, taken)
 }
 
 // Takes what a call says. The outer error says what is no call.

@@ -14,6 +14,10 @@ use transcript_program::{first, reason, run};
 pub enum ProgramCall<'a> {
     /// `run "WORD" ..`: the status of a run with these words, and what it writes.
     Run(Vec<&'a str>),
+    /// `read HEX "WORD" ..`: the same with these bytes on standard input.
+    Read(Vec<u8>, Vec<&'a str>),
+    /// `bytes "WORD" ..`: the same as `run`, with what it writes in hexadecimal.
+    Bytes(Vec<&'a str>),
     /// `prove N`: the proof of a scalar, and the challenge.
     Prove(u64),
     /// `verify HEX`: the scalar of a proof and the challenge, or why it is refused.
@@ -29,6 +33,11 @@ impl<'a> ProgramCall<'a> {
         let (name, words) = split_name(text);
         match name {
             "run" => Ok(ProgramCall::Run(quoted(alloc, words)?)),
+            "bytes" => Ok(ProgramCall::Bytes(quoted(alloc, words)?)),
+            "read" => {
+                let (input, words) = split_name(words);
+                Ok(ProgramCall::Read(hex::decode(alloc, input)?, quoted(alloc, words)?))
+            }
             "prove" => Ok(ProgramCall::Prove(words.parse()?)),
             "verify" => Ok(ProgramCall::Verify(hex::decode(alloc, words)?)),
             _ => bail!("an unknown call"),
@@ -52,19 +61,32 @@ fn quoted(alloc: Global, words: &str) -> Result<Vec<&str>> {
 impl Replayed for Program {
     fn answer(&mut self, alloc: Global, call: &str) -> Result<String> {
         match ProgramCall::parse(alloc, call)? {
-            ProgramCall::Run(words) => written(alloc, words.as_slice()),
+            ProgramCall::Run(words) => told(alloc, words.as_slice(), b""),
+            ProgramCall::Read(input, words) => told(alloc, words.as_slice(), input.as_slice()),
+            ProgramCall::Bytes(words) => {
+                let (status, output) = written(alloc, words.as_slice(), b"");
+                let output = hex::encode(alloc, output.as_slice())?;
+                Ok(format!(in alloc; "{status} {output}")?)
+            }
             ProgramCall::Prove(number) => proved(alloc, number),
             ProgramCall::Verify(proof) => verified(alloc, proof.as_slice()),
         }
     }
 }
 
-fn written(alloc: Global, words: &[&str]) -> Result<String> {
-    let mut input: &[u8] = b"";
-    let mut output = Vec::new(alloc);
-    let status = run(alloc, words, &mut input, &mut output);
+// The status of a run, and the text that it writes.
+fn told(alloc: Global, words: &[&str], input: &[u8]) -> Result<String> {
+    let (status, output) = written(alloc, words, input);
     let text = answer::one_line(alloc, str::from_utf8(output.as_slice())?)?;
     Ok(format!(in alloc; "{status} {text}")?)
+}
+
+// The status of a run, and what it writes.
+fn written(alloc: Global, words: &[&str], input: &[u8]) -> (u8, Vec<u8>) {
+    let mut input = input;
+    let mut output = Vec::new(alloc);
+    let status = run(alloc, words, &mut input, &mut output);
+    (status, output)
 }
 
 fn new_challenger(alloc: Global) -> HashChallenger<u8, Sha256Hasher, 32> {

@@ -1,7 +1,8 @@
 // Candidates that are tried on a challenger of bytes.
 use anyhow::{Result, bail};
 use conformance_tokens::tokens::parse_row;
-use p3_challenger::{ByteCandidates, ByteGrindingChallenger, HashChallenger};
+use p3_grinding::{ByteCandidates, ByteGrindingChallenger};
+use p3_hash_challenger::HashChallenger;
 use p3_symmetric::CryptographicHasher;
 use std::alloc::Global;
 

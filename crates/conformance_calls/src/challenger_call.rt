@@ -47,8 +47,8 @@ pub enum Observation<T> {
     BaseAsAlgebraElement(T),
     /// Values in a row.
     Row(RowKind, Vec<T>),
-    /// An array or several, by the rows of their values.
-    Arrays(ArraysKind, Vec<Vec<T>>),
+    /// An array or several, by the rows of their numbers.
+    Arrays(ArraysKind, Parts, Vec<Vec<u64>>),
     /// `ov v.. / v..`: a list of lists.
     Lists(Vec<Vec<T>>),
     /// `observe-bytes HEX`: a byte string, in the challenger's alphabet.
@@ -80,6 +80,18 @@ pub enum ArraysKind {
     Cap,
     /// `ocr v.. / v..`: such a cap by reference.
     CapByReference,
+}
+
+/// What the numbers of arrays are.
+#[derive(Clone, Copy)]
+pub enum Parts {
+    /// What the challenger's digests consist of: its symbols, or of one of two fields its cells. An array of `oa` has
+    /// symbols.
+    OfChallenger,
+    /// `oh8`, `oc8`, `oc8r`: bytes, on a challenger that serializes.
+    Bytes,
+    /// `oh64`, `oc64`, `oc64r`: words of 64 bits, on such a challenger.
+    Words,
 }
 
 /// What is drawn.
@@ -120,11 +132,17 @@ const ROWS: [(&str, RowKind); 3] = [
     ("oes", RowKind::AlgebraSlice),
 ];
 
-const ARRAYS: [(&str, ArraysKind); 4] = [
-    ("oa", ArraysKind::Array),
-    ("oh", ArraysKind::Digest),
-    ("oc", ArraysKind::Cap),
-    ("ocr", ArraysKind::CapByReference),
+const ARRAYS: [(&str, (ArraysKind, Parts)); 10] = [
+    ("oa", (ArraysKind::Array, Parts::OfChallenger)),
+    ("oh", (ArraysKind::Digest, Parts::OfChallenger)),
+    ("oc", (ArraysKind::Cap, Parts::OfChallenger)),
+    ("ocr", (ArraysKind::CapByReference, Parts::OfChallenger)),
+    ("oh8", (ArraysKind::Digest, Parts::Bytes)),
+    ("oc8", (ArraysKind::Cap, Parts::Bytes)),
+    ("oc8r", (ArraysKind::CapByReference, Parts::Bytes)),
+    ("oh64", (ArraysKind::Digest, Parts::Words)),
+    ("oc64", (ArraysKind::Cap, Parts::Words)),
+    ("oc64r", (ArraysKind::CapByReference, Parts::Words)),
 ];
 
 impl<T: Symbol> ChallengerCall<T> {
@@ -137,20 +155,18 @@ impl<T: Symbol> ChallengerCall<T> {
             "clone-draw" => Ok(ChallengerCall::CloneDraw),
             "permute" => Ok(ChallengerCall::Permute),
             "digest" => Ok(ChallengerCall::Digest(hex::decode(alloc, words)?)),
-            "slice" => {
-                let observation = Observation::parse(alloc, words)?;
-                Ok(ChallengerCall::Observe(Form::SliceOfOne, observation))
-            }
+            "slice" => ChallengerCall::observe(alloc, Form::SliceOfOne, words),
             "fw" => Ok(ChallengerCall::FindWitness(Search::parse(alloc, words)?)),
             "u" | "ue" | "g" | "gu" | "gue" | "c" | "cu" | "cue" => {
                 Ok(ChallengerCall::Work(WorkCall::parse(name, words)?))
             }
-            _ if name.starts_with('o') => {
-                let observation = Observation::parse(alloc, text)?;
-                Ok(ChallengerCall::Observe(Form::Alone, observation))
-            }
+            _ if name.starts_with('o') => ChallengerCall::observe(alloc, Form::Alone, text),
             _ => Ok(ChallengerCall::Draw(Draw::parse(name, words)?)),
         }
+    }
+
+    fn observe(alloc: Global, form: Form, text: &str) -> Result<ChallengerCall<T>> {
+        Ok(ChallengerCall::Observe(form, Observation::parse(alloc, text)?))
     }
 }
 
@@ -158,23 +174,33 @@ impl<T: Symbol> Observation<T> {
     fn parse(alloc: Global, text: &str) -> Result<Observation<T>> {
         let (name, words) = split_name(text);
         match name {
-            "o" => Ok(Observation::Value(T::of_number(words.parse()?)?)),
-            "ob" => Ok(Observation::BaseAsAlgebraElement(T::of_number(words.parse()?)?)),
+            "o" => Ok(Observation::Value(parse_symbol(words)?)),
+            "ob" => Ok(Observation::BaseAsAlgebraElement(parse_symbol(words)?)),
             "observe-bytes" => Ok(Observation::Bytes(hex::decode(alloc, words)?)),
             "observe-element" => Ok(Observation::Element(parse_row(alloc, words)?)),
             "os" | "oe" | "oes" => {
-                let row = symbols(alloc, parse_row(alloc, words)?.as_slice())?;
-                Ok(Observation::Row(look_up(&ROWS, name)?, row))
+                let kind = look_up(&ROWS, name)?;
+                Ok(Observation::Row(kind, parse_symbols(alloc, words)?))
             }
+            "ov" => Ok(Observation::Lists(parse_lists(alloc, words)?)),
             _ => {
-                let rows = rows_of_symbols(alloc, parse_rows(alloc, words)?.as_slice())?;
-                match name {
-                    "ov" => Ok(Observation::Lists(rows)),
-                    _ => Ok(Observation::Arrays(look_up(&ARRAYS, name)?, rows)),
-                }
+                let (kind, parts) = look_up(&ARRAYS, name)?;
+                Ok(Observation::Arrays(kind, parts, parse_rows(alloc, words)?))
             }
         }
     }
+}
+
+fn parse_symbol<T: Symbol>(word: &str) -> Result<T> {
+    T::of_number(word.parse()?)
+}
+
+fn parse_symbols<T: Symbol>(alloc: Global, words: &str) -> Result<Vec<T>> {
+    symbols(alloc, parse_row(alloc, words)?.as_slice())
+}
+
+fn parse_lists<T: Symbol>(alloc: Global, words: &str) -> Result<Vec<Vec<T>>> {
+    rows_of_symbols(alloc, parse_rows(alloc, words)?.as_slice())
 }
 
 impl Draw {

@@ -1,7 +1,7 @@
-use crate::challenger_call::{ArraysKind, ChallengerCall, Draw, Form, Observation};
-use crate::digests::{cap, observe_digests};
+use crate::challenger_call::{ArraysKind, ChallengerCall, Draw, Form, Observation, Parts};
+use crate::digests::{ObservesArrays, cap, observe_digests, observe_rows};
 use crate::elements::answer_elements;
-use crate::replay::{Replayed, first_difference};
+use crate::replay::{Replayed, answer_made, first_difference};
 use crate::subject::{DRAW_LIMIT, Subject, Way, finalized, observe};
 use crate::symmetric::permuted;
 use crate::work::{WorkCall, uniform_bits, uniform_work};
@@ -9,8 +9,9 @@ use anyhow::{Context, Result, bail};
 use conformance_tokens::answer;
 use conformance_tokens::line::Step;
 use conformance_tokens::symbol::{Extended, numbers_of};
-use p3_challenger::{DuplexChallenger, LanePermutation};
+use p3_duplex::DuplexChallenger;
 use p3_field::{BabyBear, F257, Goldilocks, PackedField};
+use p3_lanes::LanePermutation;
 use p3_symmetric::{CryptographicPermutation, Turn};
 use std::alloc::Global;
 
@@ -87,13 +88,12 @@ impl<F: Extended + PackedField, P: LanePermutation<F, W>, const W: usize, const 
     fn answer(&mut self, alloc: Global, call: &str) -> Result<String> {
         let call = ChallengerCall::<F>::parse(alloc, call)?;
         match call {
-            ChallengerCall::Observe(form, Observation::Arrays(kind, rows)) => {
-                observe_rows(alloc, self, form, kind, rows.as_slice())?;
-                answer::nothing(alloc)
+            ChallengerCall::Observe(form, Observation::Arrays(kind, Parts::OfChallenger, rows)) => {
+                let made = observe_rows::<F, _>(alloc, self, form, kind, rows.as_slice());
+                answer_made(alloc, made)
             }
             ChallengerCall::Observe(form, Observation::Lists(lists)) => {
-                observe(alloc, self, form, lists)?;
-                answer::nothing(alloc)
+                answer_made(alloc, observe(alloc, self, form, lists))
             }
             ChallengerCall::CloneDraw => clone_draw(alloc, &self.challenger),
             ChallengerCall::Finalize => digest(alloc, &self.challenger),
@@ -110,15 +110,23 @@ impl<F: Extended + PackedField, P: LanePermutation<F, W>, const W: usize, const 
     }
 }
 
-fn observe_rows<F: Extended, P: CryptographicPermutation<[F; W]>, const W: usize, const R: usize>(
-    alloc: Global,
-    subject: &mut Duplex<F, P, W, R>,
-    form: Form,
-    kind: ArraysKind,
-    rows: &[Vec<F>],
-) -> Result<()> {
-    let (first, rest) = rows.split_first().context("no array")?;
-    with_array!(first.as_slice(), first => observe_arrays(alloc, subject, form, kind, first, rest))
+impl<
+    F: Extended,
+    P: CryptographicPermutation<[F; W]>,
+    const W: usize,
+    const R: usize,
+    const N: usize,
+> ObservesArrays<F, N> for Duplex<F, P, W, R> {
+    fn observe_arrays(
+        &mut self,
+        alloc: Global,
+        form: Form,
+        kind: ArraysKind,
+        first: [F; N],
+        rest: &[Vec<F>],
+    ) -> Result<()> {
+        observe_arrays(alloc, self, form, kind, first, rest)
+    }
 }
 
 // Observes an array, or several of one length as a cap.

@@ -1,5 +1,6 @@
 // Calls on a challenger of the elements of a field, through its bounds.
-use crate::challenger_call::{ChallengerCall, Draw, Observation, RowKind};
+use crate::challenger_call::{ChallengerCall, Draw, Form, Observation, RowKind};
+use crate::replay::answer_made;
 use crate::subject::{
     Subject, Way, draw_bits, draw_element, draw_extension, draw_symbols, most_bits, observe_bytes,
     observe_element,
@@ -8,9 +9,10 @@ use crate::work::{WorkCall, plain_work};
 use anyhow::{Result, bail};
 use conformance_tokens::answer;
 use conformance_tokens::symbol::{Extended, coefficients_of, element_of, symbols};
-use p3_challenger::fs::{ExtensionFieldCodec, FieldToFieldCodec, FieldUnit};
-use p3_challenger::{CanSample, FieldChallenger, GrindingChallenger};
+use p3_challenger_core::{CanSample, FieldChallenger};
+use p3_codecs::{ExtensionFieldCodec, FieldToFieldCodec, FieldUnit};
 use p3_field::BasedVectorSpace;
+use p3_grinding::GrindingChallenger;
 use std::alloc::Global;
 
 /// What a call is answered that all challengers of elements have.
@@ -19,9 +21,8 @@ pub fn answer_elements<
     C: FieldChallenger<F> + CanSample<F::Extension> + GrindingChallenger,
 >(alloc: Global, subject: &mut Subject<C>, call: ChallengerCall<F>) -> Result<String> {
     match call {
-        ChallengerCall::Observe(_, observation) => {
-            observe_elements(alloc, subject, observation)?;
-            answer::nothing(alloc)
+        ChallengerCall::Observe(Form::Alone, observation) => {
+            answer_made(alloc, observe_elements(alloc, subject, observation))
         }
         ChallengerCall::Draw(draw) => {
             let numbers = draw_elements(alloc, subject, draw, F::ZERO)?;
@@ -57,7 +58,7 @@ fn observe_on<F: Extended, C: FieldChallenger<F>>(
             let coefficients = symbols::<F>(alloc, coefficients.as_slice())?;
             observe_through_codec(challenger, coefficients.as_slice())
         }
-        Observation::Arrays(_, _) | Observation::Lists(_) => bail!("rows are arrays"),
+        Observation::Arrays(_, _, _) | Observation::Lists(_) => bail!("rows are arrays"),
     }
 }
 

@@ -1,19 +1,20 @@
 use crate::candidates::least_candidate;
-use crate::challenger_call::{ArraysKind, ChallengerCall, Draw, Form, Observation, RowKind};
-use crate::digests::{cap, observe_digests};
-use crate::replay::{Replayed, first_difference};
+use crate::challenger_call::{ArraysKind, ChallengerCall, Draw, Form, Observation, Parts, RowKind};
+use crate::digests::{ObservesArrays, cap, observe_digests, observe_rows};
+use crate::replay::{Replayed, answer_made, first_difference};
 use crate::subject::{
     Subject, Way, draw_element, draw_symbols, finalized, observe, observe_bytes, observe_element,
 };
 use crate::symmetric::digest_of;
-use anyhow::{Context, Result, bail};
+use anyhow::{Result, bail};
 use conformance_tokens::answer;
 use conformance_tokens::line::Step;
 use conformance_tokens::symbol::{Extended, numbers_of, symbols};
 use conformance_tokens::tokens::split_name;
-use p3_challenger::fs::{BytesToFieldCodec, ExtensionFieldCodec};
-use p3_challenger::{CanObserve, CanSample, HashChallenger};
+use p3_challenger_core::{CanObserve, CanSample};
+use p3_codecs::{BytesToFieldCodec, ExtensionFieldCodec};
 use p3_field::BabyBear;
+use p3_hash_challenger::HashChallenger;
 use p3_symmetric::{CryptographicHasher, Sha256Hasher};
 use p3_test_support::{LengthHasher, SumHasher};
 use std::alloc::Global;
@@ -53,19 +54,15 @@ impl<H: CryptographicHasher<u8, [u8; 32]>> Replayed for Hashing<H> {
     fn answer(&mut self, alloc: Global, call: &str) -> Result<String> {
         let call = ChallengerCall::<u8>::parse(alloc, call)?;
         match call {
-            ChallengerCall::Observe(form, Observation::Arrays(kind, rows)) => {
-                observe_rows(alloc, self, form, kind, rows.as_slice())?;
-                answer::nothing(alloc)
+            ChallengerCall::Observe(form, Observation::Arrays(kind, Parts::OfChallenger, rows)) => {
+                let made = observe_rows::<u8, _>(alloc, self, form, kind, rows.as_slice());
+                answer_made(alloc, made)
             }
             ChallengerCall::Observe(form, Observation::Lists(lists)) => {
-                observe(alloc, self, form, lists)?;
-                answer::nothing(alloc)
+                answer_made(alloc, observe(alloc, self, form, lists))
             }
             ChallengerCall::CloneDraw => clone_draw(alloc, &self.challenger),
-            ChallengerCall::Finalize => {
-                let digest = finalized(self.challenger.clone()?);
-                Ok(hex::encode(alloc, &digest[..])?)
-            }
+            ChallengerCall::Finalize => digest(alloc, &self.challenger),
             ChallengerCall::Digest(bytes) => {
                 let digest = digest_of(*self.challenger.hasher(), bytes.as_slice());
                 Ok(hex::encode(alloc, &digest[..])?)
@@ -79,15 +76,17 @@ impl<H: CryptographicHasher<u8, [u8; 32]>> Replayed for Hashing<H> {
     }
 }
 
-fn observe_rows<H: CryptographicHasher<u8, [u8; 32]>>(
-    alloc: Global,
-    subject: &mut Hashing<H>,
-    form: Form,
-    kind: ArraysKind,
-    rows: &[Vec<u8>],
-) -> Result<()> {
-    let (first, rest) = rows.split_first().context("no array")?;
-    with_array!(first.as_slice(), first => observe_arrays(alloc, subject, form, kind, first, rest))
+impl<H: CryptographicHasher<u8, [u8; 32]>, const N: usize> ObservesArrays<u8, N> for Hashing<H> {
+    fn observe_arrays(
+        &mut self,
+        alloc: Global,
+        form: Form,
+        kind: ArraysKind,
+        first: [u8; N],
+        rest: &[Vec<u8>],
+    ) -> Result<()> {
+        observe_arrays(alloc, self, form, kind, first, rest)
+    }
 }
 
 // Observes an array, or several of one length as a cap.
@@ -109,6 +108,15 @@ fn observe_arrays<H: CryptographicHasher<u8, [u8; 32]>, const N: usize>(
     }
 }
 
+// The digest of a clone.
+fn digest<H: CryptographicHasher<u8, [u8; 32]>>(
+    alloc: Global,
+    challenger: &HashChallenger<u8, H, 32>,
+) -> Result<String> {
+    let digest = finalized(challenger.clone()?);
+    Ok(hex::encode(alloc, &digest[..])?)
+}
+
 // What a clone draws.
 fn clone_draw<H: CryptographicHasher<u8, [u8; 32]>>(
     alloc: Global,
@@ -128,9 +136,10 @@ fn answer_bytes<F: Extended, C: CanObserve<u8> + CanSample<u8>>(
     call: ChallengerCall<u8>,
 ) -> Result<String> {
     match call {
-        ChallengerCall::Observe(_, observation) => {
-            with_challenger!(subject, challenger => observe_on::<F, _>(alloc, challenger, observation))?;
-            answer::nothing(alloc)
+        ChallengerCall::Observe(Form::Alone, observation) => {
+            let made =
+                with_challenger!(subject, challenger => observe_on::<F, _>(alloc, challenger, observation));
+            answer_made(alloc, made)
         }
         ChallengerCall::Draw(draw) => {
             let numbers =

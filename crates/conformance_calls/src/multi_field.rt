@@ -1,18 +1,18 @@
 // Multi-field challengers.
-use crate::challenger_call::{ArraysKind, ChallengerCall, Form, Observation};
-use crate::digests::{cap, observe_digests};
+use crate::challenger_call::{ArraysKind, ChallengerCall, Form, Observation, Parts};
+use crate::digests::{ObservesArrays, cap, observe_digests, observe_rows};
 use crate::elements::answer_elements;
-use crate::replay::{Replayed, first_difference};
+use crate::replay::{Replayed, answer_made, first_difference};
 use crate::subject::{Subject, Way, finalized, observe};
-use anyhow::{Context, Result, bail};
+use anyhow::{Result, bail};
 use conformance_tokens::answer;
 use conformance_tokens::line::Step;
-use conformance_tokens::symbol::{Extended, Symbol, numbers_of, rows_of_symbols};
-use conformance_tokens::tokens::{look_up, parse_rows, split_name};
-use p3_challenger::MultiField32Challenger;
+use conformance_tokens::symbol::{Extended, Symbol, numbers_of};
+use conformance_tokens::tokens::split_name;
 use p3_field::{
     BabyBear, F257, FieldBridge, Goldilocks, PrimeCharacteristicRing, PrimeField32, PrimeField64,
 };
+use p3_multi_field::MultiField32Challenger;
 use p3_symmetric::{CryptographicPermutation, Turn};
 use std::alloc::Global;
 
@@ -33,13 +33,6 @@ struct TwoFields<
     subject: MultiField<F, PF, P, W, R>,
     row: [PF; R],
 }
-
-// The calls that observe a digest or a cap of words of the greater field.
-const OF_WORDS: [(&str, ArraysKind); 3] = [
-    ("oh", ArraysKind::Digest),
-    ("oc", ArraysKind::Cap),
-    ("ocr", ArraysKind::CapByReference),
-];
 
 /// The first call with another answer, on a new multi-field challenger. The spec is the field of its scalars and that
 /// of its cells, the places that `Turn` turns by, the width and the rate.
@@ -108,8 +101,7 @@ impl<
     const R: usize,
 > Replayed for TwoFields<F, PF, P, W, R> {
     fn answer(&mut self, alloc: Global, call: &str) -> Result<String> {
-        let (name, words) = split_name(call);
-        match name {
+        match call {
             "p" => Ok(
                 self.subject
                     .challenger
@@ -118,15 +110,7 @@ impl<
             ),
             "n" => counts(alloc, &self.subject.challenger),
             "f" => digest(alloc, &self.subject.challenger, self.row),
-            "oh" | "oc" | "ocr" => {
-                observe_words(alloc, &mut self.subject, look_up(&OF_WORDS, name)?, words)?;
-                answer::nothing(alloc)
-            }
-            _ => answer_any(
-                alloc,
-                &mut self.subject,
-                ChallengerCall::<F>::parse(alloc, call)?,
-            ),
+            _ => answer_any(alloc, self, ChallengerCall::<F>::parse(alloc, call)?),
         }
     }
 }
@@ -155,32 +139,110 @@ fn answer_any<
     const R: usize,
 >(
     alloc: Global,
-    subject: &mut MultiField<F, PF, P, W, R>,
+    fields: &mut TwoFields<F, PF, P, W, R>,
     call: ChallengerCall<F>,
 ) -> Result<String> {
     match call {
-        ChallengerCall::Observe(_, Observation::Arrays(_, rows)) => {
-            let row = rows.as_slice().first().context("no array")?;
-            with_array!(row.as_slice(), array => observe_array(alloc, subject, array))?;
-            answer::nothing(alloc)
+        ChallengerCall::Observe(form, Observation::Arrays(kind, Parts::OfChallenger, rows)) => {
+            let made = observe_parts(alloc, fields, form, kind, rows.as_slice());
+            answer_made(alloc, made)
         }
-        ChallengerCall::Observe(_, Observation::Lists(lists)) => {
-            observe(alloc, subject, Form::Alone, lists)?;
-            answer::nothing(alloc)
+        ChallengerCall::Observe(form, Observation::Lists(lists)) => {
+            answer_made(alloc, observe(alloc, &mut fields.subject, form, lists))
         }
-        _ => answer_elements(alloc, subject, call),
+        _ => answer_elements(alloc, &mut fields.subject, call),
     }
 }
 
-fn observe_array<
+// Observes an array of scalars, or digests of cells.
+fn observe_parts<
+    F: Symbol + PrimeField32,
+    PF: PrimeField64 + FieldBridge<F, PF> + Symbol,
+    P: CryptographicPermutation<[PF; W]>,
+    const W: usize,
+    const R: usize,
+>(
+    alloc: Global,
+    fields: &mut TwoFields<F, PF, P, W, R>,
+    form: Form,
+    kind: ArraysKind,
+    rows: &[Vec<u64>],
+) -> Result<()> {
+    match kind {
+        ArraysKind::Array => observe_rows::<F, _>(alloc, fields, form, kind, rows),
+        _ => observe_rows::<PF, _>(alloc, &mut fields.subject, form, kind, rows),
+    }
+}
+
+// An array of scalars. (One of cells is a digest.)
+impl<
     F: PrimeField32,
     PF: PrimeField64 + FieldBridge<F, PF>,
     P: CryptographicPermutation<[PF; W]>,
     const W: usize,
     const R: usize,
     const N: usize,
->(alloc: Global, subject: &mut MultiField<F, PF, P, W, R>, array: [F; N]) -> Result<()> {
-    observe(alloc, subject, Form::Alone, array)
+> ObservesArrays<F, N> for TwoFields<F, PF, P, W, R> {
+    fn observe_arrays(
+        &mut self,
+        alloc: Global,
+        form: Form,
+        _kind: ArraysKind,
+        first: [F; N],
+        rest: &[Vec<F>],
+    ) -> Result<()> {
+        if !rest.is_empty() {
+            bail!("several arrays");
+        }
+        observe(alloc, &mut self.subject, form, first)
+    }
+}
+
+// Digests of cells.
+impl<
+    F: PrimeField32,
+    PF: PrimeField64 + FieldBridge<F, PF>,
+    P: CryptographicPermutation<[PF; W]>,
+    const W: usize,
+    const R: usize,
+    const N: usize,
+> ObservesArrays<PF, N> for MultiField<F, PF, P, W, R> {
+    fn observe_arrays(
+        &mut self,
+        alloc: Global,
+        form: Form,
+        kind: ArraysKind,
+        first: [PF; N],
+        rest: &[Vec<PF>],
+    ) -> Result<()> {
+        observe_cells(alloc, self, form, kind, first, rest)
+    }
+}
+
+// Observes a digest, or several of one length as a cap.
+#[tactic(auto, using(crate::proofs::Layouts::digest_fits))]
+fn observe_cells<
+    F: PrimeField32,
+    PF: PrimeField64 + FieldBridge<F, PF>,
+    P: CryptographicPermutation<[PF; W]>,
+    const W: usize,
+    const R: usize,
+    const N: usize,
+>(
+    alloc: Global,
+    subject: &mut MultiField<F, PF, P, W, R>,
+    form: Form,
+    kind: ArraysKind,
+    first: [PF; N],
+    rest: &[Vec<PF>],
+) -> Result<()> {
+    match kind {
+        ArraysKind::CapByReference => {
+            let lent = cap::<F, PF, N>(alloc, first, rest)?;
+            observe(alloc, subject, form, &lent)
+        }
+        _ => observe_digests::<F, PF, _, N>(alloc, subject, form, kind, first, rest),
+    }
 }
 
 // The digest of a clone, in the place of the row.
@@ -197,46 +259,4 @@ fn digest<
 ) -> Result<String> {
     row = finalized(challenger.clone());
     answer::numbers(alloc, numbers_of(alloc, &row[..])?.as_slice())
-}
-
-fn observe_words<
-    F: PrimeField32,
-    PF: PrimeField64 + FieldBridge<F, PF> + Symbol,
-    P: CryptographicPermutation<[PF; W]>,
-    const W: usize,
-    const R: usize,
->(
-    alloc: Global,
-    subject: &mut MultiField<F, PF, P, W, R>,
-    kind: ArraysKind,
-    words: &str,
-) -> Result<()> {
-    let rows = rows_of_symbols::<PF>(alloc, parse_rows(alloc, words)?.as_slice())?;
-    let (first, rest) = rows.as_slice().split_first().context("no array")?;
-    with_array!(first.as_slice(), first => observe_arrays(alloc, subject, kind, first, rest))
-}
-
-// Observes a digest, or several of one length as a cap.
-#[tactic(auto, using(crate::proofs::Layouts::digest_fits))]
-fn observe_arrays<
-    F: PrimeField32,
-    PF: PrimeField64 + FieldBridge<F, PF>,
-    P: CryptographicPermutation<[PF; W]>,
-    const W: usize,
-    const R: usize,
-    const N: usize,
->(
-    alloc: Global,
-    subject: &mut MultiField<F, PF, P, W, R>,
-    kind: ArraysKind,
-    first: [PF; N],
-    rest: &[Vec<PF>],
-) -> Result<()> {
-    match kind {
-        ArraysKind::CapByReference => {
-            let lent = cap::<F, PF, N>(alloc, first, rest)?;
-            observe(alloc, subject, Form::Alone, &lent)
-        }
-        _ => observe_digests::<F, PF, _, N>(alloc, subject, Form::Alone, kind, first, rest),
-    }
 }

@@ -1,5 +1,6 @@
 // The calls of a line, made in order.
 use anyhow::{Context, Result};
+use conformance_tokens::answer;
 use conformance_tokens::line::Step;
 use std::alloc::Global;
 
@@ -23,4 +24,10 @@ pub fn first_difference<S: Replayed + Drop>(
         }
     }
     Ok(None)
+}
+
+/// The answer of a call without one, once it was made.
+pub fn answer_made(alloc: Global, made: Result<()>) -> Result<String> {
+    made?;
+    answer::nothing(alloc)
 }

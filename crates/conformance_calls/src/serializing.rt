@@ -1,37 +1,25 @@
 // Challengers of the elements of a field over a hash challenger.
-use crate::challenger_call::{ArraysKind, ChallengerCall, Form};
-use crate::digests::{cap, observe_digests};
+use crate::challenger_call::{ArraysKind, ChallengerCall, Form, Observation, Parts};
+use crate::digests::{ObservesArrays, cap, observe_digests, observe_lists, observe_rows};
 use crate::elements::answer_elements;
-use crate::replay::{Replayed, first_difference};
+use crate::replay::{Replayed, answer_made, first_difference};
 use crate::subject::{DRAW_LIMIT, Subject, Way, finalized, observe};
 use crate::work::{WorkCall, uniform_bits};
-use anyhow::{Context, Result, bail};
+use anyhow::{Result, bail};
 use conformance_tokens::answer;
 use conformance_tokens::line::Step;
-use conformance_tokens::symbol::{Extended, rows_of_symbols};
-use conformance_tokens::tokens::{look_up, parse_rows, split_name};
-use p3_challenger::{
-    ByteGrindingChallenger, CanFinalizeDigest, HashChallenger, SerializedIn, SerializingChallenger,
-};
+use conformance_tokens::symbol::Extended;
+use conformance_tokens::tokens::split_name;
+use p3_challenger_core::CanFinalizeDigest;
 use p3_field::{BabyBear, F257, Goldilocks};
+use p3_grinding::ByteGrindingChallenger;
+use p3_hash_challenger::HashChallenger;
+use p3_serializing::{SerializedIn, SerializingChallenger};
 use p3_symmetric::{CryptographicHasher, Sha256Hasher};
 use p3_test_support::{LengthHasher, SumHasher};
 use std::alloc::Global;
 
 type Serializing<F, Inner, const BYTES: usize> = Subject<SerializingChallenger<F, Inner, BYTES>>;
-
-// The calls that observe a digest or a cap of bytes, and those that observe one of words of 64 bits.
-const OF_BYTES: [(&str, ArraysKind); 3] = [
-    ("oh8", ArraysKind::Digest),
-    ("oc8", ArraysKind::Cap),
-    ("oc8r", ArraysKind::CapByReference),
-];
-
-const OF_WORDS: [(&str, ArraysKind); 3] = [
-    ("oh64", ArraysKind::Digest),
-    ("oc64", ArraysKind::Cap),
-    ("oc64r", ArraysKind::CapByReference),
-];
 
 /// The first call with another answer, on a new challenger that takes 4 bytes for an element (`ser32`) or 8 (`ser64`).
 /// The spec is its field, the hash function, and in hexadecimal the initial state where there is one.
@@ -98,17 +86,13 @@ impl<
     const BYTES: usize,
 > Replayed for Serializing<F, Inner, BYTES> {
     fn answer(&mut self, alloc: Global, call: &str) -> Result<String> {
-        let (name, words) = split_name(call);
-        match name {
-            "oh8" | "oc8" | "oc8r" => {
-                observe_bytes(alloc, self, look_up(&OF_BYTES, name)?, words)?;
-                answer::nothing(alloc)
+        let call = ChallengerCall::<F>::parse(alloc, call)?;
+        match call {
+            ChallengerCall::Observe(form, Observation::Arrays(kind, parts, rows)) => {
+                let made = observe_parts(alloc, self, form, kind, parts, rows.as_slice());
+                answer_made(alloc, made)
             }
-            "oh64" | "oc64" | "oc64r" => {
-                observe_words(alloc, self, look_up(&OF_WORDS, name)?, words)?;
-                answer::nothing(alloc)
-            }
-            _ => answer_any(alloc, self, ChallengerCall::<F>::parse(alloc, call)?),
+            _ => answer_any(alloc, self, call),
         }
     }
 }
@@ -134,19 +118,42 @@ fn answer_any<
     }
 }
 
-fn observe_bytes<
+// Observes digests of bytes or of words.
+fn observe_parts<
     F: SerializedIn<BYTES>,
     Inner: ByteGrindingChallenger<BYTES, BYTES>,
     const BYTES: usize,
 >(
     alloc: Global,
     subject: &mut Serializing<F, Inner, BYTES>,
+    form: Form,
     kind: ArraysKind,
-    words: &str,
+    parts: Parts,
+    rows: &[Vec<u64>],
 ) -> Result<()> {
-    let rows = rows_of_symbols::<u8>(alloc, parse_rows(alloc, words)?.as_slice())?;
-    let (first, rest) = rows.as_slice().split_first().context("no array")?;
-    with_array!(first.as_slice(), first => observe_byte_arrays(alloc, subject, kind, first, rest))
+    match parts {
+        Parts::Bytes => observe_rows::<u8, _>(alloc, subject, form, kind, rows),
+        Parts::Words => observe_lists::<u64, _>(alloc, subject, form, kind, rows),
+        Parts::OfChallenger => bail!("no parts of a digest"),
+    }
+}
+
+impl<
+    F: SerializedIn<BYTES>,
+    Inner: ByteGrindingChallenger<BYTES, BYTES>,
+    const BYTES: usize,
+    const N: usize,
+> ObservesArrays<u8, N> for Serializing<F, Inner, BYTES> {
+    fn observe_arrays(
+        &mut self,
+        alloc: Global,
+        form: Form,
+        kind: ArraysKind,
+        first: [u8; N],
+        rest: &[Vec<u8>],
+    ) -> Result<()> {
+        observe_byte_arrays(alloc, self, form, kind, first, rest)
+    }
 }
 
 fn observe_byte_arrays<
@@ -157,6 +164,7 @@ fn observe_byte_arrays<
 >(
     alloc: Global,
     subject: &mut Serializing<F, Inner, BYTES>,
+    form: Form,
     kind: ArraysKind,
     first: [u8; N],
     rest: &[Vec<u8>],
@@ -164,25 +172,28 @@ fn observe_byte_arrays<
     match kind {
         ArraysKind::CapByReference => {
             let lent = cap::<F, u8, N>(alloc, first, rest)?;
-            observe(alloc, subject, Form::Alone, &lent)
+            observe(alloc, subject, form, &lent)
         }
-        _ => observe_digests::<F, u8, _, N>(alloc, subject, Form::Alone, kind, first, rest),
+        _ => observe_digests::<F, u8, _, N>(alloc, subject, form, kind, first, rest),
     }
 }
 
-fn observe_words<
+impl<
     F: SerializedIn<BYTES>,
     Inner: ByteGrindingChallenger<BYTES, BYTES>,
     const BYTES: usize,
->(
-    alloc: Global,
-    subject: &mut Serializing<F, Inner, BYTES>,
-    kind: ArraysKind,
-    words: &str,
-) -> Result<()> {
-    let rows = parse_rows(alloc, words)?;
-    let (first, rest) = rows.as_slice().split_first().context("no array")?;
-    with_array!(first.as_slice(), first => observe_word_arrays(alloc, subject, kind, first, rest))
+    const N: usize,
+> ObservesArrays<u64, N> for Serializing<F, Inner, BYTES> {
+    fn observe_arrays(
+        &mut self,
+        alloc: Global,
+        form: Form,
+        kind: ArraysKind,
+        first: [u64; N],
+        rest: &[Vec<u64>],
+    ) -> Result<()> {
+        observe_word_arrays(alloc, self, form, kind, first, rest)
+    }
 }
 
 fn observe_word_arrays<
@@ -193,6 +204,7 @@ fn observe_word_arrays<
 >(
     alloc: Global,
     subject: &mut Serializing<F, Inner, BYTES>,
+    form: Form,
     kind: ArraysKind,
     first: [u64; N],
     rest: &[Vec<u64>],
@@ -200,8 +212,8 @@ fn observe_word_arrays<
     match kind {
         ArraysKind::CapByReference => {
             let lent = cap::<F, u64, N>(alloc, first, rest)?;
-            observe(alloc, subject, Form::Alone, &lent)
+            observe(alloc, subject, form, &lent)
         }
-        _ => observe_digests::<F, u64, _, N>(alloc, subject, Form::Alone, kind, first, rest),
+        _ => observe_digests::<F, u64, _, N>(alloc, subject, form, kind, first, rest),
     }
 }

@@ -5,10 +5,10 @@ ghost use Rattle.std.specs.Prelude.{◌≡◌, ◌≤◌};
 use crate::challenger_call::{Draw, Form, ValuesKind};
 use anyhow::{Result, bail};
 use conformance_tokens::symbol::{Symbol, coefficients_of, element_of, numbers_of};
-use p3_challenger::fs::{Codec, Unit};
-use p3_challenger::{
+use p3_challenger_core::{
     CanFinalizeDigest, CanObserve, CanSample, CanSampleBits, Sponge, sample_array,
 };
+use p3_codecs::{Codec, Unit};
 use p3_field::{BasedVectorSpace, PrimeField64};
 use std::alloc::Global;
 
@@ -119,10 +119,16 @@ fn draw_values<T: Symbol, C: CanSample<T>>(
             Ok(places)
         }
         ValuesKind::Vector => Ok(challenger.sample_vec(alloc, places.len())?),
-        ValuesKind::Array => {
-            with_array!(places.as_slice(), places => draw_array(alloc, challenger, places))
-        }
+        ValuesKind::Array => draw_as_array(alloc, challenger, places.as_slice()),
     }
+}
+
+fn draw_as_array<T: Copy, C: CanSample<T>>(
+    alloc: Global,
+    challenger: &mut C,
+    places: &[T],
+) -> Result<Vec<T>> {
+    with_array!(places, places => draw_array(alloc, challenger, places))
 }
 
 // Draws a value for each place of the array.

@@ -17,8 +17,12 @@ pub struct Turning {
 impl Replayed for Turning {
     fn answer(&mut self, alloc: Global, call: &str) -> Result<String> {
         let cells = symbols::<F257>(alloc, parse_row(alloc, call)?.as_slice())?;
-        with_array!(cells.as_slice(), cells => turned(alloc, self.places, cells))
+        turned_list(alloc, self.places, cells.as_slice())
     }
+}
+
+fn turned_list(alloc: Global, places: u64, cells: &[F257]) -> Result<String> {
+    with_array!(cells, cells => turned(alloc, places, cells))
 }
 
 fn turned<const N: usize>(alloc: Global, places: u64, cells: [F257; N]) -> Result<String> {

@@ -2,10 +2,10 @@
 use crate::subject::{Subject, Way, most_bits};
 use anyhow::{Result, bail};
 use conformance_tokens::symbol::element;
-use p3_challenger::{
+use p3_field::PrimeField64;
+use p3_grinding::{
     CanSampleUniformBits, GrindingChallenger, UniformBitsError, UniformGrindingChallenger,
 };
-use p3_field::PrimeField64;
 use std::alloc::Global;
 
 /// A draw of uniform bits, or a proof of work.

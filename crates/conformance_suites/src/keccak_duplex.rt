@@ -61,4 +61,11 @@ impl World for KeccakDuplexSuite {
             _ => bail!("a rule that this world has not"),
         }
     }
+
+    fn told(
+        _alloc: Global,
+        _challenger: &DuplexChallenger<BabyBear, Turn<3>, 5, 3>,
+    ) -> Result<Option<String>> {
+        Ok(None)
+    }
 }

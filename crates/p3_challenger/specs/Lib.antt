@@ -105,6 +105,9 @@ pub use Rattle.p3_script.specs.Draws
 pub use Rattle.p3_script.specs.OneRun
 pub use Rattle.p3_script.specs.Scripts
 pub use Rattle.p3_script.specs.Standings
+pub use Rattle.p3_script_answers.specs.Answering
+pub use Rattle.p3_script_answers.specs.declared.answering.Answered
+pub use Rattle.p3_script_answers.specs.declared.errors.ProveByError
 pub use Rattle.p3_script_binding.specs.AnswersBound
 pub use Rattle.p3_script_prover.specs.Nexts
 pub use Rattle.p3_script_prover.specs.ProverAnswers

@@ -17,12 +17,19 @@ abbrev pub chi_row : ℕ → ℕ → ℕ → ℕ → ℕ → List ℕ
 chi_row b0 b1 b2 b3 b4 =
     chi_lane b0 b1 b2 ∷ chi_lane b1 b2 b3 ∷ chi_lane b2 b3 b4 ∷ chi_lane b3 b4 b0 ∷ chi_lane b4 b0 b1 ∷ []
 
--- lane i of five, rotated by offset i of five
-abbrev pub rotated_lane : List ℕ → List ℕ → ℕ → ℕ
-rotated_lane lanes by i = rotate_left w64 (slice_index lanes i) (slice_index by i)
+-- lane i of five with what θ adds to it, rotated by offset i of five
+abbrev pub moved_lane : List ℕ → List ℕ → List ℕ → ℕ → ℕ
+moved_lane lanes effects by i =
+    rotate_left w64 (bit_xor (slice_index lanes i) (slice_index effects i)) (slice_index by i)
 
--- the row that ρ and χ make of the five lanes which π puts into it
-unfoldable pub row_of : List ℕ → List ℕ → List ℕ
-row_of lanes by =
-    chi_row (rotated_lane lanes by 0) (rotated_lane lanes by 1) (rotated_lane lanes by 2) (rotated_lane lanes by 3)
-    (rotated_lane lanes by 4)
+-- the row that θ, ρ and χ make of the five lanes which π puts into it
+unfoldable pub row_of : List ℕ → List ℕ → List ℕ → List ℕ
+row_of lanes effects by =
+    chi_row (moved_lane lanes effects by 0) (moved_lane lanes effects by 1) (moved_lane lanes effects by 2)
+    (moved_lane lanes effects by 3) (moved_lane lanes effects by 4)
+
+-- five words, the second and the fourth complemented
+abbrev pub two_complemented : List ℕ → List ℕ
+two_complemented words =
+    slice_index words 0 ∷ bit_not w64 (slice_index words 1) ∷ slice_index words 2 ∷ bit_not w64 (slice_index words 3)
+    ∷ slice_index words 4 ∷ []

@@ -109,6 +109,22 @@ impl PatternPlayer {
             (IsPatternError (λ m. FaultOfPlayEnd self (pattern_error_of m))) }
         ensures only { IsPlayed self → IsOk result }
     {
+        // The error is made apart, since an error has to have its room cleared.
+        if self.is_played() {
+            self.abort();
+            return Ok(());
+        }
+        self.check_and_end()
+    }
+
+    // Spends the player, as `finalize`. It is a part of its caller.
+    #[inline(always)]
+    fn check_and_end(self) -> Result<(), TranscriptError>
+        ensures ok { OnOk result (IsPlayed self) }
+        ensures err { IfErr result
+            (IsPatternError (λ m. FaultOfPlayEnd self (pattern_error_of m))) }
+        ensures only { IsPlayed self → IsOk result }
+    {
         let checked = self.check_end();
         self.abort();
         match checked {
@@ -117,7 +133,15 @@ impl PatternPlayer {
         }
     }
 
+    // All steps are taken, and none was refused.
+    fn is_played(&self) -> bool
+        ensures { IsTrue result ↔ IsPlayed self.now }
+    {
+        !self.finished && self.position == self.pattern.len()
+    }
+
     // Why the step may not be taken.
+    #[inline(always)]
     fn fault_of(&self, received: Interaction) -> PatternError
         requires { (self.now.finished ≡ false)
             × (next_step self.now ≡ Some (step_of received)) → ⊥ }
@@ -133,7 +157,9 @@ impl PatternPlayer {
         }
     }
 
-    // All steps are taken, and none was refused.
+    // All steps are taken, and none was refused, or why that is not so.
+    #[cold]
+    #[inline(never)]
     fn check_end(&self) -> Result<(), PatternError>
         ensures ok { OnOk result (IsPlayed self.now) }
         ensures err { IfErr result (λ e. FaultOfPlayEnd self.now (pattern_error_of e)) }
@@ -161,12 +187,14 @@ impl Pattern for PatternPlayer {
         } = self;
     }
 
+    // It is a part of its caller, and the error is made of its parts there, so that a step is copied once and no room of
+    // an error is cleared.
+    #[inline(always)]
     fn interact(&mut self, interaction: Interaction) -> Result<(), TranscriptError>
         ensures ok { OnOk result (Plays self.old (step_of interaction) self.new) }
         ensures err { IfErr result (λ e. RefusesToPlay self.old (step_of interaction) e self.new) }
         ensures received { IfErr result (λ e. IsPatternError (CarriesReceived interaction) e) }
     {
-        // The error is made apart, since an error has to have its room cleared.
         Interaction::compared_by_parts();
         if !self.finished && self.next_interaction() == Some(&interaction) {
             self.position += 1;

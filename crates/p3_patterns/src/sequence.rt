@@ -164,6 +164,7 @@ impl InteractionPattern {
 
 // How many of the steps may stand where they do, up to the first one that may not; `containers` are then those that
 // they leave open. It makes no error of a fault, so that a pattern costs none.
+#[inline(never)]
 fn walk(steps: &[Interaction], containers: &mut OpenContainers) -> Result<usize, AllocError>
     requires { AreOpen [] containers.old.openers.items }
     ensures { IfOk result (λ walked. WalksTo steps.now walked containers.new.openers.items) }
@@ -178,9 +179,9 @@ fn walk(steps: &[Interaction], containers: &mut OpenContainers) -> Result<usize,
     Ok(steps.len())
 }
 
-// Why a walk over the steps ended before their end: the first fault, or the refusal of memory.
-#[cold]
-#[inline(never)]
+// Refuses steps over which a walk ended before their end. It is a part of its caller, and the error is made apart, so
+// that its room is cleared where there is one.
+#[inline(always)]
 fn refuse_next(
     interactions: Vec<Interaction>,
     containers: OpenContainers,
@@ -192,14 +193,30 @@ fn refuse_next(
     ensures err { IfErr result
         (λ e. NamesFirstFault (map step_of interactions.items) e ⊎ (e ≡ error.OutOfMemory)) }
 {
-    let walked = walked?;
-    let before = &interactions[..walked];
-    Err(fault_of_next(before, &containers, &interactions[walked]))
+    Err(fault_of_walk(interactions, containers, walked))
 }
 
-// The fault of steps that leave a container open.
+// Why a walk over the steps ended before their end: the first fault, or the refusal of memory.
 #[cold]
 #[inline(never)]
+fn fault_of_walk(
+    interactions: Vec<Interaction>,
+    containers: OpenContainers,
+    walked: Result<usize, AllocError>,
+) -> TranscriptError
+    requires walks { IfOk walked (λ n. WalksTo interactions.items n containers.openers.items) }
+    requires more { IfOk walked (λ n. n < length interactions.items) }
+    ensures { NamesFirstFault (map step_of interactions.items) result ⊎ (result ≡ error.OutOfMemory) }
+{
+    let Ok(walked) = walked else {
+        return TranscriptError::OutOfMemory;
+    };
+    let before = &interactions[..walked];
+    fault_of_next(before, &containers, &interactions[walked])
+}
+
+// Refuses steps that leave a container open, as a part of its caller.
+#[inline(always)]
 fn refuse_end(
     interactions: Vec<Interaction>,
     containers: OpenContainers,
@@ -209,12 +226,23 @@ fn refuse_end(
     ensures ok { OnOk result ⊥ }
     ensures err { IfErr result (λ e. NamesMissingEnd (map step_of interactions.items) e) }
 {
+    Err(fault_of_end(interactions, containers))
+}
+
+// The fault of steps that leave a container open.
+#[cold]
+#[inline(never)]
+fn fault_of_end(interactions: Vec<Interaction>, containers: OpenContainers) -> TranscriptError
+    requires open { AreOpen (map step_of interactions.items) containers.openers.items }
+    requires some { containers.openers.items ≡ [] → ⊥ }
+    ensures { NamesMissingEnd (map step_of interactions.items) result }
+{
     match containers.innermost(&interactions) {
         None => unreachable!(),
-        Some((position, begin)) => Err(TranscriptError::MissingEnd(MissingEndInfo {
+        Some((position, begin)) => TranscriptError::MissingEnd(MissingEndInfo {
             position,
             begin: *begin,
-        })),
+        }),
     }
 }
 

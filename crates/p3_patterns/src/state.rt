@@ -96,6 +96,8 @@ impl<U> Pattern for PatternState<U> {
         } = self;
     }
 
+    // It is a part of its caller, so that a step is copied twice, and no room of an error is copied.
+    #[inline(always)]
     fn interact(&mut self, interaction: Interaction) -> Result<(), TranscriptError> {
         if self.finished {
             return refuse_all();
@@ -154,9 +156,9 @@ fn take(
     Ok(true)
 }
 
-// Why the step was not taken.
-#[cold]
-#[inline(never)]
+// Refuses the step. It is a part of its caller, and the error is made apart, so that its room is cleared where there is
+// one.
+#[inline(always)]
 fn refuse(
     steps: &[Interaction],
     containers: &OpenContainers,
@@ -170,13 +172,32 @@ fn refuse(
     ensures ok { OnOk result ⊥ }
     ensures err { IfErr result (λ e. FaultOfNext (map step_of steps.now) (step_of next.now) e) }
 {
-    taken?;
-    Err(fault_of_next(steps, containers, next))
+    Err(fault_of_step(steps, containers, next, taken))
+}
+
+// Why the step was not taken.
+#[cold]
+#[inline(never)]
+fn fault_of_step(
+    steps: &[Interaction],
+    containers: &OpenContainers,
+    next: &Interaction,
+    taken: Result<bool, AllocError>,
+) -> TranscriptError
+    requires open { AreOpen (map step_of steps.now) containers.now.openers.items }
+    requires not_taken { taken ≡ Ok true → ⊥ }
+    requires stuck { taken ≡ Ok false → MayFollow (step_of next.now) (map step_of steps.now) → ⊥ }
+    requires memory { OnErr taken (MayFollow (step_of next.now) (map step_of steps.now)) }
+    ensures { FaultOfNext (map step_of steps.now) (step_of next.now) result }
+{
+    match taken {
+        Ok(_) => fault_of_next(steps, containers, next),
+        Err(_) => TranscriptError::OutOfMemory,
+    }
 }
 
 // Nothing is taken after a refusal.
-#[cold]
-#[inline(never)]
+#[inline(always)]
 fn refuse_all() -> Result<(), TranscriptError>
     ensures ok { OnOk result ⊥ }
     ensures err { IfErr result (λ e. e ≡ error.Pattern Finished) }

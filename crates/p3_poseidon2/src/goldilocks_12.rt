@@ -199,7 +199,7 @@ impl CryptographicPermutation<[Goldilocks; 12]> for Poseidon2<Goldilocks, 12, 7,
 
 impl LanePermutation<Goldilocks, 12> for Poseidon2<Goldilocks, 12, 7, 22> {
     fn permute_lanes(&self, state: &mut [GoldilocksLanes; 12]) {
-        self.permute_cells::<GoldilocksLanes>(state);
+        self.permute_pairs(state);
     }
 }
 

@@ -163,7 +163,7 @@ impl CryptographicPermutation<[Goldilocks; 8]> for Poseidon2<Goldilocks, 8, 7, 2
 
 impl LanePermutation<Goldilocks, 8> for Poseidon2<Goldilocks, 8, 7, 22> {
     fn permute_lanes(&self, state: &mut [GoldilocksLanes; 8]) {
-        self.permute_cells::<GoldilocksLanes>(state);
+        self.permute_pairs(state);
     }
 }
 

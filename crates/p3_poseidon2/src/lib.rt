@@ -12,9 +12,11 @@ mod baby_bear_24;
 mod cells;
 mod goldilocks_12;
 mod goldilocks_8;
+mod goldilocks_pairs;
 mod koala_bear_16;
 mod koala_bear_24;
 mod layers;
+mod pair;
 mod poseidon2;
 mod rounds;
 

@@ -1,6 +1,6 @@
 -- Steps of a script from some place on, and what is so of all of them.
-use Rattle.std.proofs.Common.{◌≡◌, ◌<◌, ◌≤◌, ◌+◌, ℕ, suc, zero, Bool, true, false, IsTrue, List, [], ◌∷◌, length, map, drop, get_or, drop-cons, add-one, cond, refl, sym, ap, ◌∙◌, subst, arith}
-use Rattle.std.{proofs.lemmas.List.drop_all, specs.List.AllByRecursion}
+use Rattle.std.proofs.Common.{◌≡◌, ◌<◌, ◌≤◌, ◌+◌, ℕ, suc, zero, Bool, true, false, IsTrue, List, [], ◌∷◌, ◌++◌, length, map, drop, get_or, take, take_all, drop-cons, add-one, cond, refl, sym, ap, ◌∙◌, subst, arith}
+use Rattle.std.{proofs.lemmas.List.{drop_all, map_push, map_more}, specs.List.AllByRecursion}
 use Rattle.p3_runs.specs.{Plays.{Place, Sent, Carried}, Provings.{AreAmong, FirstIs}, Runs.{carried_among, if_carried}}
 use Rattle.p3_script_checks.specs.Places.{is_handed_at, is_carried_at}
 
@@ -45,6 +45,19 @@ module _ {X Y Z : Type 0} (f : X → Z) (k : Y → Z) (xs : List X) (ys : List Y
 pub same-past : {X Y Z : Type 0} (f : X → Z) (k : Y → Z) (xs : List X) (ys : List Y) (i : ℕ) → length xs ≤ i →
     length ys ≤ i → map f (drop i xs) ≡ map k (drop i ys)
 same-past f k xs ys i h m = ap (map f) (drop_all i xs h) ∙ sym (ap (map k) (drop_all i ys m))
+
+-- ---- a list that is made of another, value by value
+
+pub made-on : {X Y Z : Type 0} (f : X → Z) (k : Y → Z) (xs : List X) (made : List Y) (i : ℕ) (x : X) (y : Y) →
+    i < length xs → x ≡ get_or xs i x → k y ≡ f x → map k made ≡ map f (take i xs) →
+    map k (made ++ (y ∷ [])) ≡ map f (take (i + 1) xs)
+made-on f k xs made i x y h e same so_far =
+    map_push k made y ∙ ap (λ l. l ++ (k y ∷ [])) so_far
+    ∙ ap (λ z. map f (take i xs) ++ (z ∷ [])) (same ∙ ap f e) ∙ sym (map_more f xs i x h)
+
+pub made-all : {X Y Z : Type 0} (f : X → Z) (k : Y → Z) (xs : List X) (made : List Y) (i : ℕ) → length xs ≤ i →
+    map k made ≡ map f (take i xs) → map k made ≡ map f xs
+made-all f k xs made i past so_far = so_far ∙ ap (map f) (take_all i xs past)
 
 -- ---- carried
 

@@ -1,19 +1,21 @@
-//! Whether the steps of a script are those of a pattern.
-ghost use Rattle.std.specs.Prelude.{◌≡◌, ◌↔◌, IsTrue, length, map};
+//! The pattern of a script, and whether the steps of a script are those of a pattern.
+ghost use Rattle.std.specs.Prelude.{◌≡◌, ◌↔◌, ◌⊎◌, IsTrue, IfOk, IfErr, length, map};
 ghost use Rattle.p3_driver_core.specs.Transcripts.{bytes_step, bits_step, uniform_bits_step};
 ghost use Rattle.p3_fs_core.specs.{Steps.{NamedAlgebra, algebra_step, marker_of}, Interactions.step_of};
-ghost use Rattle.p3_patterns.specs.PatternSteps.{steps_of};
+ghost use Rattle.p3_patterns.specs.{PatternGrammar.{IsPattern, NamesFirstFault}, PatternSteps.{steps_of}};
 ghost use Rattle.p3_runs.specs.Runs.{AreAdmitted, interactions};
 ghost use Rattle.p3_script.specs.{Scripts.play_of, StepFamilies.{SendsNothing, Draws}};
 ghost use Rattle.p3_script_checks.specs.Places.{Carries, CarryRules};
+ghost use Rattle.p3_fs_core.specs.declared.error.TranscriptError.TheVariants as error;
 
 use crate::admission::admitted;
 use p3_challenger_core::Sponge;
 use p3_field_core::Named;
-use p3_fs_core::{Hierarchy, Interaction, Kind, Label, Length};
+use p3_fs_core::{Hierarchy, Interaction, Kind, Label, Length, TranscriptError};
 use p3_patterns::InteractionPattern;
 use p3_script::{Meaning, Step, Suite};
 use p3_symmetric::DigestHasher;
+use std::alloc::Global;
 
 // A step that carries scalars, and one that carries elements of the extension. Others are made from them, so that each
 // algebra's identity is hashed once.
@@ -39,6 +41,30 @@ pub fn fits<S: Suite>(steps: &[Step<S>], pattern: &InteractionPattern) -> bool
         return false;
     }
     are_steps(&carriers_of::<S>(), steps, pattern.interactions())
+}
+
+/// The pattern of the script: what its steps play, in order. The script [`fits`] it exactly where the suite may play the
+/// steps, as [`admitted`] says.
+///
+/// Steps that are no pattern are refused with their first fault, as [`InteractionPattern::new`] refuses them; steps that are
+/// one are refused only with [`TranscriptError::OutOfMemory`]. Not in the Rust crate.
+pub fn pattern<S: Suite>(
+    alloc: Global,
+    steps: &[Step<S>],
+) -> Result<InteractionPattern, TranscriptError>
+    ensures ok { let rules = ⟦<S as Meaning>⟧.rules S.Field.DIMENSION in
+        IfOk result (λ pattern. steps_of pattern ≡ interactions (play_of rules) steps.now) }
+    ensures err { let rules = ⟦<S as Meaning>⟧.rules S.Field.DIMENSION in
+        IfErr result (λ e. NamesFirstFault (interactions (play_of rules) steps.now) e ⊎ (e ≡ error.OutOfMemory)) }
+    ensures only { let rules = ⟦<S as Meaning>⟧.rules S.Field.DIMENSION in
+        IsPattern Kind.Protocol (interactions (play_of rules) steps.now) → IfErr result (λ e. e ≡ error.OutOfMemory) }
+{
+    let carriers = carriers_of::<S>();
+    let mut interactions = Vec::with_capacity(alloc, steps.len())?;
+    for step in steps {
+        interactions.push_reserved(interaction_of(&carriers, step));
+    }
+    InteractionPattern::new(interactions)
 }
 
 fn carriers_of<S: Suite>() -> Carriers

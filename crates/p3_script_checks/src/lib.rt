@@ -1,5 +1,5 @@
-//! What a caller can test of a script before it is played: that a suite plays its steps, that they are those of a pattern,
-//! that values are right to send, and how many witnesses are carried.
+//! What a caller can ask of a script before it is played: its pattern, whether a suite plays its steps and they are those of
+//! a pattern, whether values are right to send, and how many witnesses are carried.
 #![tactic(auto)]
 
 mod admission;
@@ -7,5 +7,5 @@ mod fitting;
 mod matching;
 
 pub use admission::admitted;
-pub use fitting::fits;
+pub use fitting::{fits, pattern};
 pub use matching::{carried_len, sent_matches};

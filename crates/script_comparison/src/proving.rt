@@ -5,7 +5,7 @@ use p3_challenger::fs::script::{Drawn, Fault, Played, Proved, Step, Suite, prove
 use p3_challenger::fs::{PatternError, ProverState, TranscriptError};
 use script_lines::alone::{given, is_admitted, only};
 use script_lines::script::Steps;
-use script_lines::world::{SeparatorOf, World};
+use script_lines::world::{SeparatorOf, World, state};
 use std::alloc::Global;
 
 type ProverOf<S> = ProverState<<S as Suite>::Challenger, <S as Suite>::Unit, <S as Suite>::Digest>;
@@ -111,7 +111,7 @@ fn left<S: World>(
     try_again(alloc, prover, script, place)?;
     try_again(alloc, prover, pattern, place)?;
     let wrote = wrote(alloc, prover.narg())?;
-    let state = S::state(alloc, prover.challenger_mut(), script.next)?;
+    let state = state::<S>(alloc, prover.challenger_mut(), script.next)?;
     Ok(format!(in alloc; "{wrote} ; {state}")?)
 }
 

@@ -8,7 +8,7 @@ use p3_challenger::fs::script::{
 use p3_challenger::fs::{PatternError, TranscriptError, VerifierState};
 use script_lines::alone::{is_admitted, is_carried, only};
 use script_lines::script::Steps;
-use script_lines::world::{SeparatorOf, World};
+use script_lines::world::{SeparatorOf, World, state};
 use std::alloc::Global;
 
 type VerifierOf<'a, S> = VerifierState<
@@ -124,7 +124,7 @@ fn left<S: World>(
     try_again(alloc, verifier, script.steps.as_slice(), place)?;
     try_again(alloc, verifier, pattern.steps.as_slice(), place)?;
     let unread = verifier.remaining_narg();
-    let state = S::state(alloc, verifier.challenger_mut(), script.next)?;
+    let state = state::<S>(alloc, verifier.challenger_mut(), script.next)?;
     Ok(format!(in alloc; " ; unread {unread} ; {state}")?)
 }
 

@@ -4,7 +4,7 @@ use anyhow::Result;
 use p3_challenger::fs::script::{Fault, Proved, Verified};
 use script_lines::playing::{prove_steps, verify_steps};
 use script_lines::script::Steps;
-use script_lines::world::{SeparatorOf, World};
+use script_lines::world::{SeparatorOf, World, state};
 use std::alloc::Global;
 
 /// What a prover leaves: what is told of it, the proof, and the witnesses that the proof does not carry.
@@ -61,7 +61,7 @@ fn push_state<S: World>(
     challenger: &mut S::Challenger,
     next: usize,
 ) -> Result<()> {
-    text.push_str(S::state(alloc, challenger, next)?.as_str())?;
+    text.push_str(state::<S>(alloc, challenger, next)?.as_str())?;
     Ok(())
 }
 

@@ -12,6 +12,8 @@ mod rule;
 pub mod script;
 pub mod steps;
 mod suites;
+pub mod values;
+pub mod words;
 pub mod world;
 
 pub use rule::Rule;

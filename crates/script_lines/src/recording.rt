@@ -1,18 +1,17 @@
 // The pattern of a script.
 use crate::recording::Type::{Bits, Bytes, Extensions, Marker, Opaque, Scalars, UniformBits};
-use crate::world::World;
 use anyhow::Result;
 use p3_challenger::fs::Hierarchy::{Begin, End};
 use p3_challenger::fs::Kind::{Challenge, Hint, Message, Pow, Public, Salt};
 use p3_challenger::fs::Length::{Bounded, Fixed, Scalar};
-use p3_challenger::fs::script::Step;
+use p3_challenger::fs::script::{Step, Suite};
 use p3_challenger::fs::{
     Hierarchy, Interaction, InteractionPattern, Kind, Label, Length, Pattern, PatternState,
 };
 use std::alloc::Global;
 
 /// Records the steps.
-pub fn record<S: World>(alloc: Global, steps: &[Step<S>]) -> Result<InteractionPattern> {
+pub fn record<S: Suite>(alloc: Global, steps: &[Step<S>]) -> Result<InteractionPattern> {
     let mut recorder = PatternState::<S::Unit>::new(alloc);
     for step in steps {
         if let Err(refused) = recorder.interact(interaction(step)) {
@@ -25,7 +24,7 @@ pub fn record<S: World>(alloc: Global, steps: &[Step<S>]) -> Result<InteractionP
 }
 
 /// Whether the steps are those of the pattern, in order.
-pub fn are_steps_of<S: World>(steps: &[Step<S>], pattern: &InteractionPattern) -> bool {
+pub fn are_steps_of<S: Suite>(steps: &[Step<S>], pattern: &InteractionPattern) -> bool {
     let mut expected = pattern.interactions().iter();
     for step in steps {
         match expected.next() {
@@ -49,7 +48,7 @@ enum Type {
 }
 
 // The step as a pattern has it.
-fn interaction<S: World>(step: &Step<S>) -> Interaction {
+fn interaction<S: Suite>(step: &Step<S>) -> Interaction {
     let (kind, label, length, of) = parts(step);
     let atomic = Hierarchy::Atomic;
     match of {
@@ -68,7 +67,7 @@ fn interaction<S: World>(step: &Step<S>) -> Interaction {
 }
 
 // The kind of a step, its label, its length and its type.
-fn parts<S: World>(step: &Step<S>) -> (Kind, Label, Length, Type) {
+fn parts<S: Suite>(step: &Step<S>) -> (Kind, Label, Length, Type) {
     match step {
         Step::Begin { label, kind } => (*kind, *label, Length::None, Marker(Begin)),
         Step::End { label, kind } => (*kind, *label, Length::None, Marker(End)),

@@ -64,6 +64,13 @@ impl World for HashSuite<Sha256Hasher> {
     fn rule(token: &str) -> Result<AcceptAll> {
         accept_all(token)
     }
+
+    fn told(
+        _alloc: Global,
+        _challenger: &HashChallenger<u8, Sha256Hasher, 32>,
+    ) -> Result<Option<String>> {
+        Ok(None)
+    }
 }
 
 impl World for HashSuite<Keccak256Hasher> {
@@ -77,6 +84,13 @@ impl World for HashSuite<Keccak256Hasher> {
 
     fn rule(token: &str) -> Result<AcceptAll> {
         accept_all(token)
+    }
+
+    fn told(
+        _alloc: Global,
+        _challenger: &HashChallenger<u8, Keccak256Hasher, 32>,
+    ) -> Result<Option<String>> {
+        Ok(None)
     }
 }
 
@@ -95,6 +109,13 @@ impl World for Serializing32Suite<Sha256Hasher, Sha256Hasher> {
     fn rule(token: &str) -> Result<AcceptAll> {
         accept_all(token)
     }
+
+    fn told(
+        _alloc: Global,
+        _challenger: &SerializingChallenger32<BabyBear, HashChallenger<u8, Sha256Hasher, 32>>,
+    ) -> Result<Option<String>> {
+        Ok(None)
+    }
 }
 
 impl World for Serializing32Suite<Keccak256Hasher, Keccak256Hasher> {
@@ -111,6 +132,13 @@ impl World for Serializing32Suite<Keccak256Hasher, Keccak256Hasher> {
 
     fn rule(token: &str) -> Result<AcceptAll> {
         accept_all(token)
+    }
+
+    fn told(
+        _alloc: Global,
+        _challenger: &SerializingChallenger32<BabyBear, HashChallenger<u8, Keccak256Hasher, 32>>,
+    ) -> Result<Option<String>> {
+        Ok(None)
     }
 }
 
@@ -129,6 +157,13 @@ impl World for Serializing32Suite<Sha256Hasher, Keccak256Hasher> {
     fn rule(token: &str) -> Result<AcceptAll> {
         accept_all(token)
     }
+
+    fn told(
+        _alloc: Global,
+        _challenger: &SerializingChallenger32<BabyBear, HashChallenger<u8, Sha256Hasher, 32>>,
+    ) -> Result<Option<String>> {
+        Ok(None)
+    }
 }
 
 impl World for Serializing64Suite<Sha256Hasher, Sha256Hasher> {
@@ -145,6 +180,13 @@ impl World for Serializing64Suite<Sha256Hasher, Sha256Hasher> {
 
     fn rule(token: &str) -> Result<AcceptAll> {
         accept_all(token)
+    }
+
+    fn told(
+        _alloc: Global,
+        _challenger: &SerializingChallenger64<Goldilocks, HashChallenger<u8, Sha256Hasher, 32>>,
+    ) -> Result<Option<String>> {
+        Ok(None)
     }
 }
 
@@ -163,6 +205,13 @@ impl World for Serializing64Suite<Keccak256Hasher, Keccak256Hasher> {
     fn rule(token: &str) -> Result<AcceptAll> {
         accept_all(token)
     }
+
+    fn told(
+        _alloc: Global,
+        _challenger: &SerializingChallenger64<Goldilocks, HashChallenger<u8, Keccak256Hasher, 32>>,
+    ) -> Result<Option<String>> {
+        Ok(None)
+    }
 }
 
 impl World for MultiFieldSuite {
@@ -176,6 +225,13 @@ impl World for MultiFieldSuite {
 
     fn rule(token: &str) -> Result<AcceptAll> {
         accept_all(token)
+    }
+
+    fn told(
+        _alloc: Global,
+        _challenger: &MultiField32Challenger<F257, BabyBear, Turn<2>, 3, 2>,
+    ) -> Result<Option<String>> {
+        Ok(None)
     }
 }
 
@@ -191,6 +247,13 @@ impl World for BabyBearPoseidon2Suite {
     fn rule(token: &str) -> Result<AcceptAll> {
         accept_all(token)
     }
+
+    fn told(
+        _alloc: Global,
+        _challenger: &DuplexChallenger<BabyBear, Poseidon2BabyBear16, 16, 8>,
+    ) -> Result<Option<String>> {
+        Ok(None)
+    }
 }
 
 impl World for GoldilocksPoseidon2Suite {
@@ -204,6 +267,13 @@ impl World for GoldilocksPoseidon2Suite {
 
     fn rule(token: &str) -> Result<AcceptAll> {
         accept_all(token)
+    }
+
+    fn told(
+        _alloc: Global,
+        _challenger: &DuplexChallenger<Goldilocks, Poseidon2Goldilocks8, 8, 4>,
+    ) -> Result<Option<String>> {
+        Ok(None)
     }
 }
 
@@ -220,5 +290,12 @@ impl World for MultiFieldPoseidon2Suite {
 
     fn rule(token: &str) -> Result<AcceptAll> {
         accept_all(token)
+    }
+
+    fn told(
+        _alloc: Global,
+        _challenger: &MultiField32Challenger<BabyBear, Goldilocks, Poseidon2Goldilocks8, 8, 4>,
+    ) -> Result<Option<String>> {
+        Ok(None)
     }
 }

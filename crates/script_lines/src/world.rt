@@ -1,31 +1,26 @@
 // The worlds that scripts are played in, by the token that a file has for each.
 use crate::rule::Rule;
 use anyhow::{Result, bail};
-use conformance_tokens::symbol::{element, element_of};
-use conformance_tokens::tokens::parse_row;
+use conformance_tokens::symbol::element;
 use p3_challenger::DuplexChallenger;
 use p3_challenger::fs::script::{Both, StepGroup, Suite};
 use p3_challenger::fs::{
     Codec, DomainSeparator, FieldToFieldCodec, FieldUnit, MIN_CHALLENGE_SECURITY_BITS,
 };
-use p3_field::{BasedVectorSpace, F257, PrimeField64};
+use p3_field::{F257, PrimeField64};
 use p3_symmetric::{Sha256Hasher, Turn};
 use std::alloc::Global;
 use std::marker::PhantomData;
 
-/// A suite, and what a file needs of it beside.
+/// A suite, and what a file needs of it beside. Each impl here writes all of its methods out: one that the trait gives by
+/// default is tied at each impl to all that its suite is, which costs many times what its own proof does.
 pub trait World: Suite {
     /// A challenger that observed nothing yet.
     fn fresh(alloc: Global) -> Result<Self::Challenger>;
 
-    /// `next n..`, so many scalars that the challenger draws next, or what else is to be told of it.
-    fn state(alloc: Global, challenger: &mut Self::Challenger, next: usize) -> Result<String> {
-        let mut text = String::from_str(alloc, "next")?;
-        for _ in 0..next {
-            let number = draw::<Self>(challenger)?;
-            write!(text, " {number}")?;
-        }
-        Ok(text)
+    /// What is told of a challenger in place of what it draws next, if a world tells that.
+    fn told(_alloc: Global, _challenger: &Self::Challenger) -> Result<Option<String>> {
+        Ok(None)
     }
 
     /// The value of these tokens that the challenger itself knows how to observe.
@@ -90,6 +85,10 @@ impl<const K: usize, G: StepGroup<Sponge<K>, F257>> World for Small<K, G> {
     fn rule(token: &str) -> Result<Rule> {
         Rule::parse(token)
     }
+
+    fn told(_alloc: Global, _challenger: &Sponge<K>) -> Result<Option<String>> {
+        Ok(None)
+    }
 }
 
 /// The small world with so many cells that the challenger keeps what it is fed until it draws.
@@ -134,15 +133,6 @@ impl World for Notes {
         Ok(DuplexChallenger::new(Turn, DRAW_LIMIT))
     }
 
-    // What the challenger was fed since the seed.
-    fn state(alloc: Global, challenger: &mut WideSponge, _next: usize) -> Result<String> {
-        let mut text = String::from_str(alloc, "fed")?;
-        for symbol in challenger.input().iter().skip(SEED_LEN) {
-            write!(text, " {}", symbol.as_canonical_u64())?;
-        }
-        Ok(text)
-    }
-
     fn opaque(_alloc: Global, tokens: &str) -> Result<F257> {
         element(tokens.parse()?)
     }
@@ -150,6 +140,36 @@ impl World for Notes {
     fn rule(token: &str) -> Result<Rule> {
         Rule::parse(token)
     }
+
+    // What the challenger was fed since the seed.
+    fn told(alloc: Global, challenger: &WideSponge) -> Result<Option<String>> {
+        let mut text = String::from_str(alloc, "fed")?;
+        for symbol in challenger.input().iter().skip(SEED_LEN) {
+            write!(text, " {}", symbol.as_canonical_u64())?;
+        }
+        Ok(Some(text))
+    }
+}
+
+/// `next n..`, so many scalars that the challenger draws next, or what else its world tells of it.
+pub fn state<S: World>(
+    alloc: Global,
+    challenger: &mut S::Challenger,
+    next: usize,
+) -> Result<String> {
+    match S::told(alloc, challenger)? {
+        Some(text) => Ok(text),
+        None => draws::<S>(alloc, challenger, next),
+    }
+}
+
+fn draws<S: Suite>(alloc: Global, challenger: &mut S::Challenger, next: usize) -> Result<String> {
+    let mut text = String::from_str(alloc, "next")?;
+    for _ in 0..next {
+        let number = draw::<S>(challenger)?;
+        write!(text, " {number}")?;
+    }
+    Ok(text)
 }
 
 // The number of a scalar that is drawn through the codec.
@@ -158,48 +178,4 @@ fn draw<S: Suite>(challenger: &mut S::Challenger) -> Result<u64> {
         bail!("a codec that is not secure");
     }
     Ok(S::Codec::sample(challenger)?.as_canonical_u64())
-}
-
-/// The scalars of these numbers.
-pub fn scalars<S: World>(alloc: Global, tokens: &str) -> Result<Vec<S::Field>> {
-    let mut scalars = Vec::new(alloc);
-    for number in parse_row(alloc, tokens)? {
-        scalars.push(element(number)?)?;
-    }
-    Ok(scalars)
-}
-
-/// The elements of the extension of which these numbers are the coefficients, one element after the other.
-pub fn extensions<S: World>(alloc: Global, tokens: &str) -> Result<Vec<S::Extension>> {
-    let mut extensions = Vec::new(alloc);
-    let mut coefficients = Vec::new(alloc);
-    for scalar in scalars::<S>(alloc, tokens)? {
-        coefficients.push(scalar)?;
-        if coefficients.len() == S::Extension::DIMENSION {
-            extensions.push(element_of(coefficients.as_slice())?)?;
-            coefficients.clear();
-        }
-    }
-    if !coefficients.is_empty() {
-        bail!("no whole element of the extension");
-    }
-    Ok(extensions)
-}
-
-/// The scalar of the one number.
-pub fn scalar<S: World>(alloc: Global, tokens: &str) -> Result<S::Field> {
-    one(scalars::<S>(alloc, tokens)?.as_slice())
-}
-
-/// The element of the extension of which these numbers are the coefficients.
-pub fn extension<S: World>(alloc: Global, tokens: &str) -> Result<S::Extension> {
-    one(extensions::<S>(alloc, tokens)?.as_slice())
-}
-
-// The one value of a list of one.
-fn one<T: Copy>(values: &[T]) -> Result<T> {
-    match values {
-        &[value] => Ok(value),
-        _ => bail!("no one value"),
-    }
 }

@@ -5,8 +5,9 @@
 //! for 8 bits of work. Then a challenge is drawn, the prover sends a note that no challenge depends on, and two places
 //! are drawn, of 4 bits each. No code stands here for any of these steps. The contract of [`verify`] says which bytes
 //! are accepted, and what comes of them; that of [`prove_and_verify`], that both sides tell one run, which the values have.
-ghost use Rattle.std.specs.Prelude.{◌≡◌, ◌⊎◌, List, [], IfOk, IfErr, IfSome, None};
-ghost use Rattle.p3_challenger.specs.{Runs.{AreAdmitted, carried_count}, Scripts.{play_of, values_sent}};
+ghost use Rattle.std.specs.Prelude.{◌≡◌, ◌⊎◌, List, [], IfOk, IfErr, IfSome, None, codes};
+ghost use Rattle.p3_challenger.specs.{Runs.{AreAdmitted, carried_count, interactions}, Scripts.{play_of, values_sent}};
+ghost use Rattle.p3_challenger.specs.{PatternSteps.steps_of, SeparatorSeed.separator_of};
 ghost use Rattle.p3_challenger.specs.{Provings.AreHanded, ProverAnswers.{IsProvedScript, IsRefusedScript}};
 ghost use Rattle.p3_challenger.specs.{Verdicts.script_of, VerifierAnswers.{IsVerifiedScript, IsRefusedProof}};
 ghost use Rattle.p3_challenger.specs.{RoundTrips.IsAcceptedProof, TranscriptError.TheVariants.OutOfMemory};
@@ -16,8 +17,7 @@ use p3_challenger::fs::script::{
     AcceptAll, Both, Drawn, Fault, Meaning, Proved, Sent, Step, Suite, Verified, sent_matches,
 };
 use p3_challenger::fs::{
-    DomainSeparator, FieldToFieldCodec, FieldUnit, Hierarchy, Interaction, InteractionPattern,
-    Kind, Length, TranscriptError, script,
+    DomainSeparator, FieldToFieldCodec, FieldUnit, Kind, TranscriptError, script,
 };
 use p3_challenger::{DuplexChallenger, Sponge};
 use p3_field::{BabyBear, Coeffs};
@@ -120,27 +120,16 @@ pub fn steps(inputs: Vec<BabyBear>) -> [Step<Demo>; 9]
     ]
 }
 
-/// The pattern of these steps, and its separator. In practice the only error is out of memory.
-pub fn separator(alloc: Global) -> Result<Separator, TranscriptError> {
-    let (leaf, kind) = (Hierarchy::Atomic, Kind::Protocol);
-    let inputs = Interaction::algebra::<BabyBear, BabyBear, Sha256Hasher>(
-        leaf,
-        Kind::Public,
-        "inputs",
-        Length::Bounded(4),
-    );
-    let steps = vec![in alloc;
-        Interaction::marker::<()>(Hierarchy::Begin, kind, "demo"),
-        inputs,
-        Interaction::bytes(leaf, Kind::Salt, "salt", Length::Fixed(8)),
-        inputs.of_same_type(leaf, Kind::Message, "values", Length::Bounded(4)),
-        inputs.of_same_type(leaf, Kind::Pow, "work", Length::Fixed(8)),
-        inputs.of_same_type(leaf, Kind::Challenge, "alpha", Length::Scalar),
-        Interaction::bytes(leaf, Kind::Hint, "note", Length::Bounded(16)),
-        Interaction::uniform_bits(leaf, Kind::Challenge, "indices", 4, Length::Fixed(2)),
-        Interaction::marker::<()>(Hierarchy::End, kind, "demo"),
-    ]?;
-    Separator::new(alloc, 2, b"demo", InteractionPattern::new(steps)?)
+/// What binds a transcript to the protocol: version 2, the name `demo`, and the pattern of its steps. In practice the only
+/// error is out of memory.
+pub fn separator(alloc: Global) -> Result<Separator, TranscriptError>
+    ensures named { IfOk result (λ made. ((separator_of made).version ≡ 2)
+        × ((separator_of made).name ≡ codes "demo")) }
+    ensures pattern { IfOk result (λ made. (inputs : _) × (steps : List _) × AreDemoSteps inputs steps
+        × (steps_of (separator_of made).pattern ≡ interactions (play_of (⟦<Demo as Meaning>⟧.rules 1)) steps)) }
+{
+    let pattern = script::pattern::<Demo>(alloc, &steps(Vec::new(alloc)))?;
+    Separator::new(alloc, 2, b"demo", pattern)
 }
 
 /// What both sides answered of one transcript.

@@ -5,17 +5,18 @@
 //! steps, the proof  ->  verify  ->  the values, the challenges
 //! ```
 //!
-//! A [`Suite`] names the types that play together. A protocol in which a value depends on a challenge is played step by
-//! step, by [`prover_step`] and [`verifier_step`]. That bytes are a proof of one run at most is the law
-//! [`proofs_have_one_run`], and what the symbols say of a run that it fed the challenger is the law [`binding`]. Not in
-//! the Rust crate.
+//! A [`Suite`] names the types that play together. Where a value depends on a challenge, [`prove_by`] asks for it when its
+//! step comes; step by step both sides are played by [`prover_step`] and [`verifier_step`]. That bytes are a proof of one
+//! run at most is the law [`proofs_have_one_run`], and what the symbols say of a run that it fed the challenger is the law
+//! [`binding`]. Not in the Rust crate.
 
 pub use p3_binding::binding;
 pub use p3_script::{
     AcceptAll, AcceptRule, BitsPow, Both, Distinct, Drawn, Fault, Meaning, Plain, Received, Sent,
     Step, StepGroup, Suite, proofs_have_one_run,
 };
-pub use p3_script_checks::{admitted, carried_len, fits, sent_matches};
+pub use p3_script_answers::{Answered, ProveByError, prove_by};
+pub use p3_script_checks::{admitted, carried_len, fits, pattern, sent_matches};
 pub use p3_script_prover::{Played, Proved, prove, prover_step};
 pub use p3_script_round_trip::{prove_and_verify, verify_proved};
 pub use p3_script_verifier::{Answer, Verified, verifier_step, verify};

@@ -1,0 +1,51 @@
+/* Fiat-Shamir transcripts, played by the proved library crates/tealmuze_c. Link libtealmuze_c.a, which tools/bindings
+ * makes. What stands in a description, in values and in an answer is in docs/BINDINGS.md; this is a summary.
+ *
+ * A number has 8 bytes, the lowest first. A text is a byte, its length, and that many bytes of UTF-8.
+ *
+ * A description: the suite (a byte), the version (a byte), the name (a text of 1 to 62 bytes); the number of the chunks of
+ * the instance, and each after its length; the number of the steps, and of each what it is (a byte), its label (a text),
+ * how many numbers it has, and these.
+ *
+ * An answer's first byte:
+ *   0  accepted, or proved: what docs/BINDINGS.md says stands after it
+ *   1  refused: the position of the step (a number), and the reason, as text up to the end
+ *   2  nothing was asked that can be answered: why, as text up to the end
+ *   3  memory ran out: nothing stands after it
+ *
+ * A call writes its answer into `answer` and returns how many bytes it has. Where it returns more than `answer_len`, it
+ * wrote nothing, and verified or proved nothing yet: give that many bytes and call again.
+ *
+ * The caller promises: each pointer leads to as many elements as the count after it says, which the call may read, or for
+ * `answer` write; no pointer is NULL, also where the count is 0; and `description` is not changed while the call runs.
+ * (The contract asks that it lasts as long as the program. Nothing is kept of it once a call has returned, which is not
+ * proved.) Calls may run in several threads at once, if malloc may. */
+#ifndef TEALMUZE_H
+#define TEALMUZE_H
+
+#include <stddef.h>
+#include <stdint.h>
+
+#ifdef __cplusplus
+extern "C" {
+#endif
+
+/* The first byte of an answer. */
+enum { TEALMUZE_DONE = 0, TEALMUZE_REFUSED = 1, TEALMUZE_UNASKED = 2, TEALMUZE_OUT_OF_MEMORY = 3 };
+
+/* Verifies a proof, with the witnesses that the caller carries to the steps `observe_pow`. */
+size_t tealmuze_verify(const uint8_t *description, size_t description_len,
+                       const uint8_t *proof, size_t proof_len,
+                       const uint64_t *carried, size_t carried_len,
+                       uint8_t *answer, size_t answer_len);
+
+/* Proves values, which are encoded as tealmuze_verify encodes those that it received. */
+size_t tealmuze_prove(const uint8_t *description, size_t description_len,
+                      const uint8_t *values, size_t values_len,
+                      uint8_t *answer, size_t answer_len);
+
+#ifdef __cplusplus
+}
+#endif
+
+#endif

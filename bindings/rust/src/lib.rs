@@ -1,0 +1,34 @@
+//! Fiat-Shamir transcripts, played by a proved library.
+//!
+//! A protocol is a list of steps: what a prover sends, what both sides know, and what is drawn. [`prove`] plays it with
+//! the values that the prover sends and answers a proof; [`verify`] plays it with a proof, and answers what was received
+//! and drawn, or at which step the proof is refused and why. What the library that plays it is proved to do, and what is
+//! trusted, stands in the repository's `docs/BINDINGS.md`.
+//!
+//! ```
+//! use tealmuze::{Protocol, Step, Suite, Value};
+//!
+//! let protocol = Protocol::builder(Suite::BabyBearBytes, 1, "example")
+//!     .step("values", Step::Scalars(2))
+//!     .step("alpha", Step::ChallengeScalar)
+//!     .build();
+//! let proved = tealmuze::prove(&protocol, &[Value::Scalars(vec![1, 2])])?;
+//! let verified = tealmuze::verify(&protocol, &proved.proof, &proved.carried)?;
+//! assert_eq!(verified.received, [Value::Scalars(vec![1, 2])]);
+//! assert_eq!(verified.challenges, proved.challenges);
+//! # Ok::<(), tealmuze::Error>(())
+//! ```
+#![no_std]
+#![deny(missing_docs)]
+
+extern crate alloc;
+
+mod call;
+mod error;
+mod protocol;
+mod value;
+
+pub use call::{prove, verify, Proved, Verified};
+pub use error::Error;
+pub use protocol::{Builder, Kind, Protocol, Step, Suite};
+pub use value::{Challenge, Value};

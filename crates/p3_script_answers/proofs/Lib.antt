@@ -1,0 +1,2 @@
+pub mod AnsweringLaws
+pub mod Turning

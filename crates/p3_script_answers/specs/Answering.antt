@@ -1,0 +1,78 @@
+-- A prover that asks for each value when its step comes.
+use Rattle.std.specs.{Borrow.Bor, Prelude.{◌≡◌, ℕ, ◌≤◌, List, [], ◌∷◌, ◌++◌, length, Result, Ok, Err}}
+use Rattle.p3_runs.specs.{Fronts.{IsFinished, AreLeast, challenges, Run}, Plays.Play, Rules.Rules}
+use Rattle.p3_runs.specs.{Values.{Challenge, Value}, Verdicts.with_steps}
+use Rattle.p3_script.specs.Scripts.{play_of, value_sent, values_sent, challenges_of}
+use Rattle.p3_script.specs.declared.{fault.Fault.Fault, steps.{Drawn.Drawn, Sent.Sent}}
+use Rattle.p3_script_prover.specs.ProverAnswers.{IsRefusedScript}
+use Rattle.p3_script_answers.specs.declared.errors.ProveByError.{ProveByError}
+use Rattle.p3_runs.specs.Plays as place
+use Rattle.p3_runs.specs.Runs as runs
+use Rattle.p3_script.specs.declared.steps.Step as step
+use Rattle.p3_script_answers.specs.declared.errors.ProveByError.TheVariants as error
+
+-- It is the turn of this step, which sends a value: the prover's run of the steps before it is finished, which was handed these
+-- values and drew these challenges.
+pub record IsTurn {X S Symbol I F EF O Ac U D : Type 0} (rules : Rules S Symbol I F EF O Ac) (play : X → Play S Symbol F EF O)
+    (script : Run X F EF S U D) (given : List (Value F EF)) (drawn : List (Challenge F EF)) (position : ℕ) (step : X) :
+    Type 0 where
+  pub before : List X
+  pub later : List X
+  pub steps : script.steps ≡ before ++ (step ∷ later)
+  pub position_is : position ≡ length before
+  pub values : List (Value F EF)
+  pub finished : IsFinished rules play (with_steps script before values)
+  pub least : AreLeast rules play (with_steps script before values)
+  pub handed : given ≡ runs.handed play before values
+  pub drawn_is : drawn ≡ challenges rules play (with_steps script before values)
+  pub sends : (play step).place ≡ place.Sent
+
+module _ {Su F EF U O C K Ac D G It St Sy P E : Type 0} (rules : Rules St Sy It F EF O Ac)
+    (script : Run (step.Step Su F EF U O C K Ac D G It St Sy) F EF St U D)
+    (answers : P → ℕ → Bor (List (Drawn Su F EF U O C K Ac D G It St Sy)) →
+    Result (Sent Su F EF U O C K Ac D G It St Sy) E → P → Type 0) where
+  -- From one state to another it answers the step whose turn it is after these values, and is lent what was drawn before.
+  pub record AnswersTurn (given : List (Sent Su F EF U O C K Ac D G It St Sy)) (position : ℕ) (here : P)
+      (answer : Result (Sent Su F EF U O C K Ac D G It St Sy) E) (there : P) : Type 0 where
+    pub drawn : Bor (List (Drawn Su F EF U O C K Ac D G It St Sy))
+    pub step : step.Step Su F EF U O C K Ac D G It St Sy
+    pub turn : IsTurn rules (play_of rules) script (values_sent given) (challenges_of drawn.now) position step
+    pub answered : answers here position drawn answer there
+
+  -- From one state to another it answers these values after those that were given, each at its turn.
+  abbrev pub AnswersInTurn : List (Sent Su F EF U O C K Ac D G It St Sy) → P →
+      List (Sent Su F EF U O C K Ac D G It St Sy) → P → Type 0
+  AnswersInTurn given here [] last = last ≡ here
+  AnswersInTurn given here (x ∷ sent) last = (position : ℕ) × (there : P)
+      × AnswersTurn given position here (Ok x) there × AnswersInTurn (given ++ x ∷ []) there sent last
+
+  -- these are the values that it answered from the first one on, each at its turn
+  pub record AreAnswers (first : P) (sent : List (Sent Su F EF U O C K Ac D G It St Sy)) : Type 0 where
+    pub last : P
+    pub in_turn : AnswersInTurn [] first sent last
+
+  -- ---- where and why it stops
+
+  -- each list of values that begins with these is refused so; where all steps were played, these alone
+  abbrev pub AreRefused : List (Sent Su F EF U O C K Ac D G It St Sy) → Fault → Type 0
+  AreRefused given fault = (later : List (Value F EF)) → (length script.steps ≤ fault.position → later ≡ []) →
+      IsRefusedScript rules script (values_sent given ++ later) fault
+
+  -- the answer to the step whose turn it is may not be handed for it
+  pub record AnswersUnfit (given : List (Sent Su F EF U O C K Ac D G It St Sy)) (position : ℕ) (here : P) : Type 0 where
+    pub value : Sent Su F EF U O C K Ac D G It St Sy
+    pub there : P
+    pub answers_turn : AnswersTurn given position here (Ok value) there
+    pub unfit : (play_of rules answers_turn.step).sides.IsHanded (value_sent value) → ⊥
+
+  abbrev pub StopsAfter : List (Sent Su F EF U O C K Ac D G It St Sy) → P → ProveByError E → Type 0
+  StopsAfter given here (error.Refused fault) = AreRefused given fault
+  StopsAfter given here (error.Unanswered position e) = (there : P) × AnswersTurn given position here (Err e) there
+  StopsAfter given here (error.Unfit position) = AnswersUnfit given position here
+
+  -- it answered values from the first one on, each at its turn, and after them the prover stops for this
+  pub record IsStopped (first : P) (e : ProveByError E) : Type 0 where
+    pub given : List (Sent Su F EF U O C K Ac D G It St Sy)
+    pub last : P
+    pub in_turn : AnswersInTurn [] first given last
+    pub stops : StopsAfter given last e

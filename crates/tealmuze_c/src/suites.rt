@@ -1,0 +1,67 @@
+//! The suites that a description can name.
+ghost use Rattle.std.specs.Prelude.{◌≡◌, ℕ, List, [], map, IfOk};
+ghost use Rattle.p3_challenger.specs.{Digests.values_of, HashCalls.with_pending};
+
+use crate::unanswered::Unanswered;
+use crate::words::digest;
+use p3_challenger::fs::DomainSeparator;
+use p3_challenger::fs::script::Suite;
+use p3_challenger::{HashChallenger, SerializingChallenger32, Sponge};
+use p3_field::BabyBear;
+use p3_symmetric::{Hash, Sha256Hasher};
+use std::alloc::Global;
+use test_suites::{HashSuite, Serializing32Suite};
+
+// How many candidates a draw of an element tries at most.
+const DRAW_LIMIT: u64 = 1000;
+
+/// What binds a transcript to a script.
+pub type SeparatorOf<S> = DomainSeparator<<S as Suite>::Unit, <S as Suite>::Digest>;
+
+/// A suite that a description can name.
+pub trait Called: Suite {
+    // The state is that of a challenger that observed nothing yet.
+    ghost is_fresh: { Self.Challenger.State → Type 0 };
+
+    // The numbers that an opaque value is encoded as.
+    ghost opaque_numbers: { Self.Opaque → List ℕ };
+
+    /// A challenger that observed nothing yet.
+    fn fresh(alloc: Global) -> Self::Challenger
+        ensures { is_fresh (Self.Challenger.state result) };
+
+    /// The opaque value of these numbers.
+    fn opaque(alloc: Global, numbers: &[u64]) -> Result<Self::Opaque, Unanswered>
+        ensures { IfOk result (λ x. opaque_numbers x ≡ numbers.now) };
+}
+
+impl Called for HashSuite<Sha256Hasher> {
+    ghost is_fresh = { λ s. s.sponge ≡ with_pending [] };
+
+    ghost opaque_numbers = { λ digest. map (λ byte. byte) digest };
+
+    fn fresh(alloc: Global) -> HashChallenger<u8, Sha256Hasher, 32> {
+        HashChallenger::new(Vec::new(alloc), Sha256Hasher)
+    }
+
+    fn opaque(alloc: Global, numbers: &[u64]) -> Result<[u8; 32], Unanswered> {
+        digest::<u8, 32>(alloc, numbers)
+    }
+}
+
+impl Called for Serializing32Suite<Sha256Hasher, Sha256Hasher> {
+    ghost is_fresh = { λ s. (s.inner.sponge ≡ with_pending []) × (s.draw_limit ≡ 1000) };
+
+    ghost opaque_numbers = { λ digest. map (λ byte. byte) (values_of digest) };
+
+    fn fresh(
+        alloc: Global,
+    ) -> SerializingChallenger32<BabyBear, HashChallenger<u8, Sha256Hasher, 32>> {
+        let inner = HashChallenger::new(Vec::new(alloc), Sha256Hasher);
+        SerializingChallenger32::new(inner, DRAW_LIMIT)
+    }
+
+    fn opaque(alloc: Global, numbers: &[u64]) -> Result<Hash<BabyBear, u8, 32>, Unanswered> {
+        Ok(Hash::from(digest::<u8, 32>(alloc, numbers)?))
+    }
+}

@@ -1,0 +1,139 @@
+"""The public functions of a crate with the clauses of their contracts, read off its code as `rt fmt` lays it out."""
+import collections
+import itertools
+import re
+
+from .texts import comment_above, plain, sentence
+
+# A function: its file and row, what it is a method of, its name, what its comment says, its conditions, the labels of these and of
+# its other clauses, what comments say of single clauses, and what its comment says of conditions and errors.
+FIELDS = "path row owner name says needs conditions labels notes remarks is_law is_public"
+Function = collections.namedtuple("Function", FIELDS, defaults=[(), (), (), {}, (), False, True])
+BLOCK = re.compile(r"(?:pub )?(?:unsafe )?(?P<what>impl|trait)\b")
+FUNCTION = re.compile(r"(?P<indent> {0,4})(?P<shown>pub )?(?:final |const )*fn (?P<name>\w+)")
+TYPE = re.compile(r"pub (?:struct|enum|trait|type) (?P<name>\w+)")
+GHOST = re.compile(r" {4}ghost (?P<name>\w+): \{")
+CLAUSE = re.compile(r"\s+(?P<what>requires|ensures)\*? (?:(?P<label>\w+) )?\{(?: (?P<text>.*) \};?$)?")
+REMARK = re.compile(
+    r"(?:^|(?<=[.:] ))(?:The (?:one |only )?errors?\b|Else the error|Conditions?:|Beside what|A step is refused with)"
+)
+SHORT = 60
+LAW = re.compile(r"\s*A law:[^.]*\.\s*")
+
+
+def functions(texts, path):
+    """Yields the functions of a file: those that others may call are public ones, and those of public traits."""
+    lines, owner, is_trait = texts.of(path).split("\n"), "", False
+    for at, line in enumerate(lines):
+        block = BLOCK.match(line)
+        if block:
+            owner, is_trait = owner_of(lines, at)
+        elif line.startswith("}"):
+            owner, is_trait = "", False
+        found = FUNCTION.match(line)
+        if found:
+            contract, is_empty = contract_of(lines, at)
+            doc = doc_above(lines, at)
+            what = (path, at + 1, owner if found["indent"] else "", found["name"], comment_above(lines, at, path))
+            labels = (needs_in(contract), labels_in(contract, "requires"), labels_in(contract, "ensures"))
+            said = (notes_of(contract, doc, path), remarks_of(doc))
+            is_law = is_empty or any(it.startswith("A law") for it in doc)
+            yield Function(*what, *labels, *said, is_law, bool(found["shown"] or is_trait and found["indent"]))
+
+
+def types(texts, path):
+    """Yields the public types and traits of a file that have a doc comment."""
+    lines = texts.of(path).split("\n")
+    for at, line in enumerate(lines):
+        found = TYPE.match(line)
+        if found:
+            doc, says = doc_above(lines, at), comment_above(lines, at, path)
+            yield Function(path, at + 1, "", found["name"], says, remarks=remarks_of(doc))
+
+
+def doc_above(lines, at):
+    """Returns the lines of the doc comment above a line."""
+    above = itertools.takewhile(lambda it: re.match(r"\s*(?:///|#\[)", it), reversed(lines[:at]))
+    return [re.sub(r"\s*/// ?", "", it) for it in above if "///" in it][::-1]
+
+
+def notes_of(contract, doc, path):
+    """Returns what is said of single clauses, by their labels: in a list of the doc comment, or in a comment above each."""
+    found = re.findall(r"(?:^|\n)- `(\w+)`: (.*?)(?=\n- |\n\n|$)", "\n".join(doc), re.S)
+    notes = {label: sentence(" ".join(said.split())) for label, said in found}
+    for at, line in enumerate(contract):
+        clause = CLAUSE.match(line)
+        said = sentence(comment_above(contract, at, path)) if at and clause else ""
+        if said and clause["label"]:
+            notes.setdefault(clause["label"], said)
+    return notes
+
+
+def remarks_of(doc):
+    """Returns what a doc comment says of conditions and errors: each paragraph from the sentence on that begins with them."""
+    paragraphs = [plain(" ".join(it.split())) for it in "\n".join(doc).split("\n\n")]
+    found = ((it, REMARK.search(it)) for it in paragraphs)
+    return [it[begin.start() :].rstrip(".") for it, begin in found if begin]
+
+
+def laws(texts, path):
+    """Yields the ghost members of the traits of a file that have a comment: laws that an implementor owes."""
+    lines, owner, is_trait = texts.of(path).split("\n"), "", False
+    for at, line in enumerate(lines):
+        if BLOCK.match(line):
+            owner, is_trait = owner_of(lines, at)
+        elif line.startswith("}"):
+            owner, is_trait = "", False
+        found = GHOST.match(line)
+        if found and is_trait:
+            yield Function(path, at + 1, owner, found["name"], comment_above(lines, at, path), is_law=True)
+
+
+def owner_of(lines, at):
+    """Returns the name of the type or trait that a block is of, and whether it is that of a public trait."""
+    end = next(n for n, it in enumerate(lines[at:], at) if it.endswith(("{", "}")))
+    head = " ".join(it.strip() for it in lines[at : end + 1])
+    trait = re.match(r"pub (?:unsafe )?trait (\w+)", head)
+    if trait:
+        return trait[1], True
+    rest = re.sub(r"^(?:unsafe )?impl\s*", "", without_generics(head))
+    name = re.match(r"(?:.* for )?&?(?:mut )?(?:\w+::)*(\w+)", rest.replace("{", ""))
+    return (name[1] if name else ""), False
+
+
+def without_generics(text):
+    """Returns a text without what stands in angle brackets."""
+    text, before = text.replace("->", ""), None
+    while text != before:
+        before, text = text, re.sub(r"<[^<>]*>", "", text)
+    return text
+
+
+def contract_of(lines, at):
+    """Returns the lines of a function up to its body, and whether the body is empty."""
+    indent, has_clause = len(lines[at]) - len(lines[at].lstrip()), False
+    for end in range(at, len(lines)):
+        text = lines[end]
+        has_clause = has_clause or bool(CLAUSE.match(text))
+        if text[indent:] in ("{", "{}"):
+            return lines[at:end], text.endswith("{}")
+        if text.endswith("};" if has_clause else ";") or text.endswith("{") and not has_clause:
+            return lines[at : end + 1], False
+    return lines[at:], False
+
+
+def labels_in(contract, what):
+    """Returns the labels of the clauses of one kind of a contract, in order."""
+    found = (CLAUSE.match(it) for it in contract)
+    return [it["label"] for it in found if it and it["what"] == what and it["label"]]
+
+
+def needs_in(contract):
+    """Returns the conditions of a contract: each that is short as it is written, and any other by its label."""
+    found = [it for it in map(CLAUSE.match, contract) if it and it["what"] == "requires"]
+    return [it["text"] if it["text"] and len(it["text"]) <= SHORT else it["label"] or "a condition" for it in found]
+
+
+def told(function):
+    """Returns what a function says of itself: a law its whole first paragraph, and any other its first sentence."""
+    return LAW.sub(" ", plain(function.says)).strip().rstrip(".") if function.is_law else sentence(function.says)
