@@ -30,7 +30,7 @@ pub enum CodecCall {
 /// What is asked of a codec.
 #[derive(Drop)]
 pub enum ElementCall {
-    /// `wire-len A`: how many bytes a encoding has.
+    /// `wire-len A`: how many bytes an encoding has.
     WireLen,
     /// `security-bits A`.
     SecurityBits,

@@ -2,7 +2,7 @@
 use Rattle.std.specs.Prelude.{◌≡◌, ℕ, ◌<◌, ◌⊎◌, List, ◌++◌, slice_index}
 use Rattle.p3_challenger_core.specs.Sponge.{IsNonEmpty}
 
--- a prefix code of these values: no encoding begins another, and no two values have one; whatever follows, a
+-- a prefix code of these values: no encoding begins another, and no two values have one; whatever follows, an
 -- encoding is read back
 abbrev pub IsPrefixCodeOn : {T S : Type 0} → (T → Type 0) → (T → List S) → Type 0
 IsPrefixCodeOn {T} {S} IsValue encoding =

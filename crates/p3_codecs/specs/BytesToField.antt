@@ -1,12 +1,12 @@
 -- An element of a prime field through a challenger of bytes: its encoding is observed, and it is drawn
--- from more bytes than a encoding has.
+-- from more bytes than an encoding has.
 use Rattle.std.specs.Prelude.{ℕ, ◌+◌, List}
 use Rattle.p3_field_core.specs.Residues.{Residues}
 use Rattle.p3_challenger_core.specs.{Observation.{Observation, in_slice, observed_as}, Sampling.{Sampling, made_of}}
 use Rattle.p3_fs_core.specs.{BigEndian.{big_endian, bytes_for}, Scalar.wire}
 use Rattle.p3_challenger_core.specs.Sampling as sampling
 
--- how many bytes an element is drawn from: as many as a encoding has, and 128 bits more
+-- how many bytes an element is drawn from: as many as an encoding has, and 128 bits more
 abbrev pub draw_bytes : ℕ → ℕ
 draw_bytes width = width + 16
 

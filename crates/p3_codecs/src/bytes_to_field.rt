@@ -23,7 +23,7 @@ use std::marker::PhantomData;
 /// A scalar through a challenger of bytes.
 ///
 /// Its encoding is that of [`TranscriptField`], and those bytes are observed as one slice. A draw takes
-/// [`EXTRA_BYTES`] bytes more than a encoding has, and is their big-endian number modulo the order.
+/// [`EXTRA_BYTES`] bytes more than an encoding has, and is their big-endian number modulo the order.
 ///
 /// The Rust crate's `BytesToFieldCodec`, by the rule of the IETF draft on Fiat-Shamir: 16 bytes more.
 pub struct BytesToFieldCodec<F>(PhantomData<F>);
@@ -32,7 +32,7 @@ pub struct BytesToFieldCodec<F>(PhantomData<F>);
 /// number of the IETF draft on Fiat-Shamir, and private in the Rust crate.
 pub const EXTRA_BYTES: usize = 16;
 
-// The most bytes that a draw takes: a encoding has at most 8.
+// The most bytes that a draw takes: an encoding has at most 8.
 const MOST_BYTES: usize = 24;
 
 impl<F: PrimeField64, C: CanObserve<u8> + CanSample<u8>> Codec<C, F> for BytesToFieldCodec<F> {

@@ -95,7 +95,7 @@ pub trait Codec<C: Sponge, T> {
     ghost symbols_are_prefix_code: { feeds_prefix_code → IsPrefixFree observation.symbols };
 }
 
-/// A codec of the elements of a field. A encoding has at least one byte, and at most 65535, so that an element of
+/// A codec of the elements of a field. An encoding has at least one byte, and at most 65535, so that an element of
 /// a vector space, of at most 65535 coefficients, has a width that is a `usize`. Where there are so many bytes,
 /// the one reason for none of them is `field encoding outside canonical range`.
 ///

@@ -2,7 +2,7 @@
 use Rattle.std.specs.Prelude.{◌≡◌, ℕ, List, ◌++◌, length, Result, Ok}
 use Rattle.p3_challenger_core.specs.Reading.{IsPrefixCode, AreBytes}
 
--- how many bytes a encoding takes, the one encoding of a value, and what is read at the head of bytes: a
+-- how many bytes an encoding takes, the one encoding of a value, and what is read at the head of bytes: a
 -- value and the bytes after it, or why there is none
 pub record Encoding (T : Type 0) : Type 0 where
   pub width : ℕ
