@@ -113,10 +113,9 @@ pub fn prove(
     layer: Vec<BabyBear>,
 ) -> Result<Answered<Fri>, ProveByError<FoldError>>
     requires admitted { AreAdmitted (play_of (⟦<Fri as Meaning>⟧.rules 1)) steps.now }
-    ensures proved { let fresh = record { sponge = with_pending []; hasher = record {} } in
-        IfOk result (λ answered. IsProvedScript (⟦<Fri as Meaning>⟧.rules 1)
-        (script_of fresh separator.now steps.now) (values_sent answered.sent.items)
-        ⟦<Challenger as Sponge>⟧.state answered.proved) }
+    ensures proved { IfOk result (λ answered. IsProvedScript (⟦<Fri as Meaning>⟧.rules 1)
+        (script_of (record { sponge = with_pending []; hasher = record {} }) separator.now steps.now)
+        (values_sent answered.sent.items) ⟦<Challenger as Sponge>⟧.state answered.proved) }
 {
     let mut folding = Folding { layer, folds: 0 };
     script::prove_by::<Fri, FoldError, _>(
@@ -140,12 +139,12 @@ pub fn verify<'a>(
 ) -> Result<Verified<'a, Fri>, Fault>
     requires admitted { AreAdmitted (play_of (⟦<Fri as Meaning>⟧.rules 1)) steps.now }
     requires carried { carried_count (play_of (⟦<Fri as Meaning>⟧.rules 1)) steps.now ≡ 0 }
-    ensures accepted { let fresh = record { sponge = with_pending []; hasher = record {} } in
-        IfOk result (IsVerifiedScript (⟦<Fri as Meaning>⟧.rules 1)
-        (script_of fresh separator.now steps.now) proof.now [] ⟦<Challenger as Sponge>⟧.state) }
-    ensures refused { let fresh = record { sponge = with_pending []; hasher = record {} } in
-        IfErr result (IsRefusedProof (⟦<Fri as Meaning>⟧.rules 1)
-        (script_of fresh separator.now steps.now) proof.now []) }
+    ensures accepted { IfOk result (IsVerifiedScript (⟦<Fri as Meaning>⟧.rules 1)
+        (script_of (record { sponge = with_pending []; hasher = record {} }) separator.now steps.now)
+        proof.now [] ⟦<Challenger as Sponge>⟧.state) }
+    ensures refused { IfErr result (IsRefusedProof (⟦<Fri as Meaning>⟧.rules 1)
+        (script_of (record { sponge = with_pending []; hasher = record {} }) separator.now steps.now)
+        proof.now []) }
 {
     script::verify::<Fri>(alloc, challenger(alloc), separator, steps, &[], proof)
 }
