@@ -1,4 +1,4 @@
-//! What the symbols that a run of a script feeds the challenger say of the run.
+//! What the symbols that a script's run feeds to the challenger determine of the run.
 #![tactic(auto)]
 
 mod symbols_bind;

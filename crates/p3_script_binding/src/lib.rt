@@ -1,5 +1,5 @@
-//! What the symbols that a run of a script fed say of the answers of a verifier and of a prover: callers of the law that
-//! equal symbols bind.
+//! What the symbols fed by a script's run determine of the results of a verifier and of a prover, by the law
+//! [`binding`].
 #![tactic(auto)]
 
 mod bound;
