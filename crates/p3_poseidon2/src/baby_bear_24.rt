@@ -1,4 +1,4 @@
-//! BabyBear, 24 cells.
+//! Poseidon2 over BabyBear with 24 cells.
 ghost use Rattle.std.specs.Prelude.{◌≡◌};
 ghost use Rattle.p3_poseidon2.specs.Poseidon2.{permuted};
 ghost use Rattle.p3_small_primes.specs.BabyBearResidues.{residues};
@@ -11,7 +11,7 @@ use p3_lanes::{BabyBearLanes, LanePermutation};
 use p3_small_primes::BabyBear;
 use p3_symmetric::CryptographicPermutation;
 
-/// Poseidon2 over [`BabyBear`] of 24 cells: S-boxes of degree 7, 8 external rounds and 21 internal ones.
+/// Poseidon2 over [`BabyBear`] with 24 cells: S-boxes of degree 7, 8 external rounds and 21 internal ones.
 ///
 /// Meant to be Plonky3's `Poseidon2BabyBear<24>`.
 pub type Poseidon2BabyBear24 = Poseidon2<BabyBear, 24, 7, 21>;
@@ -104,7 +104,7 @@ impl LanePermutation<BabyBear, 24> for Poseidon2<BabyBear, 24, 7, 21> {
     }
 }
 
-/// Poseidon2 over [`BabyBear`] of 24 cells, with the round constants that the generator of the papers gives.
+/// Returns Poseidon2 over [`BabyBear`] with 24 cells and the round constants of the papers' generator.
 ///
 /// Meant to be Plonky3's `default_babybear_poseidon2_24`.
 pub fn default_babybear_poseidon2_24() -> Poseidon2BabyBear24
