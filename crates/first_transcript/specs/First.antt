@@ -35,8 +35,8 @@ nothing_after (Err reason) = Err reason
 abbrev pub read_whole : List ℕ → Result BabyBear (List ℕ)
 read_whole narg = if nat_lt (length narg) width then Err too_short else nothing_after (read narg)
 
--- the result of a verifier for a proof: it accepts exactly the encoding of a scalar, with that scalar's
--- run, and else returns the reason; out of memory comes only in place of an acceptance
+-- The result of a verifier for a proof. It accepts exactly the encoding of a scalar, with that scalar's
+-- run, and else returns the reason. Out of memory comes only in place of an acceptance.
 abbrev pub Verifies : {R : Type 0} → Result BabyBear (List ℕ) → (BabyBear → R → Type 0) → Result R TranscriptError
     → Type 0
 Verifies (Ok value) Accepts (Ok found) = Accepts value found

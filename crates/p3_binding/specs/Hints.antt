@@ -50,8 +50,8 @@ module _ {X S Symbol I F EF O Ac U D : Type 0} (rules : Rules S Symbol I F EF O 
     pub draws : challenges rules play x ≡ challenges rules play y
     pub ends : last rules play x ≡ last rules play y
 
--- hints do not influence: take finished runs of one script, separator and challenger; if their values are the same
--- except for hints and witnesses of 0 bits, so are their challenges and final challengers
+-- Hints do not influence challenges. Finished runs of one script, separator and challenger have the same challenges
+-- and final challengers, if their values are the same except for hints and witnesses of 0 bits.
 abbrev pub HintsDoNotInfluence : {X S Symbol I F EF O Ac : Type 0} (U D : Type 0) → Rules S Symbol I F EF O Ac →
     (X → Play S Symbol F EF O) → Type 0
 HintsDoNotInfluence {X} {S} {Symbol} {I} {F} {EF} U D rules play = (x : Run X F EF S U D) (others : List (Value F EF)) →

@@ -14,19 +14,19 @@ use p3_script::{Meaning, Suite};
 /// scripts alone; no driver takes part.
 ///
 /// - `equal_symbols_bind`: take two finished runs that feed the same symbols, or two finished prefixes of equally many
-///   steps, under any separators and from any challengers. They have the same version, name and chunks. Unless the
+///   steps. Whatever their separators and challengers, the runs have the same version, name and chunks. Unless the
 ///   alternate renderings of the two patterns differ and share a digest, the patterns are the same except for the names
-///   of types, and so is what each step absorbs. A step absorbs public values, salts, messages, opaque values, or
-///   witnesses of at least one bit; elements as their coefficients, bytes as bytes.
+///   of types. So is what each step absorbs. A step absorbs public values, salts, messages, opaque values, or witnesses of at
+///   least one bit; elements as their coefficients, bytes as bytes.
 /// - `equal_renderings_are_equal_patterns`: two patterns have one alternate rendering exactly if they are the same
 ///   except for the names of types.
-/// - `hints_do_not_influence`: take two finished runs of one script, separator and challenger, whose values are the
+/// - `hints_do_not_influence`: take two finished runs of one script, separator and challenger. Let their values be the
 ///   same except for the bytes of hints and witnesses of 0 bits. Their challenges and final challengers are the same.
 ///
-/// Conditions: the challenger feeds the items of the alphabet, the values that the codec observes and the values of the
-/// opaque type as prefix codes. For each challenger of this repository a law says this of elements or bytes, of arrays
-/// and of digests. Caps and lists of varying length are no prefix code: the lists of lists `[[1], [2]]` and `[[1, 2]]`
-/// feed the same symbols.
+/// Conditions: the challenger feeds as prefix codes the items of the alphabet, the values that the codec observes, and
+/// the values of the opaque type. For each challenger of this repository a law says this of elements or bytes, of
+/// arrays and of digests. Caps and lists of varying length are no prefix code: the lists of lists `[[1], [2]]` and
+/// `[[1, 2]]` feed the same symbols.
 ///
 /// A law: the body only calls laws, and a caller cites the clauses. Not in the Rust crate.
 pub fn binding<S: Suite>()

@@ -92,8 +92,8 @@ each_as f o = in_row (observed_as f o)
 abbrev pub ActsAs : {S T V : Type 0} → (S → T → S) → (S → V → S) → (T → V) → Type 0
 ActsAs {S} {T} act step made = (s : S) (x : T) → act s x ≡ step s (made x)
 
--- a value is observed as another one that it stands for: it feeds the same symbols, leads to the same state, and may
--- leave the same states where it is refused
+-- A value is observed as another one that it stands for. It feeds the same symbols, leads to the same state, and may
+-- leave the same states where it is refused.
 pub record ObservesSame {S Symbol T U : Type 0} (o : Observation S Symbol U) (f : U → T) (p : Observation S Symbol T)
     : Type 0 where
   pub symbols : (x : U) → o.symbols x ≡ p.symbols (f x)

@@ -5,8 +5,8 @@ use Rattle.p3_challenger_core.specs.{Sponge.IsStepsOn, declared.error.Challenger
 use Rattle.p3_challenger_core.specs.declared.error.ChallengerError.TheVariants.{OutOfMemory, DrawLimit}
 use Rattle.p3_challenger_core.specs.Observation.{RefusesObserve}
 
--- the result of a draw, which is missing where it meets the draw limit; the state after it; the states whose draw
--- meets the limit; and the states that a refusal for memory may leave
+-- A draw: its result, which is missing where it meets the draw limit, and the state after it. It also has the
+-- states whose draw meets the limit, and those that a refusal for memory may leave.
 pub record Sampling (S T : Type 0) : Type 1 where
   pub sampled : S → Option T
   pub after : S → S
@@ -87,7 +87,7 @@ unfoldable pub greatest_below : ℕ → ℕ → ℕ
 greatest_below order zero = 0
 greatest_below order (suc k) = if nat_lt (2 ^ suc k) order then suc k else greatest_below order k
 
--- how many bits a draw from a field of this order may have: the greatest number below 64 whose power of two is
--- below the order
+-- the greatest number of bits in a draw from a field of this order: below 64, and with its power of two below the
+-- order
 abbrev pub most_bits_of : ℕ → ℕ
 most_bits_of order = greatest_below order 63

@@ -1,5 +1,5 @@
--- Laws of segments: a list of calls has one cut, and its calls do one by one what its segments do, if each
--- step of a segment does what one call does.
+-- Laws of segments. A list of calls has one cut, and its calls do one by one what its segments do. The
+-- premise is that each step of a segment does what one call does.
 use Rattle.std.{specs.List.All, proofs.lemmas.List.Elements.{All-cons, All-head, All-tail, All-nil}}
 use Rattle.std.proofs.Common.{append_assoc, append-nil, replicate, arith, zero, List, ◌++◌, refl, ◌≡◌, suc, ◌<◌, ◌∷◌}
 use Rattle.std.proofs.Common.{inl, inr, map, sym, ◌∙◌, [], ap, ℕ}

@@ -67,8 +67,8 @@ IsCutOf calls cut = AreCutInto cut.first cut.others calls
 
 -- ---- what calls do
 
--- The results of calls, one for each draw, in order; their queries to the permutation or the hash
--- function, in order; and what they leave: the challenger, or the final digest. A result is an A, a
+-- The effect of calls: their results, one for each draw, in order; their queries to the permutation or
+-- the hash function, in order; and the challenger or final digest that they leave. A result is an A, a
 -- queried state or string is an M, and what is left is an S.
 pub record Run (A M S : Type 0) : Type 0 where
   pub answers : List A
@@ -104,8 +104,8 @@ run_calls_to_digest by s calls = let run = run_calls by s calls in run_before ru
 
 -- ---- segment by segment
 
--- a challenger over segments: the effect of values observed one after another, of a number of draws, of
--- the end of a segment before the next, and of a final digest
+-- A challenger over segments: the effects of values observed one after another, of a number of draws,
+-- of the end of a segment, and of a final digest.
 pub record BySegments (T A M D S : Type 0) : Type 0 where
   pub values : S → List T → Run A M S
   pub draws : S → ℕ → Run A M S

@@ -5,7 +5,7 @@
 //!
 //! ```text
 //! observe x:   s  ->  fed s (symbols of x)
-//! sample:      s  ->  sampled s, and the state after so many of the smallest draws
+//! sample:      s  ->  sampled s, and the state after some number of smallest draws
 //! ```
 ghost use Rattle.std.specs.Prelude.{◌≡◌, List, [], ◌++◌, Some, OnOk, IfOk, IfErr, ◌<◌, ◌≤◌, ◌^◌, ℕ, length};
 ghost use Rattle.p3_challenger_core.specs.Observation.{Observation, IsObservation, observed_all, LeavesInCalls};
@@ -43,7 +43,7 @@ pub trait Sponge {
 
 /// A challenger that observes values of a type.
 ///
-/// The Rust crate's `CanObserve`.
+/// Corresponds to the Rust crate's `CanObserve`.
 pub trait CanObserve<T>: Sponge {
     // What a value feeds, the state after it, and what is left of a state where it is refused.
     ghost observation: { Observation Self.State Self.Symbol T };
@@ -83,7 +83,8 @@ pub trait CanObserve<T>: Sponge {
 
 /// A challenger that draws values of a type.
 ///
-/// The Rust crate's `CanSample`. Its `sample_array` is a function here, [`sample_array`](crate::sample_array).
+/// Corresponds to the Rust crate's `CanSample`. Its `sample_array` is a function here,
+/// [`sample_array`](crate::sample_array).
 pub trait CanSample<T: Drop>: Sponge {
     // What a draw gives, the state after it, and when it is refused and what it leaves then.
     ghost sampling: { Sampling Self.State T };
@@ -141,7 +142,7 @@ pub trait CanSample<T: Drop>: Sponge {
 
 /// A challenger that ends in a digest of everything observed.
 ///
-/// The Rust crate's `CanFinalizeDigest`.
+/// Corresponds to the Rust crate's `CanFinalizeDigest`.
 pub trait CanFinalizeDigest: Sponge {
     /// The type of the final digest.
     type Digest;
@@ -156,7 +157,7 @@ pub trait CanFinalizeDigest: Sponge {
 
 /// A challenger that draws numbers of a given bit width.
 ///
-/// The Rust crate's `CanSampleBits`.
+/// Corresponds to the Rust crate's `CanSampleBits`.
 pub trait CanSampleBits<T>: Sponge {
     // The most bits that one draw may ask for.
     ghost most_bits: { ℕ };

@@ -9,7 +9,7 @@ use p3_field_core::{Algebra, BasedVectorSpace, Field};
 
 /// A challenger of the elements of a field, and of the vector spaces over it.
 ///
-/// The Rust crate's `FieldChallenger`, which is `Sync` besides.
+/// Corresponds to the Rust crate's `FieldChallenger`, which is also `Sync`.
 pub trait FieldChallenger<F: Field>: CanObserve<F> + CanSample<F> + CanSampleBits<usize> {
     /// Observes the coefficients of an element, in the order of the basis.
     ///

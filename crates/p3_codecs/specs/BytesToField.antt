@@ -1,4 +1,4 @@
--- An element of a prime field through a challenger of bytes: the bytes of its encoding are observed,
+-- An element of a prime field through a challenger of bytes. The bytes of its encoding are observed,
 -- and more bytes than that are drawn for it.
 use Rattle.std.specs.Prelude.{ℕ, ◌+◌, List}
 use Rattle.p3_field_core.specs.Residues.{Residues}
@@ -19,6 +19,6 @@ abbrev pub observed_bytes : {F S Symbol : Type 0} → Residues F → ℕ → Obs
     (S → List ℕ → S → Type 0) → Observation S Symbol F
 observed_bytes r bits byte slice_may_leave = observed_as (wire r (bytes_for bits)) (in_slice byte slice_may_leave)
 
--- an element is drawn as the number of so many bytes
+-- an element is drawn as the number of n bytes
 abbrev pub drawn_bytes : {F S : Type 0} → Residues F → ℕ → Sampling S ℕ → Sampling S F
 drawn_bytes r bits byte = made_of (challenge_of r) (sampling.in_row byte (draw_bytes (bytes_for bits)))

@@ -25,7 +25,8 @@ use std::marker::PhantomData;
 /// The encoding is that of [`TranscriptField`], and its bytes are observed as one slice. A draw takes
 /// [`EXTRA_BYTES`] bytes more than an encoding has. Their big-endian number modulo the order is the scalar.
 ///
-/// The Rust crate's `BytesToFieldCodec`. The 16 extra bytes are the rule of the IETF draft on Fiat-Shamir.
+/// Corresponds to the Rust crate's `BytesToFieldCodec`. The 16 extra bytes are the rule of the IETF draft on
+/// Fiat-Shamir.
 pub struct BytesToFieldCodec<F>(PhantomData<F>);
 
 /// The number of bytes that a draw takes beyond the width of a value: 128 bits, so that the value is nearly uniform.

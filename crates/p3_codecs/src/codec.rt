@@ -9,8 +9,8 @@ ghost use Rattle.p3_codecs.specs.Codecs.{IsCodec};
 use p3_challenger_core::{ChallengerError, Sponge};
 use p3_fs_core::TranscriptError;
 
-/// The bits of security that a codec must have before a challenge is drawn through it: 128, as in section 6 of the
-/// IETF draft on Fiat-Shamir. It is the Rust crate's constant of this name.
+/// The bits of security that a codec must have for a draw of challenges: 128, as in section 6 of the IETF draft on
+/// Fiat-Shamir. It is the Rust crate's constant of this name.
 pub const MIN_CHALLENGE_SECURITY_BITS: u32 = 128;
 
 // The condition of a draw names this number, so that it is the same whatever the constant says.
@@ -19,7 +19,7 @@ const _: () = prove!(MIN_CHALLENGE_SECURITY_BITS == 128);
 /// Encodes the values of a type in the proof, observes them as symbols of a challenger, and draws them from it. Each
 /// value has one encoding, and all encodings have one width.
 ///
-/// The Rust crate's `Codec`. Here the challenger is a [`Sponge`], and a codec has laws to satisfy.
+/// Corresponds to the Rust crate's `Codec`. Here the challenger is a [`Sponge`], and a codec has laws to satisfy.
 pub trait Codec<C: Sponge, T> {
     /// The security of a draw in bits: its distance from uniform is at most 2 to the minus this number, apart from
     /// the challenger's own. The author of the codec vouches for it.

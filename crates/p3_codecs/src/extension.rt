@@ -20,7 +20,7 @@ use std::marker::PhantomData;
 /// `not enough bytes for an extension-field encoding` where there are too few bytes for all coefficients, before
 /// any is read. Else its reason is the base codec's for the first invalid coefficient.
 ///
-/// The Rust crate's `ExtensionFieldCodec`, here over a [`ScalarCodec`] and for every vector space.
+/// Corresponds to the Rust crate's `ExtensionFieldCodec`, here over a [`ScalarCodec`] and for every vector space.
 pub struct ExtensionFieldCodec<F, EF, BaseCodec>(PhantomData<(F, EF, BaseCodec)>);
 
 impl<C: Sponge, F: Field, EF: BasedVectorSpace<F>, BaseCodec: ScalarCodec<C, F>> Codec<C, EF>

@@ -9,7 +9,7 @@ use std::marker::PhantomData;
 ///
 /// Its encoding in the proof is that of [`TranscriptField`].
 ///
-/// The Rust crate's `FieldToFieldCodec`.
+/// Corresponds to the Rust crate's `FieldToFieldCodec`.
 pub struct FieldToFieldCodec<F>(PhantomData<F>);
 
 impl<F: PrimeField64, C: CanObserve<F> + CanSample<F>> Codec<C, F> for FieldToFieldCodec<F> {

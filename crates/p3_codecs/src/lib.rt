@@ -1,7 +1,7 @@
 //! Alphabets and codecs, which turn values into symbols for the sponge and into bytes of the proof.
 //!
-//! The rule of a draw from bytes and the bits of security that it must have are those of the IETF draft on
-//! Fiat-Shamir (draft-irtf-cfrg-fiat-shamir), which the Rust crate follows.
+//! The rule of a draw from bytes and its bits of security are those of the IETF draft on Fiat-Shamir
+//! (draft-irtf-cfrg-fiat-shamir). The Rust crate follows the draft too.
 //!
 //! A law is a function without effect whose contract a caller cites. The Rust crate has none.
 #![tactic(auto)]

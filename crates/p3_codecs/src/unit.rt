@@ -17,7 +17,7 @@ use std::marker::PhantomData;
 /// Its law: of two byte strings whose items begin one list, one begins the other. So strings of one length have
 /// different items, and so do strings of which none begins another.
 ///
-/// The Rust crate's `Unit`, which has a single function.
+/// Corresponds to the Rust crate's `Unit`, which has a single function.
 pub trait Unit {
     /// The type that the sponge observes.
     type Item;
@@ -107,11 +107,11 @@ impl Unit for u8 {
 
 /// The alphabet of a sponge over a field of more than 256 elements.
 ///
-/// A byte string becomes its length, followed by its bytes in chunks. A chunk has `(bits - 1) / 8` bytes, where `bits`
-/// is the bit length of the order, so that its number is below the order. The number of a chunk has its lowest byte
+/// A byte string becomes its length, followed by its bytes in chunks. A chunk has `(bits - 1) / 8` bytes, so that its
+/// number is below the order. Here `bits` is the bit length of the order. The number of a chunk has its lowest byte
 /// first; the last chunk may be shorter. A length that is not below the order is too long.
 ///
-/// The Rust crate's `FieldUnit`.
+/// Corresponds to the Rust crate's `FieldUnit`.
 #[derive(Clone, Copy, Debug, Default, PartialEq, Eq, PartialOrd, Ord, Hash)]
 pub struct FieldUnit<F>(PhantomData<F>);
 

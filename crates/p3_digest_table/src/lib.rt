@@ -1,4 +1,4 @@
-//! A hash function of bytes with a table of digests before it: a text in the table has the digest given there, and
+//! A hash function of bytes with a table of digests before it. A text in the table has the digest given there, and
 //! any other text that of another hash function.
 //!
 //! So a program can use the digests that another one gives to the identities of algebras, where their texts differ.

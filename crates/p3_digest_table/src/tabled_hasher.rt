@@ -33,8 +33,8 @@ impl<T: DigestTable, H: DigestHasher> DigestHasher for TabledHasher<T, H> {
     }
 }
 
-/// Two texts with one digest by a table and a hash function share one under the hash function alone, or their digest
-/// is one of the table's.
+/// Two texts may share a digest by a table and a hash function. Then they share one under the hash function alone, or
+/// their digest is one of the table's.
 ///
 /// A law: the body is empty, and a caller cites the clause.
 pub fn shared_digests<T: DigestTable, H: DigestHasher>()

@@ -8,8 +8,8 @@ use Rattle.p3_patterns.specs.Playing.{Playing}
 use Rattle.p3_symmetric.specs.declared.digest_hasher.DigestHasher.{Ghosts}
 use Rattle.p3_challenger_core.specs.declared.error.ChallengerError.TheVariants as challenger
 
--- a driver: its challenger, its pattern with the progress in it, and bytes of the proof: those that a prover has
--- written, or that a verifier has left to read
+-- A driver: its challenger, its progress in the pattern, and bytes of the proof. These are the bytes that a
+-- prover has written, or that a verifier has left to read.
 pub record Driving (S : Type 0) : Type 0 where
   pub transcript : Transcript S
   pub bytes : List ℕ

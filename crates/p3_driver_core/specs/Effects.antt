@@ -6,8 +6,8 @@ use Rattle.p3_challenger_core.specs.declared.error.ChallengerError.{ChallengerEr
 use Rattle.p3_fs_core.specs.{Alphabet.{Alphabet, RefusesBytes, LeavesItems}, BigEndian.count_bytes}
 use Rattle.p3_challenger_core.specs.Observation as observation
 
--- A step's symbols, which are not too long for the alphabet; its result, which is missing where a draw meets its
--- limit; the state after it; and the state that is left where an error refuses it.
+-- The effect of a step: its symbols, which are not too long for the alphabet, its result, the state after it, and
+-- the state that a refusal leaves. The result is missing where a draw meets its limit.
 pub record Effect (S Symbol A : Type 0) : Type 1 where
   pub symbols : List Symbol
   pub fits : Type 0

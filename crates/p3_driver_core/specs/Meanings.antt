@@ -55,13 +55,13 @@ abbrev pub sent_bounded : {S Symbol I A : Type 0} → Step → Alphabet S Symbol
 sent_bounded interaction alphabet max o e xs = with_wire interaction
     (after_count alphabet max (length xs) (observing_list o xs)) (count_bytes max (length xs) ++ flat_map e.wire xs)
 
--- at most so many bytes are sent after their count
+-- at most max bytes are sent after their count
 abbrev pub sent_bytes_bounded : {S Symbol I : Type 0} → Kind → List ℕ → Alphabet S Symbol I → ℕ → List ℕ →
     Meaning S Symbol (List ℕ)
 sent_bytes_bounded kind label alphabet max bytes = with_wire (bytes_step kind label (Bounded max))
     (after_count alphabet max (length bytes) (observing_bytes alphabet bytes)) (count_bytes max (length bytes) ++ bytes)
 
--- at most so many bytes that the challenger does not observe are sent after their count
+-- at most max bytes that the challenger does not observe are sent after their count
 abbrev pub hinted_bounded : {S Symbol : Type 0} → List ℕ → ℕ → List ℕ → Meaning S Symbol (List ℕ)
 hinted_bounded label max bytes =
     with_wire (bytes_step Hint label (Bounded max)) (untouched bytes) (count_bytes max (length bytes) ++ bytes)

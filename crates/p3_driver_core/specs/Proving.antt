@@ -13,8 +13,8 @@ pub record Writes {S Symbol A : Type 0} (m : Meaning S Symbol A) (before : Drivi
   pub plays : PlaysStep m before.transcript x after.transcript
   pub wire : after.bytes ≡ before.bytes ++ m.wire
 
--- the step is refused; where memory was, a prefix of its bytes is added, and none of them before the challenger's part
--- of the step is complete
+-- The step is refused. If memory was, a prefix of its bytes is added, and none of them before the challenger's part of
+-- the step is complete.
 pub record RefusesToWrite {S Symbol A : Type 0} (m : Meaning S Symbol A) (before : Driving S) (e : TranscriptError)
     (after : Driving S) : Type 0 where
   pub refuses : RefusesStep m before.transcript e after.transcript

@@ -35,7 +35,7 @@ go_on next None s = record { gives = None; after = s }
 go_on next (Some x) s = next x s
 
 module _ {S T : Type 0} (d : Sampling S T) (rule : Rule T) where
-  -- The first candidate that the rule accepts, of at most so many. Where it accepts none, the limit is met with no
+  -- The first candidate that the rule accepts, within a limit. Where it accepts none, the limit is met with no
   -- further draw.
   -- further draw.
   unfoldable pub taken : ℕ → List T → S → Outcome S T
@@ -50,7 +50,7 @@ module _ {S T : Type 0} (d : Sampling S T) (rule : Rule T) where
   RefusesTaken (suc more) kept e s t = RefusesDraw d e s t
       ⊎ ((x : T) × (d.sampled s ≡ Some x) × (rule x kept ≡ false) × RefusesTaken more kept e (d.after s) t)
 
-  -- n more candidates are kept, in order; at most so many in a row may be rejected, counted anew after each kept one
+  -- n more candidates are kept, in order; the rejected ones in a row are limited, counted anew after each kept one
   unfoldable pub keeps : ℕ → ℕ → List T → S → Outcome S (List T)
   keeps limit zero kept s = given kept s
   keeps limit (suc more) kept s =
@@ -94,8 +94,8 @@ abbrev pub AreRefused : {T : Type 0} → Rule T → List T → List T → Type 0
 AreRefused rule kept [] = Unit {0}
 AreRefused rule kept (x ∷ xs) = (rule x kept ≡ false) × AreRefused rule kept xs
 
--- Of candidates in a row exactly these are kept, in order, after those kept before. Before each kept one fewer than so
--- many are rejected, given those kept before them, and none comes after the last one.
+-- Of candidates in a row exactly these are kept, in order, after those kept before. Before each kept one fewer than the
+-- limit are rejected, given those kept before them, and none comes after the last one.
 abbrev pub AreKept : {T : Type 0} → Rule T → ℕ → List T → List T → List T → Type 0
 AreKept rule limit kept [] candidates = candidates ≡ []
 AreKept {T} rule limit kept (x ∷ xs) candidates =

@@ -83,7 +83,7 @@ pub record RefusesCarriedList {S : Type 0}
   pub playing : RefusesCarried IsWrong reason before.transcript.playing e after.transcript.playing
   pub challenger : after.transcript.challenger ≡ before.transcript.challenger
 
--- a caller's list of at most so many elements
+-- a caller's list of at most max elements
 abbrev pub CarriesWithin : {S Symbol A R : Type 0} → ℕ → ℕ → Meaning S Symbol A → OfCall (Driving S) R A
 CarriesWithin len max m before value result after = MatchResult result (λ r. (len ≤ max)
     × PlaysStep m before.transcript (value r) after.transcript) (λ e. RefusesCarriedList (max < len) longer_list

@@ -22,12 +22,12 @@ pub record Work (S Symbol W : Type 0) : Type 1 where
   pub symbols : W → List Symbol
   pub check : W → Sampling S Bool
 
--- the symbols of a witness in a check of so many bits
+-- the symbols of a witness in a check by a number of bits
 abbrev pub symbols_of_check : {Symbol : Type 0} → ℕ → List Symbol → List Symbol
 symbols_of_check zero symbols = []
 symbols_of_check (suc more) symbols = symbols
 
--- work of so many bits, given the draws before the witness is observed and the draw of bits
+-- work of a number of bits, given the draws before the witness is observed and the draw of bits
 abbrev pub work_of : {S Symbol W : Type 0} → Step → Residues W → Sampling S (Unit {0}) → Observation S Symbol W →
     (ℕ → Sampling S ℕ) → ℕ → Work S Symbol W
 work_of interaction r before o bit_draws bits = record {
@@ -72,8 +72,8 @@ module _ {S Symbol W : Type 0} (work : Work S Symbol W) where
     pub abandons : Abandons work.interaction before
         (λ s t. ((work.check x).sampled s ≡ Some false) × (t ≡ (work.check x).after s)) after
 
-  -- why a witness is refused, and the state left: the step may not be played, too few bits are 0, or the challenger
-  -- refused the check, which alone allocates memory
+  -- Why a witness is refused, and the state left. The step may not be played, too few bits are 0, or the challenger
+  -- refused the check, which alone allocates memory.
   abbrev pub RefusesToCheck : W → Transcript S → TranscriptError → Transcript S → Type 0
   RefusesToCheck x before (Pattern e) after = RefusesOrder work.interaction before (Pattern e) after
   RefusesToCheck x before e after = Abandons work.interaction before (RefusesWitness (work.check x) e) after
@@ -85,8 +85,8 @@ module _ {S Symbol W : Type 0} (work : Work S Symbol W) where
 
   -- ---- a witness is searched for
 
-  -- why no witness is found, and the state left: the step may not be played, or no witness passes or memory was
-  -- refused, and the challenger is as it was
+  -- Why no witness is found, and the state left. The step may not be played; or no witness passes or memory was
+  -- refused, and the challenger is as it was.
   abbrev pub RefusesToGrind : (S → Type 0) → Transcript S → TranscriptError → Transcript S → Type 0
   RefusesToGrind may_run_out before (Pattern e) after = RefusesOrder work.interaction before (Pattern e) after
   RefusesToGrind may_run_out before (Challenger challenger.OutOfMemory) after = ⊥

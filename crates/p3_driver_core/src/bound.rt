@@ -7,7 +7,7 @@ ghost use Rattle.p3_driver_core.specs.Bound.{bound_value};
 /// The drivers return such values, and users have no other way to make one: [`bind`] and
 /// [`Steps::bind`](crate::Steps::bind) are for drivers.
 ///
-/// The Rust crate's `TranscriptBound`.
+/// Corresponds to the Rust crate's `TranscriptBound`.
 #[derive(Clone, Copy, Debug, PartialEq, Eq, PartialOrd, Ord, Hash)]
 pub struct TranscriptBound<T>(pub(crate) T);
 

@@ -27,7 +27,7 @@ pub fn opaque_values_feed_their_symbols<T, C: CanObserve<T>>()
 {}
 
 /// A step of bytes feeds exactly the symbols of their items, after those of the count's items if there is a count. A
-/// refused step has fed a prefix of them, also where the bytes are too long for the alphabet.
+/// refused step has fed a prefix of them, even where the bytes are too long for the alphabet.
 ///
 /// A law: the body is empty, and a caller cites the clause.
 pub fn bytes_feed_their_symbols<U: Unit, C: CanObserve<U::Item>>()

@@ -1,5 +1,5 @@
-//! The parts that both drivers of a transcript share: the meanings of steps, their comparison with the pattern, and
-//! the way of their values to the challenger.
+//! The parts that both drivers of a transcript share. They are the meanings of steps, their comparison with the
+//! pattern, and the observation and draw of their values.
 //!
 //! A law is a function without effect whose contract a caller cites. The Rust crate has none.
 #![tactic(auto)]

@@ -7,8 +7,8 @@ ghost use Rattle.p3_patterns.specs.Playing.{Playing, RefusesToPlay, IsPlayed};
 
 use p3_fs_core::TranscriptError;
 
-/// The next step of a pattern is not refused as a wrong one, and a player whose steps are all played is not refused at
-/// the end.
+/// The next step of a pattern is not refused as a wrong one. A player whose steps are all played is not refused at the
+/// end.
 ///
 /// A law: the body is empty, and a caller cites the clause.
 pub fn next_steps_are_not_wrong()

@@ -15,9 +15,9 @@ use std::marker::PhantomData;
 /// first.
 ///
 /// The rule is called for each candidate, with those kept before it. The errors are [`ChallengerError::OutOfMemory`]
-/// and [`ChallengerError::DrawLimit`]. The latter comes where the challenger meets its own draw limit, or right after
-/// the rule has refused `limit` candidates in a row, counted from the last kept one or the start. What was drawn is
-/// consumed.
+/// and [`ChallengerError::DrawLimit`]. The latter comes where the challenger meets its own draw limit. It comes too
+/// right after the rule has refused `limit` candidates in a row, counted from the last kept one or the start. What
+/// was drawn is consumed.
 ///
 /// Conditions: the rule may be called at any time, and the codec has at least
 /// [`MIN_CHALLENGE_SECURITY_BITS`](p3_codecs::MIN_CHALLENGE_SECURITY_BITS) bits of security. The contract holds for a

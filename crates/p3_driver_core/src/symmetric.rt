@@ -24,7 +24,7 @@ pub trait Driver {}
 /// Code over this trait plays either side. Each method is the driver's own of the same name, with the same result, the
 /// same errors, and the same state after them.
 ///
-/// The Rust crate's `SymmetricSteps`.
+/// Corresponds to the Rust crate's `SymmetricSteps`.
 pub trait SymmetricSteps: Driver {
     /// The challenger that the driver observes into and draws from.
     type Challenger: Sponge;

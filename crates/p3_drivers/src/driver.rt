@@ -70,7 +70,7 @@ pub struct DriverState<C, U, D: DigestHasher, P> {
 
 /// The prover's side of a transcript: it plays a pattern step by step and writes the proof.
 ///
-/// The challenger observes what is sent, and then the proof receives it. A hint is only written.
+/// The challenger observes each value that is sent, and the proof receives it after that. A hint is only written.
 ///
 /// Beside what [`DriverState`] says: with [`TranscriptError::Challenger`] nothing is written, and with
 /// [`TranscriptError::OutOfMemory`] a prefix of the step's bytes is written.

@@ -12,8 +12,8 @@ module _ {F : Type 0} (r : Residues F) (permute : List F → List F) (rate : ℕ
   abbrev pub IsNear : F → F → Type 0
   IsNear x y = (n : ℕ) × (n ≤ rate) × ((plus r x n ≡ y) ⊎ (plus r y n ≡ x))
 
-  -- two different states whose images are equal after the cell that follows the rate, and differ in that cell by a
-  -- number from -rate to rate
+  -- two different states whose images are equal after the cell that follows the rate; in that cell they differ by
+  -- a number from -rate to rate
   pub record Collide (one other : List F) : Type 0 where
     pub different : ¬ (one ≡ other)
     pub past : drop (rate + 1) (permute one) ≡ drop (rate + 1) (permute other)

@@ -14,13 +14,13 @@ DuplexSegments F = BySegments F F (List F) (List F) (DuplexSponge F)
 abbrev pub duplex_by_segments : {F : Type 0} → Residues F → (List F → List F) → ℕ → DuplexSegments F
 duplex_by_segments r permute rate = sponge_by_segments (duplex r permute rate) (take rate)
 
--- the cells at the start of the draws after values: everything pending and the values are absorbed, including a last
--- block that does not fill the rate
+-- The cells at the start of the draws after values. Everything pending and the values are absorbed, including a last
+-- block that does not fill the rate.
 abbrev pub absorbed_cells : {F : Type 0} → Residues F → (List F → List F) → ℕ → DuplexSponge F → List F → List F
 absorbed_cells r permute rate start values =
     opened_cells (duplex r permute rate) (run_values (duplex r permute rate) start values).after
 
--- The outputs of cells form one sequence: the cells themselves from the last of the rate to the first, then those of
--- the cells permuted once, and so on.
+-- The outputs of cells form one sequence. It has the cells from the last of the rate to the first, then those of the
+-- cells permuted once, and so on.
 abbrev pub output_at : {F : Type 0} → Residues F → (List F → List F) → ℕ → List F → ℕ → F
 output_at r permute rate cells place = outputs.output_at (outputs_of (duplex r permute rate)) cells place

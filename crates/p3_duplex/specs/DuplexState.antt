@@ -10,9 +10,9 @@ use Rattle.p3_duplex.specs.DuplexSegments.{duplex_by_segments}
 use Rattle.p3_sponge.specs.Outputs as drawing
 use Rattle.p3_sponge.specs.SpongeCalls as calls
 
--- bounds of a challenger's numbers: the rate is positive, below the number of cells and below 256;
--- fewer values are pending than the rate has cells, no more outputs are left than that, and none while
--- a value is pending; the draw limit is at least 1
+-- Bounds of a challenger's numbers. The rate is positive, below the number of cells and below 256.
+-- Fewer values are pending than the rate has cells. No more outputs are left than that, and none while
+-- a value is pending. The draw limit is at least 1.
 pub record KeepsRate (width rate inputs outputs_left draw_limit : ℕ) : Type 0 where
   pub positive : 0 < rate
   pub capacity : rate < width

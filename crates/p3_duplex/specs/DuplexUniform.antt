@@ -22,7 +22,7 @@ pub record SameDraw {S : Type 0} (u v : UniformDraw S) : Type 0 where
   pub limits : (s : S) → u.draw.meets_limit s ↔ v.draw.meets_limit s
   pub rejects : (s : S) → u.rejects s ≡ v.rejects s
 
--- how many elements with a number below the bound for so many bits have the given value as their low bits
+-- the number of elements below the bound whose low bits have the given value
 abbrev pub how_many_give : {F : Type 0} → Residues F → ℕ → ℕ → ℕ
 how_many_give r bits value =
     count_by (λ n. nat_eq (low_bits r bits (r.of n)) value) (range_with_len 0 (uniform_bound r.order bits))

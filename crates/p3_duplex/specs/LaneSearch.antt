@@ -46,7 +46,7 @@ LanePasses r in_lane bits given lane = HasZeros r bits (in_lane lane given)
 abbrev pub PassesCheck : {F P : Type 0} → Residues F → (P → List F → List F) → ℕ → ℕ → DuplexState F P → F → Type 0
 PassesCheck r permute rate bits c x = HasZeros r bits (sampled r permute rate (observed r permute rate c x))
 
--- a check of an element by so many bits
+-- a check of an element by a number of bits
 abbrev pub check : {F P : Type 0} → Residues F → (P → List F → List F) → ℕ → ℕ → F → Sampling (DuplexState F P) Bool
 check r permute rate bits = check_of draws_nothing (unrefused_observe (λ x. x ∷ []) (observed r permute rate))
     (all_zero (unrefused_draw (λ s. Some (r.number (sampled r permute rate s) % 2 ^ bits)) (after_sampled r permute rate))) bits

@@ -43,7 +43,7 @@ use std::marker::Model;
 /// A challenger over a permutation of `WIDTH` cells, of which the first `RATE` are the rate.
 ///
 /// Observed values are pending until they fill the rate, or until a draw finds no output left. Then they are absorbed:
-/// they overwrite the rate with zeros after them, their number is added to the cell after the rate, and the cells are
+/// they overwrite the rate with zeros after them, and their number is added to the cell after the rate. The cells are
 /// permuted. The cells of the rate are then the outputs, drawn from the last one backwards. An observation drops the
 /// outputs left. A draw with no output left and no value pending permutes the cells.
 ///
@@ -54,8 +54,8 @@ use std::marker::Model;
 /// that of an element below their bound, or is drawn in two such halves, low half first. For 0 bits the number is 0,
 /// and nothing is drawn. The final digest is the `RATE` cells of the rate after one more permutation.
 ///
-/// The Rust crate's `DuplexChallenger`, with getters in place of public fields and of vectors. Its debug text shows the
-/// pending values and the outputs left by their names there, and nothing of what was absorbed.
+/// Corresponds to the Rust crate's `DuplexChallenger`, with getters in place of public fields and of vectors. Its debug
+/// text shows the pending values and the outputs left by their names there, and nothing of what was absorbed.
 #[derive(Drop)]
 pub struct DuplexChallenger<F, P, const WIDTH: usize, const RATE: usize> {
     sponge_state: [F; WIDTH],
@@ -115,9 +115,9 @@ impl<
     /// For those who check the permutations and not the calls, the permuted states determine the observed values. Take
     /// two lists of calls, where the order of the field exceeds `RATE`. If they permute the same states, and leave the
     /// same pending values or end in a digest, they observed the same values. If they only permute equally many states,
-    /// the same one last, and leave the same pending values, they still observed the same values, unless two states at
-    /// one place collide. That is, the states differ, and their images are equal after cell `RATE`, and differ in cell
-    /// `RATE` by a number from `-RATE` to `RATE`.
+    /// the same one last, and leave the same pending values, two cases remain. Either they observed the same values, or
+    /// two states at one place collide. Colliding states differ, and their images are equal after cell `RATE`, and
+    /// differ in cell `RATE` by a number from `-RATE` to `RATE`.
     pub fn new(permutation: P, draw_limit: u64) -> Self
         requires rate { 0 < RATE }
         requires capacity { RATE < WIDTH }
@@ -196,7 +196,7 @@ impl<
 
     /// Returns a copy of the challenger. The copy takes no memory, so it cannot fail.
     ///
-    /// The Rust crate's `Clone`.
+    /// Corresponds to the Rust crate's `Clone`.
     pub fn clone(&self) -> Self
         ensures { result ≡ self.now }
     {

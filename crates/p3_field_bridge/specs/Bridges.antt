@@ -3,7 +3,7 @@ use Rattle.std.specs.Prelude.{ℕ, ◌*◌, ◌^◌, ◌<◌, ◌≤◌, List, m
 use Rattle.p3_field_core.specs.Residues.{Residues}
 use Rattle.p3_field_bridge.specs.Digits.{number_in, digit_at}
 
--- the element that packs elements of another field: each number takes so many bits, the first one lowest
+-- the element that packs elements of another field: each number takes a fixed number of bits, the first one lowest
 abbrev pub packed : {F P : Type 0} → Residues F → Residues P → ℕ → List F → P
 packed inner outer bits values = outer.of (number_in (2 ^ bits) (map inner.number values))
 

@@ -1,5 +1,5 @@
-//! A bridge from a smaller field to a larger one: elements of the smaller one are packed into an element of the larger,
-//! whose digits are elements of the smaller.
+//! A bridge from a smaller field to a larger one. Elements of the smaller field are packed into an element of the
+//! larger, whose digits are elements of the smaller.
 ghost use Rattle.std.specs.Prelude.{◌≡◌, ℕ};
 ghost use Rattle.p3_field_bridge.specs.Bridges.{packed, digit_of, AreRadixBits, AreCounts};
 
@@ -16,7 +16,7 @@ use p3_field_core::PrimeField64;
 pub trait FieldBridge<F: PrimeField64, PF: PrimeField64> {
     /// The least number of bits that hold the canonical number of each element of `F`.
     ///
-    /// `p3-field`'s `absorb_radix_bits`.
+    /// Corresponds to `p3-field`'s `absorb_radix_bits`.
     const RADIX_BITS: u32;
 
     ghost RADIX_BITS: { ℕ };
@@ -51,11 +51,11 @@ pub trait FieldBridge<F: PrimeField64, PF: PrimeField64> {
         Self::SQUEEZE_COUNT
     }
 
-    /// Returns the element of the sum of the values' canonical numbers, where that of the value at place `j` is
-    /// multiplied by `2^(b * j)`, and `b` is [`RADIX_BITS`](FieldBridge::RADIX_BITS). With more values than are packed
-    /// the sum may reach the order of `PF`, and is reduced modulo that order.
+    /// Returns the element that packs the values: that of the sum of their canonical numbers, each times `2^(b * j)`
+    /// for the value at place `j`. Here `b` is [`RADIX_BITS`](FieldBridge::RADIX_BITS). With more values than are
+    /// packed the sum may reach the order of `PF`, and is reduced modulo that order.
     ///
-    /// `p3-field`'s `reduce_packed`.
+    /// Corresponds to `p3-field`'s `reduce_packed`.
     fn pack(values: &[F]) -> PF
         ensures { result ≡ packed F.residues PF.residues RADIX_BITS values.now }
     {

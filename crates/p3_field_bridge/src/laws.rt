@@ -15,9 +15,9 @@ pub fn packing_is_injective<F: PrimeField64, PF: PrimeField64, B: FieldBridge<F,
         ≡ packed F.residues PF.residues B.RADIX_BITS ys → xs ≡ ys }
 {}
 
-/// The first digits of two elements are the same exactly where their canonical numbers have the same remainder modulo
-/// the power of the order for so many digits. So elements whose numbers are below that power are determined by these
-/// digits.
+/// The first digits of two elements are the same exactly where their canonical numbers have the same remainder. The
+/// modulus is the order to the number of digits. So elements whose numbers are below that power are
+/// determined by these digits.
 ///
 /// A law: the body is empty, and a caller cites the clauses.
 pub fn digits_tell_elements<F: PrimeField64, PF: PrimeField64>()

@@ -9,9 +9,9 @@ use crate::{Field, PrimeCharacteristicRing};
 /// A vector space over a field with a basis: an element is its list of coefficients. Elements compare equal exactly
 /// where they are the same.
 ///
-/// `p3-field`'s `BasedVectorSpace`. That trait makes an element from a function or an iterator. This one makes it
-/// with [`zero`](BasedVectorSpace::zero) and [`with_coefficient`](BasedVectorSpace::with_coefficient), and a space
-/// is `Copy`.
+/// Corresponds to `p3-field`'s `BasedVectorSpace`. That trait makes an element from a function or an iterator. This one
+/// makes it with [`zero`](BasedVectorSpace::zero) and [`with_coefficient`](BasedVectorSpace::with_coefficient), and a
+/// space is `Copy`.
 pub trait BasedVectorSpace<F: PrimeCharacteristicRing>: Copy + PartialEq {
     /// The number of coefficients of an element: from 1 to 65535.
     const DIMENSION: usize;
@@ -57,7 +57,7 @@ pub trait BasedVectorSpace<F: PrimeCharacteristicRing>: Copy + PartialEq {
 /// A vector space that contains the field: a value of the field is the element with this value as coefficient 0 and
 /// zeros elsewhere.
 ///
-/// `p3-field`'s `Algebra`.
+/// Corresponds to `p3-field`'s `Algebra`.
 pub trait Algebra<F: PrimeCharacteristicRing>: BasedVectorSpace<F> + From<F> {
     ghost from_law: { (value : F) (x : Self) → Self.from_gives value x →
         Self.coefficients x ≡ value ∷ replicate (Self.DIMENSION - 1) (F.residues.of 0) };
@@ -65,8 +65,8 @@ pub trait Algebra<F: PrimeCharacteristicRing>: BasedVectorSpace<F> + From<F> {
 
 /// An algebra with a text that identifies it.
 ///
-/// `p3-field`'s `AlgebraIdentity`. The texts are this repository's own, so digests of typed transcripts differ from
-/// the Rust crate's.
+/// Corresponds to `p3-field`'s `AlgebraIdentity`. The texts are this repository's own, so digests of typed transcripts
+/// differ from the Rust crate's.
 pub trait AlgebraIdentity<F: PrimeCharacteristicRing>: Algebra<F> {
     // The bytes of the identity.
     ghost identity: { List ℕ };

@@ -6,7 +6,7 @@ use crate::PrimeCharacteristicRing;
 
 /// A field: a ring of residues modulo a prime. The default element is 0.
 ///
-/// `p3-field`'s `Field`.
+/// Corresponds to `p3-field`'s `Field`.
 pub trait Field: PrimeCharacteristicRing + Default {
     // How many bits the order takes.
     ghost bit_length: { ℕ };
@@ -29,7 +29,7 @@ pub trait Field: PrimeCharacteristicRing + Default {
 
 /// A field of prime order.
 ///
-/// `p3-field`'s `PrimeField`.
+/// Corresponds to `p3-field`'s `PrimeField`.
 pub trait PrimeField: Field {
     /// Returns the order of the field.
     fn order() -> u128
@@ -38,7 +38,7 @@ pub trait PrimeField: Field {
 
 /// A prime field whose order is below `2^64`.
 ///
-/// `p3-field`'s `PrimeField64`.
+/// Corresponds to `p3-field`'s `PrimeField64`.
 pub trait PrimeField64: PrimeField {
     /// The order of the field.
     const ORDER_U64: u64;
@@ -83,7 +83,7 @@ pub trait PrimeField64: PrimeField {
 
 /// A prime field whose order is below `2^32`.
 ///
-/// `p3-field`'s `PrimeField32`.
+/// Corresponds to `p3-field`'s `PrimeField32`.
 pub trait PrimeField32: PrimeField64 {
     /// The order of the field.
     const ORDER_U32: u32;

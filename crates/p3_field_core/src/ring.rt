@@ -11,7 +11,7 @@ use std::ops::{Add, Mul, Sub};
 /// Contracts see an element by its canonical number, which is below the order. Elements compare equal exactly where
 /// they are the same.
 ///
-/// `p3-field`'s `PrimeCharacteristicRing`.
+/// Corresponds to `p3-field`'s `PrimeCharacteristicRing`.
 pub trait PrimeCharacteristicRing: Copy
     + PartialEq
     + Add<Self, Output = Self>

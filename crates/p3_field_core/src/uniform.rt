@@ -7,7 +7,7 @@ use crate::PrimeField64;
 /// A prime field for draws of uniform bits. The bits are the low bits of the canonical numbers below a bound, where
 /// each value of the bits occurs equally often.
 ///
-/// `p3-field`'s `UniformSamplingField`, which the Rust crate re-exports too.
+/// Corresponds to `p3-field`'s `UniformSamplingField`, which the Rust crate re-exports too.
 pub trait UniformSamplingField: PrimeField64 {
     /// The greatest number of bits drawn from one element. Its power of two is at most the order.
     const MAX_SINGLE_SAMPLE_BITS: usize;
@@ -31,7 +31,7 @@ pub trait UniformSamplingField: PrimeField64 {
     ghost max_single_within: { 2 ^ MAX_SINGLE_SAMPLE_BITS ≤ Self.residues.order };
 }
 
-/// The bound is at most the order and a multiple of the power of two, so each value of the bits comes from equally
+/// The bound is at most the order and a multiple of the power of two. So each value of the bits comes from equally
 /// many canonical numbers below the bound. If one element suffices for the bits, the bound is positive.
 ///
 /// A law: the body is empty, and a caller cites the clauses.

@@ -124,7 +124,7 @@ big_endian-below bytes h =
 
 -- ---- how many bytes bits take
 
--- a number of so many bits fits in the bytes that these bits take
+-- a number with a given bit length fits in the bytes that its bits take
 pub fits-bytes_for : (bits n : ℕ) → n < 2 ^ bits → n < 256 ^ bytes_for bits
 fits-bytes_for bits n fits =
     let enough : bits ≤ 8 * bytes_for bits = omega arith in

@@ -2,15 +2,15 @@
 use Rattle.std.specs.Prelude.{◌≡◌, ℕ, List, ◌++◌, length, Result, Ok}
 use Rattle.p3_challenger_core.specs.Reading.{IsPrefixCode, AreBytes}
 
--- the width of an encoding in bytes, the encoding of a value, and the reading at the head of bytes, which gives a
--- value and the bytes after it, or the reason why there is none
+-- An encoding: its width in bytes, the bytes of a value, and the reading at the head of bytes. Reading gives a value
+-- and the bytes after it, or the reason why there is none.
 pub record Encoding (T : Type 0) : Type 0 where
   pub width : ℕ
   pub wire : T → List ℕ
   pub read : List ℕ → Result (T × List ℕ) (List ℕ)
 
--- each encoding has the width, and encodings form a prefix code; an encoded value is read back, whatever follows, and
--- a value that is read has these bytes as its encoding
+-- All encodings have the width and form a prefix code. An encoded value is read back, whatever follows, and a value
+-- that is read has these bytes as its encoding.
 pub record IsEncoding {T : Type 0} (e : Encoding T) : Type 0 where
   pub fixed_width : (x : T) → length (e.wire x) ≡ e.width
   pub prefix_code : IsPrefixCode e.wire

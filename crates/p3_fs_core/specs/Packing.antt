@@ -8,7 +8,7 @@ abbrev pub little_endian : List ℕ → ℕ
 little_endian [] = 0
 little_endian (byte ∷ bytes) = byte + 256 * little_endian bytes
 
--- the number of bytes in a chunk, so that its number is below the order of a field of so many bits
+-- the number of bytes in a chunk, so that its number is below the order of the field
 abbrev pub chunk_bytes : ℕ → ℕ
 chunk_bytes bits = (bits - 1) / 8
 
@@ -32,7 +32,7 @@ packed_chunks r size bytes = map (λ chunk. r.of (little_endian chunk)) (chunks 
 abbrev pub packed : {F : Type 0} → Residues F → ℕ → List ℕ → List F
 packed r size bytes = r.of (length bytes) ∷ packed_chunks r size bytes
 
--- the elements of a byte string in a field whose order has so many bits
+-- the elements of a byte string in a field, given the bit length of its order
 abbrev pub packed_elements : {F : Type 0} → Residues F → ℕ → List ℕ → List F
 packed_elements r bits bytes = packed r (chunk_bytes bits) bytes
 

@@ -26,6 +26,6 @@ read r width bytes =
     then Err not_enough_bytes
     else element_of r (big_endian (take width bytes)) (drop width bytes)
 
--- the encoding of elements of a field whose order has so many bits
+-- the encoding of elements of a field, given the bit length of its order
 abbrev pub encoding : {F : Type 0} → Residues F → ℕ → Encoding F
 encoding r bits = record { width = bytes_for bits; wire = wire r (bytes_for bits); read = read r (bytes_for bits) }

@@ -93,7 +93,7 @@ module _ {F : Type 0} (r : Residues F) (laws : IsResidues r) (width : ℕ) (fits
 
 -- ---- the width of a field
 
--- an order of so many bits is at most 256 to the number of bytes that these bits take
+-- an order is at most 256 to the number of bytes that its bits take
 pub order-fits : (bits order : ℕ) → order < 2 ^ bits → order ≤ 256 ^ bytes_for bits
 order-fits bits order fits = omega (arith, fits-bytes_for bits order fits)
 

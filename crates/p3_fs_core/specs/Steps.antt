@@ -56,8 +56,8 @@ alternate_text s =
     hierarchy_text s.hierarchy ++ (codes " " ++ (kind_text s.kind ++ (codes " " ++ (decimal (length s.label) ++
     (codes " " ++ (s.label ++ (codes " " ++ (length_text s.length ++ (codes " " ++ type_tag_text s.type_tag)))))))))
 
--- an algebra as steps name it: the order of its field, the number of coefficients of an element, the digest of its
--- identity, and its name in the program
+-- An algebra as steps name it: the order of its field, the number of coefficients, the digest of its identity, and
+-- its name in the program.
 pub record NamedAlgebra : Type 0 where
   pub order : ℕ
   pub degree : ℕ

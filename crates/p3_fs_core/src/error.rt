@@ -13,7 +13,7 @@ use thiserror::Error;
 ///
 /// Each function's documentation says which state an error leaves.
 ///
-/// The Rust crate's `TranscriptError`, with four more variants. Each variant holds its data inline.
+/// Corresponds to the Rust crate's `TranscriptError`, with four more variants. Each variant holds its data inline.
 #[derive(Clone, Debug, PartialEq, Eq, Drop, Error)]
 pub enum TranscriptError {
     /// A closer stands where nothing is open.
@@ -50,7 +50,7 @@ pub enum TranscriptError {
 
 /// A closer where nothing is open.
 ///
-/// The Rust crate's `MissingBeginInfo`.
+/// Corresponds to the Rust crate's `MissingBeginInfo`.
 #[derive(Clone, Copy, Debug, PartialEq, Eq, Error)]
 #[error("missing begin for {end} at position {position}")]
 pub struct MissingBeginInfo {
@@ -62,7 +62,7 @@ pub struct MissingBeginInfo {
 
 /// A step, leaf or opener, of a kind that the enclosing container does not allow.
 ///
-/// The Rust crate's `InvalidKindInfo`.
+/// Corresponds to the Rust crate's `InvalidKindInfo`.
 #[derive(Clone, Copy, Debug, PartialEq, Eq, Error)]
 #[error("invalid kind {interaction} at {interaction_position} for sub-protocol {begin} opened at {begin_position}")]
 pub struct InvalidKindInfo {
@@ -78,7 +78,7 @@ pub struct InvalidKindInfo {
 
 /// A closer that does not match the innermost opener that is still open.
 ///
-/// The Rust crate's `MismatchedBeginEndInfo`.
+/// Corresponds to the Rust crate's `MismatchedBeginEndInfo`.
 #[derive(Clone, Copy, Debug, PartialEq, Eq, Error)]
 #[error("mismatched begin {begin} at {begin_position} versus end {end} at {end_position}")]
 pub struct MismatchedBeginEndInfo {
@@ -94,7 +94,7 @@ pub struct MismatchedBeginEndInfo {
 
 /// The innermost opener that is still open at the end.
 ///
-/// The Rust crate's `MissingEndInfo`.
+/// Corresponds to the Rust crate's `MissingEndInfo`.
 #[derive(Clone, Copy, Debug, PartialEq, Eq, Error)]
 #[error("missing end for {begin} opened at position {position}")]
 pub struct MissingEndInfo {

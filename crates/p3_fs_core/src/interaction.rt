@@ -11,14 +11,15 @@ use std::fmt;
 
 /// The name of a step: a static string of the program.
 ///
-/// The Rust crate's `Label`.
+/// Corresponds to the Rust crate's `Label`.
 pub type Label = &'static str;
 
 /// One step of an interactive protocol: its hierarchy, its purpose, its label, and what it carries.
 ///
 /// Two steps are equal where all six of their parts are, the name of their type included.
 ///
-/// The Rust crate's `Interaction`. Here [`Named`] supplies the names of types, and a [`DigestHasher`] the digests.
+/// Corresponds to the Rust crate's `Interaction`. Here [`Named`] supplies the names of types, and a [`DigestHasher`]
+/// the digests.
 #[derive(Clone, Copy, Debug, PartialEq, Eq, PartialOrd, Ord, Hash)]
 pub struct Interaction {
     hierarchy: Hierarchy,
@@ -225,8 +226,8 @@ impl Interaction {
         self.length
     }
 
-    /// Returns whether this step closes the other: this one is an End, the other is a Begin, and all other parts are
-    /// the same, the name of the type included.
+    /// Returns whether this step closes the other. Then this one is an End, the other is a Begin, and all other parts
+    /// are the same, the name of the type included.
     pub fn closes(&self, other: &Self) -> bool
         ensures { IsTrue result ↔ Closes (step_of self.now) (step_of other.now) }
     {

@@ -9,7 +9,7 @@ use std::fmt;
 
 /// Says whether a step opens or closes a container, or stands alone.
 ///
-/// The Rust crate's `Hierarchy`.
+/// Corresponds to the Rust crate's `Hierarchy`.
 #[derive(Clone, Copy, Debug, PartialEq, Eq, PartialOrd, Ord, Hash)]
 pub enum Hierarchy {
     /// A step that is no opener or closer.
@@ -22,7 +22,7 @@ pub enum Hierarchy {
 
 /// The purpose of a step.
 ///
-/// The Rust crate's `Kind`.
+/// Corresponds to the Rust crate's `Kind`.
 #[derive(Clone, Copy, Debug, PartialEq, Eq, PartialOrd, Ord, Hash)]
 pub enum Kind {
     /// A container of steps of any kind.
@@ -43,7 +43,7 @@ pub enum Kind {
 
 /// The number of values that a step carries.
 ///
-/// The Rust crate's `Length`.
+/// Corresponds to the Rust crate's `Length`.
 #[derive(Clone, Copy, Debug, PartialEq, Eq, PartialOrd, Ord, Hash)]
 pub enum Length {
     /// No value.

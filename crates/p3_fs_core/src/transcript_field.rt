@@ -18,7 +18,7 @@ use p3_field_core::PrimeField64;
 /// Every [`PrimeField64`] implements this trait, and no other type can. The Rust crate's `TranscriptField` is open to
 /// other fields too.
 pub trait TranscriptField: PrimeField64 {
-    /// Returns the tag of an algebra over this field, with so many coefficients and this digest of its identity.
+    /// Returns the tag of an algebra over this field, of this degree and with this digest of its identity.
     final fn algebra_tag(degree: usize, basis: [u8; 32]) -> TypeTag
         ensures { result ≡ TypeTag.Algebra Self.residues.order degree basis }
     {
@@ -89,7 +89,7 @@ pub trait TranscriptField: PrimeField64 {
     /// [`wire_len`](TranscriptField::wire_len) bytes.
     ///
     /// The one error is [`TranscriptError::BadProofShape`]. Its reason is `not enough bytes for a canonical field
-    /// encoding` where there are fewer bytes, and else `field encoding outside canonical range` where their number is
+    /// encoding` where there are fewer bytes. It is `field encoding outside canonical range` where their number is
     /// not below the order. This call takes no memory.
     final fn decode(bytes: &[u8]) -> Result<Self, TranscriptError>
         ensures exact { Decodes ((encoding Self.residues Self.bit_length).read bytes.now) result }

@@ -93,7 +93,7 @@ module _ {S T : Type 0} (d : Sampling S T) (accepts : T → Bool) where
 
   -- ---- candidate by candidate
 
-  -- The first of so many candidates were rejected; the remaining ones continue from here.
+  -- The first candidates within the limit were rejected; the remaining ones continue from here.
   pub record Seeks (limit : ℕ) (start : S) (left : ℕ) (here : S) : Type 0 where
     pub gives : first_accepted d accepts limit start ≡ first_accepted d accepts left here
     pub reached : after_first_accepted d accepts limit start ≡ after_first_accepted d accepts left here
@@ -262,7 +262,7 @@ module _ {S T : Type 0} (d : Sampling S T) (accepts : T → Bool) where
         let first = h 0 (omega arith) in
         inr (first.0, first.1, first.2, refused_each more (d.after s) (λ k below. h (suc k) (sooner k more below)))
 
-    -- the first accepted candidate of so many, and a function of it
+    -- the first accepted candidate within the limit, and a function of it
     pub limit-met_exactly : {U : Type 0} (f : T → U) (limit : S → ℕ)
         → MeetsLimitExactly d accepts limit (made_of f (accepted_within d accepts limit))
     limit-met_exactly f limit =

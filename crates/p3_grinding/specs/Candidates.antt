@@ -9,7 +9,7 @@ after_refused accepts more None t = t
 after_refused accepts more (Some x) t = if accepts x then t else more t
 
 module _ {S T : Type 0} (d : Sampling S T) (accepts : T → Bool) where
-  -- the first accepted candidate of so many; none if each is rejected, or if a draw meets its own limit
+  -- the first accepted candidate within the limit; none if each is rejected, or if a draw meets its own limit
   unfoldable pub first_accepted : ℕ → S → Option T
   first_accepted zero s = None
   first_accepted (suc more) s =
@@ -21,7 +21,7 @@ module _ {S T : Type 0} (d : Sampling S T) (accepts : T → Bool) where
   after_first_accepted zero s = s
   after_first_accepted (suc more) s = after_refused accepts (after_first_accepted more) (d.sampled s) (d.after s)
 
-  -- each of so many candidates is rejected, or a draw meets its own limit after rejected candidates
+  -- each candidate within the limit is rejected, or a draw meets its own limit after rejected candidates
   unfoldable pub MeetsLimit : ℕ → S → Type 0
   MeetsLimit zero s = Unit {0}
   MeetsLimit (suc more) s =
@@ -33,7 +33,7 @@ module _ {S T : Type 0} (d : Sampling S T) (accepts : T → Bool) where
   MayLeave (suc more) s t =
       d.may_leave s t ⊎ ((x : T) × (d.sampled s ≡ Some x) × (accepts x ≡ false) × MayLeave more (d.after s) t)
 
-  -- a draw of the first accepted candidate of so many
+  -- a draw of the first accepted candidate within the limit
   abbrev pub accepted_of : ℕ → Sampling S T
   accepted_of limit = record {
     sampled = first_accepted limit;
@@ -51,7 +51,7 @@ module _ {S T : Type 0} (d : Sampling S T) (accepts : T → Bool) where
     may_leave = λ s t. MayLeave (limit s) s t;
   }
 
-  -- each of so many candidates, drawn one after another, is rejected
+  -- each candidate within the limit, drawn one after another, is rejected
   abbrev pub EachRefused : ℕ → S → Type 0
   EachRefused count s =
       (k : ℕ) → k < count → (x : T) × (d.sampled (after_steps d.after k s) ≡ Some x) × (accepts x ≡ false)

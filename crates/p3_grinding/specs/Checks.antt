@@ -45,14 +45,14 @@ checked before o test witness =
 abbrev pub passed : {S : Type 0} → Sampling S Bool
 passed = unrefused_draw (λ _. Some true) (λ s. s)
 
--- a check of so many bits
+-- a check by a number of bits
 abbrev pub check_of : {S Symbol W : Type 0} → Sampling S (Unit {0}) → Observation S Symbol W → Sampling S Bool → ℕ → W →
     Sampling S Bool
 check_of before o test zero witness = passed
 check_of before o test (suc more) witness = checked before o test witness
 
 module _ {S Symbol W : Type 0} (o : Observation S Symbol W) where
-  -- a check of so many bits, given the draw of bits
+  -- a check by a number of bits, given the draw of bits
   abbrev pub bits_check : Sampling S (Unit {0}) → (ℕ → Sampling S ℕ) → ℕ → W → Sampling S Bool
   bits_check before sampling bits = check_of before o (all_zero (sampling bits)) bits
 
@@ -78,13 +78,13 @@ byte_check o d encoded accepted n = checked draws_nothing o (made_of accepted d)
 abbrev pub PassesAt : {S : Type 0} → (ℕ → Sampling S Bool) → S → ℕ → Type 0
 PassesAt check s n = (check n).sampled s ≡ Some true
 
--- the first candidate that passes, of so many
+-- the first of n candidates that passes
 pub record IsFirst {S : Type 0} (check : ℕ → Sampling S Bool) (s : S) (count n : ℕ) : Type 0 where
   pub below : n < count
   pub passes : PassesAt check s n
   pub first : (k : ℕ) → k < n → ¬ (PassesAt check s k)
 
--- none of so many candidates passes
+-- none of n candidates passes
 abbrev pub NoneOf : {S : Type 0} → (ℕ → Sampling S Bool) → S → ℕ → Type 0
 NoneOf check s count = (n : ℕ) → n < count → ¬ (PassesAt check s n)
 
@@ -134,7 +134,7 @@ abbrev pub TriesOrRefuses : {S W : Type 0} → Residues W → Type 0 → (W → 
 TriesOrRefuses r copies_may_fail check = FindsOrRefuses r (MayRunOut copies_may_fail check) check
 
 -- why no copy of a challenger is made ready for witnesses: memory was refused, or a draw before the witness meets a
--- limit, so that there is no witness
+-- limit
 abbrev pub RefusesReady : {S : Type 0} → Type 0 → Sampling S (Unit {0}) → ChallengerError → S → Type 0
 RefusesReady {S} copies_may_fail before OutOfMemory s = copies_may_fail ⊎ ((t : S) × before.may_leave s t)
 RefusesReady copies_may_fail before NoWitness s = before.sampled s ≡ None

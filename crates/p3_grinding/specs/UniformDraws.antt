@@ -11,8 +11,8 @@ pub record UniformDraw (S : Type 0) : Type 1 where
   pub draw : Sampling S ℕ
   pub rejects : S → Option ResamplingError
 
--- what a draw of uniform bits with this error leaves: a value was rejected and is consumed with those before it, or
--- the draw was refused as any other draw
+-- What a draw of uniform bits with this error leaves. Either a value was rejected and is consumed with those before
+-- it, or the draw was refused as any other draw.
 abbrev pub RefusesUniform : {S : Type 0} → UniformDraw S → UniformBitsError → S → S → Type 0
 RefusesUniform u (Resampling error) s t = (u.rejects s ≡ Some error) × (t ≡ u.draw.after s)
 RefusesUniform u (Challenger e) s t = RefusesDraw u.draw e s t

@@ -11,8 +11,8 @@ pub trait BeforeWitness: Sponge {
     // What is drawn before a witness is observed.
     ghost before_witness: { Sampling Self.State (Unit {0}) };
 
-    /// Makes the draws of a check of at least one bit before it observes the witness: one byte for a challenger over
-    /// a challenger of bytes, and nothing for the others.
+    /// Makes the draws of a check of at least one bit before it observes the witness. A challenger over a challenger
+    /// of bytes draws one byte, and the others draw nothing.
     ///
     /// The errors are those of [`CanSample::sample`](p3_challenger_core::CanSample::sample), with the same state
     /// after them.

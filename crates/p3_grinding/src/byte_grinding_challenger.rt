@@ -35,7 +35,7 @@ pub trait ByteCandidates<const W: usize, const S: usize> {
 
 /// A challenger of bytes that searches candidates: each feeds `W` bytes, and the next `S` bytes drawn are tested.
 ///
-/// The Rust crate's `ByteGrindingChallenger`, where `W` and `S` are parameters of `find_witness`.
+/// Corresponds to the Rust crate's `ByteGrindingChallenger`, where `W` and `S` are parameters of `find_witness`.
 pub trait ByteGrindingChallenger<const W: usize, const S: usize>: CanCopy
     + CanObserve<u8>
     + CanSample<u8> {

@@ -15,7 +15,7 @@ use p3_field_core::PrimeField64;
 
 /// A challenger for proofs of work: it searches for a witness such that the bits drawn after it are 0.
 ///
-/// The Rust crate's `GrindingChallenger`.
+/// Corresponds to the Rust crate's `GrindingChallenger`.
 pub trait GrindingChallenger: BeforeWitness + CanObserve<Self::Witness> + CanSampleBits<usize> {
     /// The type of the witnesses.
     type Witness: PrimeField64;

@@ -10,7 +10,7 @@ use p3_challenger_core::CanSampleBits;
 /// equally often. `F` is the field of the challenger. This trait does not promise that no value of the bits is
 /// favoured; each challenger promises that for its own draws.
 ///
-/// The Rust crate's `CanSampleUniformBits`.
+/// Corresponds to the Rust crate's `CanSampleUniformBits`.
 pub trait CanSampleUniformBits<F>: CanSampleBits<usize> {
     // A draw of so many bits; whether another value may be drawn in the place of a rejected one.
     ghost uniform: { Bool → ℕ → UniformDraw Self.State };

@@ -11,7 +11,7 @@ use p3_challenger_core::ChallengerError;
 ///
 /// With 0 bits each witness passes, and nothing changes.
 ///
-/// The Rust crate's `UniformGrindingChallenger`.
+/// Corresponds to the Rust crate's `UniformGrindingChallenger`.
 pub trait UniformGrindingChallenger: GrindingChallenger + CanSampleUniformBits<Self::Witness> {
     /// Returns the least witness that passes
     /// [`check_witness_uniform`](UniformGrindingChallenger::check_witness_uniform), with `bits` at most `max_bits`. The

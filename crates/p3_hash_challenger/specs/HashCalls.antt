@@ -2,15 +2,15 @@
 use Rattle.std.specs.Prelude.{ℕ, ◌==◌, ◌-◌, List, [], ◌∷◌, ◌++◌, take, slice_index_or, if◌then◌else◌}
 use Rattle.p3_challenger_core.specs.Segments.{Call, observe, observe_empty_array, draw, Run, stays, ByCalls}
 
--- a hash function of lists: the digest of a list, the number of places of each digest, and a dummy for a
--- missing place, which no draw takes
+-- A hash function of lists: the digest of a list, the number of places of each digest, and a dummy for a
+-- missing place. No draw takes the dummy.
 pub record HashFunction (T : Type 0) : Type 0 where
   pub digest : List T → List T
   pub out_len : ℕ
   pub filler : T
 
--- the state of a hash challenger: the input of the next hash, and how many outputs of the last flush are left,
--- which are the first places of its digest
+-- The state of a hash challenger: the input of the next hash, and how many outputs of the last flush are left.
+-- These are the first places of its digest.
 pub record HashSponge (T : Type 0) : Type 0 where
   pub pending : List T
   pub outputs_left : ℕ

@@ -20,8 +20,8 @@ module _ {T : Type 0} (h : HashFunction T) (s : HashSponge T) where
   abbrev pub ReadsBackToDigest : Type 0
   ReadsBackToDigest = queries.ReadsBackToDigest (run_calls_to_digest (hash_by_calls h) s)
 
-  -- lists of calls that hash equally many strings and leave the same pending values have observed the same values,
-  -- or two hashed strings at one place collide
+  -- lists of calls that hash equally many strings and leave the same pending values observed the same values, or
+  -- two strings at one place collide
   abbrev pub ReadsBackOrCollides : Type 0
   ReadsBackOrCollides =
       let run = run_calls (hash_by_calls h) s in

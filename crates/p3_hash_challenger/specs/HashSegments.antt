@@ -21,7 +21,7 @@ outputs_of h = record { next = h.digest; row_len = h.out_len; output = λ chain 
 
 -- h(n) of a chain is its hash, hashed again and again, n times in all. The outputs of a chain form one sequence: those
 -- of each h(n), from its last place to its first. Draw k of a segment that begins anew is at place out_len + k of that
--- sequence, which is place out_len - 1 - k % out_len of h(1 + k / out_len).
+-- sequence. This is place out_len - 1 - k % out_len of h(1 + k / out_len).
 abbrev pub output_at : {T : Type 0} → HashFunction T → List T → ℕ → T
 output_at h chain place = outputs.output_at (outputs_of h) chain place
 

@@ -84,9 +84,9 @@ impl<T: Copy, H: CryptographicHasher<T, [T; OUT_LEN]>, const OUT_LEN: usize> Has
     ///
     /// For those who check the hashes and not the calls, the hashed strings determine the observed values. If two lists
     /// of calls hash the same strings, and leave the same pending values or end in a digest, they observed the same
-    /// values. If they only hash equally many strings and leave the same pending values, they still observed the same
-    /// values, unless two different hashed strings at one place have one digest. The last claim is for values with
-    /// decidable equality, such as bytes and field elements.
+    /// values. If they only hash equally many strings and leave the same pending values, two cases remain. Either they
+    /// observed the same values, or two different strings at one place have one digest. The last claim is for values
+    /// with decidable equality, such as bytes and field elements.
     pub fn new(initial_state: Vec<T>, hasher: H) -> Self
         requires { 0 < OUT_LEN }
         ensures value { result

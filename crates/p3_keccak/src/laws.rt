@@ -3,7 +3,7 @@ ghost use Rattle.std.{specs.Prelude.{◌≡◌, []}, proofs.Common.codes};
 ghost use Rattle.p3_keccak.specs.{Keccak.{keccak256, offsets, round_constants}, KnownDigests.{digest_of_abc, digest_of_nothing}};
 ghost use Rattle.p3_keccak.specs.Tables.{offsets_of_walk, round_constants_of_register};
 
-/// The definition of Keccak-256 has the tables that the standard generates (FIPS 202, Algorithms 2, 5 and 6), and
+/// The definition of Keccak-256 has the tables that the standard generates (FIPS 202, Algorithms 2, 5 and 6). It
 /// gives the published digests of the empty message and of `abc`.
 ///
 /// A law: the body is empty, and a caller cites the clauses.

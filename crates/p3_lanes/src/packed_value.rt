@@ -8,7 +8,7 @@ use std::ops::{Add, Mul, Sub};
 /// Elements of a ring side by side, one in each of `WIDTH` lanes. The sum, the difference and the
 /// product of two such values are computed in each lane.
 ///
-/// `p3-field`'s `PackedValue`, which lends its lanes as a slice. This trait copies an element out of
+/// Corresponds to `p3-field`'s `PackedValue`, which lends its lanes as a slice. This trait copies an element out of
 /// a lane.
 pub trait PackedValue<F: PrimeCharacteristicRing>: Copy
     + Add<Self, Output = Self>

@@ -9,8 +9,8 @@ use Rattle.p3_sponge.specs.SpongeCalls.{SpongeRule, CellSponge, SpongeRun, empti
 use Rattle.p3_sponge.specs.{Cells.{cell, counted_over, overwritten}, SpongeCalls.run_end}
 use Rattle.p3_sponge.specs.SpongeCalls as sponge
 
--- Two fields, that of the scalars and that of the cells, with three numbers: the bits in which a scalar is packed,
--- the scalars packed in a cell, and the digits drawn from a cell.
+-- Two fields, for the scalars and for the cells, with three numbers: the bits of a packed scalar, the scalars
+-- packed in a cell, and the digits drawn from a cell.
 pub record FieldPair (F PF : Type 0) : Type 0 where
   pub inner : Residues F
   pub outer : Residues PF
@@ -48,7 +48,7 @@ fresh pair width = emptied (replicate width (pair.outer.of 0)) 0
 
 -- ---- what is absorbed
 
--- so many cells that pack scalars, each as many as it can, the first ones first; a cell without scalars is 0
+-- n cells that pack scalars, each as many as it can, the first ones first; a cell without scalars is 0
 abbrev pub packed_cells : {F PF : Type 0} → FieldPair F PF → ℕ → List F → List PF
 packed_cells pair zero scalars = []
 packed_cells pair (suc n) scalars =
@@ -59,7 +59,7 @@ abbrev pub scalars_over : {F PF : Type 0} → FieldPair F PF → ℕ → List PF
 scalars_over pair rate cells scalars =
     counted_over pair.outer rate cells (packed_cells pair rate scalars) (length scalars)
 
--- a list in blocks of this size, of which only the last may be shorter, and at most so many blocks
+-- a list in at most n blocks of this size, of which only the last may be shorter
 abbrev pub blocks_within : {T : Type 0} → ℕ → ℕ → List T → List (List T)
 blocks_within size zero xs = []
 blocks_within size (suc n) [] = []
@@ -86,8 +86,8 @@ scalars_rule pair permute rate = record {
   output = digit_in_row pair;
 }
 
--- the number of digits that a draw has queued and that were neither drawn nor dropped; it is 0 while all outputs
--- are left, since then no draw has taken any
+-- The number of digits that a draw has queued and that were neither drawn nor dropped. It is 0 while all outputs
+-- are left, since then no draw has taken any.
 abbrev pub queued : {F PF : Type 0} → FieldPair F PF → ℕ → MultiFieldSponge F PF → ℕ
 queued pair rate s = if s.outputs_left == row_of pair rate then 0 else s.outputs_left
 

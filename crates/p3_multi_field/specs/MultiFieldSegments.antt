@@ -80,8 +80,8 @@ module _ {F PF : Type 0} (pair : FieldPair F PF) (permute : List PF → List PF)
       let first = run_values rule start cut.scalars in
       run_before first (run_stretches first.after cut.digests)
 
-  -- the cells at the start of the draws after symbols: everything pending and the symbols are absorbed, including
-  -- scalars that do not fill the rate
+  -- The cells at the start of the draws after symbols. Everything pending and the symbols are absorbed, including
+  -- scalars that do not fill the rate.
   abbrev pub absorbed_cells : MultiFieldSponge F PF → List (Symbol F PF) → List PF
   absorbed_cells start symbols = opened_cells rule (run_symbols start symbols).after
 

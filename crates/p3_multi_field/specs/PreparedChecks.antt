@@ -44,14 +44,14 @@ module _ {F PF P : Type 0} (pair : FieldPair F PF) (permute : P → List PF → 
   abbrev pub PreparedFor : MultiFieldState F PF P → PreparedChecks F PF P → Type 0
   PreparedFor c s = (x : F) → given_by s x ≡ sampled pair permute rate (scalar_observed pair permute rate c x)
 
-  -- a check of a scalar by so many bits
+  -- a check of a scalar by a number of bits
   abbrev pub check : ℕ → F → Sampling (MultiFieldState F PF P) Bool
   check bits = check_of {Symbol = Symbol F PF} draws_nothing (unrefused_observe (λ x. scalar x ∷ []) (scalar_observed pair permute rate))
       (all_zero (unrefused_draw (λ c. Some (pair.inner.number (sampled pair permute rate c) % 2 ^ bits))
       (after_sampled pair permute rate))) bits
 
--- bounds of prepared checks: the rate is positive and below the number of cells, each cell gives at least one digit,
--- and the candidate fits among the scalars of its cell
+-- Bounds of prepared checks. The rate is positive and below the number of cells, each cell gives at least one digit,
+-- and the candidate fits among the scalars of its cell.
 pub record KeepsChecks (width rate squeeze within : ℕ) : Type 0 where
   pub positive : 0 < rate
   pub capacity : rate < width

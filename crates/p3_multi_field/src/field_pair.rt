@@ -2,8 +2,8 @@
 use p3_field_bridge::FieldBridge;
 use p3_field_core::PrimeField64;
 
-/// The view of contracts on a field of cells, which implements this trait, and a field `F` of scalars: both fields,
-/// and the packing and drawing of elements.
+/// The view of contracts on a field of cells, which implements this trait, and a field `F` of scalars. It has both
+/// fields, and the packing and drawing of elements.
 ///
 /// Not in the Rust crate.
 pub trait HasFieldPair<F> {

@@ -2,7 +2,7 @@
 //!
 //! ```text
 //! observe ->  pending scalars, fewer than the rate packs
-//!                |  packed, so many to a cell, the first ones lowest; their number is added to the cell after the rate
+//!                |  packed, several to a cell, the first ones lowest; their number is added to the cell after the rate
 //!                v
 //!             [ rate | capacity ]
 //!                |  the permutation
@@ -49,9 +49,9 @@ const MOST_SCALARS: usize = 255;
 /// of `PF` first absorbs the pending scalars. Then blocks of words, each at most as long as the rate, overwrite the
 /// rate with zeros after them, each with its own count.
 ///
-/// The outputs are then the digits of the cells of the rate, in the base of the order of `F`, drawn from the last digit
-/// of the last cell backwards. A scalar or a digest drops the outputs left. A draw with no output left and nothing
-/// pending permutes the cells.
+/// The outputs are then the digits of the cells of the rate, in the base of the order of `F`. They are drawn from the
+/// last digit of the last cell backwards. A scalar or a digest drops the outputs left. A draw with no output left and
+/// nothing pending permutes the cells.
 ///
 /// Only [`sample_vec`](CanSample::sample_vec) takes memory. No other observation or draw is refused, and a search may
 /// find no witness.
@@ -243,7 +243,7 @@ impl<
 
     /// Returns a copy of the challenger. The copy takes no memory, so it cannot fail.
     ///
-    /// The Rust crate's `Clone`.
+    /// Corresponds to the Rust crate's `Clone`.
     pub fn clone(&self) -> Self
         ensures { result ≡ self.now }
     {

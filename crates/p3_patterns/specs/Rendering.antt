@@ -15,7 +15,7 @@ abbrev pub indentation : Hierarchy → ℕ → ℕ
 indentation End depth = depth - 1
 indentation _ depth = depth
 
--- a number in at least so many digits, with leading zeros
+-- a number padded with leading zeros to a number of digits
 abbrev pub padded : ℕ → ℕ → List ℕ
 padded digits n = replicate (digits - length (decimal n)) 48 ++ decimal n
 
@@ -28,7 +28,7 @@ abbrev pub line : (Step → List ℕ) → ℕ → ℕ → ℕ → Step → List 
 line text digits position indented s =
     padded digits position ++ (codes " " ++ (replicate (2 * indented) 32 ++ (text s ++ codes "\n")))
 
--- the lines of the steps from a position on, inside so many open containers
+-- the lines of the steps from a position on, given the number of open containers
 abbrev pub lines : (Step → List ℕ) → ℕ → ℕ → ℕ → List Step → List ℕ
 lines text digits position depth [] = []
 lines text digits position depth (s ∷ rest) = line text digits position (indentation s.hierarchy depth) s

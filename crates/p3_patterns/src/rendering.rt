@@ -62,8 +62,8 @@ impl InteractionPattern {
     }
 }
 
-/// Two lists of steps have one alternate rendering exactly if they are the same except for the names of their types,
-/// whatever bytes their labels have. For patterns this holds with no condition.
+/// Two lists of steps have one alternate rendering exactly if they are the same except for the names of their types.
+/// This holds whatever bytes their labels have. For patterns this holds with no condition.
 ///
 /// A law: the body is empty, and a caller cites a clause.
 #[tactic(auto, using(crate::specs::RenderingLaws::rendering_injective))]

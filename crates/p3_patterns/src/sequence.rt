@@ -29,7 +29,7 @@ use std::marker::Model;
 /// fewer than 2^64, and can stand in a program. So two patterns are equal exactly where they have the same steps.
 /// Comparison, order and hash use the list of the steps.
 ///
-/// The Rust crate's `InteractionPattern`.
+/// Corresponds to the Rust crate's `InteractionPattern`.
 #[derive(Debug, Drop)]
 pub struct InteractionPattern {
     interactions: Vec<Interaction>,

@@ -9,7 +9,7 @@ use std::ops::{Add, Mul, Sub};
 
 /// Two elements, one in each lane.
 ///
-/// The product is a function call, so that loops over cells with products are not vectorized: with numbers of 64 bits
+/// The product is a function call, so that loops over cells with products are not vectorized. With numbers of 64 bits
 /// each product would be moved out of the vectors and back. In a call the latencies of the two products overlap.
 #[derive(Clone, Copy)]
 pub(crate) struct Pair<F> {

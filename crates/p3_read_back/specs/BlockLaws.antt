@@ -13,8 +13,8 @@ module _ {T C : Type 0} (permutation_input : C → List T → C) (permute : C �
       (cells : C) (one other : List T) → length one ≤ most → length other ≤ most
       → permutation_input cells one ≡ permutation_input cells other → one ≡ other
 
-  -- values are the blocks that states have absorbed, the first over cells and each later one over the image of the
-  -- state before, followed by the rest
+  -- Values are the blocks that states have absorbed, followed by a rest. The first block is absorbed over cells,
+  -- and each later one over the image of the state before.
   abbrev pub AreRead : C → List C → List T → List T → Type 0
   AreRead cells [] values rest = values ≡ rest
   AreRead cells (state ∷ states) values rest =

@@ -5,7 +5,7 @@ use Rattle.p3_fs_core.specs.declared.error.TranscriptError.TheVariants.{OutOfMem
 use Rattle.p3_runs.specs.{Fronts.Run, Plays.Play, Provings.RefusesToProve, Rules.Rules, Runs.AreAdmitted, Values.Value}
 use Rattle.p3_runs.specs.Verdicts.{RefusesProof}
 
--- A relation of a position and an error has one fault: any two errors in it, neither of them out of memory, say the
+-- A relation of a position and an error has one fault. Any two errors in it, neither of them out of memory, say the
 -- same, and come at the same position.
 abbrev pub TellOneFault : (ℕ → TranscriptError → Type 0) → Type 0
 TellOneFault Refuses = (p q : ℕ) (e f : TranscriptError) → Refuses p e → Refuses q f → (e ≡ OutOfMemory → ⊥) →

@@ -6,8 +6,8 @@ use Rattle.p3_driver_core.specs.{Verifying.RefusesToRead, Working.{Work, checkin
 use Rattle.p3_runs.specs.Sides.{sides_carried, sides_ground, RefusesKept, sides_known, holds_some, sides_sent, Refusing}
 use Rattle.p3_runs.specs.{Sides.Sides, Absorbed.{Absorbed, Nothing}, Values.{witness_in, Challenge, IsNothing, Value}}
 
--- where the value of a step stands: there is none; the prover is handed it, and the proof carries it; or it is a
--- witness that the prover finds, and either the proof or the caller carries it
+-- Where the value of a step stands. There is none, the prover is handed it and the proof carries it, or it is a witness
+-- that the prover finds. A witness is carried by the proof or by the caller.
 pub data Place : Type 0 where
   Nowhere : Place
   Sent : Place

@@ -20,8 +20,8 @@ AreAmong place Is [] values = values ≡ []
 AreAmong place Is (x ∷ steps) values = FirstIs (place x) (Is x) (AreAmong place Is steps) values
 
 module _ {X S Symbol F EF O : Type 0} (play : X → Play S Symbol F EF O) where
-  -- there is one value for each step that the prover is handed a value for; each is of its step's type and, where the
-  -- step fixes a length, of that length
+  -- There is one value for each step that the prover is handed a value for. Each is of its step's type and, where the
+  -- step fixes a length, of that length.
   abbrev pub AreHanded : List X → List (Value F EF) → Type 0
   AreHanded steps values = AreAmong (λ x. (play x).place) (λ x. (play x).sides.IsHanded) steps values
 

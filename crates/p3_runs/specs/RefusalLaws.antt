@@ -44,8 +44,8 @@ module _ {X S Symbol F EF O : Type 0} (play : X → Play S Symbol F EF O) where
   abbrev pub AreDetermined : List X → Type 0
   AreDetermined steps = (x : X) → IsDetermined (play x)
 
-  -- an admitted step that may be played, and whose length a pattern can have, is refused only when out of memory; of
-  -- the list of steps only the type is read
+  -- An admitted step that may be played, and whose length a pattern can have, is refused only when out of memory. Of
+  -- the list of steps only the type is read.
   abbrev pub AreRefusedForMemory : List X → Type 0
   AreRefusedForMemory steps =
       (x : X) → FitsLength (play x).interaction.length → (play x).admitted → IsSentWherePossible (play x)

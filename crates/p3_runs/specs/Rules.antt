@@ -13,8 +13,8 @@ pub record Coding (S Symbol F A : Type 0) : Type 1 where
   pub observation : Observation S Symbol A
   pub sampling : Sampling S A
 
--- the proofs of work of a group of steps: the draw before a witness, its observation, and the states from which a
--- search may run out of memory
+-- the proofs of work of a group: the draw before a witness, its observation, and the states from which a search
+-- may run out of memory
 pub record Grinding (S Symbol F : Type 0) : Type 1 where
   pub is_there : Type 0
   pub before_witness : Sampling S (Unit {0})

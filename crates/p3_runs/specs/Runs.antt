@@ -3,8 +3,8 @@ use Rattle.std.specs.{Prelude.{ℕ, ◌+◌, List, [], ◌∷◌, ◌++◌, leng
 use Rattle.p3_fs_core.specs.Steps.{Step}
 use Rattle.p3_runs.specs.{Absorbed.Absorbed, Plays.{Play, Place, Sent, Found, Carried}, Values.{Value, Challenge}}
 
--- the value as a list if the proof carries it, if the prover is handed it, if the caller carries it, or if it is a
--- witness that the prover finds
+-- The value as a list if its place says so: if the proof carries it, the prover is handed it, the caller carries
+-- it, or the prover finds it as a witness.
 abbrev pub if_in_proof : {V : Type 0} → Place → V → List V
 if_in_proof Sent v = v ∷ []
 if_in_proof Found v = v ∷ []

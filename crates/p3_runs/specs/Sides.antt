@@ -12,8 +12,9 @@ use Rattle.p3_runs.specs.Values.{Value, IsNothing, witness_in}
 abbrev pub Refusing : Type 0 → Type 1
 Refusing S = Driving S → TranscriptError → Driving S → Type 0
 
--- The value that a prover is handed for a step, its choice if it has one, and its reasons to refuse the step, given
--- that value; and the reasons of a verifier, given the witness that its caller carries, if it does.
+-- The two sides at a step. A prover has the value handed to it, its choice if it has one, and its reasons to refuse
+-- the step, given that value. A verifier has its reasons to refuse the step, given the witness that its caller
+-- carries, if any.
 pub record Sides (S F EF : Type 0) : Type 1 where
   pub IsHanded : Value F EF → Type 0
   pub IsChosen : S → Value F EF → Type 0

@@ -59,8 +59,8 @@ OrHalts refuses before e after = refuses before e after ⊎ Halts before e after
 
 -- ---- when a step may be played
 
--- a verifier may play the step with the value: the step is next in the pattern, and the value's bytes are next in the
--- proof; none of them is too long, no draw meets a limit, and a witness passes
+-- A verifier may play the step with the value. The step is next in the pattern, and the value's bytes are next in the
+-- proof. None of them is too long, no draw meets a limit, and a witness passes.
 pub record CanTake {S Symbol F EF O : Type 0} (play : Play S Symbol F EF O) (before : Driving S) (v : Value F EF) :
     Type 0 where
   pub is_next : IsNext before.transcript.playing play.interaction

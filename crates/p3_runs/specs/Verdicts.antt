@@ -23,7 +23,7 @@ abbrev pub playing_after : {X F EF S U D : Type 0} → Run X F EF S U D → Play
 playing_after front = record { pattern = pattern_of front.separator; position = length front.steps; finished = false }
 
 module _ {X S Symbol I F EF O Ac U D : Type 0} (rules : Rules S Symbol I F EF O Ac) (play : X → Play S Symbol F EF O) where
-  -- A proof of the run: the run is finished and plays the whole pattern, its wire is these bytes with nothing after
+  -- A proof of the run. The run is finished and plays the whole pattern, its wire is these bytes with nothing after
   -- them, and its carried witnesses are these.
   pub record IsProof (run : Run X F EF S U D) (bytes : List ℕ) (carried : List F) : Type 0 where
     pub finished : IsFinished rules play run

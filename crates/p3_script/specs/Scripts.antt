@@ -37,7 +37,7 @@ module _ {S Symbol I F EF O Ac : Type 0} (rules : Rules S Symbol I F EF O Ac) wh
 
   -- ---- bytes
 
-  -- so many bytes are sent
+  -- len bytes are sent
   abbrev pub sends_bytes : Kind → List ℕ → ℕ → Play S Symbol F EF O
   sends_bytes kind label len =
       sends (bytes_step kind label (lengths.Fixed len)) bytes_in (HasLength len) (HasLength len)
@@ -45,7 +45,7 @@ module _ {S Symbol I F EF O Ac : Type 0} (rules : Rules S Symbol I F EF O Ac) wh
       (λ bytes. RefusesToWrite (meaning.sent_bytes kind label rules.alphabet bytes))
       (reads.received_bytes kind label rules.alphabet len)
 
-  -- at most so many bytes are sent, after their count
+  -- at most max bytes are sent, after their count
   abbrev pub sends_counted_bytes : List ℕ → ℕ → Play S Symbol F EF O
   sends_counted_bytes label max =
       sends (bytes_step kind.Message label (lengths.Bounded max)) bytes_in Any (HasAtMost max)
@@ -54,7 +54,7 @@ module _ {S Symbol I F EF O Ac : Type 0} (rules : Rules S Symbol I F EF O Ac) wh
       (meaning.sent_bytes_bounded kind.Message label rules.alphabet max bytes))
       (reads.received_bytes_bounded label rules.alphabet max)
 
-  -- at most so many bytes are sent, after their count, and the challenger does not observe them
+  -- len bytes are sent, or at most max bytes after their count, and the challenger does not observe them
   abbrev pub hints : List ℕ → ℕ → Play S Symbol F EF O
   hints label len = sends (bytes_step kind.Hint label (lengths.Fixed len)) bytes_in (HasLength len) (HasLength len)
       (meaning.hinted label) (λ _. Nothing) (λ bytes. RefusesToWrite {Symbol = Symbol} (meaning.hinted label bytes))
@@ -94,7 +94,7 @@ module _ {S Symbol I F EF O Ac : Type 0} (rules : Rules S Symbol I F EF O Ac) wh
       known_with m.interaction IsNothing no_challenge m.effect (elements_absorbed coding xs)
       (sides_known (RefusesKept m) (RefusesAsRecorded (list.length xs) m))
 
-  -- both sides know a list of at most so many elements, observed after its count
+  -- both sides know a list of at most max elements, observed after its count
   abbrev pub counted_known : {A : Type 0} → Coding S Symbol F A → Kind → List ℕ → List A → ℕ → Meaning S Symbol (List A)
   counted_known coding kind label xs max = meaning.observed_bounded
       (algebra_step kind label coding.algebra (lengths.Bounded max)) rules.alphabet max coding.observation xs
@@ -105,7 +105,7 @@ module _ {S Symbol I F EF O Ac : Type 0} (rules : Rules S Symbol I F EF O Ac) wh
       known_within m.interaction (list.length xs) max m.effect (elements_absorbed coding xs)
       (RefusesWithin (list.length xs) max m) (RefusesCarriedWithin (list.length xs) max m)
 
-  -- one element is sent, or exactly so many, or at most so many after their count
+  -- one element is sent, or exactly n elements, or at most max elements after their count
   abbrev pub sends_one : {A : Type 0} → Coding S Symbol F A → (Value F EF → Option A) → List ℕ → Play S Symbol F EF O
   sends_one coding found label =
       let one = algebra_step kind.Message label coding.algebra lengths.Scalar in

@@ -35,8 +35,9 @@ module _ {G C F S Symbol : Type 0} (group : groups.Ghosts G C F S Symbol) where
     may_run_out = group.may_run_out;
   }
 
--- the rules that give meaning to the steps of a suite's scripts: the coding of scalars and of its extension, the
--- alphabet, the observation of opaque values, the acceptance rule, bits, proofs of work, and the hash function
+-- The rules that give meaning to the steps of a suite's scripts. They are the codings of scalars and of its
+-- extension, the alphabet, the observation of opaque values, the acceptance rule, bits, proofs of work, and the
+-- hash function.
 abbrev pub rules_of : {Cdc C S Symbol F EF U I O Ac G D : Type 0} → codecs.Ghosts Cdc C F S Symbol → rings.Ghosts F →
     fields.Ghosts F → ℕ → identities.Ghosts F F → names.Ghosts F → spaces.Ghosts EF F → identities.Ghosts EF F →
     names.Ghosts EF → units.Ghosts U I → observers.Ghosts C I S Symbol → observers.Ghosts C O S Symbol → (O → Type 0) →

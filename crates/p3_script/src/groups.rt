@@ -176,8 +176,8 @@ pub trait StepGroup<C: Sponge, F: ScalarField> {
             ChecksAndKeeps (work_of step F.residues before_witness witness bit_draws bits) carried
             (verifying_of C.state verifier.old) result (verifying_of C.state verifier.new) };
 
-    /// Draws of bits and checks of work are refused for the draw limit only where it is met, and a witness that a
-    /// prover has found passes. A law: the body does nothing.
+    /// Draws of bits and checks of work are refused for the draw limit only where it is met. A witness that a prover
+    /// has found passes. A law: the body does nothing.
     fn steps_are_lawful()
         ensures bits { IsTrue HAS_POW → (width n : ℕ) →
             TellsLimits {Symbol = C.Symbol} (drawing_list (bit_draws width) n) }

@@ -31,12 +31,12 @@ pub enum Step<S: Suite> {
         label: Label,
         len: usize,
     },
-    /// Sends at most so many bytes, after their count.
+    /// Sends at most `max` bytes, after their count.
     BytesBounded {
         label: Label,
         max: usize,
     },
-    /// Sends at most so many bytes, after their count. The challenger does not observe them.
+    /// Sends at most `max` bytes, after their count. The challenger does not observe them.
     HintBounded {
         label: Label,
         max: usize,
@@ -51,7 +51,7 @@ pub enum Step<S: Suite> {
         label: Label,
         values: Vec<S::Field>,
     },
-    /// Observes at most so many scalars that both sides know, after their count.
+    /// Observes at most `max` scalars that both sides know, after their count.
     PublicScalarsBounded {
         label: Label,
         values: Vec<S::Field>,
@@ -61,12 +61,12 @@ pub enum Step<S: Suite> {
     Scalar {
         label: Label,
     },
-    /// Sends a fixed number of scalars.
+    /// Sends `n` scalars.
     Scalars {
         label: Label,
         n: usize,
     },
-    /// Sends at most so many scalars, after their count.
+    /// Sends at most `max` scalars, after their count.
     ScalarsBounded {
         label: Label,
         max: usize,
@@ -85,7 +85,7 @@ pub enum Step<S: Suite> {
         label: Label,
         values: Vec<S::Extension>,
     },
-    /// Observes at most so many elements of the extension that the proof does not carry, after their count.
+    /// Observes at most `max` elements of the extension that the proof does not carry, after their count.
     ObserveExtensionsBounded {
         label: Label,
         values: Vec<S::Extension>,
@@ -100,7 +100,7 @@ pub enum Step<S: Suite> {
     ChallengeScalar {
         label: Label,
     },
-    /// Draws a fixed number of scalars.
+    /// Draws `n` scalars.
     ChallengeScalars {
         label: Label,
         n: usize,
@@ -109,7 +109,7 @@ pub enum Step<S: Suite> {
     ChallengeExtension {
         label: Label,
     },
-    /// Draws a fixed number of elements of the extension.
+    /// Draws `n` elements of the extension.
     ChallengeExtensions {
         label: Label,
         n: usize,

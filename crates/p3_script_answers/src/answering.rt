@@ -43,7 +43,7 @@ pub struct Answered<S: Suite> {
 ///
 /// - [`ProveByError::Refused`]: the [`Fault`] of [`prove`](p3_script_prover::prove) for every list that begins with
 ///   the values given so far. Its position is that of the refused step, 0 for the seed, and the number of steps for
-///   the end. Out of memory is such a fault too, also where memory to keep a value is refused.
+///   the end. A refused allocation for a value to keep is such a fault too.
 /// - [`ProveByError::Unanswered`]: `answers` returned an error for the step at this position; the variant carries
 ///   it.
 /// - [`ProveByError::Unfit`]: the value for the step at this position is not of the step's type or, where the step

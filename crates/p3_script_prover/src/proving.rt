@@ -151,14 +151,14 @@ fn play_next<S: Suite>(
 ///
 /// `sent` has one value for each step that sends one, in the order of the steps, and none for the others.
 ///
-/// The result is `Ok` exactly where the script's steps are those of the separator's pattern, the values fit them, each
-/// proof of work has a witness that passes, and no draw meets its limit. Only out of memory may come in place of that.
-/// The witnesses are the least ones.
+/// The result is `Ok` exactly under four conditions. The script's steps are those of the separator's pattern, the
+/// values fit them, each proof of work has a witness that passes, and no draw meets its limit. Only out of memory may
+/// come in place of that. The witnesses are the least ones.
 ///
-/// The position of a [`Fault`] is that of the refused step, 0 for the seed, and the number of steps for the end, where
-/// the pattern has more. The error is that of the driver's `new`, of [`prover_step`] or of the driver's `finish`. It is
-/// [`TranscriptError::OutOfMemory`] too where memory for the results of a step is refused. After an error the
-/// challenger and the proof so far are dropped.
+/// The position of a [`Fault`] is that of the refused step, or 0 for the seed. For the end, where the pattern has more
+/// steps, it is the number of steps. The error is that of the driver's `new`, of [`prover_step`] or of the driver's
+/// `finish`. It is [`TranscriptError::OutOfMemory`] too where memory for the results of a step is refused. After an
+/// error the challenger and the proof so far are dropped.
 ///
 /// Conditions: each step may be played by this suite, and each value of `sent` is of its step's type and, where the
 /// step fixes a length, of that length. Not in the Rust crate.

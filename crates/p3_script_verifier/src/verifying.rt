@@ -102,8 +102,8 @@ fn take_step<'a, S: Suite>(
 /// supplies the witnesses of the `ObservePow` steps.
 ///
 /// The result is `Ok` exactly where two conditions hold. The script's steps are those of the separator's pattern. The
-/// bytes are the whole encoding of a list of values such that each value fits its step, each witness passes, and no
-/// draw meets its limit. There is at most one such list, and it is what is received.
+/// bytes are the whole encoding of a list of values. Each value fits its step, each witness passes, and no draw meets
+/// its limit. There is at most one such list, and it is what is received.
 ///
 /// Else the error is a [`Fault`] with the place and the reason of the refusal. The place is the first refused step. It
 /// is position 0 where the seed is too long for the alphabet, and the script's length where pattern steps or bytes are

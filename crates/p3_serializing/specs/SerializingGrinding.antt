@@ -8,8 +8,8 @@ use Rattle.p3_serializing.specs.SerializingState.{SerializingState, element_obse
 
 module _ {I Symbol F : Type 0} (o : Observation I Symbol ℕ) (slice_may_leave : I → List ℕ → I → Type 0)
     (d : Sampling I ℕ) (r : Residues F) (n : ℕ) where
-  -- A check of at least one bit: a byte is drawn and dropped, the witness is observed, and the low bits of the next
-  -- group are all 0. With 0 bits each witness passes, and nothing changes.
+  -- A check of at least one bit draws and drops a byte and observes the witness. The witness passes if the low bits
+  -- of the next group are all 0. With 0 bits each witness passes, and nothing changes.
   abbrev pub serializing_check : ℕ → F → Sampling (SerializingState I) Bool
   serializing_check bits =
       check_of (byte_dropped d) (element_observed o slice_may_leave r n) (all_zero (bits_drawn d n bits)) bits

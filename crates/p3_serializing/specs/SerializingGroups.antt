@@ -7,8 +7,8 @@ use Rattle.p3_challenger_core.specs.{Observation.{Observation, observed_all}, Sa
 use Rattle.p3_serializing.specs.{Bytes.bytes_of, SerializingState.{SerializingState, bits_of_order, group}}
 use Rattle.p3_grinding.specs.{Checks.{all_zero, check_of}, UniformDraws.UniformDraw}
 
--- a call: an element is observed; an element or a number of bits, plain or uniform, is drawn; or a byte is drawn and
--- dropped before a witness is observed. A flag says whether a rejected value may be replaced by another draw.
+-- A call observes an element, draws an element or a number of bits, plain or uniform, or draws and drops a byte
+-- before a witness is observed. A flag says whether a rejected value may be replaced by another draw.
 pub data SerializingCall (F : Type 0) : Type 0 where
   observe : F → SerializingCall F
   draw : SerializingCall F
@@ -37,7 +37,7 @@ by_calls o drawn bits_drawn uniform before =
     record { observation = o; drawn = drawn; bits_drawn = bits_drawn; uniform = uniform; before_witness = before }
 
 module _ {S Symbol F : Type 0} (by : CallByCall S Symbol F) where
-  -- a check of a witness by so many bits
+  -- a check of a witness by a number of bits
   abbrev pub check_by : ℕ → F → Sampling S Bool
   check_by n witness = check_of by.before_witness by.observation (all_zero (by.bits_drawn n)) n witness
 
@@ -92,8 +92,7 @@ module _ {F : Type 0} (r : Residues F) where
   abbrev pub is_element : ℕ → Bool
   is_element word = nat_lt (cut word) r.order
 
-  -- how many of these groups a draw of an element takes: those up to the first element, or as many as the limit if
-  -- there is none
+  -- how many of these groups a draw of an element takes: up to the first element or, without one, up to the limit
   unfoldable pub taken : ℕ → List ℕ → ℕ
   taken zero words = zero
   taken (suc more) [] = suc more

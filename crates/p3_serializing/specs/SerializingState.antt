@@ -50,7 +50,7 @@ module _ {I Symbol : Type 0} (o : Observation I Symbol ℕ) (slice_may_leave : I
   abbrev pub bytes_observed : Observation (SerializingState I) Symbol (List ℕ)
   bytes_observed = passed_on (in_slice o slice_may_leave)
 
-  -- an observation of a number, as so many bytes
+  -- an observation of a number, as a fixed number of bytes
   abbrev pub number_observed : ℕ → Observation (SerializingState I) Symbol ℕ
   number_observed n = observed_as (bytes_of n) bytes_observed
 

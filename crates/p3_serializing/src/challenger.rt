@@ -30,7 +30,7 @@ use std::marker::{Model, PhantomData};
 ///
 /// An element is observed as the `BYTES` bytes of its canonical number, lowest first, which reach the inner challenger
 /// as one slice. An element is drawn from groups of `BYTES` bytes. A group is a number, lowest byte first, cut to the
-/// bits of the order of the field, and the first one below the order is the element. A draw tries as many groups as the
+/// bits of the order of the field. The first group below the order is the element. A draw tries as many groups as the
 /// draw limit allows.
 ///
 /// A digest of bytes reaches the inner challenger as one slice. A digest of words of 64 bits reaches it as 8 bytes for
@@ -40,11 +40,11 @@ use std::marker::{Model, PhantomData};
 /// are those of the inner challenger.
 ///
 /// The inner challenger may run out of memory. Then everything before the refused slice stays, and of the slice what
-/// the inner challenger leaves. Of a list of elements, the elements before the refused one stay; of a digest of words,
-/// the words before it; and of a draw, the bytes drawn before it.
+/// the inner challenger leaves. Of a list of elements, the elements before the refused one stay. Of a digest of words,
+/// the words before it stay, and of a draw, the bytes drawn before it.
 ///
-/// The Rust crate's `SerializingChallenger32` and `SerializingChallenger64`, over the bytes of a word. Their draws have
-/// no limit.
+/// Corresponds to the Rust crate's `SerializingChallenger32` and `SerializingChallenger64`, over the bytes of a word.
+/// Their draws have no limit.
 #[derive_where(Debug; Inner)]
 pub struct SerializingChallenger<F, Inner, const BYTES: usize> {
     inner: Inner,
@@ -55,12 +55,12 @@ pub struct SerializingChallenger<F, Inner, const BYTES: usize> {
 
 /// A challenger of the elements of a field of 32 bits, each as 4 bytes of the inner challenger.
 ///
-/// The Rust crate's `SerializingChallenger32`.
+/// Corresponds to the Rust crate's `SerializingChallenger32`.
 pub type SerializingChallenger32<F, Inner> = SerializingChallenger<F, Inner, 4>;
 
 /// A challenger of the elements of a field of 64 bits, each as 8 bytes of the inner challenger.
 ///
-/// The Rust crate's `SerializingChallenger64`.
+/// Corresponds to the Rust crate's `SerializingChallenger64`.
 pub type SerializingChallenger64<F, Inner> = SerializingChallenger<F, Inner, 8>;
 
 impl<F, Inner, const BYTES: usize> Model for SerializingChallenger<F, Inner, BYTES> {

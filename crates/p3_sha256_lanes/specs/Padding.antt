@@ -1,8 +1,7 @@
 -- The length of a padded message (FIPS 180-4, 5.1.1), from the length of the message in bytes.
 use Rattle.std.specs.Prelude.{ℕ, ◌+◌, ◌-◌, ◌%◌}
 
--- the number of zero bytes between the byte 0x80 and the length; the padding ends 8 bytes after
--- them, at the end of a block
+-- the number of zero bytes between the byte 0x80 and the 8 bytes of the length
 abbrev pub zero_count : ℕ → ℕ
 zero_count message_length = (119 - message_length % 64) % 64
 

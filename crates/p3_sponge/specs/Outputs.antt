@@ -8,8 +8,8 @@ abbrev pub drawn : {S T : Type 0} → (S → T) → (S → S) → ℕ → S → 
 drawn sampled next zero s = []
 drawn sampled next (suc n) s = sampled s ∷ drawn sampled next n (next s)
 
--- A source of outputs: the step from a state to the next, by a permutation or a hash function; the number of outputs of
--- a state; and the output at a place.
+-- A source of outputs: the step from a state to the next, the number of outputs of a state, and the output at a place.
+-- The step is a permutation or a hash function.
 pub record Outputs (C T : Type 0) : Type 0 where
   pub next : C → C
   pub row_len : ℕ

@@ -2,8 +2,8 @@
 use Rattle.std.specs.Prelude.{ℕ, ◌==◌, ◌-◌, List, [], ◌∷◌, ◌++◌, length, if◌then◌else◌}
 use Rattle.p3_challenger_core.specs.Segments.{Call, observe, observe_empty_array, draw, Run, stays, ByCalls}
 
--- The rules of a sponge: the cells after a block of values is absorbed and before they are permuted, the permutation,
--- the number of values in a block, the number of outputs of permuted cells, and the output at a place.
+-- The rules of a sponge: the absorption of a block into the cells, the permutation, the number of values in a block,
+-- the number of outputs of permuted cells, and the output at a place.
 pub record SpongeRule (C T : Type 0) : Type 0 where
   pub over : C → List T → C
   pub permute : C → C
@@ -11,8 +11,8 @@ pub record SpongeRule (C T : Type 0) : Type 0 where
   pub row_len : ℕ
   pub output : C → ℕ → T
 
--- The state of a sponge: its cells, the pending values, fewer than a block has, and the number of outputs left, which
--- are the first ones of the cells. While a value is pending no output is left.
+-- The state of a sponge: its cells, the pending values, and the number of outputs left. Fewer values are pending than
+-- a block has, and the outputs left are the first ones of the cells. While a value is pending no output is left.
 pub record CellSponge (C T : Type 0) : Type 0 where
   pub cells : C
   pub pending : List T

@@ -16,8 +16,8 @@ pub not_zero : (m : ℕ) → (suc m == 0) ≡ false
 not_zero m = grind (arith, nat_tests)
 
 module _ {C T : Type 0} (rule : SpongeRule C T) where
-  -- bounds of a sponge: fewer values are pending than a block has, no more outputs are left than cells give, and none
-  -- while a value is pending
+  -- Bounds of a sponge. Fewer values are pending than a block has, no more outputs are left than cells give, and none
+  -- while a value is pending.
   pub record Fits (s : CellSponge C T) : Type 0 where
     pub short : length s.pending < rule.block_len
     pub left : s.outputs_left ≤ rule.row_len

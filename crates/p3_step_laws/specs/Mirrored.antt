@@ -43,7 +43,7 @@ abbrev pub EachCountedHint : {S Symbol : Type 0} → Mirroring S Symbol (List �
 EachCountedHint Holds = (label : List ℕ) (max : ℕ) (bytes : List ℕ) → length bytes ≤ max → max < 2 ^ 64 →
     Holds (hinted_bounded label max bytes) (hint_received_bounded label max) bytes
 
--- each proof of work of so many bits, with the encoding of its witnesses
+-- each proof of work with a number of bits, and the encoding of its witnesses
 abbrev pub EachWork : {S Symbol W : Type 0} → (Work S Symbol W → Encoding W → Type 0) → Residues W → ℕ →
     Sampling S (Unit {0}) → Observation S Symbol W → (ℕ → Sampling S ℕ) → Type 0
 EachWork Holds residues bit_length before o bit_draws =

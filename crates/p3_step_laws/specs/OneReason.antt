@@ -1,5 +1,5 @@
--- The reasons to refuse a step: only one is possible; a limit is the reason only if it is met; and if the other side
--- has played the step, memory is the only reason.
+-- The reasons to refuse a step. Only one is possible, a limit is the reason only if it is met, and memory is the only
+-- reason once the other side has played the step.
 use Rattle.std.specs.Prelude.{◌≡◌, ◌<◌, ◌≤◌, ◌⊎◌, ℕ, None, List, ◌++◌}
 use Rattle.p3_fs_core.specs.{Errors.refusal_of, declared.error.TranscriptError.TranscriptError}
 use Rattle.p3_fs_core.specs.declared.error.TranscriptError.TheVariants.{OutOfMemory}
@@ -9,14 +9,14 @@ use Rattle.p3_driver_core.specs.Transcripts.{RefusesStep, RefusesLength, IsOther
 use Rattle.p3_driver_core.specs.{Verifying.{RefusesCarriedList, RefusesToRead}, Effects.Effect, Reads.Reading}
 use Rattle.p3_challenger_core.specs.declared.error.ChallengerError.TheVariants.{DrawLimit, NoWitness, TooLong}
 
--- A refusal, except for memory, says which limit is met. It is the draw limit only if nothing is given from this state,
--- and too long only if the step's symbols do not fit the alphabet. It is never a missing witness.
+-- A refusal, except for memory, says which limit is met. It is the draw limit only if this state gives nothing, and too
+-- long only if the step's symbols do not fit the alphabet. It is never a missing witness.
 pub record TellsLimits {S Symbol A : Type 0} (effect : Effect S Symbol A) : Type 0 where
   pub limit : (s t : S) → effect.refuses DrawLimit s t → effect.gives s ≡ None
   pub too_long : (s t : S) → effect.refuses TooLong s t → effect.fits → ⊥
   pub witness : (s t : S) → effect.refuses NoWitness s t → ⊥
 
--- A relation of a state, an error and the state after it has one reason: any two errors in it from one state, neither
+-- A relation of a state, an error and the state after it has one reason. Any two errors in it from one state, neither
 -- of them out of memory, say the same.
 abbrev pub TellOneReason : {V : Type 0} → (V → TranscriptError → V → Type 0) → Type 0
 TellOneReason {V} RefusesStep = (start one other : V) (e f : TranscriptError) → RefusesStep start e one →

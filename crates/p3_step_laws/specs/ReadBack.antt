@@ -16,7 +16,7 @@ pub record ReadsBack {S Symbol A : Type 0} (m : Meaning S Symbol A) (r : Reading
 abbrev pub AnyValue : {A : Type 0} → A → Type 0
 AnyValue x = Unit {0}
 
--- A reading step accepts only one encoding. A value that it reads fits, the bytes that it consumes are those that a
+-- A reading step accepts only one encoding. A value that it reads fits. The bytes that it consumes are those that a
 -- prover's step writes for the value, and the rest are bytes too.
 pub record OnlyReads {S Symbol A : Type 0} (r : Reading S Symbol A) (Fits : A → Type 0) (sent : A → Meaning S Symbol A)
     : Type 0 where

@@ -59,8 +59,8 @@ module _ {V X : Type 0} (IsRound : V → X → V → Type 0) where
   rounds-written written wire each before (x ∷ xs) after rounds =
       rw (rounds-written written wire each rounds.0 xs after rounds.2, each before x rounds.0 rounds.1, append_assoc)
 
-  -- if each round reads its bytes, all read theirs in order; each round preserves the premise on the state, such as
-  -- that the unread values are bytes
+  -- If each round reads its bytes, all read theirs in order. Each round preserves the premise on the state, such as
+  -- that the unread values are bytes.
   pub rounds-read : {A : Type 0} (Is : V → Type 0) (unread : V → List A) (wire : X → List A) → ((before : V) (x : X)
       (after : V) → Is before → IsRound before x after → (unread before ≡ wire x ++ unread after) × Is after) →
       (before : V) (xs : List X) (after : V) → Is before → AreRounds IsRound before xs after →

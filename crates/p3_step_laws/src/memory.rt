@@ -1,7 +1,8 @@
 //! If a prover has played a step, a verifier at the same state is refused its step only when out of memory.
 //!
-//! The laws of mirrors and agreements say what the verifier's step results in, and that no fault of the pattern or of
-//! the proof refuses it. These laws say that no limit refuses it either. For proof of work those laws already say so.
+//! The laws of mirrors and agreements give the result of the verifier's step, and say that no fault of the pattern or
+//! of the proof refuses it. These laws say that no limit refuses it either. For proof of work those laws already say
+//! so.
 ghost use Rattle.std.specs.Prelude.{ℕ, List, true};
 ghost use Rattle.p3_fs_core.specs.Steps.{Step};
 ghost use Rattle.p3_driver_core.specs.Meanings.{marked, observed, observed_list, observed_bounded, drawn, drawn_list};
@@ -20,8 +21,8 @@ use p3_codecs::{AlphabetOf, Codec, Unit};
 use p3_fs_core::Kind;
 use p3_grinding::CanSampleUniformBits;
 
-/// If a prover has sent one value, a list, or a list after its count, the verifier's reading step is refused only when
-/// out of memory.
+/// Only out of memory refuses a verifier's reading step after a prover has sent one value, a list, or a list after its
+/// count.
 ///
 /// A law: the body does nothing, and a caller cites the clauses. The maximum is below 2^64, as for a `usize`.
 pub fn only_memory_refuses_sent_values<A, U: Unit, C: CanObserve<U::Item>, Cdc: Codec<C, A>>()
@@ -66,8 +67,8 @@ pub fn only_memory_refuses_markers<C: Sponge>()
     ensures { (step : Step) → OnlyMemoryRefuses {S = C.State} {Symbol = C.Symbol} (marked step) }
 {}
 
-/// If one side has observed one value, a list, or a list after its count, the other side's step is refused only when
-/// out of memory.
+/// Only out of memory refuses the other side's step after one side has observed one value, a list, or a list after its
+/// count.
 ///
 /// A law: the body is empty, and a caller cites the clauses.
 pub fn only_memory_refuses_observed_values<A, U: Unit, C: CanObserve<U::Item>, Cdc: Codec<C, A>>()
@@ -85,8 +86,8 @@ pub fn only_memory_refuses_opaque_values<T, C: CanObserve<T>>()
     ensures { (step : Step) (x : T) → OnlyMemoryRefuses (observed step C.observation x) }
 {}
 
-/// If one side has drawn one value, `n` values, or `n` values that a rule accepts, the other side's step is refused
-/// only when out of memory: either both draws meet their limit, or neither does.
+/// Only out of memory refuses the other side's step after one side has drawn one value, `n` values, or `n` values that
+/// a rule accepts. Both draws meet their limit, or neither does.
 ///
 /// A law: the body is empty, and a caller cites the clauses.
 pub fn only_memory_refuses_drawn_values<A, C: Sponge, Cdc: Codec<C, A>>()

@@ -15,8 +15,8 @@ use p3_codecs::{AlphabetOf, Codec, Unit};
 use p3_fs_core::Kind;
 use p3_grinding::GrindingChallenger;
 
-/// A step that reads one value, a list of `n` values, or a list after its count is refused for one reason: it is not
-/// the next one, the bytes left encode no such value, or its count is too long for the alphabet.
+/// A step that reads one value, a list of `n` values, or a list after its count is refused for one reason. Either it is
+/// not the next one, or the bytes left encode no such value, or its count is too long for the alphabet.
 ///
 /// A law: the body is empty, and a caller cites the clauses.
 pub fn values_are_unread_for_one_reason<A, U: Unit, C: CanObserve<U::Item>, Cdc: Codec<C, A>>()

@@ -125,8 +125,8 @@ module _ {S Symbol F : Type 0} (m : Sumcheck S Symbol F) where
   Disagrees claim before after = (first : F) × (second : F) × ReadsPair before (first ∷ second ∷ []) after
       × (sum_of m.residues first second ≡ claim → ⊥)
 
-  -- a round is abandoned: its pair is read and does not add up to the claim; or the pair is refused; or the pair adds
-  -- up and the challenge is refused
+  -- A round is abandoned. Either its pair is refused, or the pair is read and does not add up to the claim, or it
+  -- adds up and the challenge is refused.
   abbrev pub RefusesRound : F → ℕ → Driving S → SumcheckError → Driving S → Type 0
   RefusesRound claim i before (fault.Round j) after = (j ≡ i) × Disagrees claim before after
   RefusesRound claim i before (fault.Transcript e) after = RefusesToRead read_pair before e after

@@ -8,7 +8,7 @@ use std::marker::PhantomData;
 
 /// A digest: `N` values of `T`, from a hash function over the field `F`.
 ///
-/// `p3-symmetric`'s `Hash`, made from an array and borrowed as one. It can be copied and compared,
+/// Corresponds to `p3-symmetric`'s `Hash`, made from an array and borrowed as one. It can be copied and compared,
 /// and has no other methods.
 #[derive_where(Debug, PartialEq, Eq; T)]
 pub struct Hash<F, T, const N: usize> {

@@ -15,11 +15,11 @@ impl<T: Copy, const N: usize> HashOutput for [T; N] {
 
 /// A hash function: it maps a list of values to a digest, and equal lists to equal digests.
 ///
-/// `Out` is the digest, an array of values of a fixed length. Contracts know nothing more of a hasher: neither
-/// that two lists with one digest are hard to find, nor that different lists have different digests.
+/// `Out` is the digest, an array of values of a fixed length. Contracts know nothing more of a hasher. They do
+/// not say that two lists with one digest are hard to find, or that different lists have different digests.
 ///
-/// `p3-symmetric`'s `CryptographicHasher`, with `hash_slice`, and `hash_many` in addition. A hasher is `Copy`
-/// here.
+/// Corresponds to `p3-symmetric`'s `CryptographicHasher`, with `hash_slice`, and `hash_many` in addition. A hasher is
+/// `Copy` here.
 pub trait CryptographicHasher<T, Out: HashOutput>: Copy {
     /// The number of messages, at least 1, that [`hash_many`](CryptographicHasher::hash_many) hashes best at
     /// once.

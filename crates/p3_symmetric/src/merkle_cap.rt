@@ -8,8 +8,8 @@ use std::marker::{Model, PhantomData};
 ///
 /// Contracts see the list of the roots.
 ///
-/// `p3-symmetric`'s `MerkleCap`, made from a `Vec`. Its roots can be borrowed, and it can be neither copied
-/// nor compared.
+/// Corresponds to `p3-symmetric`'s `MerkleCap`, made from a `Vec`. Its roots can be borrowed, and it can be neither
+/// copied nor compared.
 #[derive_where(Debug; D)]
 pub struct MerkleCap<F, D> {
     roots: Vec<D>,

@@ -3,8 +3,8 @@ ghost use Rattle.std.specs.Prelude.{◌≡◌};
 
 /// A permutation of the states of a sponge.
 ///
-/// `p3-symmetric`'s `CryptographicPermutation`, with the in-place method alone. A permutation is `Copy` here. The
-/// trait does not require that it is one to one.
+/// Corresponds to `p3-symmetric`'s `CryptographicPermutation`, with the in-place method alone. A permutation is `Copy`
+/// here. The trait does not require that it is one to one.
 pub trait CryptographicPermutation<T>: Copy {
     // What each permutation makes of a state.
     ghost permutation: { Self → T → T };

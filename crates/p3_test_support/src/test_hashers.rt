@@ -114,7 +114,7 @@ pub fn fixed_challenger(alloc: Global, digest: [u8; 24]) -> HashChallenger<u8, F
     HashChallenger::new(Vec::new(alloc), FixedHasher { digest })
 }
 
-/// Returns a challenger of [`LengthHasher`] with so many bytes pending. The one error is out of memory.
+/// Returns a challenger of [`LengthHasher`] with this many bytes pending. The one error is out of memory.
 pub fn length_challenger(
     alloc: Global,
     pending: usize,

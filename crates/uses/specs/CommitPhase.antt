@@ -26,7 +26,7 @@ DrawsAndKeeps d (s, kept) x (t, more) = (d.sampled s ≡ Some x) × (more ≡ ke
 abbrev pub AreNumbersDrawn : {S : Type 0} → Sampling S ℕ → List ℕ → S → S → Type 0
 AreNumbersDrawn d kept s t = (drawn : List ℕ) × AreRounds (DrawsAndKeeps d) (s, []) drawn (t, kept)
 
--- so many different numbers are drawn, each listed where it comes first
+-- the given number of different numbers are drawn, each listed where it comes first
 pub record AreQueries {S : Type 0} (d : Sampling S ℕ) (count : ℕ) (queries : List ℕ) (s t : S) : Type 0 where
   pub enough : length queries ≡ count
   pub distinct : IsDistinct (λ x y. x == y) queries

@@ -41,8 +41,8 @@ pub record IsDrawnPlace {S : Type 0} (d : Sampling S BabyBear) (place : ℕ) (s 
   pub is : place ≡ residues.number element % 8
   pub after : t ≡ d.after s
 
--- The bytes begin with a root, the leaf after its length, a salt, and the siblings that lead from the leaf to the root,
--- and these bytes are left. The place was drawn after the root. Then the leaf with its length and the salt were
+-- The bytes begin with a root, the leaf after its length, a salt, and the siblings on the path from the leaf to the
+-- root. These bytes are left. The place was drawn after the root. Then the leaf with its length and the salt were
 -- observed.
 pub record IsOpened {S : Type 0} (digest : List ℕ → List ℕ) (d : Sampling S BabyBear) (observed : S → List ℕ → S)
     (bytes : List ℕ) (s : S) (place : ℕ) (leaf left : List ℕ) (t : S) : Type 0 where

@@ -62,7 +62,7 @@ pub record IsRun {S Symbol : Type 0} (o : Observation S Symbol BabyBear) (places
 abbrev pub AnswersRun : (Claim → Type 0) → Option Claim → Type 0
 AnswersRun IsRunOf found = (claim : Claim) × IsAnswer found claim × IsRunOf claim
 
--- the verifier returns the claim of each run, or is out of memory
+-- the verifier returns the result for the claim of each run, or is out of memory
 abbrev pub AcceptsRuns : (Claim → Type 0) → Result (Option Claim) TranscriptError → Type 0
 AcceptsRuns IsRunOf result =
     (claim : Claim) → IsRunOf claim → MatchResult result (λ found. IsAnswer found claim) (λ e. e ≡ OutOfMemory)

@@ -2,8 +2,8 @@
 use Rattle.std.specs.Prelude.{◌≡◌, List, Some, ◌⊎◌}
 use Rattle.p3_challenger.specs.{Sponge.{IsFed, IsStepsOn}, Observation.LeavesFed, Sampling.Sampling}
 
--- the challenger left by a refused step: a prefix of the value's symbols was fed, or all of them were and some
--- smallest draws were made
+-- The challenger left by a refused step. A prefix of the value's symbols was fed, or all of them were and some
+-- smallest draws were made.
 abbrev pub LeavesRound : {S Symbol : Type 0} → (S → List Symbol → S) → (S → S) → List Symbol → S → S → Type 0
 LeavesRound {S} fed next symbols s t =
     LeavesFed fed s symbols t ⊎ ((here : S) × IsFed fed s symbols here × IsStepsOn next here t)

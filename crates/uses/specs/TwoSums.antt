@@ -100,8 +100,8 @@ module _ {S Symbol F : Type 0} (m : Sumcheck S Symbol F) where
     pub reads : ReadsTwo n one other (with_bytes (begun challenger pattern) proof) end
     pub ends : EndsReading end
 
--- Sumchecks of n rounds whose steps are next are refused for these reasons: a round's pair does not add up to its
--- claim, the proof has another shape, or the challenger or memory is refused.
+-- Sumchecks of n rounds whose steps are next are refused for one of these reasons. A round's pair does not add up
+-- to its claim, the proof has another shape, or the challenger or memory is refused.
 abbrev pub IsSumcheckFault : ℕ → SumcheckError → Type 0
 IsSumcheckFault n (fault.Round i) = i < n
 IsSumcheckFault n (fault.Transcript e) = IsNoPatternFault e

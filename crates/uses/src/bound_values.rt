@@ -1,5 +1,5 @@
-//! Absorbing a value, a byte string and a second value. For any challenger, codec and alphabet the contract says
-//! which symbols were fed, and a law says that those symbols determine the three.
+//! A value, a byte string and a second value, absorbed in one call. For any challenger, codec and alphabet the contract
+//! says which symbols were fed, and a law says that those symbols determine the three.
 ghost use Rattle.std.specs.Prelude.{◌≡◌, ℕ, List, ◌++◌, length, OnOk, IfErr};
 ghost use Rattle.p3_challenger.specs.{Sponge.IsFed, Reading.{AreBytes, IsPrefixCodeOn}};
 ghost use Rattle.uses.specs.BoundValues.{of_three, of_bytes, RefusesInTurn};

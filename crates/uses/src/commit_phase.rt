@@ -40,7 +40,7 @@ pub struct Challenges<EF> {
 /// the caller has to observe it first: caps of different lengths are no prefix code.
 ///
 /// The errors are those of the challenger, including a missing witness and out of memory. The error is
-/// [`ChallengerError::DrawLimit`] where 1000 draws do not find the queries.
+/// [`ChallengerError::DrawLimit`] where fewer than 1000 draws do not find the queries.
 ///
 /// Condition: the challenger can draw as many bits at once as the work and an index have.
 pub fn prove<
@@ -75,7 +75,7 @@ pub fn prove<
 /// Observes the caps of a proof, and checks its witness. The result is `None` where the witness does not pass.
 ///
 /// The errors are those of the challenger, including out of memory. The error is [`ChallengerError::DrawLimit`] where
-/// 1000 draws do not find the queries.
+/// fewer than 1000 draws do not find the queries.
 ///
 /// Condition: the challenger can draw as many bits at once as the work and an index have.
 pub fn verify<

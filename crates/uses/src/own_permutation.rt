@@ -65,7 +65,7 @@ fn stirred_lanes(cells: BabyBearLanes, constant: u64) -> BabyBearLanes
     thrice * thrice * once
 }
 
-/// Returns a challenger that has observed nothing.
+/// Returns a challenger that has observed nothing, with a draw limit of 1000 values.
 pub fn stir_challenger() -> StirChallenger {
     StirChallenger::new(Stir, 1000)
 }

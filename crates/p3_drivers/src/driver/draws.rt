@@ -98,9 +98,9 @@ impl<C: Sponge, U, D: DigestHasher, P: Tape> DriverState<C, U, D, P> {
     ///
     /// The rule is called for each candidate, with those kept before it. The step is refused with
     /// [`ChallengerError::DrawLimit`](p3_challenger_core::ChallengerError::DrawLimit) right after the rule has refused
-    /// `limit` candidates in a row, counted from the last kept one or the start. The same error comes where the
-    /// challenger meets its own draw limit. In both cases what was drawn is consumed. To keep none, nothing is drawn.
-    /// The Rust crate has no limit.
+    /// `limit` candidates in a row. They are counted from the last kept one or the start. The same error comes where
+    /// the challenger meets its own draw limit. In both cases what was drawn is consumed. To keep none, nothing is
+    /// drawn. The Rust crate has no limit.
     ///
     /// Conditions: the rule may be called at any time, and the codec has at least
     /// [`MIN_CHALLENGE_SECURITY_BITS`](p3_codecs::MIN_CHALLENGE_SECURITY_BITS) bits of security.
@@ -194,9 +194,9 @@ impl<C: Sponge, U, D: DigestHasher, P: Tape> DriverState<C, U, D, P> {
     ///
     /// The rule is called for each number, with those kept before it. The step is refused with
     /// [`ChallengerError::DrawLimit`](p3_challenger_core::ChallengerError::DrawLimit) right after the rule has refused
-    /// `limit` numbers in a row, counted from the last kept one or the start. The same error comes where the challenger
-    /// meets its own draw limit. In both cases what was drawn is consumed. To keep none, nothing is drawn. The Rust
-    /// crate has no limit.
+    /// `limit` numbers in a row. They are counted from the last kept one or the start. The same error comes where the
+    /// challenger meets its own draw limit. In both cases what was drawn is consumed. To keep none, nothing is drawn.
+    /// The Rust crate has no limit.
     ///
     /// Conditions: the rule may be called at any time, and `width` is at most
     /// [`max_bits`](p3_challenger_core::CanSampleBits::max_bits).

@@ -19,8 +19,8 @@ impl<
     const WIDTH: usize,
     const RATE: usize,
 > DuplexChallenger<F, P, WIDTH, RATE> {
-    /// Each value of an observation is observed, in order: those of an array, of a digest, of the roots of a cap one
-    /// after another, and of lists in a list.
+    /// Each value of an observation is observed, in order. The values are those of an array, of a digest, of the roots
+    /// of a cap, or of lists in a list.
     ///
     /// A law: the body is empty, and a caller cites the clauses.
     pub fn observes_are_calls<'a, M, const N: usize>()
@@ -68,8 +68,8 @@ impl<
             ≡ (run_to_digest F.residues P.permutation RATE c []).after }
     {}
 
-    /// After an observed value, and perhaps more, draw `k` gives output `k` of the cells once all values are absorbed,
-    /// whatever was left or pending before.
+    /// After an observed value, and perhaps more, draw `k` gives output `k` of the cells once all values are absorbed.
+    /// Outputs left and values pending before do not matter.
     ///
     /// A law: the body does nothing, and a caller cites the clause.
     pub fn draws_have_places(&self)

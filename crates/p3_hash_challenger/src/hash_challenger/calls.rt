@@ -16,8 +16,8 @@ impl<T: Copy, H: CryptographicHasher<T, [T; OUT_LEN]>, const OUT_LEN: usize> Has
     H,
     OUT_LEN,
 > {
-    /// Each value of an observation is observed, in order: those of an array, of a digest, of the roots of a cap one
-    /// after another, and of lists in a list. An empty array is a call of its own, which drops the outputs.
+    /// Each value of an observation is observed, in order. The values are those of an array, of a digest, of the
+    /// roots of a cap, or of lists in a list. An empty array is a call of its own, which drops the outputs.
     ///
     /// A law: the body is empty, and a caller cites the clauses.
     pub fn observes_are_calls<F, const N: usize>()

@@ -1,7 +1,7 @@
 //! A search for a witness that hashes as many candidates at once as the hasher has lanes.
 //!
 //! The message of a candidate is the pending values followed by the candidate's bytes. The messages of a
-//! batch stand one after another in one buffer, which is allocated once: from batch to batch only the
+//! batch stand one after another in one buffer, which is allocated once. From batch to batch only the
 //! candidates' bytes are written.
 ghost use Rattle.std.specs.Prelude.{◌≡◌, ◌<◌, ◌≤◌, ◌+◌, ◌*◌, ◌^◌, ℕ, length, IfOk, IfErr};
 ghost use Rattle.p3_challenger_core.specs.declared.error.ChallengerError.TheVariants.{OutOfMemory};

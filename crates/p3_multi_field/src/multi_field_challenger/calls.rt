@@ -21,8 +21,8 @@ impl<
     const WIDTH: usize,
     const RATE: usize,
 > MultiField32Challenger<F, PF, P, WIDTH, RATE> {
-    /// Each symbol of an observation is observed, in order: each scalar of an array and of the lists in a list, a
-    /// digest as one symbol, and each root of a cap as a digest.
+    /// Each symbol of an observation is observed, in order. Each scalar of an array and of lists in a list is a symbol.
+    /// So is a digest, and each root of a cap as a digest.
     ///
     /// A law: the body is empty, and a caller cites the clauses.
     pub fn observes_are_calls<const N: usize>()

@@ -40,7 +40,7 @@ impl<
             IsUnrefusedDraw (⟦<Self as CanSampleBits<usize>>⟧.bits_sampling bits) }
     {}
 
-    /// Observations of arrays and lists of lists of scalars, of digests and of caps are never refused: no list of them
+    /// Observations of arrays and lists of lists of scalars, of digests and of caps are never refused. No list of them
     /// leaves any challenger with an error. By the law `slice_leaves` of [`CanObserve`], a slice of them leaves what
     /// such a list leaves.
     ///

@@ -86,9 +86,9 @@ impl<
     Inner: CanObserve<u8> + CanSample<u8>,
     const BYTES: usize,
 > SerializingChallenger<F, Inner, BYTES> {
-    /// A check of a witness by at least one bit drops a byte, observes the witness and draws the bits, and passes where
-    /// they are 0. These are calls of a list that `follows_groups` speaks of. A check by 0 bits passes and does
-    /// nothing. The dropped byte has to be there: its draw meets no limit of the inner challenger.
+    /// A check of a witness by at least one bit drops a byte, observes the witness and draws the bits. The witness
+    /// passes where they are 0. These are calls of a list that `follows_groups` speaks of. A check by 0 bits passes and
+    /// does nothing. The dropped byte has to be there: its draw meets no limit of the inner challenger.
     ///
     /// A law: the body is empty, and a caller cites the clauses.
     pub fn checks_are_calls()

@@ -46,10 +46,11 @@ impl<F: SerializedIn<BYTES>, Inner: CanSample<u8>, const BYTES: usize> Serializi
     Inner,
     BYTES,
 > {
-    /// Draw limits are met exactly. A draw of a field element has no result exactly where it draws as many groups as
-    /// the draw limit allows, and none, cut to the bits of the order, is below the order. There, and nowhere else, it
-    /// meets the limit, and the challenger is left after just those groups. A draw of bits, uniform or not, meets no
-    /// limit, and gives a number. All this holds where the inner challenger's draws meet no limit of their own.
+    /// Draw limits are met exactly. A draw of a field element draws as many groups as the draw limit allows, each cut
+    /// to the bits of the order. It has no result exactly where no such group is below the order. There, and nowhere
+    /// else, it meets the limit, and the challenger is left after just those groups. A draw of bits, uniform or not,
+    /// meets no limit, and gives a number. All this holds where the inner challenger's draws meet no limit of their
+    /// own.
     ///
     /// A law: the body is empty, and a caller cites the clauses.
     pub fn limits_are_met_exactly()
