@@ -16,8 +16,8 @@ use p3_script::{Meaning, Suite};
 /// - `equal_symbols_bind`: take two finished runs that feed the same symbols, or two finished prefixes of equally many
 ///   steps. Whatever their separators and challengers, the runs have the same version, name and chunks. Unless the
 ///   alternate renderings of the two patterns differ and share a digest, the patterns are the same except for the names
-///   of types. So is what each step absorbs. A step absorbs public values, salts, messages, opaque values, or witnesses of at
-///   least one bit; elements as their coefficients, bytes as bytes.
+///   of types. So is what each step absorbs. A step absorbs public values, salts, messages, opaque values, or witnesses
+///   of at least one bit; elements as their coefficients, bytes as bytes.
 /// - `equal_renderings_are_equal_patterns`: two patterns have one alternate rendering exactly if they are the same
 ///   except for the names of types.
 /// - `hints_do_not_influence`: take two finished runs of one script, separator and challenger. Let their values be the

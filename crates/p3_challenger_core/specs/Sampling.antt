@@ -58,7 +58,7 @@ unfoldable pub RefusesDraws : {S T : Type 0} → Sampling S T → ℕ → Challe
 RefusesDraws d zero e s t = ⊥
 RefusesDraws d (suc n) e s t = RefusesDraw d e s t ⊎ (IsSome (d.sampled s) × RefusesDraws d n e (d.after s) t)
 
--- the same where memory for the values is allocated first; if that is refused, nothing changes
+-- what n draws with this error leave, where memory for the values is allocated first; a refusal of that changes nothing
 abbrev pub RefusesDrawVec : {S T : Type 0} → Sampling S T → ℕ → ChallengerError → S → S → Type 0
 RefusesDrawVec d n e s t = RefusesObserve (λ u. u ≡ s) e t ⊎ RefusesDraws d n e s t
 

@@ -72,7 +72,7 @@ pub struct DriverState<C, U, D: DigestHasher, P> {
 ///
 /// The challenger observes each value that is sent, and the proof receives it after that. A hint is only written.
 ///
-/// Beside what [`DriverState`] says: with [`TranscriptError::Challenger`] nothing is written, and with
+/// The errors are those of [`DriverState`]. With [`TranscriptError::Challenger`] nothing is written, and with
 /// [`TranscriptError::OutOfMemory`] a prefix of the step's bytes is written.
 ///
 /// This is the Rust crate's `ProverState`. That type panics where a step is refused here, and where it is dropped
@@ -84,10 +84,10 @@ pub type ProverState<C, U, D> = DriverState<C, U, D, Written>;
 /// The proof belongs to the caller, and steps that read bytes borrow them from it. The challenger observes what is
 /// read, except hints. It observes each value of a list before the next one is read.
 ///
-/// Beside what [`DriverState`] says: the pattern's next step is refused with [`TranscriptError::BadProofShape`], where
-/// the proof does not have what the step reads. Where bytes are missing, none of them is consumed. Nothing of a single
-/// value or of bytes is absorbed then; of a list, its count and the values before the invalid one are. With
-/// [`TranscriptError::OutOfMemory`] a suffix of the bytes is left unread.
+/// The errors are those of [`DriverState`], and [`TranscriptError::BadProofShape`] where the proof does not have what the
+/// pattern's next step reads. Then no missing byte is consumed, and nothing of a single value or of bytes is absorbed. Of
+/// a list, its count and the values before the invalid one are absorbed. With [`TranscriptError::OutOfMemory`] a suffix
+/// of the bytes is left unread.
 ///
 /// The reason is `NARG ended before all expected bytes were read` where bytes are missing. It is `message length
 /// exceeds declared maximum` or `hint length exceeds declared maximum` where a count is above its maximum. It is `step

@@ -12,7 +12,7 @@ use Rattle.p3_field_bridge.specs.Bridges.{packed, digit_of, AreRadixBits, AreCou
 
 -- ---- counts of bits
 
--- a number of bits that suffices, and whose predecessor does not
+-- the least number of bits that suffices
 pub least_bits : (order bits : ℕ) → order ≤ 2 ^ bits → 2 ^ bits < 2 * order → AreRadixBits order bits
 least_bits order bits enough few = record {
   enough = enough;

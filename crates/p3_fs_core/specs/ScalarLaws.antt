@@ -127,7 +127,7 @@ pub width-positive : {F : Type 0} (r : Residues F) → IsResidues r → (bits : 
 width-positive r laws zero below = absurd (omega (arith, laws.above_one, below))
 width-positive r laws (suc bits) below = omega arith
 
--- where there are enough bytes, the only reason for none is a number that is not below the order
+-- with enough bytes, the only reason to read no element is a number that is not below the order
 one_reason-of : {A : Type 0} (canonical : Bool) (found : A) (reason : List ℕ) →
     (if canonical then Ok found else Err outside_range) ≡ Err reason → reason ≡ outside_range
 one_reason-of true found reason e = cc

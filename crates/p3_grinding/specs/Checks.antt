@@ -110,14 +110,14 @@ NonePasses r check s = (n : ℕ) → n < r.order → ¬ (Passes r check s n)
 abbrev pub MayRunOut : {S W : Type 0} → Type 0 → (W → Sampling S Bool) → S → Type 0
 MayRunOut {S} {W} copies_may_fail check s = copies_may_fail ⊎ ((witness : W) × (t : S) × (check witness).may_leave s t)
 
--- what a search with this error leaves: the challenger as it was; there is no witness, or memory was refused
+-- what a search with this error leaves: the challenger as it was, with no witness or with memory refused
 abbrev pub RefusesSearch : {S W : Type 0} → Residues W → (S → Type 0) → (W → Sampling S Bool) → ChallengerError → S →
     S → Type 0
 RefusesSearch r may_run_out check OutOfMemory s t = may_run_out s × (t ≡ s)
 RefusesSearch r may_run_out check NoWitness s t = NonePasses r check s × (t ≡ s)
 RefusesSearch r may_run_out check _ s t = ⊥
 
--- the same for a search that tests each candidate on a copy of the challenger
+-- what a search by trials on copies of the challenger leaves with this error
 abbrev pub RefusesTrials : {S W : Type 0} → Residues W → Type 0 → (W → Sampling S Bool) → ChallengerError → S → S → Type 0
 RefusesTrials r copies_may_fail check = RefusesSearch r (MayRunOut copies_may_fail check) check
 
@@ -128,7 +128,7 @@ FindsOrRefuses r may_run_out check s result t =
     MatchResult result (λ witness. IsLeast r check s witness × (t ≡ (check witness).after s))
     (λ e. RefusesSearch r may_run_out check e s t)
 
--- the same for a search that tests each candidate on a copy of the challenger
+-- a search by trials on copies of the challenger finds the least witness that passes, or is refused
 abbrev pub TriesOrRefuses : {S W : Type 0} → Residues W → Type 0 → (W → Sampling S Bool) → S →
     Result W ChallengerError → S → Type 0
 TriesOrRefuses r copies_may_fail check = FindsOrRefuses r (MayRunOut copies_may_fail check) check

@@ -70,7 +70,7 @@ abbrev pub known : {S Symbol F EF O A : Type 0} → Step → (A → Option (Chal
 known interaction f effect absorbed = let refuses = RefusesKept (without_wire interaction effect) in
     known_with interaction IsNothing f effect absorbed (sides_known refuses refuses)
 
--- the same for a list with a greatest length
+-- the proof has no bytes of a list with a greatest length: the step has this effect
 abbrev pub known_within : {S Symbol F EF O A : Type 0} → Step → ℕ → ℕ → Effect S Symbol A → Absorbed F O →
     Refusing S → Refusing S → Play S Symbol F EF O
 known_within interaction len max effect absorbed proving verifying =

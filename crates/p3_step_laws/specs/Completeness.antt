@@ -42,7 +42,7 @@ pub record CompletesWork {S Symbol W : Type 0} (work : Work S Symbol W) (enc : E
       start ≡ record { transcript = before; bytes = enc.wire x ++ rest } →
       RefusesToRead (received_work work enc) start e end ⊎ FailsWork work enc start e end → e ≡ OutOfMemory
 
--- the same for a witness that the verifier's caller carries
+-- A verifier whose caller carries the prover's witness follows the prover in the same way.
 pub record CompletesCarriedWork {S Symbol W : Type 0} (work : Work S Symbol W) (x : W) : Type 0 where
   pub completes : CompletesAlike (observed_work work x)
   pub refuses : (before after start end : Transcript S) (e : TranscriptError) →

@@ -32,13 +32,13 @@ abbrev pub RefusesStepWithin : {S Symbol A : Type 0} → ℕ → ℕ → Meaning
 RefusesStepWithin len max m = λ before e after.
     RefusesLength len max before.playing e after.playing ⊎ ((len ≤ max) × RefusesStep m before e after)
 
--- the same for a list that a verifier's caller carries
+-- a list from a verifier's caller is refused as longer than its step allows, or its step is refused
 abbrev pub RefusesCarriedOrStep : {S Symbol A : Type 0} → ℕ → ℕ → Meaning S Symbol A → Driving S → TranscriptError →
     Driving S → Type 0
 RefusesCarriedOrStep len max m = λ before e after. RefusesCarriedList (max < len) longer_list before e after
     ⊎ ((len ≤ max) × RefusesStep m before.transcript e after.transcript)
 
--- the same for a list that has to be as long as the next step says
+-- a list from a verifier's caller is refused as not as long as the next step says, or its step is refused
 abbrev pub RefusesRecordedOrStep : {S Symbol A : Type 0} → ℕ → Meaning S Symbol A → Driving S → TranscriptError →
     Driving S → Type 0
 RefusesRecordedOrStep len m = λ before e after.

@@ -121,8 +121,8 @@ pub fn steps(inputs: Vec<BabyBear>) -> [Step<Demo>; 9]
     ]
 }
 
-/// Returns the separator of the protocol: version 2, the name `demo`, and the pattern of its steps. In practice the
-/// only error is out of memory.
+/// Returns the separator of the protocol: version 2, the name `demo`, and the pattern of its steps. The only
+/// error in practice is out of memory.
 pub fn separator(alloc: Global) -> Result<Separator, TranscriptError>
     ensures named { IfOk result (λ made. ((separator_of made).version ≡ 2)
         × ((separator_of made).name ≡ codes "demo")) }

@@ -75,7 +75,7 @@ struct Read<'a> {
     in_tree: bool,
 }
 
-/// Sends the root of the tree of these leaves, and opens one of them. In practice the only errors are out of memory,
+/// Sends the root of the tree of these leaves, and opens one of them. The only errors in practice are out of memory,
 /// and that the opened leaf is too long.
 pub fn prove(
     alloc: Global,
@@ -266,7 +266,7 @@ fn challenger(alloc: Global) -> Challenger
     Challenger::new(Vec::new(alloc), Sha256Hasher)
 }
 
-/// Returns the separator of the protocol. In practice the only error is out of memory.
+/// Returns the separator of the protocol. The only error in practice is out of memory.
 pub fn separator(alloc: Global) -> Result<Separator, TranscriptError> {
     let leaf = Hierarchy::Atomic;
     let sibling = Interaction::bytes(leaf, Kind::Hint, "sibling", Length::Fixed(32));

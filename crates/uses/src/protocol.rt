@@ -77,7 +77,7 @@ impl Line for Claim {
         (record { sponge = with_pending seed; hasher = record {} }) claim proof };
 }
 
-/// Sends the line, and returns the bytes of the proof. In practice the only error is out of memory.
+/// Sends the line, and returns the bytes of the proof. The only error in practice is out of memory.
 pub fn prove(
     alloc: Global,
     separator: &Separator,
@@ -231,7 +231,7 @@ fn challenger(alloc: Global) -> Challenger
 
 /// Returns the separator, on which every challenge depends: the version, the name, and the pattern of the steps.
 ///
-/// In practice the only error is out of memory.
+/// The only error in practice is out of memory.
 pub fn separator(alloc: Global) -> Result<Separator, TranscriptError>
     ensures { IfOk result (λ separator. (pattern_of separator).steps ≡ ⟦<Claim as Line>⟧.steps) }
 {

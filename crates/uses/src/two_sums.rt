@@ -86,7 +86,7 @@ fn record_sum<F: ScalarField, U, D: DigestHasher>(
 /// Under a separator of that pattern a step is refused only by the challenger, by the alphabet, or for memory.
 ///
 /// Conditions: the tables have `2^n` values, `U` is an alphabet, and the codec has at least
-/// [`MIN_CHALLENGE_SECURITY_BITS`](p3_challenger::fs::MIN_CHALLENGE_SECURITY_BITS) of security.
+/// [`MIN_CHALLENGE_SECURITY_BITS`](p3_challenger::fs::MIN_CHALLENGE_SECURITY_BITS) bits of security.
 pub fn prove_two<
     F: ScalarField,
     U: Unit,
@@ -187,7 +187,7 @@ fn send_sum<
 /// Else the proof has another shape, or the challenger, the alphabet or memory refuses a step.
 ///
 /// Conditions: `U` is an alphabet, and the codec has at least
-/// [`MIN_CHALLENGE_SECURITY_BITS`](p3_challenger::fs::MIN_CHALLENGE_SECURITY_BITS) of security.
+/// [`MIN_CHALLENGE_SECURITY_BITS`](p3_challenger::fs::MIN_CHALLENGE_SECURITY_BITS) bits of security.
 pub fn verify_two<
     F: ScalarField,
     U: Unit,

@@ -25,8 +25,8 @@ use p3_symmetric::DigestHasher;
 impl<C: Sponge, U, D: DigestHasher, P: Tape> DriverState<C, U, D, P> {
     /// Draws one scalar.
     ///
-    /// Condition: the codec has at least [`MIN_CHALLENGE_SECURITY_BITS`](p3_codecs::MIN_CHALLENGE_SECURITY_BITS) bits of
-    /// security.
+    /// Condition: the codec has at least [`MIN_CHALLENGE_SECURITY_BITS`](p3_codecs::MIN_CHALLENGE_SECURITY_BITS) bits
+    /// of security.
     pub fn challenge_scalar<F: ScalarField, Cdc: Codec<C, F>>(
         &mut self,
         label: Label,
@@ -41,8 +41,8 @@ impl<C: Sponge, U, D: DigestHasher, P: Tape> DriverState<C, U, D, P> {
 
     /// Draws `n` scalars.
     ///
-    /// Condition: the codec has at least [`MIN_CHALLENGE_SECURITY_BITS`](p3_codecs::MIN_CHALLENGE_SECURITY_BITS) bits of
-    /// security.
+    /// Condition: the codec has at least [`MIN_CHALLENGE_SECURITY_BITS`](p3_codecs::MIN_CHALLENGE_SECURITY_BITS) bits
+    /// of security.
     pub fn challenge_scalars<F: ScalarField, Cdc: Codec<C, F>>(
         &mut self,
         label: Label,
@@ -59,8 +59,8 @@ impl<C: Sponge, U, D: DigestHasher, P: Tape> DriverState<C, U, D, P> {
 
     /// Draws one element of an extension, coefficient 0 first.
     ///
-    /// Condition: the codec has at least [`MIN_CHALLENGE_SECURITY_BITS`](p3_codecs::MIN_CHALLENGE_SECURITY_BITS) bits of
-    /// security.
+    /// Condition: the codec has at least [`MIN_CHALLENGE_SECURITY_BITS`](p3_codecs::MIN_CHALLENGE_SECURITY_BITS) bits
+    /// of security.
     pub fn challenge_extension<
         F: TranscriptField,
         EF: AlgebraIdentity<F> + Named,
@@ -77,8 +77,8 @@ impl<C: Sponge, U, D: DigestHasher, P: Tape> DriverState<C, U, D, P> {
 
     /// Draws `n` elements of an extension.
     ///
-    /// Condition: the codec has at least [`MIN_CHALLENGE_SECURITY_BITS`](p3_codecs::MIN_CHALLENGE_SECURITY_BITS) bits of
-    /// security.
+    /// Condition: the codec has at least [`MIN_CHALLENGE_SECURITY_BITS`](p3_codecs::MIN_CHALLENGE_SECURITY_BITS) bits
+    /// of security.
     pub fn challenge_extensions<
         F: TranscriptField,
         EF: AlgebraIdentity<F> + Named,
