@@ -31,7 +31,7 @@ pub trait FieldChallenger<F: Field>: CanObserve<F> + CanSample<F> + CanSampleBit
     /// does.
     ///
     /// The one error is [`ChallengerError::OutOfMemory`]. After it the elements before the refused one are observed,
-    /// and of that one what its refused observation leaves.
+    /// plus what the refused observation leaves.
     fn observe_algebra_slice<A: BasedVectorSpace<F>>(
         &mut self,
         elements: &[A],

@@ -37,8 +37,8 @@ pub trait Unit {
     /// field has more than 256 elements.
     ///
     /// The errors are [`ChallengerError::TooLong`], with nothing absorbed, and [`ChallengerError::OutOfMemory`]. The
-    /// latter leaves the items before the refused one observed, and of that one what its refused observation leaves.
-    /// The Rust crate panics where the string is too long.
+    /// latter leaves the items before the refused one observed, plus what the refused observation leaves. The Rust
+    /// crate panics where the string is too long.
     fn observe_bytes<C: CanObserve<Self::Item>>(
         challenger: &mut C,
         bytes: &[u8],

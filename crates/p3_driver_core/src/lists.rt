@@ -41,8 +41,8 @@ impl<C: CanSampleBits<usize>> Candidates<C, usize> for Numbers {
 
 /// Observes values one after another.
 ///
-/// The errors are those of [`Codec::observe`]. After an error the values before the refused one are observed, and of
-/// that one what its refused observation leaves. Not in the Rust crate.
+/// The errors are those of [`Codec::observe`]. After an error the values before the refused one are observed, plus
+/// what the refused observation leaves. Not in the Rust crate.
 pub fn observe_values<T, C: Sponge, Cdc: Codec<C, T>>(
     challenger: &mut C,
     values: &[T],

@@ -75,7 +75,7 @@ pub struct DriverState<C, U, D: DigestHasher, P> {
 /// The errors are those of [`DriverState`]. With [`TranscriptError::Challenger`] nothing is written, and with
 /// [`TranscriptError::OutOfMemory`] a prefix of the step's bytes is written.
 ///
-/// This is the Rust crate's `ProverState`. That type panics where a step is refused here, and where it is dropped
+/// Corresponds to the Rust crate's `ProverState`, which panics where a step is refused here, and where it is dropped
 /// unfinished.
 pub type ProverState<C, U, D> = DriverState<C, U, D, Written>;
 
@@ -94,7 +94,7 @@ pub type ProverState<C, U, D> = DriverState<C, U, D, Written>;
 /// declares more values than the wire holds` where the bytes left cannot hold a list. Else it is the reason of the
 /// codec or of the step.
 ///
-/// This is the Rust crate's `VerifierState`. That type panics on a step that is not the next one, and where it is
+/// Corresponds to the Rust crate's `VerifierState`, which panics on a step that is not the next one, and where it is
 /// dropped unfinished.
 pub type VerifierState<'a, C, U, D> = DriverState<C, U, D, Unread<'a>>;
 

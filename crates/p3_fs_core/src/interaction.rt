@@ -226,8 +226,8 @@ impl Interaction {
         self.length
     }
 
-    /// Returns whether this step closes the other. Then this one is an End, the other is a Begin, and all other parts
-    /// are the same, the name of the type included.
+    /// Returns whether this step closes the other: whether this one is an End and the other a Begin, with all other
+    /// parts the same. The other parts include the name of the type.
     pub fn closes(&self, other: &Self) -> bool
         ensures { IsTrue result ↔ Closes (step_of self.now) (step_of other.now) }
     {

@@ -33,8 +33,8 @@ pub trait TranscriptField: PrimeField64 {
     /// more than 256 elements.
     ///
     /// The errors are [`ChallengerError::TooLong`] where the length is not below the order, with nothing absorbed,
-    /// and [`ChallengerError::OutOfMemory`]. The latter leaves a prefix of the elements observed, and of the next
-    /// element what its refused observation leaves. The Rust crate panics where the string is too long.
+    /// and [`ChallengerError::OutOfMemory`]. The latter leaves a prefix of the elements observed, plus what the
+    /// refused observation leaves. The Rust crate panics where the string is too long.
     final fn observe_seed<C: CanObserve<Self>>(
         challenger: &mut C,
         bytes: &[u8],

@@ -13,7 +13,7 @@ use p3_symmetric::CryptographicPermutation;
 
 /// Poseidon2 over [`BabyBear`] with 24 cells: S-boxes of degree 7, 8 external rounds and 21 internal ones.
 ///
-/// Meant to be Plonky3's `Poseidon2BabyBear<24>`.
+/// Intended to equal Plonky3's `Poseidon2BabyBear<24>`.
 pub type Poseidon2BabyBear24 = Poseidon2<BabyBear, 24, 7, 21>;
 
 // What the diagonal of the internal matrix has more than 1: -2, 1, 2, 1/2, 3, 4, -1/2, -3, -4, 1/2^8, 1/4, 1/8, 1/16,
@@ -106,7 +106,7 @@ impl LanePermutation<BabyBear, 24> for Poseidon2<BabyBear, 24, 7, 21> {
 
 /// Returns Poseidon2 over [`BabyBear`] with 24 cells and the round constants of the papers' generator.
 ///
-/// Meant to be Plonky3's `default_babybear_poseidon2_24`.
+/// Intended to equal Plonky3's `default_babybear_poseidon2_24`.
 pub fn default_babybear_poseidon2_24() -> Poseidon2BabyBear24
     ensures { ⟦<Poseidon2BabyBear24 as CryptographicPermutation<[BabyBear; 24]>>⟧.permutation result
         ≡ table.permutation }

@@ -13,7 +13,7 @@ use p3_symmetric::CryptographicPermutation;
 
 /// Poseidon2 over [`Goldilocks`] with 12 cells: S-boxes of degree 7, 8 external rounds and 22 internal ones.
 ///
-/// Meant to be Plonky3's `Poseidon2Goldilocks<12>`.
+/// Intended to equal Plonky3's `Poseidon2Goldilocks<12>`.
 pub type Poseidon2Goldilocks12 = Poseidon2<Goldilocks, 12, 7, 22>;
 
 // What the diagonal of the internal matrix has more than 1.
@@ -205,7 +205,7 @@ impl LanePermutation<Goldilocks, 12> for Poseidon2<Goldilocks, 12, 7, 22> {
 
 /// Returns Poseidon2 over [`Goldilocks`] with 12 cells and the round constants of the papers' generator.
 ///
-/// Meant to be Plonky3's `default_goldilocks_poseidon2_12`.
+/// Intended to equal Plonky3's `default_goldilocks_poseidon2_12`.
 pub fn default_goldilocks_poseidon2_12() -> Poseidon2Goldilocks12
     ensures { ⟦<Poseidon2Goldilocks12 as CryptographicPermutation<[Goldilocks; 12]>>⟧.permutation result
         ≡ table.permutation }

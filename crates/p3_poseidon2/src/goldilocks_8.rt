@@ -13,7 +13,7 @@ use p3_symmetric::CryptographicPermutation;
 
 /// Poseidon2 over [`Goldilocks`] with 8 cells: S-boxes of degree 7, 8 external rounds and 22 internal ones.
 ///
-/// Meant to be Plonky3's `Poseidon2Goldilocks<8>`.
+/// Intended to equal Plonky3's `Poseidon2Goldilocks<8>`.
 pub type Poseidon2Goldilocks8 = Poseidon2<Goldilocks, 8, 7, 22>;
 
 // What the diagonal of the internal matrix has more than 1.
@@ -169,7 +169,7 @@ impl LanePermutation<Goldilocks, 8> for Poseidon2<Goldilocks, 8, 7, 22> {
 
 /// Returns Poseidon2 over [`Goldilocks`] with 8 cells and the round constants of the papers' generator.
 ///
-/// Meant to be Plonky3's `default_goldilocks_poseidon2_8`.
+/// Intended to equal Plonky3's `default_goldilocks_poseidon2_8`.
 pub fn default_goldilocks_poseidon2_8() -> Poseidon2Goldilocks8
     ensures { ⟦<Poseidon2Goldilocks8 as CryptographicPermutation<[Goldilocks; 8]>>⟧.permutation result
         ≡ table.permutation }

@@ -15,7 +15,7 @@ use std::alloc::AllocError;
 /// [`Poseidon2BabyBear16`](crate::Poseidon2BabyBear16). The constants are the alias' default ones or
 /// [others](Poseidon2::new).
 ///
-/// Meant to be Plonky3's `Poseidon2`, whose layers are type parameters.
+/// Intended to equal Plonky3's `Poseidon2`, whose layers are type parameters.
 #[derive(Debug)]
 pub struct Poseidon2<F, const WIDTH: usize, const DEGREE: u64, const INTERNAL: usize> {
     diagonal: [F; WIDTH],

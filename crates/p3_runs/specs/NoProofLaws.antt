@@ -1,4 +1,4 @@
--- Bytes and carried witnesses have at most one run. Where a verifier refuses them, except when out of memory, they have
+-- Bytes and carried witnesses have at most one run. Bytes that a verifier refuses, except when out of memory, have
 -- none.
 use Rattle.std.proofs.Common.{◌≡◌, ℕ, List, [], refl, sym, ap, ◌∙◌, subst, append-nil, length, inl, inr}
 use Rattle.std.proofs.lemmas.List.{length-map}

@@ -25,7 +25,7 @@ use p3_field_core::ScalarField;
 use p3_fs_core::{Declared, Kind, Label, Length, PatternError, TranscriptError};
 use p3_symmetric::DigestHasher;
 
-/// A group of steps that a challenger supports beside the plain ones. Each of its functions calls the driver's method
+/// A group of steps that a challenger supports in addition to the plain ones. Each of its functions calls the driver's method
 /// for one kind of step. Not in the Rust crate.
 ///
 /// There are three: [`Plain`], [`BitsPow`] and [`Both`].

@@ -36,7 +36,7 @@ pub trait Suite {
     /// The hash function for the digests of algebras and of the pattern.
     type Digest: DigestHasher;
 
-    /// The group of steps available beside the plain ones.
+    /// The group of steps available in addition to the plain ones.
     type Group: StepGroup<Self::Challenger, Self::Field>;
 
     // What is a value of the opaque type, where the type does not say it itself: an array in a contract is a list of

@@ -1,5 +1,5 @@
-//! What the symbols fed by a script's run determine of the results of a verifier and of a prover, by the law
-//! [`binding`].
+//! The symbols fed by a script's run bind the results of a verifier and of a prover: callers of the law that
+//! equal symbols bind.
 #![tactic(auto)]
 
 mod bound;

@@ -39,9 +39,9 @@ use std::marker::{Model, PhantomData};
 /// A number of bits, uniform or not, is the low bits of one group, even for 0 bits. The symbols and the final digest
 /// are those of the inner challenger.
 ///
-/// The inner challenger may run out of memory. Then everything before the refused slice stays, and of the slice what
-/// the inner challenger leaves. Of a list of elements, the elements before the refused one stay. Of a digest of words,
-/// the words before it stay, and of a draw, the bytes drawn before it.
+/// The inner challenger may run out of memory. Then everything before the refused slice stays, plus what the inner
+/// challenger leaves of the slice. Of a list of elements, the elements before the refused one stay. Of a digest of
+/// words, the words before it stay, and of a draw, the bytes drawn before it.
 ///
 /// Corresponds to the Rust crate's `SerializingChallenger32` and `SerializingChallenger64`, over the bytes of a word.
 /// Their draws have no limit.

@@ -13,7 +13,7 @@ module _ {C T : Type 0} (rule : SpongeRule C T) (other : C → C) where
   abbrev pub Agree : C → Type 0
   Agree state = other state ≡ rule.permute state
 
-  -- a step that is conditional
+  -- a conditional step
   same_step : (b : Bool) (s : CellSponge C T)
       → All Agree (if b then permutation_input rule s.cells s.pending ∷ [] else [])
       → (if b then duplexed changed s else s) ≡ (if b then duplexed rule s else s)

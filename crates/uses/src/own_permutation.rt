@@ -3,8 +3,8 @@
 //!
 //! A challenger needs one method and one clause: which function of the cells the permutation is. No contract says that
 //! it is hard to invert, or one to one; its author vouches for that. For searches of witnesses it also works on states
-//! side by side in lanes. There it is proved to give the result for each state alone. [`Stir`] shows the form and has
-//! no cryptographic strength.
+//! side by side in lanes. Its result in each lane is proved to be that of the state alone. [`Stir`] shows the form and
+//! has no cryptographic strength.
 ghost use Rattle.std.specs.Prelude.{◌≡◌, ◌+◌, ◌<◌, ℕ};
 ghost use Rattle.p3_field.specs.{BabyBearResidues.residues, Residues.{power_of, plus}};
 

@@ -7,8 +7,8 @@
 //!
 //! A [`Suite`] names the types that play together. Where a value depends on a challenge, [`prove_by`] asks for the
 //! value at its step. [`prover_step`] and [`verifier_step`] play a single step of either side. The law
-//! [`proofs_have_one_run`] says that bytes are a proof of at most one run. The law [`binding`] says what the symbols
-//! fed to the challenger determine of the run. Not in the Rust crate.
+//! [`proofs_have_one_run`] says that bytes are a proof of at most one run. The law [`binding`] says how the symbols
+//! fed to the challenger bind the run. Not in the Rust crate.
 
 pub use p3_binding::binding;
 pub use p3_script::{
