@@ -25,7 +25,8 @@ def counted(crates, names):
 def order_of(root):
     """Returns the names of the crates, in the order of crates.txt."""
     lines = [it.partition("#")[0] for it in (rtlib.text_of(f"{root}/{rtlib.LIST}") or "").split("\n")]
-    return [it.partition(":")[0].strip() for it in lines if ":" in it]
+    # (a word behind a name says how the crate is built)
+    return [it.partition(":")[0].split()[0] for it in lines if ":" in it]
 
 
 def written(pages, counts):
