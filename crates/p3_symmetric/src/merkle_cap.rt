@@ -4,7 +4,7 @@ ghost use Rattle.std.specs.Prelude.{◌≡◌, List};
 use std::convert::AsSlice;
 use std::marker::{Model, PhantomData};
 
-/// The top layer of a Merkle tree over the field `F`: a list of roots, which are digests `D`.
+/// The top layer of a Merkle tree over the field `F`: a list of roots that are digests `D`.
 ///
 /// Contracts see the list of the roots.
 ///
@@ -34,7 +34,7 @@ impl<F, D> MerkleCap<F, D> {
         }
     }
 
-    /// Returns the list of the roots, in order.
+    /// Returns the list of the roots in order.
     pub fn roots(&self) -> &[D]
         ensures { result.now ≡ self.now }
     {
