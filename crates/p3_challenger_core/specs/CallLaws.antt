@@ -29,7 +29,7 @@ module _ {S T : Type 0} (step : S → T → S) (MayLeave : S → T → S → Typ
   call-refused here t x rest OutOfMemory h on = on.refused t (inl h)
   call-refused here t x rest e h on = absurd h
 
-  -- here the calls after place i lead where all calls lead from the start
+  -- from here the calls after place i lead where all calls lead from the start
   module _ (here : S) (i : ℕ) where
     pub goes_on-end : length values ≤ i → GoesOn step MayLeave start values here (drop i values)
         → here ≡ observed_all step start values

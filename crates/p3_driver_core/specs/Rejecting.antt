@@ -37,7 +37,6 @@ go_on next (Some x) s = next x s
 module _ {S T : Type 0} (d : Sampling S T) (rule : Rule T) where
   -- The first candidate that the rule accepts, within a limit. Where it accepts none, the limit is met with no
   -- further draw.
-  -- further draw.
   unfoldable pub taken : ℕ → List T → S → Outcome S T
   taken zero kept s = record { gives = None; after = s }
   taken (suc more) kept s =
