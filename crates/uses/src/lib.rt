@@ -2,6 +2,7 @@
 //!
 //! - [`protocol`]: a pattern, a prover and a verifier; two messages, challenges, one of them with a rule, and a hint.
 //! - [`demo_script`]: a protocol as a list of steps, which one call proves and one verifies, over a sponge of Poseidon2.
+//! - [`fri_script`]: the commit phase of FRI as a script, whose prover gives each message when its step comes.
 //! - [`commit_phase`]: caps, challenges, a proof of work and indices, on the challenger itself, as FRI has them.
 //! - [`opening`]: a Merkle opening read from a hostile proof.
 //! - `round`: generic code over any challenger, codec and alphabet: [`send_and_draw`], [`receive_and_draw`] and
