@@ -3,6 +3,7 @@
 //! - [`protocol`]: a pattern, a prover and a verifier, with two messages, challenges, a draw with a rule, and a hint.
 //! - [`demo_script`]: a protocol as a list of steps, with one call to prove and one to verify, over a sponge of
 //!   Poseidon2.
+//! - [`fri_script`]: the commit phase of FRI as a script, whose prover gives each message when its step comes.
 //! - [`commit_phase`]: caps, challenges, a proof of work and indices, on the challenger itself, as in FRI.
 //! - [`opening`]: a Merkle opening read from a hostile proof.
 //! - `round`: generic code over any challenger, codec and alphabet: [`send_and_draw`], [`receive_and_draw`] and
