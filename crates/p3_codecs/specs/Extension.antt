@@ -33,7 +33,7 @@ read base width n element bytes =
     if nat_lt (length bytes) (n * width) then Err not_enough_bytes else read_coefficients base n element bytes
 
 -- an element is encoded as its n coefficients, one after another
-abbrev pub encoding : {F A : Type 0} → Encoding F → ℕ → (A → List F) → (List F → A) → Encoding An
+abbrev pub encoding : {F A : Type 0} → Encoding F → ℕ → (A → List F) → (List F → A) → Encoding A
 encoding base n coefficients element = record {
   width = n * base.width;
   wire = λ x. flat_map base.wire (coefficients x);
