@@ -13,7 +13,8 @@ use std::simd::Simd;
 /// `N` elements of the prime field of order `ORDER` side by side, kept as their canonical numbers.
 ///
 /// Each number is below the order, and the type says so: two such values are equal where their
-/// elements are. Sums and differences are those of a vector, products those of one lane after the
+/// elements are. Sums and differences are those of a vector, and so are products modulo the orders
+/// of [`BabyBear`] and [`KoalaBear`]; modulo other orders they may be those of one lane after the
 /// other.
 ///
 /// Not in the Rust crate, whose packed fields are a type each for each instruction set.
