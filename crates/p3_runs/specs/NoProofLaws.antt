@@ -6,12 +6,12 @@ use Rattle.p3_fs_core.specs.declared.error.TranscriptError.TheVariants.{OutOfMem
 use Rattle.p3_step_laws.specs.CompletenessLaws.{reading-ends}
 use Rattle.p3_runs.specs.{FrontLaws.next-admitted, Fronts.{Run, pattern}, Plays.Play, RefusalLaws.start-never}
 use Rattle.p3_runs.specs.{ReachLaws.{Reaches, one-front, passed-step}, Rules.Rules, Runs.AreAdmitted, Values.Value}
-use Rattle.p3_runs.specs.{Stepping.{IsCanonical, IsTakenWherePossible}, Verdicts.RefusesAtEnd}
+use Rattle.p3_runs.specs.{Sides.Sides, Stepping.{IsCanonical, IsTakenWherePossible}, Verdicts.RefusesAtEnd}
 use Rattle.p3_runs.specs.Verdicts.{with_steps, driving_after, IsProof, HasNoProof, RefusesProof, RefusesAtStep}
 
 module _ {X S Symbol I F EF O Ac U D : Type 0} (rules : Rules S Symbol I F EF O Ac) (play : X → Play S Symbol F EF O)
-    (canonical : (x : X) → FitsLength (play x).interaction.length → IsCanonical (play x))
-    (taken : (x : X) → FitsLength (play x).interaction.length → (play x).admitted → IsTakenWherePossible (play x)) where
+    (sides : X → Sides S F EF) (canonical : (x : X) → FitsLength (play x).interaction.length → IsCanonical (play x))
+    (taken : (x : X) → FitsLength (play x).interaction.length → (play x).admitted → IsTakenWherePossible (play x) (sides x)) where
   module _ (script : Run X F EF S U D) (bytes : List ℕ) (carried : List F) (values : List (Value F EF))
       (proof : IsProof rules play (with_steps script script.steps values) bytes carried) where
     whole : (others : List (Value F EF)) → IsProof rules play (with_steps script script.steps others) bytes carried →
@@ -31,9 +31,9 @@ module _ {X S Symbol I F EF O Ac U D : Type 0} (rules : Rules S Symbol I F EF O 
         (whole values proof) (whole others other)).0
 
     step-not_refused : (position : ℕ) (e : TranscriptError) → AreAdmitted play script.steps →
-        RefusesAtStep rules play script bytes carried position e → e ≡ OutOfMemory
+        RefusesAtStep rules play sides script bytes carried position e → e ≡ OutOfMemory
     step-not_refused position e admitted r =
-        passed-step rules play script bytes carried canonical taken r.before r.step r.later r.values values r.left []
+        passed-step rules play script bytes carried canonical sides taken r.before r.step r.later r.values values r.left []
         r.witness r.unused [] r.after e
         (next-admitted play r.before r.step r.later (subst (AreAdmitted play) r.steps admitted)) r.brought
         (record { finished = r.finished; read = r.read; carries = r.carries })
@@ -51,7 +51,7 @@ module _ {X S Symbol I F EF O Ac U D : Type 0} (rules : Rules S Symbol I F EF O 
 
   pub refused-no_proof : (script : Run X F EF S U D) (bytes : List ℕ) (carried : List F) (position : ℕ)
       (e : TranscriptError) → AreAdmitted play script.steps →
-      RefusesProof rules play script bytes carried position e → (e ≡ OutOfMemory → ⊥) →
+      RefusesProof rules play sides script bytes carried position e → (e ≡ OutOfMemory → ⊥) →
       HasNoProof rules play script bytes carried
   refused-no_proof script bytes carried position e admitted refuses other values proof =
       elim refuses [
@@ -65,8 +65,8 @@ module _ {X S Symbol I F EF O Ac U D : Type 0} (rules : Rules S Symbol I F EF O 
   -- a refusal, with what it tells
   pub refused-so : (script : Run X F EF S U D) (bytes : List ℕ) (carried : List F) (position : ℕ)
       (e : TranscriptError) → AreAdmitted play script.steps →
-      RefusesProof rules play script bytes carried position e →
-      RefusesProof rules play script bytes carried position e
+      RefusesProof rules play sides script bytes carried position e →
+      RefusesProof rules play sides script bytes carried position e
       × ((e ≡ OutOfMemory → ⊥) → HasNoProof rules play script bytes carried)
   refused-so script bytes carried position e admitted refuses =
       (refuses, refused-no_proof script bytes carried position e admitted refuses)

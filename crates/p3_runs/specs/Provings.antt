@@ -5,7 +5,7 @@ use Rattle.p3_patterns.specs.Playing.{FaultOfPlayEnd, IsPatternError}
 use Rattle.p3_driver_core.specs.Driving.{Driving, RefusesStart}
 use Rattle.p3_runs.specs.{Runs.if_sent, Fronts.{IsFinished, challenges, AreLeast, IsWhole, seed, wire, last, Run}}
 use Rattle.p3_runs.specs.{Plays.{Carried, Place, Play, Sent}, Values.{Challenge, Value}, Rules.Rules}
-use Rattle.p3_runs.specs.{Stepping.{all_witnesses, OrHalts}, Verdicts.{driving_after, playing_after, with_steps}}
+use Rattle.p3_runs.specs.{Sides.Sides, Stepping.{all_witnesses, OrHalts}, Verdicts.{driving_after, playing_after, with_steps}}
 use Rattle.p3_runs.specs.Runs as runs
 
 -- the first value is one, and of the others this holds, where the prover is handed a value for a step
@@ -23,7 +23,7 @@ module _ {X S Symbol F EF O : Type 0} (play : X → Play S Symbol F EF O) where
   -- the values are those that a prover is handed for the steps: one for each that has one, of its type and, where the
   -- step says so, of its length
   abbrev pub AreHanded : List X → List (Value F EF) → Type 0
-  AreHanded steps values = AreAmong (λ x. (play x).place) (λ x. (play x).sides.IsHanded) steps values
+  AreHanded steps values = AreAmong (λ x. (play x).place) (λ x. (play x).IsHanded) steps values
 
 module _ {X S Symbol I F EF O Ac U D : Type 0} (rules : Rules S Symbol I F EF O Ac) (play : X → Play S Symbol F EF O) where
   -- The run of a prover that is handed these values: it is finished and plays the whole pattern, the values stand at
@@ -34,8 +34,21 @@ module _ {X S Symbol I F EF O Ac U D : Type 0} (rules : Rules S Symbol I F EF O 
     pub handed : sent ≡ runs.handed play run.steps run.values
     pub least : AreLeast rules play run
 
-  -- ---- where and why a prover refuses
+  -- The end is refused: all steps were played, and steps of the pattern are left.
+  pub record RefusesToProveEnd (script : Run X F EF S U D) (sent : List (Value F EF)) (position : ℕ)
+      (e : TranscriptError) : Type 0 where
+    pub place : position ≡ length script.steps
+    pub values : List (Value F EF)
+    pub finished : IsFinished rules play (with_steps script script.steps values)
+    pub least : AreLeast rules play (with_steps script script.steps values)
+    pub handed : sent ≡ runs.handed play script.steps values
+    pub refuses : IsPatternError
+        (λ m. FaultOfPlayEnd (playing_after (with_steps script script.steps values)) (pattern_error_of m)) e
 
+-- ---- where and why a prover refuses, by why it refuses each step
+
+module _ {X S Symbol I F EF O Ac U D : Type 0} (rules : Rules S Symbol I F EF O Ac) (play : X → Play S Symbol F EF O)
+    (sides : X → Sides S F EF) where
   -- A step is refused: after a finished front, of which each witness is the least, this step comes, with this value.
   pub record RefusesToProveStep (script : Run X F EF S U D) (sent : List (Value F EF)) (position : ℕ)
       (e : TranscriptError) : Type 0 where
@@ -49,28 +62,17 @@ module _ {X S Symbol I F EF O Ac U D : Type 0} (rules : Rules S Symbol I F EF O 
     pub least : AreLeast rules play (with_steps script before values)
     pub given : Value F EF
     pub unused : List (Value F EF)
-    pub is_handed : (play step).sides.IsHanded given
+    pub is_handed : (play step).IsHanded given
     pub handed : sent ≡ runs.handed play before values ++ (if_sent (play step).place given ++ unused)
     pub after : Driving S
-    pub refuses : OrHalts ((play step).sides.prover given)
+    pub refuses : OrHalts ((sides step).prover given)
         (driving_after rules play (with_steps script before values) (runs.wires play before values)) e after
-
-  -- The end is refused: all steps were played, and steps of the pattern are left.
-  pub record RefusesToProveEnd (script : Run X F EF S U D) (sent : List (Value F EF)) (position : ℕ)
-      (e : TranscriptError) : Type 0 where
-    pub place : position ≡ length script.steps
-    pub values : List (Value F EF)
-    pub finished : IsFinished rules play (with_steps script script.steps values)
-    pub least : AreLeast rules play (with_steps script script.steps values)
-    pub handed : sent ≡ runs.handed play script.steps values
-    pub refuses : IsPatternError
-        (λ m. FaultOfPlayEnd (playing_after (with_steps script script.steps values)) (pattern_error_of m)) e
 
   -- the seed is refused; or the first step that is; or the end
   abbrev pub RefusesToProve : Run X F EF S U D → List (Value F EF) → ℕ → TranscriptError → Type 0
   RefusesToProve script sent position e =
       ((position ≡ 0) × RefusesStart (rules.alphabet.is_too_long (length (seed rules play script))) e)
-      ⊎ RefusesToProveStep script sent position e ⊎ RefusesToProveEnd script sent position e
+      ⊎ RefusesToProveStep script sent position e ⊎ RefusesToProveEnd rules play script sent position e
 
 -- ---- what a prover answers
 
